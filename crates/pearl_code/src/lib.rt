@@ -1,0 +1,5 @@
+// Instructions, objects, and what they do.
+#![tactic(auto)]
+
+pub mod instr;
+pub mod object;

@@ -1,0 +1,4 @@
+// Format items, and the texts that they make.
+#![tactic(auto)]
+
+pub mod item;

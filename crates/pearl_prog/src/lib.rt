@@ -1,0 +1,4 @@
+// The resolved program: what a source means once its names are replaced by numbers.
+#![tactic(auto)]
+
+pub mod program;

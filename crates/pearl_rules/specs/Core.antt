@@ -1,0 +1,66 @@
+-- What the state of a run is, apart from the tasks' own variables: the time, how each task stands, who acted last, what was told.
+use Rattle.std.specs.Prelude.{ℕ, ◌+◌, List, [], ◌∷◌, ◌++◌, Bool, true, false, Option, Some, None, map, slice_get, slice_set}
+use Rattle.pearl_rules.specs.declared.row.Mode.{Mode}
+use Rattle.pearl_rules.specs.declared.row.Mode.TheVariants.{Dormant, Active}
+use Rattle.pearl_rules.specs.declared.row.TaskRow.{TaskRow}
+use Rattle.pearl_rules.specs.declared.event.Event.{Event}
+use Rattle.pearl_rules.specs.declared.event.Event.TheVariants.{Start}
+use Rattle.pearl_rules.specs.declared.event.Shown.{Shown}
+use Rattle.pearl_rules.specs.declared.setup.TaskEntry.{TaskEntry}
+
+-- what a run tells: that something happened, or how a task stands
+pub data Said : Type 0 where
+  Happened : (event : Event) → Said
+  Shows : (task : ℕ) (shown : Shown) → Said
+
+-- the moment is in milliseconds since the start; `told` has all that was told so far, each with its moment
+pub record Core : Type 0 where
+  pub moment : ℕ
+  pub tasks : List TaskRow
+  pub last : Option ℕ
+  pub told : List (ℕ × Said)
+
+-- one more event, at this moment
+abbrev pub note : Core → Event → Core
+note core event = record core { told = core.told ++ (core.moment, Happened event) ∷ [] }
+
+-- a task's row
+abbrev pub row_of : Core → ℕ → Option TaskRow
+row_of core t = slice_get core.tasks t
+
+-- the core with another row for a task
+abbrev pub with_row : Core → ℕ → TaskRow → Core
+with_row core t row = record core { tasks = slice_set core.tasks t row }
+
+abbrev pub is_active_mode : Mode → Bool
+is_active_mode Dormant = false
+is_active_mode (Active priority suspended) = true
+
+abbrev pub is_active_row : Option TaskRow → Bool
+is_active_row None = false
+is_active_row (Some row) = is_active_mode row.mode
+
+-- whether a task is active
+abbrev pub is_active : Core → ℕ → Bool
+is_active core t = is_active_row (row_of core t)
+
+-- how a task stands at the start: a MAIN task is active with its declared priority
+abbrev pub first_mode : Bool → ℕ → Mode
+first_mode true priority = Active priority false
+first_mode false priority = Dormant
+
+abbrev pub first_row : TaskEntry → TaskRow
+first_row task = record { mode = first_mode task.main task.priority }
+
+abbrev pub first_events_if : Bool → ℕ → ℕ → List (ℕ × Said) → List (ℕ × Said)
+first_events_if true t priority rest = (0, Happened (Start t priority)) ∷ rest
+first_events_if false t priority rest = rest
+
+-- the starts of the MAIN tasks, in order of declaration, the first task having the number t
+abbrev pub first_events : ℕ → List TaskEntry → List (ℕ × Said)
+first_events t [] = []
+first_events t (task ∷ tasks) = first_events_if task.main t task.priority (first_events (t + 1) tasks)
+
+-- the core at the start
+abbrev pub opening : List TaskEntry → Core
+opening tasks = record { moment = 0; tasks = map first_row tasks; last = None; told = first_events 0 tasks }

@@ -1,0 +1,5 @@
+pub mod Core
+pub mod Pick
+pub mod Effect
+pub mod Runs
+pub mod Faithful

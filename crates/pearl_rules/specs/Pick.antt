@@ -1,0 +1,111 @@
+-- Which task acts next, and how a task stands.
+use Rattle.std.specs.Prelude.{◌≡◌, ◌≢◌, ℕ, zero, suc, ◌+◌, ◌≤◌, ◌⊎◌, List, [], ◌∷◌, ◌++◌, Bool, true, false, Option, Some, None, length, nat_lt, nat_eq, ◌||◌, ◌&&◌, IsTrue}
+use Rattle.pearl_rules.specs.declared.action.Action.{Action}
+use Rattle.pearl_rules.specs.declared.row.Mode.{Mode}
+use Rattle.pearl_rules.specs.declared.row.Mode.TheVariants.{Dormant, Active}
+use Rattle.pearl_rules.specs.declared.row.TaskRow.{TaskRow}
+use Rattle.pearl_rules.specs.declared.event.Shown.TheVariants as shown
+use Rattle.pearl_rules.specs.declared.event.Shown.{Shown}
+use Rattle.pearl_rules.specs.Core.{Core, Said, Shows, row_of}
+
+-- what each task offers to do next: none where it isn't active or hasn't offered yet
+abbrev pub Offered : Type 0
+Offered = ℕ → Option Action
+
+-- whether an action can be done now
+abbrev pub guard : Core → Action → Bool
+guard core action = true
+
+abbrev pub is_possible : Core → Option Action → Bool
+is_possible core None = false
+is_possible core (Some action) = guard core action
+
+abbrev pub is_ready : Mode → Bool → Bool
+is_ready Dormant possible = false
+is_ready (Active priority true) possible = false
+is_ready (Active priority false) possible = possible
+
+abbrev pub is_ready_row : Option TaskRow → Bool → Bool
+is_ready_row None possible = false
+is_ready_row (Some row) possible = is_ready row.mode possible
+
+-- a task that is active, isn't suspended, and whose action can be done now
+abbrev pub is_eligible : Core → Offered → ℕ → Bool
+is_eligible core offers t = is_ready_row (row_of core t) (is_possible core (offers t))
+
+abbrev pub priority_of_mode : Mode → ℕ
+priority_of_mode Dormant = 256
+priority_of_mode (Active priority suspended) = priority
+
+abbrev pub priority_of_row : Option TaskRow → ℕ
+priority_of_row None = 256
+priority_of_row (Some row) = priority_of_mode row.mode
+
+-- a task's priority number; a smaller one is more urgent, and no active task's is above 255
+abbrev pub priority_of : Core → ℕ → ℕ
+priority_of core t = priority_of_row (row_of core t)
+
+abbrev pub is_last_of : Option ℕ → ℕ → Bool
+is_last_of None t = false
+is_last_of (Some u) t = nat_eq u t
+
+-- whether task t acted last
+abbrev pub is_last : Core → ℕ → Bool
+is_last core t = is_last_of core.last t
+
+-- whether t goes before an earlier declared task u
+abbrev pub goes_before : Core → ℕ → ℕ → Bool
+goes_before core t u =
+    nat_lt (priority_of core t) (priority_of core u) || (nat_eq (priority_of core t) (priority_of core u) && is_last core t)
+
+abbrev pub better_if : Bool → ℕ → ℕ → Option ℕ
+better_if true t u = Some t
+better_if false t u = Some u
+
+abbrev pub better : Core → Option ℕ → ℕ → Bool → Option ℕ
+better core best t false = best
+better core None t true = Some t
+better core (Some u) t true = better_if (goes_before core t u) t u
+
+-- the one that acts next among the first n tasks
+abbrev pub pick_first : Core → Offered → ℕ → Option ℕ
+pick_first core offers zero = None
+pick_first core offers (suc n) = better core (pick_first core offers n) n (is_eligible core offers n)
+
+-- the task that acts next
+abbrev pub pick : Core → Offered → Option ℕ
+pick core offers = pick_first core offers (length core.tasks)
+
+-- the rule in the subject's words: t is eligible; no eligible task has a smaller priority number; of those with the same
+-- number t is the one that acted last, or none of them acted last and t is the first declared
+pub record IsPicked (core : Core) (offers : Offered) (t : ℕ) : Type 0 where
+  pub eligible : IsTrue (is_eligible core offers t)
+  pub urgent : (u : ℕ) → IsTrue (is_eligible core offers u) → priority_of core t ≤ priority_of core u
+  pub first : (core.last ≡ Some t) ⊎ ((u : ℕ) → IsTrue (is_eligible core offers u) → priority_of core u ≡ priority_of core t → (core.last ≢ Some u) × (t ≤ u))
+
+abbrev pub shown_active : Bool → Bool → Bool → ℕ → Shown
+shown_active true possible picked priority = shown.Suspended priority
+shown_active false false picked priority = shown.Blocked priority
+shown_active false true true priority = shown.Running priority
+shown_active false true false priority = shown.Runnable priority
+
+abbrev pub shown_mode : Mode → Bool → Bool → Shown
+shown_mode Dormant possible picked = shown.Dormant
+shown_mode (Active priority suspended) possible picked = shown_active suspended possible picked priority
+
+abbrev pub shown_row : Option TaskRow → Bool → Bool → Shown
+shown_row None possible picked = shown.Dormant
+shown_row (Some row) possible picked = shown_mode row.mode possible picked
+
+-- how a task stands
+abbrev pub shown_of : Core → Offered → ℕ → Shown
+shown_of core offers t = shown_row (row_of core t) (is_possible core (offers t)) (is_last_of (pick core offers) t)
+
+-- how the first n tasks stand, in order of declaration
+abbrev pub states_first : Core → Offered → ℕ → List (ℕ × Said)
+states_first core offers zero = []
+states_first core offers (suc n) = states_first core offers n ++ (core.moment, Shows n (shown_of core offers n)) ∷ []
+
+-- how all tasks stand
+abbrev pub states : Core → Offered → List (ℕ × Said)
+states core offers = states_first core offers (length core.tasks)

@@ -1,0 +1,26 @@
+// What a task does next, and what it hears.
+
+use arrayvec::ArrayVec;
+use pearl_value::cell::Cell;
+use pearl_value::trap::Trap;
+
+/// The next action of an active task. Devices are numbered as in the `Setup`.
+#[derive(Drop)]
+pub enum Action {
+    /// Writes a text to a terminal.
+    Put {
+        device: u32,
+        text: ArrayVec<u8, 1024>,
+    },
+    /// Ends the task.
+    End,
+    /// Breaks the task off.
+    Trap(Trap),
+}
+
+/// What a task hears after its action.
+#[derive(Drop)]
+pub enum Answer {
+    Nothing,
+    One(Cell),
+}

@@ -1,0 +1,28 @@
+// One value with its kind.
+
+use crate::kind::Kind;
+use arrayvec::ArrayVec;
+
+/// Where a variable lies: a slot of the module, or a cell of a frame of the task's own stack, whose lowest frame is 0.
+#[derive(Clone, Copy, PartialEq, Eq, Debug)]
+pub enum Place {
+    Slot(u32),
+    Cell(u32, u32),
+}
+
+/// One value with its kind.
+#[derive(Drop)]
+pub enum Cell {
+    /// A number from -2^len to 2^len - 1.
+    Fixed { len: u8, value: i64 },
+    /// The number that `len` bits spell, the first bit highest.
+    Bits { len: u8, value: u64 },
+    /// Bytes from 32 to 126.
+    Chars(ArrayVec<u8, 255>),
+    /// Milliseconds since midnight, below 86,400,000.
+    Clock(u32),
+    /// Milliseconds, from -2^40 to 2^40.
+    Span(i64),
+    /// A reference to a variable of this kind.
+    Ref { kind: Kind, place: Place },
+}

@@ -1,0 +1,7 @@
+// The values of PEARL: kinds, places, cells and traps.
+#![tactic(auto)]
+
+pub mod cell;
+pub mod kind;
+pub mod listing;
+pub mod trap;
