@@ -1,6 +1,7 @@
 -- What the tables of a program or an object are like.
-use Rattle.std.specs.Prelude.{◌≡◌, ℕ, ◌<◌, ◌≤◌, List, Option, Some, None, length, slice_get}
+use Rattle.std.specs.Prelude.{ℕ, ◌<◌, ◌≤◌, List, [], Option, Some, None, length, slice_get}
 use Rattle.std.specs.List.{AllByRecursion}
+use Rattle.pearl_format.specs.declared.item.Item.{Item}
 use Rattle.pearl_rules.specs.declared.setup.TaskEntry.{TaskEntry}
 use Rattle.pearl_rules.specs.declared.setup.Device.{Device}
 use Rattle.pearl_rules.specs.declared.setup.Device.TheVariants.{Interrupt, Terminal}
@@ -40,3 +41,11 @@ IsWritable (Some (Terminal number direction)) = Writes direction
 -- the number names a terminal that takes texts
 abbrev pub TakesTexts : Setup → ℕ → Type 0
 TakesTexts setup device = IsWritable (slice_get setup.devices device)
+
+abbrev pub items_or_none : Option (List Item) → List Item
+items_or_none None = []
+items_or_none (Some items) = items
+
+-- the items of a format; a number that names none means no items
+abbrev pub format_of : Setup → ℕ → List Item
+format_of setup format = items_or_none (slice_get setup.formats format)
