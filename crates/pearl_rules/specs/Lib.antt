@@ -3,3 +3,4 @@ pub mod Pick
 pub mod Effect
 pub mod Runs
 pub mod Faithful
+pub mod Laws
