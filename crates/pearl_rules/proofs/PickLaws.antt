@@ -12,6 +12,7 @@ last_true : (o : Option ℕ) (t : ℕ) → is_last_of o t ≡ true → o ≡ Som
 last_true None t e = absurd (true≢false (sym e))
 last_true (Some u) t e = ap Some (eqb-true u t e)
 
+-- and that another did
 last_false : (o : Option ℕ) (t : ℕ) → is_last_of o t ≡ false → o ≢ Some t
 last_false o t e is = true≢false (sym (eq-eqb t t refl) ∙ subst (λ x. is_last_of x t ≡ false) is e)
 
@@ -33,6 +34,7 @@ module _ (core : Core) (offers : Offered) where
   pub eligible_within : (t : ℕ) → IsTrue (is_eligible core offers t) → t < length core.tasks
   eligible_within t e = let r = ready_row (row_of core t) (is_possible core (offers t)) e in slice_get_within core.tasks t r.0 r.1
 
+  -- what it is to go before another task
   before_true : (n u : ℕ) → goes_before core n u ≡ true → (priority_of core n < priority_of core u) ⊎ ((priority_of core n ≡ priority_of core u) × (core.last ≡ Some n))
   before_true n u e = go (or_cases (nat_lt (priority_of core n) (priority_of core u)) (nat_eq (priority_of core n) (priority_of core u) && is_last core n) e)
     where
@@ -43,6 +45,7 @@ module _ (core : Core) (offers : Offered) where
           let h = and_parts (nat_eq (priority_of core n) (priority_of core u)) (is_last core n) both in
           inr (eqb-true (priority_of core n) (priority_of core u) h.0, last_true core.last n h.1)
 
+  -- and what it is not to
   before_false : (n u : ℕ) → goes_before core n u ≡ false → (priority_of core u ≤ priority_of core n) × (priority_of core n ≡ priority_of core u → core.last ≢ Some n)
   before_false n u e =
       let h = or_parts (nat_lt (priority_of core n) (priority_of core u)) (nat_eq (priority_of core n) (priority_of core u) && is_last core n) e in
@@ -63,6 +66,7 @@ module _ (core : Core) (offers : Offered) where
     urgent : (u : ℕ) → u < n → IsTrue (is_eligible core offers u) → priority_of core t ≤ priority_of core u
     first : (core.last ≡ Some t) ⊎ First n t
 
+  -- what is picked among the first n tasks, or that none of them is eligible
   abbrev BestOf : ℕ → Option ℕ → Type 0
   BestOf n None = (u : ℕ) → u < n → is_eligible core offers u ≡ false
   BestOf n (Some t) = Best n t
@@ -143,15 +147,18 @@ module _ (core : Core) (offers : Offered) where
       more (inr first) = inr (one_more (λ u. IsTrue (is_eligible core offers u) → priority_of core u ≡ priority_of core t → (core.last ≢ Some u) × (t ≤ u)) n first
           (λ able same. let h = best.within in (not_last same, omega arith)))
 
+  -- an eligible task against the best so far
   compared : (n t : ℕ) → IsTrue (is_eligible core offers n) → Best n t → (b : Bool) → goes_before core n t ≡ b → BestOf (suc n) (better_if b n t)
   compared n t able best true e = wins n t able best (before_true n t e)
   compared n t able best false e = loses n t best (before_false n t e)
 
+  -- one more task
   step : (n : ℕ) (o : Option ℕ) → BestOf n o → (b : Bool) → is_eligible core offers n ≡ b → BestOf (suc n) (better core o n b)
   step n o best false e = skip n o e best
   step n None best true e = only n e best
   step n (Some t) best true e = compared n t e best (goes_before core n t) refl
 
+  -- the first n tasks
   best : (n : ℕ) → BestOf n (pick_first core offers n)
   best zero = λ u h. let no : ⊥ = omega arith in absurd no
   best (suc n) = step n (pick_first core offers n) (best n) (is_eligible core offers n) refl
@@ -250,6 +257,7 @@ pub pick-offers : (core other : Core) (offers others : Offered) → core.tasks �
 pick-offers core other offers others rows last same =
     pick-same core other offers others rows last (λ t. possible-same core other (offers t) ∙ ap (λ o. is_possible other o) (same t))
 
+-- the same for how the tasks stand
 pub states-offers : (core other : Core) (offers others : Offered) → core.moment ≡ other.moment → core.tasks ≡ other.tasks → core.last ≡ other.last →
     ((t : ℕ) → offers t ≡ others t) → states core offers ≡ states other others
 states-offers core other offers others moment rows last same =

@@ -14,6 +14,7 @@ module _ (offer : Supplier) (S : Type 0) (engine : Engine S) (Stands : ℕ → L
   owed_by t stack None = suc (weight t stack)
   owed_by t stack (Some action) = 0
 
+  -- what a task owes
   abbrev owed : ℕ → Option (Running S) → ℕ
   owed t None = 0
   owed t (Some running) = owed_by t running.stack running.offer
@@ -23,13 +24,16 @@ module _ (offer : Supplier) (S : Type 0) (engine : Engine S) (Stands : ℕ → L
   debt_from t [] = 0
   debt_from t (x ∷ xs) = owed t x + debt_from (t + 1) xs
 
+  -- what the machine owes
   abbrev debt : Machine S → ℕ
   debt m = debt_from 0 m.running
 
+  -- a task whose weight is below `rows` owes no more than that
   owed_within_by : (t : ℕ) (stack : S) (offered : Option Action) → weight t stack < rows → owed_by t stack offered ≤ rows
   owed_within_by t stack None h = h
   owed_within_by t stack (Some action) h = omega arith
 
+  -- no task that stands where its answers lead owes more than `rows`
   owed_within : (t : ℕ) (x : Option (List Answer)) (y : Option (Running S)) → Both (List Answer) (Running S) (Here engine Stands) t x y → owed t y ≤ rows
   owed_within t None None b = omega arith
   owed_within t None (Some running) b = absurd b
@@ -37,7 +41,7 @@ module _ (offer : Supplier) (S : Type 0) (engine : Engine S) (Stands : ℕ → L
   owed_within t (Some heard) (Some running) b =
       owed_within_by t running.stack running.offer (soon.bounded t heard running.stack b.stands)
 
-  -- no task owes more than `rows`
+  -- all tasks together owe no more than `rows` for each
   debt_within : (t : ℕ) (xs : List (Option (List Answer))) (ys : List (Option (Running S))) →
       AllAt (List Answer) (Running S) (Here engine Stands) t xs ys → debt_from t ys ≤ length ys * rows
   debt_within t [] [] all = omega arith
@@ -92,6 +96,7 @@ module _ (offer : Supplier) (S : Type 0) (engine : Engine S) (Stands : ℕ → L
       none : unsettled (machine_after engine start at) ≡ None
       no_mark : marked_after engine start at ≡ marked_after engine start n
 
+    -- a machine that owes no more than `room` settles within as many steps
     settles : (from : Source) (start : Machine S) → Simulates engine Stands count start from → (room n : ℕ) →
         debt (machine_after engine start n) ≤ room → Settles start n room
     settles from start sim zero n owes = by_unsettled (unsettled (machine_after engine start n)) refl
@@ -127,6 +132,27 @@ module _ (offer : Supplier) (S : Type 0) (engine : Engine S) (Stands : ℕ → L
       pub within : at ≤ room
       pub made : marked_after engine start at ≡ m
 
+    -- the same with nothing unsettled
+    pub record SettledWith (start : Machine S) (m room : ℕ) : Type 0 where
+      pub at : ℕ
+      pub within : at ≤ room
+      pub made : marked_after engine start at ≡ m
+      pub none : unsettled (machine_after engine start at) ≡ None
+
+    -- after its last mark the machine settles
+    pub settled_with : (from : Source) (start : Machine S) → Simulates engine Stands count start from → (m room : ℕ) → Reaches start m room →
+        SettledWith start m (room + count * rows)
+    settled_with from start sim m room r =
+        let here = sim_after offer S engine Stands alone count from start sim r.at in
+        let places = here.places in
+        let owes : debt (machine_after engine start r.at) ≤ count * rows =
+        subst (λ c. debt (machine_after engine start r.at) ≤ c * rows) places
+        (debt_within 0 (source_after offer from (marked_after engine start r.at)).heard (machine_after engine start r.at).running here.all) in
+        let s = settles from start sim (count * rows) r.at owes in
+        let first = r.within in
+        let then = s.within in
+        record { at = s.at; within = omega arith; made = s.no_mark ∙ r.made; none = s.none }
+
     -- where m marks come the machine makes them
     pub reaches : (from : Source) (start : Machine S) → Simulates engine Stands count start from → (m : ℕ) →
         ((k : ℕ) → k < m → source_next offer (source_after offer from k) ≢ None) → Reaches start m (m * (count * rows + 1))
@@ -150,18 +176,11 @@ module _ (offer : Supplier) (S : Type 0) (engine : Engine S) (Stands : ℕ → L
 
         go : Reaches start m (m * (count * rows + 1)) → Reaches start (suc m) (suc m * (count * rows + 1))
         go r =
-            let here = sim_after offer S engine Stands alone count from start sim r.at in
-            let places = here.places in
-            let owes : debt (machine_after engine start r.at) ≤ count * rows =
-            subst (λ c. debt (machine_after engine start r.at) ≤ c * rows) places
-            (debt_within 0 (source_after offer from (marked_after engine start r.at)).heard (machine_after engine start r.at).running here.all) in
-            let s = settles from start sim (count * rows) r.at owes in
-            let made = s.no_mark ∙ r.made in
-            let first = r.within in
-            let then = s.within in
+            let s = settled_with from start sim m (m * (count * rows + 1)) r in
+            let bound = s.within in
             let product : suc m * (count * rows + 1) ≡ m * (count * rows + 1) + (count * rows + 1) = suc-mul m (count * rows + 1) in
             record {
               at = suc s.at;
               within = omega arith;
-              made = by_next s.at s.none made (machine_next (machine_after engine start s.at)) refl;
+              made = by_next s.at s.none s.made (machine_next (machine_after engine start s.at)) refl;
             }

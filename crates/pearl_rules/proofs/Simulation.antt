@@ -35,20 +35,24 @@ abbrev pub Settled : {S : Type 0} → Option (Running S) → Type 0
 Settled None = Unit {0}
 Settled (Some running) = (action : Action) × (running.offer ≡ Some action)
 
+-- a task that isn't the unsettled one has offered
 settled_by : {S : Type 0} (t : ℕ) (stack : S) (offered : Option Action) (later : Option (ℕ × S)) →
     unsettled_here t (Some (record { stack = stack; offer = offered })) later ≡ None → (action : Action) × (offered ≡ Some action)
 settled_by t stack None later e = absurd (none-some (t, stack) (sym e))
 settled_by t stack (Some action) later e = (action, refl)
 
+-- the same of what is kept
 settled_here : {S : Type 0} (t : ℕ) (x : Option (Running S)) (later : Option (ℕ × S)) → unsettled_here t x later ≡ None → Settled x
 settled_here t None later e = tt
 settled_here t (Some running) later e = settled_by t running.stack running.offer later e
 
+-- and no later task is unsettled
 settled_later_by : {S : Type 0} (t : ℕ) (stack : S) (offered : Option Action) (later : Option (ℕ × S)) →
     unsettled_here t (Some (record { stack = stack; offer = offered })) later ≡ None → later ≡ None
 settled_later_by t stack None later e = absurd (none-some (t, stack) (sym e))
 settled_later_by t stack (Some action) later e = e
 
+-- the same of what is kept
 settled_later : {S : Type 0} (t : ℕ) (x : Option (Running S)) (later : Option (ℕ × S)) → unsettled_here t x later ≡ None → later ≡ None
 settled_later t None later e = e
 settled_later t (Some running) later e = settled_later_by t running.stack running.offer later e
@@ -65,10 +69,12 @@ record Found {S : Type 0} (t : ℕ) (xs : List (Option (Running S))) (u : ℕ) (
   is_place : u ≡ t + place
   is_here : kept_at xs place ≡ Some (record { stack = stack; offer = None })
 
+-- a place in the rest of the list is one further in the list
 found_later : {S : Type 0} (t : ℕ) (x : Option (Running S)) (xs : List (Option (Running S))) (u : ℕ) (stack : S) →
     Found (t + 1) xs u stack → Found t (x ∷ xs) u stack
 found_later t x xs u stack found = let e = found.is_place in record { place = suc found.place; is_place = omega arith; is_here = found.is_here }
 
+-- the unsettled task is this one, or a later one
 found_by : {S : Type 0} (t : ℕ) (here : S) (offered : Option Action) (xs : List (Option (Running S))) (u : ℕ) (stack : S) →
     (unsettled_from (t + 1) xs ≡ Some (u, stack) → Found (t + 1) xs u stack) →
     unsettled_here t (Some (record { stack = here; offer = offered })) (unsettled_from (t + 1) xs) ≡ Some (u, stack) →
@@ -78,12 +84,14 @@ found_by t here None xs u stack later e =
     record { place = 0; is_place = sym (ap (λ p. p.0) same) ∙ sym (add-zero t); is_here = ap (λ p. Some (record { stack = p.1; offer = None })) same }
 found_by t here (Some action) xs u stack later e = found_later t (Some (record { stack = here; offer = Some action })) xs u stack (later e)
 
+-- the same of what is kept
 found_here : {S : Type 0} (t : ℕ) (x : Option (Running S)) (xs : List (Option (Running S))) (u : ℕ) (stack : S) →
     (unsettled_from (t + 1) xs ≡ Some (u, stack) → Found (t + 1) xs u stack) →
     unsettled_here t x (unsettled_from (t + 1) xs) ≡ Some (u, stack) → Found t (x ∷ xs) u stack
 found_here t None xs u stack later e = found_later t None xs u stack (later e)
 found_here t (Some running) xs u stack later e = found_by t running.stack running.offer xs u stack later e
 
+-- the unsettled task has a place
 found_from : {S : Type 0} (t : ℕ) (xs : List (Option (Running S))) (u : ℕ) (stack : S) → unsettled_from t xs ≡ Some (u, stack) → Found t xs u stack
 found_from t [] u stack e = absurd (none-some (u, stack) e)
 found_from t (x ∷ xs) u stack e = found_here t x xs u stack (λ h. found_from (t + 1) xs u stack h) e
@@ -104,7 +112,7 @@ unfolding machine_step
 step_silent engine m u stack e = ap (λ x. machine_step_by engine m x) e
 
 -- where nothing is unsettled a mark is made
-step_mark : {S : Type 0} (engine : Engine S) (m : Machine S) (coming : Option Coming) → unsettled m ≡ None → machine_next m ≡ coming →
+pub step_mark : {S : Type 0} (engine : Engine S) (m : Machine S) (coming : Option Coming) → unsettled m ≡ None → machine_next m ≡ coming →
     machine_step engine m ≡ machine_mark_by engine m coming
 unfolding machine_step
 step_mark engine m coming e next = ap (λ x. machine_step_by engine m x) e ∙ ap (λ x. machine_mark_by engine m x) next
@@ -114,29 +122,36 @@ pub step_source : (offer : Supplier) (s : Source) (coming : Option Coming) → s
 unfolding source_step
 step_source offer s coming next = ap (λ x. source_step_by offer s x) next
 
+-- an instruction is no mark
 pub marks_silent : {S : Type 0} (m : Machine S) (x : ℕ × S) → unsettled m ≡ Some x → marks_in_step m ≡ 0
 marks_silent m x e = ap (λ u. marks_by m u) e
 
+-- where nothing is unsettled the step is a mark, if one comes
 pub marks_mark : {S : Type 0} (m : Machine S) (coming : Option Coming) → unsettled m ≡ None → machine_next m ≡ coming → marks_in_step m ≡ count_if coming
 marks_mark m coming e next = ap (λ u. marks_by m u) e ∙ ap (λ c. count_if c) next
 
 module _ (offer : Supplier) (S : Type 0) (engine : Engine S) (Stands : ℕ → List Answer → S → Type 0) (alone : Alone offer engine Stands) where
+  -- one task on both sides
   abbrev pub BothHere : ℕ → Option (List Answer) → Option (Running S) → Type 0
   BothHere = Both (List Answer) (Running S) (Here engine Stands)
 
+  -- all tasks on both sides
   abbrev pub AllHere : List (Option (List Answer)) → List (Option (Running S)) → Type 0
   AllHere heard running = AllAt (List Answer) (Running S) (Here engine Stands) 0 heard running
 
+  -- a task's place
   pub at_place : (heard : List (Option (List Answer))) (running : List (Option (Running S))) → AllHere heard running → (t : ℕ) →
       BothHere t (kept_at heard t) (kept_at running t)
   at_place heard running all t =
       subst (λ u. BothHere u (kept_at heard t) (kept_at running t)) (zero-add t) (at_at (List Answer) (Running S) (Here engine Stands) 0 heard running all t)
 
+  -- a place that is written on both sides
   set_place : (heard : List (Option (List Answer))) (running : List (Option (Running S))) → AllHere heard running → (t : ℕ)
       (x : Option (List Answer)) (y : Option (Running S)) → BothHere t x y → AllHere (slice_set heard t x) (slice_set running t y)
   set_place heard running all t x y b =
       set_at (List Answer) (Running S) (Here engine Stands) 0 heard running all t x y (subst (λ u. BothHere u x y) (sym (zero-add t)) b)
 
+  -- a place where the code alone goes on
   set_code : (heard : List (Option (List Answer))) (running : List (Option (Running S))) → AllHere heard running → (t : ℕ)
       (y : Option (Running S)) → BothHere t (kept_at heard t) y → AllHere heard (slice_set running t y)
   set_code heard running all t y b =
@@ -183,6 +198,7 @@ module _ (offer : Supplier) (S : Type 0) (engine : Engine S) (Stands : ℕ → L
   begun u = record { stands = alone.begins u; offered = λ action h. absurd (none-some action h) }
 
   module _ (count : ℕ) where
+    -- the two go together
     abbrev pub Sim : Machine S → Source → Type 0
     Sim m s = Simulates engine Stands count m s
 
@@ -234,6 +250,7 @@ module _ (offer : Supplier) (S : Type 0) (engine : Engine S) (Stands : ℕ → L
         subst (λ d. Sim (machine_settled engine done.core (answered engine m.running t stack done.reply) rest)
         (source_settled d.core (heard_more s.heard t so_far d.reply) rest)) same after
 
+    -- one action on both sides
     sim_acts : (m : Machine S) (s : Source) → Sim m s → (t : ℕ) (rest : List Entry) (x : Option (List Answer)) (y : Option (Running S)) →
         BothHere t x y → Settled y → Sim (machine_acts engine m t rest y) (source_acts offer s t rest x)
     sim_acts m s sim t rest None None b settled = sim
@@ -249,6 +266,7 @@ module _ (offer : Supplier) (S : Type 0) (engine : Engine S) (Stands : ℕ → L
     sim_mark m s sim e (Acts t) rest =
         sim_acts m s sim t rest (kept_at s.heard t) (kept_at m.running t) (at_place s.heard m.running sim.all t) (settled_at 0 m.running e t)
 
+    -- the next mark on both sides, if one comes
     sim_coming : (m : Machine S) (s : Source) → Sim m s → unsettled m ≡ None → (coming : Option Coming) →
         Sim (machine_mark_by engine m coming) (source_step_by offer s coming)
     sim_coming m s sim e None = sim

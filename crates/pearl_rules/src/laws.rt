@@ -1,15 +1,14 @@
 // Laws of the rules: what holds of every core, every run and every code. Each function's contract is one theorem; none does anything.
 
-ghost use Rattle.std.specs.Prelude.{◌≡◌, ◌≢◌, ◌↔◌, ℕ, ◌++◌, List, Bool, false, Option, Some, None, length};
-ghost use Rattle.pearl_rules.specs.declared.action.Action.{Action};
+ghost use Rattle.std.specs.Prelude.{◌≡◌, ◌↔◌, ℕ, ◌+◌, ◌*◌, ◌++◌, List, false, Some, None, length};
 ghost use Rattle.pearl_rules.specs.declared.action.Answer.{Answer};
 ghost use Rattle.pearl_rules.specs.declared.entry.Entry.{Entry};
 ghost use Rattle.pearl_rules.specs.declared.setup.TaskEntry.{TaskEntry};
 ghost use Rattle.pearl_rules.specs.Core.{Core};
 ghost use Rattle.pearl_rules.specs.Pick.{Offered, is_eligible, pick, IsPicked, states};
-ghost use Rattle.pearl_rules.specs.Runs.{Supplier, Engine, source_run, source_next};
+ghost use Rattle.pearl_rules.specs.Runs.{Supplier, Engine, source_run, source_next, machine_run, marked};
 ghost use Rattle.pearl_rules.specs.Faithful.{IsFaithful, Alone, Soon};
-ghost use Rattle.pearl_rules.specs.Laws.{HasEnded, EndsAlike, Comes, with_more};
+ghost use Rattle.pearl_rules.specs.Laws.{HasEnded, EndsAlike, EndsSoon, Comes, IsBeforeEnd, with_more, machine_with_more};
 
 /// The task that acts next is the one that the rule of picking names, and there is none only where no task is eligible.
 pub fn picks_the_most_urgent()
@@ -54,6 +53,14 @@ pub fn ends_alike<S>()
         (es : List Entry) (n : ℕ) → HasEnded engine tasks es n → EndsAlike offer engine tasks es n }
 {}
 
+/// Under the same conditions the machine comes to its end where the source's run does: after the m marks that come, within
+/// m + 1 times the steps from one mark to the next.
+pub fn ends_soon<S: Code>()
+    ensures { (tasks : List TaskEntry) → Alone S.offer S.engine S.Stands → Soon S.engine S.Stands S.weight S.rows → (es : List Entry) (m : ℕ) →
+        Comes S.offer tasks es m → source_next S.offer (source_run S.offer tasks es m) ≡ None →
+        EndsSoon S.engine tasks es m ((m + 1) * (length tasks * S.rows + 1)) }
+{}
+
 /// A run of the source has one last state.
 pub fn ends_once()
     ensures { (offer : Supplier) (tasks : List TaskEntry) (es : List Entry) (m n : ℕ) →
@@ -65,4 +72,13 @@ pub fn ends_once()
 pub fn begins_alike()
     ensures { (offer : Supplier) (tasks : List TaskEntry) (es more : List Entry) (m : ℕ) → Comes offer tasks es m →
         source_run offer tasks (es ++ more) m ≡ with_more (source_run offer tasks es m) more }
+{}
+
+/// Until the machine is at its end over a journal's first entries, its run over the journal is the run over those, with the
+/// other entries still to come, and with the same count of marks.
+pub fn machine_begins_alike<S>()
+    ensures state { (engine : Engine S) (tasks : List TaskEntry) (es more : List Entry) (n : ℕ) → IsBeforeEnd engine tasks es n →
+        machine_run engine tasks (es ++ more) n ≡ machine_with_more (machine_run engine tasks es n) more }
+    ensures marks { (engine : Engine S) (tasks : List TaskEntry) (es more : List Entry) (n : ℕ) → IsBeforeEnd engine tasks es n →
+        marked engine tasks (es ++ more) n ≡ marked engine tasks es n }
 {}
