@@ -4,5 +4,6 @@
 pub mod action;
 pub mod entry;
 pub mod event;
+pub mod laws;
 pub mod row;
 pub mod setup;

@@ -1,0 +1,39 @@
+-- What the laws of runs say.
+use Rattle.std.specs.Prelude.{◌≡◌, ◌≢◌, ℕ, ◌<◌, ◌≤◌, List, ◌++◌, None}
+use Rattle.pearl_rules.specs.declared.entry.Entry.{Entry}
+use Rattle.pearl_rules.specs.declared.setup.TaskEntry.{TaskEntry}
+use Rattle.pearl_rules.specs.Runs.{Supplier, Source, Engine, Machine, source_run, source_next, source_offers, machine_run, machine_offers, machine_next, marked, unsettled, told_at_end}
+
+-- the machine's run is at its end after n steps: nothing is unsettled and no mark comes
+pub record HasEnded {S : Type 0} (engine : Engine S) (tasks : List TaskEntry) (es : List Entry) (n : ℕ) : Type 0 where
+  pub settled : unsettled (machine_run engine tasks es n) ≡ None
+  pub no_mark : machine_next (machine_run engine tasks es n) ≡ None
+
+-- it comes there within so many steps, of which m are marks
+pub record EndsSoon {S : Type 0} (engine : Engine S) (tasks : List TaskEntry) (es : List Entry) (m room : ℕ) : Type 0 where
+  pub at : ℕ
+  pub within : at ≤ room
+  pub made : marked engine tasks es at ≡ m
+  pub has_ended : HasEnded engine tasks es at
+
+-- where the machine's run is at its end, the source's is after the same marks, and both tell the same, at the same moment
+pub record EndsAlike (offer : Supplier) {S : Type 0} (engine : Engine S) (tasks : List TaskEntry) (es : List Entry) (n : ℕ) : Type 0 where
+  pub ended : source_next offer (source_run offer tasks es (marked engine tasks es n)) ≡ None
+  pub same_told : told_at_end (machine_run engine tasks es n).core (machine_offers (machine_run engine tasks es n))
+      ≡ told_at_end (source_run offer tasks es (marked engine tasks es n)).core (source_offers offer (source_run offer tasks es (marked engine tasks es n)))
+  pub same_moment : (machine_run engine tasks es n).core.moment ≡ (source_run offer tasks es (marked engine tasks es n)).core.moment
+
+-- each of the first m marks of the source's run comes
+abbrev pub Comes : Supplier → List TaskEntry → List Entry → ℕ → Type 0
+Comes offer tasks es m = (k : ℕ) → k < m → source_next offer (source_run offer tasks es k) ≢ None
+
+-- the same state with more entries to come
+abbrev pub with_more : Source → List Entry → Source
+with_more s more = record s { entries = s.entries ++ more }
+
+abbrev pub machine_with_more : {S : Type 0} → Machine S → List Entry → Machine S
+machine_with_more m more = record m { entries = m.entries ++ more }
+
+-- the machine's run isn't at its end before step n
+abbrev pub IsBeforeEnd : {S : Type 0} → Engine S → List TaskEntry → List Entry → ℕ → Type 0
+IsBeforeEnd engine tasks es n = (k : ℕ) → k < n → HasEnded engine tasks es k → ⊥

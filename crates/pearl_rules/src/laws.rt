@@ -1,0 +1,84 @@
+// Laws of the rules: what holds of every core, every run and every code. Each function's contract is one theorem; none does anything.
+
+ghost use Rattle.std.specs.Prelude.{◌≡◌, ◌↔◌, ℕ, ◌+◌, ◌*◌, ◌++◌, List, false, Some, None, length};
+ghost use Rattle.pearl_rules.specs.declared.action.Answer.{Answer};
+ghost use Rattle.pearl_rules.specs.declared.entry.Entry.{Entry};
+ghost use Rattle.pearl_rules.specs.declared.setup.TaskEntry.{TaskEntry};
+ghost use Rattle.pearl_rules.specs.Core.{Core};
+ghost use Rattle.pearl_rules.specs.Pick.{Offered, is_eligible, pick, IsPicked, states};
+ghost use Rattle.pearl_rules.specs.Runs.{Supplier, Engine, source_run, source_next, machine_run, marked};
+ghost use Rattle.pearl_rules.specs.Faithful.{IsFaithful, Alone, Soon};
+ghost use Rattle.pearl_rules.specs.Laws.{HasEnded, EndsAlike, EndsSoon, Comes, IsBeforeEnd, with_more, machine_with_more};
+
+/// The task that acts next is the one that the rule of picking names, and there is none only where no task is eligible.
+pub fn picks_the_most_urgent()
+    ensures picked { (core : Core) (offers : Offered) (t : ℕ) → (pick core offers ≡ Some t) ↔ IsPicked core offers t }
+    ensures none { (core : Core) (offers : Offered) → pick core offers ≡ None → (t : ℕ) → is_eligible core offers t ≡ false }
+{}
+
+/// Who acts next, and how the tasks stand, depends only on the tasks' rows, on who acted last and on what each task offers;
+/// the moment is shown beside it.
+pub fn picks_alike()
+    ensures pick { (core other : Core) (offers others : Offered) → core.tasks ≡ other.tasks → core.last ≡ other.last →
+        ((t : ℕ) → offers t ≡ others t) → pick core offers ≡ pick other others }
+    ensures states { (core other : Core) (offers others : Offered) → core.moment ≡ other.moment → core.tasks ≡ other.tasks →
+        core.last ≡ other.last → ((t : ℕ) → offers t ≡ others t) → states core offers ≡ states other others }
+{}
+
+/// Some code, with a relation that says where each task's code stands after its answers, and a weight that falls at each
+/// instruction that offers nothing. `Self` is a task's stack.
+pub trait Code {
+    ghost offer: { Supplier };
+
+    ghost engine: { Engine Self };
+
+    ghost Stands: { ℕ → List Answer → Self → Type 0 };
+
+    ghost weight: { ℕ → Self → ℕ };
+
+    ghost rows: { ℕ };
+}
+
+/// What holds of one task at a time is enough for a whole run: where each task's code stands where its answers lead, and
+/// offers its next action within a bound, the machine runs as the source's rules say, for any tasks and any journal.
+pub fn faithful_by_task<S: Code>()
+    ensures { (tasks : List TaskEntry) → Alone S.offer S.engine S.Stands → Soon S.engine S.Stands S.weight S.rows →
+        IsFaithful S.offer S.engine tasks (length tasks) S.rows }
+{}
+
+/// Where a faithful machine is at its end, so is the source's run after the same marks, and both tell the same at the same
+/// moment, down to how each task stands.
+pub fn ends_alike<S>()
+    ensures { (offer : Supplier) (engine : Engine S) (tasks : List TaskEntry) (count rows : ℕ) → IsFaithful offer engine tasks count rows →
+        (es : List Entry) (n : ℕ) → HasEnded engine tasks es n → EndsAlike offer engine tasks es n }
+{}
+
+/// Under the same conditions the machine comes to its end where the source's run does: after the m marks that come, within
+/// m + 1 times the steps from one mark to the next.
+pub fn ends_soon<S: Code>()
+    ensures { (tasks : List TaskEntry) → Alone S.offer S.engine S.Stands → Soon S.engine S.Stands S.weight S.rows → (es : List Entry) (m : ℕ) →
+        Comes S.offer tasks es m → source_next S.offer (source_run S.offer tasks es m) ≡ None →
+        EndsSoon S.engine tasks es m ((m + 1) * (length tasks * S.rows + 1)) }
+{}
+
+/// A run of the source has one last state.
+pub fn ends_once()
+    ensures { (offer : Supplier) (tasks : List TaskEntry) (es : List Entry) (m n : ℕ) →
+        source_next offer (source_run offer tasks es m) ≡ None → source_next offer (source_run offer tasks es n) ≡ None →
+        source_run offer tasks es m ≡ source_run offer tasks es n }
+{}
+
+/// For as long as marks come of a journal's first entries, its run is the run over those, with the other entries still to come.
+pub fn begins_alike()
+    ensures { (offer : Supplier) (tasks : List TaskEntry) (es more : List Entry) (m : ℕ) → Comes offer tasks es m →
+        source_run offer tasks (es ++ more) m ≡ with_more (source_run offer tasks es m) more }
+{}
+
+/// Until the machine is at its end over a journal's first entries, its run over the journal is the run over those, with the
+/// other entries still to come, and with the same count of marks.
+pub fn machine_begins_alike<S>()
+    ensures state { (engine : Engine S) (tasks : List TaskEntry) (es more : List Entry) (n : ℕ) → IsBeforeEnd engine tasks es n →
+        machine_run engine tasks (es ++ more) n ≡ machine_with_more (machine_run engine tasks es n) more }
+    ensures marks { (engine : Engine S) (tasks : List TaskEntry) (es more : List Entry) (n : ℕ) → IsBeforeEnd engine tasks es n →
+        marked engine tasks (es ++ more) n ≡ marked engine tasks es n }
+{}
