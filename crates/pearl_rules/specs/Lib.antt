@@ -4,3 +4,4 @@ pub mod Effect
 pub mod Runs
 pub mod Faithful
 pub mod Laws
+pub mod Tables

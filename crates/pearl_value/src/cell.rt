@@ -1,5 +1,7 @@
 // One value with its kind.
 
+ghost use Rattle.std.specs.Prelude.{◌≡◌};
+
 use crate::kind::Kind;
 use arrayvec::ArrayVec;
 
@@ -25,4 +27,27 @@ pub enum Cell {
     Span(i64),
     /// A reference to a variable of this kind.
     Ref { kind: Kind, place: Place },
+}
+
+/// The same value once more.
+pub fn copy_of(cell: &Cell) -> Cell
+    ensures { result ≡ cell.now }
+{
+    match cell {
+        Cell::Fixed { len, value } => Cell::Fixed {
+            len: *len,
+            value: *value,
+        },
+        Cell::Bits { len, value } => Cell::Bits {
+            len: *len,
+            value: *value,
+        },
+        Cell::Chars(text) => Cell::Chars(text.clone().unwrap()),
+        Cell::Clock(time) => Cell::Clock(*time),
+        Cell::Span(time) => Cell::Span(*time),
+        Cell::Ref { kind, place } => Cell::Ref {
+            kind: *kind,
+            place: *place,
+        },
+    }
 }

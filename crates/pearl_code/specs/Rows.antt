@@ -1,0 +1,64 @@
+-- What one instruction does to its task's stack, or which action it offers.
+use Rattle.std.specs.Prelude.{ℕ, ◌+◌, ◌-◌, List, [], ◌∷◌, ◌++◌, Option, Some, None, length, take, drop, slice_get}
+use Rattle.pearl_value.specs.declared.cell.Cell.{Cell}
+use Rattle.pearl_value.specs.declared.trap.Trap.TheVariants.{Format}
+use Rattle.pearl_format.specs.Items.{data_count}
+use Rattle.pearl_format.specs.Texts.{text_of}
+use Rattle.pearl_rules.specs.declared.action.Action.{Action}
+use Rattle.pearl_rules.specs.declared.action.Action.TheVariants as action
+use Rattle.pearl_rules.specs.declared.action.Answer.{Answer}
+use Rattle.pearl_rules.specs.Tables.{format_of}
+use Rattle.pearl_rules.specs.Runs.{Stepped, Silent, Offers, Engine}
+use Rattle.pearl_code.specs.declared.instr.Instr.{Instr}
+use Rattle.pearl_code.specs.declared.instr.Instr.TheVariants.{Const, Put, End}
+use Rattle.pearl_code.specs.declared.object.Code.{Code}
+use Rattle.pearl_code.specs.declared.object.Object.{Object}
+
+-- a task's stack: the number of its next instruction, and its operands, the top one last
+pub record Stack : Type 0 where
+  pub place : ℕ
+  pub operands : List Cell
+
+-- the top n operands in the order in which they were pushed, and those below them
+abbrev pub top : ℕ → List Cell → List Cell
+top n operands = drop (length operands - n) operands
+
+abbrev pub below : ℕ → List Cell → List Cell
+below n operands = take (length operands - n) operands
+
+abbrev pub put_action : ℕ → Option (List ℕ) → Action
+put_action device None = action.Trap Format
+put_action device (Some text) = action.Put device (record { items = text })
+
+-- one row for each instruction; where there is none the task ends
+abbrev pub row : Object → Option Instr → Stack → Stepped Stack
+row o None stack = Offers action.End
+row o (Some (Const x)) stack = Silent (record { place = stack.place + 1; operands = stack.operands ++ x.value ∷ [] })
+row o (Some (Put device format)) stack =
+    let items = format_of o.setup format in Offers (put_action device (text_of items (top (data_count items) stack.operands)))
+row o (Some End) stack = Offers action.End
+
+-- the stack with which the task goes on after its action's answer
+abbrev pub row_after : Object → Option Instr → Stack → Answer → Stack
+row_after o (Some (Put device format)) stack answer =
+    record { place = stack.place + 1; operands = below (data_count (format_of o.setup format)) stack.operands }
+row_after o instr stack answer = stack
+
+abbrev pub instructions_or_none : Option Code → List Instr
+instructions_or_none None = []
+instructions_or_none (Some code) = code.instructions
+
+-- the instructions of a task
+abbrev pub code_of : Object → ℕ → List Instr
+code_of o t = instructions_or_none (slice_get o.tasks t)
+
+abbrev pub fetched : Object → ℕ → Stack → Option Instr
+fetched o t stack = slice_get (code_of o t) stack.place
+
+-- how an object's code runs
+abbrev pub engine : Object → Engine Stack
+engine o = record {
+  begin = λ t. record { place = 0; operands = [] };
+  step = λ t stack. row o (fetched o t stack) stack;
+  answer = λ t stack answer. row_after o (fetched o t stack) stack answer;
+}

@@ -1,0 +1,52 @@
+-- Which objects are valid: no operand is missing or of another kind, no number names nothing, the stated depth isn't passed.
+use Rattle.std.specs.Prelude.{◌≡◌, ℕ, ◌<◌, ◌≤◌, List, [], ◌∷◌, ◌++◌, Option, Some, None, length}
+use Rattle.std.specs.List.{AllByRecursion}
+use Rattle.pearl_value.specs.declared.kind.Kind.{Kind}
+use Rattle.pearl_value.specs.Cells.{kind_of, IsCell}
+use Rattle.pearl_format.specs.Items.{Suits, width_sum}
+use Rattle.pearl_rules.specs.declared.setup.Setup.{Setup}
+use Rattle.pearl_rules.specs.Tables.{IsSetup, TakesTexts, format_of}
+use Rattle.pearl_code.specs.declared.instr.Instr.{Instr}
+use Rattle.pearl_code.specs.declared.instr.Instr.TheVariants.{Const, Put, End}
+use Rattle.pearl_code.specs.declared.object.Code.{Code}
+use Rattle.pearl_code.specs.declared.object.Object.{Object}
+
+-- A shape is the list of the kinds of the operands, the top one last. None: no instruction goes on to this place.
+abbrev pub Shape : Type 0
+Shape = Option (List Kind)
+
+-- the shape before an instruction; it is empty where nothing goes on to it
+abbrev pub kinds_of : Shape → List Kind
+kinds_of None = []
+kinds_of (Some kinds) = kinds
+
+-- PUT names a terminal that takes texts and a format whose items suit the kinds on top of those in `left`
+pub record FitsPut (setup : Setup) (device format : ℕ) (kinds left : List Kind) : Type 0 where
+  pub takes : TakesTexts setup device
+  pub named : format < length setup.formats
+  pub values : List Kind
+  pub stacked : kinds ≡ left ++ values
+  pub suits : Suits (format_of setup format) values
+  pub few : length values ≤ 64
+  pub short : width_sum (format_of setup format) ≤ 1024
+
+-- The instructions, from the first one on that has this shape before it, keep the rules: each takes from the stack what is there,
+-- the stack stays within the depth, END comes with an empty stack, and the last instruction doesn't go on.
+abbrev pub RunsFrom : Setup → ℕ → Shape → List Instr → Type 0
+RunsFrom setup depth shape [] = shape ≡ None
+RunsFrom setup depth shape (Const x ∷ rest) =
+    IsCell x.value × (length (kinds_of shape) < depth) × RunsFrom setup depth (Some (kinds_of shape ++ kind_of x.value ∷ [])) rest
+RunsFrom setup depth shape (Put device format ∷ rest) =
+    (left : List Kind) × FitsPut setup device format (kinds_of shape) left × RunsFrom setup depth (Some left) rest
+RunsFrom setup depth shape (End ∷ rest) = (kinds_of shape ≡ []) × RunsFrom setup depth None rest
+
+-- a routine starts with an empty stack, and states a depth of at most 4,096
+pub record IsCode (setup : Setup) (code : Code) : Type 0 where
+  pub bounded : code.depth ≤ 4096
+  pub runs : RunsFrom setup code.depth (Some []) code.instructions
+
+-- each task has one routine
+pub record IsValid (o : Object) : Type 0 where
+  pub setup : IsSetup o.setup
+  pub codes : AllByRecursion (IsCode o.setup) o.tasks
+  pub each : length o.tasks ≡ length o.setup.tasks

@@ -1,0 +1,4 @@
+pub mod Store
+pub mod Expressions
+pub mod Statements
+pub mod Meaning

@@ -1,0 +1,2 @@
+// What a program means: the source's task rules. All of it stands in specs/.
+#![tactic(auto)]

@@ -1,0 +1,43 @@
+// A program that is sound.
+
+ghost use Rattle.std.specs.Prelude.{◌≡◌};
+ghost use Rattle.pearl_prog.specs.Sound.{IsSound};
+
+use crate::program::Program;
+use std::marker::Model;
+
+/// A resolved program that keeps the rules of a program: every number in it names a thing of the needed sort, and
+/// every size is in its range.
+#[derive(Drop)]
+pub struct Prog {
+    parts: Program,
+}
+
+impl Model for Prog {
+    ghost use Rattle.pearl_prog.specs.declared.program.Program.{Program};
+    ghost use Rattle.pearl_prog.specs.Sound.{IsSound};
+
+    ghost Value = { Program };
+
+    ghost view = { λ p. p.parts };
+
+    ghost invariant = { λ p. IsSound p.parts };
+}
+
+impl Prog {
+    /// The program of these parts.
+    pub fn new(parts: Program) -> Prog
+        requires { IsSound parts }
+        ensures { result ≡ parts }
+    {
+        Prog { parts }
+    }
+
+    /// The program's parts.
+    pub fn parts(&self) -> &Program
+        ensures value { result.now ≡ self.now }
+        ensures sound { IsSound result.now }
+    {
+        &self.parts
+    }
+}
