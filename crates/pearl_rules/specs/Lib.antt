@@ -3,5 +3,5 @@ pub mod Pick
 pub mod Effect
 pub mod Runs
 pub mod Faithful
-pub mod Tables
 pub mod Laws
+pub mod Tables
