@@ -1,2 +1,4 @@
 pub mod Items
 pub mod Texts
+pub mod Parts
+pub mod Bytes

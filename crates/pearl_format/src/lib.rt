@@ -2,3 +2,6 @@
 #![tactic(auto)]
 
 pub mod item;
+pub mod put;
+#[cfg(test)]
+mod tests;
