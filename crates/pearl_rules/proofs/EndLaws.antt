@@ -47,7 +47,7 @@ stays offer s m e (suc k) =
     ap (λ j. source_after offer s j) (add-suc m k) ∙ ap (λ x. source_step offer x) before ∙ stays_one offer (source_after offer s m) e
 
 -- the same for any later number of marks
-stays_to : (offer : Supplier) (s : Source) (m n : ℕ) → m ≤ n → source_next offer (source_after offer s m) ≡ None →
+pub stays_to : (offer : Supplier) (s : Source) (m n : ℕ) → m ≤ n → source_next offer (source_after offer s m) ≡ None →
     source_after offer s n ≡ source_after offer s m
 stays_to offer s m n h e =
     let same : n ≡ m + (n - m) = omega arith in

@@ -5,3 +5,4 @@ pub mod Simulation
 pub mod Settling
 pub mod Faithful
 pub mod EndLaws
+pub mod RunLaws

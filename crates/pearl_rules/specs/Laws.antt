@@ -2,6 +2,7 @@
 use Rattle.std.specs.Prelude.{◌≡◌, ◌≢◌, ℕ, ◌<◌, ◌≤◌, List, ◌++◌, None}
 use Rattle.pearl_rules.specs.declared.entry.Entry.{Entry}
 use Rattle.pearl_rules.specs.declared.setup.TaskEntry.{TaskEntry}
+use Rattle.pearl_rules.specs.Core.{Said}
 use Rattle.pearl_rules.specs.Runs.{Supplier, Source, Engine, Machine, source_run, source_next, source_offers, machine_run, machine_offers, machine_next, marked, unsettled, told_at_end}
 
 -- the machine's run is at its end after n steps: nothing is unsettled and no mark comes
@@ -22,6 +23,13 @@ pub record EndsAlike (offer : Supplier) {S : Type 0} (engine : Engine S) (tasks 
   pub same_told : told_at_end (machine_run engine tasks es n).core (machine_offers (machine_run engine tasks es n))
       ≡ told_at_end (source_run offer tasks es (marked engine tasks es n)).core (source_offers offer (source_run offer tasks es (marked engine tasks es n)))
   pub same_moment : (machine_run engine tasks es n).core.moment ≡ (source_run offer tasks es (marked engine tasks es n)).core.moment
+
+-- the source's run comes to an end, and there all that was told after m marks has been told, with what came later after it
+pub record EndsTelling (offer : Supplier) (tasks : List TaskEntry) (es : List Entry) (m : ℕ) : Type 0 where
+  pub last : ℕ
+  pub no_mark : source_next offer (source_run offer tasks es last) ≡ None
+  pub more : List (ℕ × Said)
+  pub told : (source_run offer tasks es last).core.told ≡ (source_run offer tasks es m).core.told ++ more
 
 -- each of the first m marks of the source's run comes
 abbrev pub Comes : Supplier → List TaskEntry → List Entry → ℕ → Type 0

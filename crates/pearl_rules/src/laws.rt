@@ -4,11 +4,11 @@ ghost use Rattle.std.specs.Prelude.{◌≡◌, ◌↔◌, ℕ, ◌+◌, ◌*◌,
 ghost use Rattle.pearl_rules.specs.declared.action.Answer.{Answer};
 ghost use Rattle.pearl_rules.specs.declared.entry.Entry.{Entry};
 ghost use Rattle.pearl_rules.specs.declared.setup.TaskEntry.{TaskEntry};
-ghost use Rattle.pearl_rules.specs.Core.{Core};
+ghost use Rattle.pearl_rules.specs.Core.{Core, Said, first_events};
 ghost use Rattle.pearl_rules.specs.Pick.{Offered, is_eligible, pick, IsPicked, states};
 ghost use Rattle.pearl_rules.specs.Runs.{Supplier, Engine, source_run, source_next, machine_run, marked};
 ghost use Rattle.pearl_rules.specs.Faithful.{IsFaithful, Alone, Soon};
-ghost use Rattle.pearl_rules.specs.Laws.{HasEnded, EndsAlike, EndsSoon, Comes, IsBeforeEnd, with_more, machine_with_more};
+ghost use Rattle.pearl_rules.specs.Laws.{HasEnded, EndsAlike, EndsSoon, EndsTelling, Comes, IsBeforeEnd, with_more, machine_with_more};
 
 /// The task that acts next is the one that the rule of picking names, and there is none only where no task is eligible.
 pub fn picks_the_most_urgent()
@@ -66,6 +66,31 @@ pub fn ends_once()
     ensures { (offer : Supplier) (tasks : List TaskEntry) (es : List Entry) (m n : ℕ) →
         source_next offer (source_run offer tasks es m) ≡ None → source_next offer (source_run offer tasks es n) ≡ None →
         source_run offer tasks es m ≡ source_run offer tasks es n }
+{}
+
+/// Every run of the source over a journal's entries comes to an end: after so many marks none comes any more.
+pub fn always_ends()
+    ensures { (offer : Supplier) (tasks : List TaskEntry) (es : List Entry) → (m : ℕ) × (source_next offer (source_run offer tasks es m) ≡ None) }
+{}
+
+/// What was told stays: later marks only tell more after it.
+pub fn tells_more()
+    ensures { (offer : Supplier) (tasks : List TaskEntry) (es : List Entry) (m k : ℕ) →
+        (more : List (ℕ × Said)) × ((source_run offer tasks es (m + k)).core.told ≡ (source_run offer tasks es m).core.told ++ more) }
+{}
+
+/// A run comes to an end at which all that was told after any number of marks stands first.
+pub fn last_tells()
+    ensures { (offer : Supplier) (tasks : List TaskEntry) (es : List Entry) (m : ℕ) → EndsTelling offer tasks es m }
+{}
+
+/// At its start a run has told the starts of the MAIN tasks, in order of declaration, and nothing else; and whatever it has
+/// told later begins with those.
+pub fn opens_with()
+    ensures at_start { (offer : Supplier) (tasks : List TaskEntry) (es : List Entry) →
+        (source_run offer tasks es 0).core.told ≡ first_events 0 tasks }
+    ensures later { (offer : Supplier) (tasks : List TaskEntry) (es : List Entry) (m : ℕ) →
+        (more : List (ℕ × Said)) × ((source_run offer tasks es m).core.told ≡ first_events 0 tasks ++ more) }
 {}
 
 /// For as long as marks come of a journal's first entries, its run is the run over those, with the other entries still to come.
