@@ -1,7 +1,6 @@
 // What PUT writes by a list of items.
 
-ghost use Rattle.std.specs.Prelude.{◌≡◌, ◌+◌, ◌≤◌, ◌++◌, [], All, IfErr, IfOk, Option, OnOk, Some, None, length, map, replicate};
-ghost use Rattle.std.specs.Fmt.{signed_decimal};
+ghost use Rattle.std.specs.Prelude.{◌≡◌, ◌+◌, ◌≤◌, ◌++◌, [], All, IfErr, IfOk, OnOk, Some, None, length, map, replicate};
 ghost use Rattle.pearl_value.specs.Cells.{kind_of};
 ghost use Rattle.pearl_format.specs.Bytes.{IsTextByte};
 ghost use Rattle.pearl_format.specs.Items.{Suits, data_here, skip_count, width_of, width_sum};
@@ -19,7 +18,8 @@ pub fn put_text(items: &[Item], values: &[Cell], into: &mut ArrayVec<u8, 1024>) 
     requires suits { Suits items.now (map kind_of values.now) }
     requires short { width_sum items.now ≤ 1024 }
     ensures ok { OnOk result (text_of items.now values.now ≡ Some into.new.items) }
-    ensures err { IfErr result (λ trap. (trap ≡ Trap.Format) × (text_of items.now values.now ≡ None) × (into.new.items ≡ [])) }
+    ensures err { IfErr result (λ trap.
+        (trap ≡ Trap.Format) × (text_of items.now values.now ≡ None) × (into.new.items ≡ [])) }
     ensures fits { length into.new.items ≤ width_sum items.now }
     ensures printable { All IsTextByte into.new.items }
 {
@@ -36,8 +36,10 @@ pub fn put_text(items: &[Item], values: &[Cell], into: &mut ArrayVec<u8, 1024>) 
 // Appends the text of the items.
 fn put_items(items: &[Item], values: &[Cell], into: &mut ArrayVec<u8, 1024>) -> Result<(), Trap>
     requires { length into.old.items + width_sum items.now ≤ 1024 }
-    ensures ok { OnOk result (joined_text (Some into.old.items) (text_of items.now values.now) ≡ Some into.new.items) }
-    ensures err { IfErr result (λ trap. (trap ≡ Trap.Format) × (text_of items.now values.now ≡ None)) }
+    ensures ok { OnOk result
+        (joined_text (Some into.old.items) (text_of items.now values.now) ≡ Some into.new.items) }
+    ensures err { IfErr result (λ trap.
+        (trap ≡ Trap.Format) × (text_of items.now values.now ≡ None)) }
 {
     let mut rest = values;
     for item in items {
@@ -50,9 +52,13 @@ fn put_items(items: &[Item], values: &[Cell], into: &mut ArrayVec<u8, 1024>) -> 
 // Appends the text of one item, and says how many of the values it took.
 fn put_item(item: &Item, values: &[Cell], into: &mut ArrayVec<u8, 1024>) -> Result<usize, Trap>
     requires { length into.old.items + width_of item.now.code item.now.width ≤ 1024 }
-    ensures taken { IfOk result (λ taken. (taken ≡ data_here item.now.code) × (taken ≤ length values.now)) }
-    ensures ok { OnOk result (joined_text (Some into.old.items) (own_text item.now.code item.now.width values.now) ≡ Some into.new.items) }
-    ensures err { IfErr result (λ trap. (trap ≡ Trap.Format) × (own_text item.now.code item.now.width values.now ≡ None)) }
+    ensures taken { IfOk result (λ taken.
+        (taken ≡ data_here item.now.code) × (taken ≤ length values.now)) }
+    ensures ok { OnOk result
+        (let text = own_text item.now.code item.now.width values.now in
+        joined_text (Some into.old.items) text ≡ Some into.new.items) }
+    ensures err { IfErr result (λ trap.
+        (trap ≡ Trap.Format) × (own_text item.now.code item.now.width values.now ≡ None)) }
 {
     match item.code {
         ItemCode::F => put_fixed(item.width, values, into),
@@ -67,8 +73,10 @@ fn put_item(item: &Item, values: &[Cell], into: &mut ArrayVec<u8, 1024>) -> Resu
 fn put_fixed(width: u8, values: &[Cell], into: &mut ArrayVec<u8, 1024>) -> Result<usize, Trap>
     requires { length into.old.items + width ≤ 1024 }
     ensures taken { IfOk result (λ taken. (taken ≡ 1) × (taken ≤ length values.now)) }
-    ensures ok { OnOk result (joined_text (Some into.old.items) (own_text ItemCode.F width values.now) ≡ Some into.new.items) }
-    ensures err { IfErr result (λ trap. (trap ≡ Trap.Format) × (own_text ItemCode.F width values.now ≡ None)) }
+    ensures ok { OnOk result (let text = own_text ItemCode.F width values.now in
+        joined_text (Some into.old.items) text ≡ Some into.new.items) }
+    ensures err { IfErr result (λ trap.
+        (trap ≡ Trap.Format) × (own_text ItemCode.F width values.now ≡ None)) }
 {
     match values.first() {
         Some(Cell::Fixed { value, .. }) => {
@@ -76,6 +84,7 @@ fn put_fixed(width: u8, values: &[Cell], into: &mut ArrayVec<u8, 1024>) -> Resul
             put_right(width, buffer.format(*value).as_bytes(), into)?;
             Ok(1)
         }
+        // A value of another kind has no text by F; no list of items that suit takes one.
         _ => Err(Trap::Format),
     }
 }
@@ -92,8 +101,10 @@ fn put_line_ends(width: u8, into: &mut ArrayVec<u8, 1024>)
 // A text with blanks on its left.
 fn put_right(width: u8, text: &[u8], into: &mut ArrayVec<u8, 1024>) -> Result<(), Trap>
     requires { length into.old.items + width ≤ 1024 }
-    ensures ok { OnOk result (joined_text (Some into.old.items) (right_field width text.now) ≡ Some into.new.items) }
-    ensures err { IfErr result (λ trap. (trap ≡ Trap.Format) × (right_field width text.now ≡ None)) }
+    ensures ok { OnOk result
+        (joined_text (Some into.old.items) (right_field width text.now) ≡ Some into.new.items) }
+    ensures err { IfErr result (λ trap.
+        (trap ≡ Trap.Format) × (right_field width text.now ≡ None)) }
 {
     let width = width as usize;
     if text.len() > width {
@@ -114,6 +125,7 @@ fn push_copies(count: usize, byte: u8, into: &mut ArrayVec<u8, 1024>)
     }
 }
 
+// All of a text.
 fn push_all(text: &[u8], into: &mut ArrayVec<u8, 1024>)
     requires { length into.old.items + length text.now ≤ 1024 }
     ensures { into.new.items ≡ into.old.items ++ text.now }

@@ -1,0 +1,8 @@
+// The lines that are written: those of a transcript, and those that tell why nothing more was done.
+#![tactic(auto)]
+
+mod piece;
+pub mod refusal;
+#[cfg(test)]
+mod tests;
+pub mod transcript;

@@ -1,0 +1,61 @@
+// The lines that tell why nothing more was done.
+
+ghost use Rattle.std.specs.Prelude.{◌≡◌, ◌+◌, ◌≤◌, ◌++◌, codes, length};
+ghost use Rattle.std.specs.Fmt.{decimal};
+ghost use Rattle.pearl_script.specs.Refusals.{refusal_line};
+
+use crate::piece::{push_bytes, push_number};
+use arrayvec::ArrayVec;
+
+/// Why nothing more was done.
+#[derive(Clone, Copy, PartialEq, Eq, Debug)]
+pub enum Refusal {
+    /// The words are no command.
+    Usage,
+    /// At this byte the source is no program.
+    Syntax(u32),
+    /// At this byte a rule of this number is broken.
+    Source { place: u32, rule: u8 },
+    /// A journal's line, the first being 1, is refused for the reason with this number.
+    Journal { line: u64, code: u8 },
+    /// A file could not be read.
+    Read,
+    /// There is no memory left.
+    Memory,
+    /// A file has at least so many bytes, which is too many.
+    TooLong(u64),
+}
+
+/// Makes `into` the line of a refusal, whatever it held before.
+pub fn refusal_line(refusal: &Refusal, into: &mut ArrayVec<u8, 2304>)
+    ensures { into.new.items ≡ refusal_line refusal.now }
+{
+    into.clear();
+    match *refusal {
+        Refusal::Usage => push_bytes(b"error usage\n", into),
+        Refusal::Syntax(place) => push_told(b"error syntax ", u64::from(place), into),
+        Refusal::Source { place, rule } => {
+            push_bytes(b"error source ", into);
+            push_number(u64::from(place), into);
+            push_told(b" S", u64::from(rule), into);
+        }
+        Refusal::Journal { line, code } => {
+            push_bytes(b"error journal ", into);
+            push_number(line, into);
+            push_told(b" ", u64::from(code), into);
+        }
+        Refusal::Read => push_bytes(b"error read\n", into),
+        Refusal::Memory => push_bytes(b"error memory\n", into),
+        Refusal::TooLong(count) => push_told(b"error too long ", count, into),
+    }
+}
+
+// Appends a word, a number and the line end.
+fn push_told(word: &[u8], number: u64, into: &mut ArrayVec<u8, 2304>)
+    requires { length into.old.items + length word.now + 21 ≤ 2304 }
+    ensures { into.new.items ≡ into.old.items ++ word.now ++ decimal number ++ codes "\n" }
+{
+    push_bytes(word, into);
+    push_number(number, into);
+    push_bytes(b"\n", into);
+}

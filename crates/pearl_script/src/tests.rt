@@ -1,0 +1,136 @@
+// Lines by hand.
+
+ghost use Rattle.std.specs.Prelude.{◌≡◌, IfOk, length};
+ghost use Rattle.pearl_script.specs.Lines.{IsEventOf};
+
+use crate::refusal::{Refusal, refusal_line};
+use crate::transcript::{close_line, event_line, state_line};
+use arrayvec::ArrayVec;
+use pearl_rules::event::{Event, Shown};
+use pearl_rules::setup::{Device, Direction, Setup, TaskEntry};
+use pearl_value::listing::Listing;
+use pearl_value::trap::Trap;
+use std::alloc::{AllocError, Global};
+use std::test::Fail;
+
+fn task(name: &[u8]) -> TaskEntry {
+    let mut entry = TaskEntry {
+        name: ArrayVec::new(),
+        priority: 9,
+        main: false,
+    };
+    let _ = entry.name.try_extend_from_slice(name);
+    entry
+}
+
+// Two tasks, and two devices with other numbers than their places.
+fn two_of_each(alloc: Global) -> Result<Setup, AllocError>
+    ensures { IfOk result (λ setup. (length setup.tasks ≡ 2) × (length setup.devices ≡ 2)) }
+{
+    let tasks = vec![in alloc; task(b"PUMP"), task(b"VALVE")]?;
+    let devices = vec![in alloc;
+        Device::Interrupt { number: 7 },
+        Device::Terminal {
+            number: 12,
+            direction: Direction::Out
+        },
+    ]?;
+    Ok(Setup {
+        tasks: Listing::new(tasks),
+        devices: Listing::new(devices),
+        formats: Listing::new(Vec::new(alloc)),
+    })
+}
+
+fn line_of(moment: u64, event: &Event, setup: &Setup) -> ArrayVec<u8, 2304>
+    requires { IsEventOf setup.now event.now }
+{
+    let mut line = ArrayVec::new();
+    line.push(b'x');
+    event_line(moment, event, setup, &mut line);
+    line
+}
+
+#[test]
+fn events(rt: HostRuntime) -> Result<(), Fail> {
+    let setup = two_of_each(rt.alloc())?;
+    let start = Event::Start {
+        task: 1,
+        priority: 20,
+    };
+    let line = line_of(0, &start, &setup);
+    assert_eq!(rt; line.as_slice(), b"0 start VALVE 20\n".as_slice());
+    let line = line_of(15, &Event::End(0), &setup);
+    assert_eq!(rt; line.as_slice(), b"15 end PUMP\n".as_slice());
+    let mut text = ArrayVec::new();
+    let _ = text.try_extend_from_slice(b"it's\n\\ 5");
+    let line = line_of(u64::MAX, &Event::Out { device: 1, text }, &setup);
+    assert_eq!(rt;
+        line.as_slice(),
+        b"18446744073709551615 out 12 'it''s\\n\\\\ 5'\n".as_slice()
+    );
+    Ok(())
+}
+
+#[test]
+fn traps(rt: HostRuntime) -> Result<(), Fail> {
+    let setup = two_of_each(rt.alloc())?;
+    let table: [(Trap, &[u8]); 6] = [
+        (Trap::Overflow, b"3 trap PUMP Overflow\n"),
+        (Trap::ZeroDivide, b"3 trap PUMP ZeroDivide\n"),
+        (Trap::Index, b"3 trap PUMP Index\n"),
+        (Trap::Range, b"3 trap PUMP Range\n"),
+        (Trap::Format, b"3 trap PUMP Format\n"),
+        (Trap::SemaLimit, b"3 trap PUMP SemaLimit\n"),
+    ];
+    for (trap, want) in table {
+        let line = line_of(3, &Event::Trap { task: 0, trap }, &setup);
+        assert_eq!(rt; line.as_slice(), want);
+    }
+    Ok(())
+}
+
+#[test]
+fn states(rt: HostRuntime) {
+    let table: [(Shown, &[u8]); 5] = [
+        (Shown::Dormant, b"100 state PUMP dormant\n"),
+        (Shown::Suspended(1), b"100 state PUMP suspended 1\n"),
+        (Shown::Blocked(255), b"100 state PUMP blocked 255\n"),
+        (Shown::Running(10), b"100 state PUMP running 10\n"),
+        (Shown::Runnable(10), b"100 state PUMP runnable 10\n"),
+    ];
+    let mut line = ArrayVec::new();
+    for (shown, want) in table {
+        state_line(100, b"PUMP", &shown, &mut line);
+        assert_eq!(rt; line.as_slice(), want);
+    }
+    close_line(86400000, &mut line);
+    assert_eq!(rt; line.as_slice(), b"86400000 close\n".as_slice());
+}
+
+#[test]
+fn refusals(rt: HostRuntime) {
+    let table: [(Refusal, &[u8]); 7] = [
+        (Refusal::Usage, b"error usage\n"),
+        (Refusal::Syntax(0), b"error syntax 0\n"),
+        (
+            Refusal::Source {
+                place: 120,
+                rule: 9,
+            },
+            b"error source 120 S9\n",
+        ),
+        (
+            Refusal::Journal { line: 4, code: 1 },
+            b"error journal 4 1\n",
+        ),
+        (Refusal::Read, b"error read\n"),
+        (Refusal::Memory, b"error memory\n"),
+        (Refusal::TooLong(1_048_577), b"error too long 1048577\n"),
+    ];
+    let mut line = ArrayVec::new();
+    for (refusal, want) in table {
+        refusal_line(&refusal, &mut line);
+        assert_eq!(rt; line.as_slice(), want);
+    }
+}
