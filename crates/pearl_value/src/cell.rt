@@ -51,3 +51,20 @@ pub fn copy_of(cell: &Cell) -> Cell
         },
     }
 }
+
+#[cfg(test)]
+mod tests {
+    use super::*;
+
+    #[test]
+    fn a_copy_is_the_same_value(rt: HostRuntime) {
+        let cell = Cell::Fixed { len: 31, value: -7 };
+        match copy_of(&cell) {
+            Cell::Fixed { len, value } => {
+                assert_eq!(rt; len, 31);
+                assert_eq!(rt; value, -7);
+            }
+            _ => assert!(rt; false, "another kind"),
+        }
+    }
+}
