@@ -1,0 +1,6 @@
+pub mod Zips
+pub mod Fitting
+pub mod Point
+pub mod Standing
+pub mod Valid
+pub mod Whole
