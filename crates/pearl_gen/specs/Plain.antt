@@ -23,6 +23,10 @@ plain_of (instr.Const x) = Const x.value
 plain_of (instr.Put device format) = Put device format
 plain_of instr.End = End
 
+-- the new instructions are the old ones with these after them
+abbrev pub Appends : List Instr → List Instr → List Plain → Type 0
+Appends old new more = map plain_of new ≡ map plain_of old ++ more
+
 abbrev pub value_of : Expr → Cell
 value_of (Number len value) = Fixed len value
 

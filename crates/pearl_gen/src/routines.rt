@@ -1,8 +1,8 @@
 // The code of the tasks' bodies.
 
-ghost use Rattle.std.specs.Prelude.{◌≡◌, ◌≤◌, [], ◌∷◌, ◌++◌, map, IfOk, OnOk};
+ghost use Rattle.std.specs.Prelude.{◌≡◌, ◌≤◌, [], ◌∷◌, map, IfOk, OnOk};
 ghost use Rattle.std.specs.List.{AllByRecursion, AllZip, flat_map};
-ghost use Rattle.pearl_gen.specs.Plain.{plain_of, push_of, statement_code, value_count as count_of, most_values, IsWithin, IsShort, IsCodeOf};
+ghost use Rattle.pearl_gen.specs.Plain.{Appends, push_of, statement_code, value_count as count_of, most_values, IsWithin, IsShort, IsCodeOf};
 
 use pearl_code::instr::Instr;
 use pearl_code::object::Code;
@@ -63,7 +63,7 @@ fn emit_statements(
     code: &mut Vec<Instr>,
     statements: &[Statement],
 ) -> Result<(), NoMemory>
-    ensures { OnOk result (map plain_of code.new.items ≡ map plain_of code.old.items ++ flat_map statement_code statements.now) }
+    ensures { OnOk result (Appends code.old.items code.new.items (flat_map statement_code statements.now)) }
 {
     for statement in statements {
         emit_statement(alloc, code, statement)?;
@@ -76,7 +76,7 @@ fn emit_statement(
     code: &mut Vec<Instr>,
     statement: &Statement,
 ) -> Result<(), NoMemory>
-    ensures { OnOk result (map plain_of code.new.items ≡ map plain_of code.old.items ++ statement_code statement.now) }
+    ensures { OnOk result (Appends code.old.items code.new.items (statement_code statement.now)) }
 {
     match statement {
         Statement::Put {
@@ -95,7 +95,7 @@ fn emit_statement(
 }
 
 fn emit_values(alloc: Global, code: &mut Vec<Instr>, values: &[Expr]) -> Result<(), NoMemory>
-    ensures { OnOk result (map plain_of code.new.items ≡ map plain_of code.old.items ++ map push_of values.now) }
+    ensures { OnOk result (Appends code.old.items code.new.items (map push_of values.now)) }
 {
     for value in values {
         emit_value(alloc, code, value)?;
@@ -104,7 +104,7 @@ fn emit_values(alloc: Global, code: &mut Vec<Instr>, values: &[Expr]) -> Result<
 }
 
 fn emit_value(alloc: Global, code: &mut Vec<Instr>, value: &Expr) -> Result<(), NoMemory>
-    ensures { OnOk result (map plain_of code.new.items ≡ map plain_of code.old.items ++ push_of value.now ∷ []) }
+    ensures { OnOk result (Appends code.old.items code.new.items (push_of value.now ∷ [])) }
 {
     match value {
         Expr::Number { len, value } => {
