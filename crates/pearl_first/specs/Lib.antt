@@ -1,0 +1,5 @@
+pub mod Words
+pub mod Spelling
+pub mod Lexes
+pub mod Outcome
+pub mod Grammar

@@ -1,0 +1,9 @@
+// The first language, from the bytes of a source to its resolved program.
+#![tactic(auto)]
+
+pub mod fault;
+mod lexer;
+mod spelling;
+pub mod token;
+pub mod tree;
+pub mod word;
