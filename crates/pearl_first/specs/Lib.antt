@@ -3,3 +3,4 @@ pub mod Spelling
 pub mod Lexes
 pub mod Outcome
 pub mod Grammar
+pub mod Forms

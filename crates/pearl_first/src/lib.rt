@@ -2,7 +2,9 @@
 #![tactic(auto)]
 
 pub mod fault;
+mod form;
 mod lexer;
+mod parser;
 mod spelling;
 pub mod token;
 pub mod tree;
