@@ -1,3 +1,4 @@
 mod Values
 mod Lexing
 mod Standing
+mod Parsing

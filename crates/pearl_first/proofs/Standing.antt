@@ -30,7 +30,7 @@ is_named here found text answer is same =
 pub fits_nothing : (f : Form) → Fits f None → ⊥
 fits_nothing (form.Word w) fit = cc fit
 fits_nothing (form.Symbol s) fit = cc fit
-fits_nothing (form.Name text) fit = cc fit
+fits_nothing (form.Name name) fit = cc fit
 fits_nothing form.AnyName fit = let e = fit.1 in cc e
 fits_nothing (form.Number n) fit = cc fit
 fits_nothing form.AnyNumber fit = let e = fit.1 in cc e

@@ -6,12 +6,13 @@ use Rattle.pearl_first.specs.declared.form.Form.TheVariants as form
 use Rattle.pearl_first.specs.declared.token.Token.{Token}
 use Rattle.pearl_first.specs.declared.token.What.{What}
 use Rattle.pearl_first.specs.declared.token.What.TheVariants as what
+use Rattle.pearl_first.specs.Spelled.{spelled}
 use Rattle.pearl_first.specs.Grammar.{what_at, word, sign, id, number}
 
 abbrev pub Fits : Form → Option What → Type 0
 Fits (form.Word w) here = here ≡ Some (word w)
 Fits (form.Symbol s) here = here ≡ Some (sign s)
-Fits (form.Name text) here = here ≡ Some (id text.now)
+Fits (form.Name name) here = here ≡ Some (id (spelled name))
 Fits form.AnyName here = (text : List ℕ) × (here ≡ Some (id text))
 Fits (form.Number n) here = here ≡ Some (number n)
 Fits form.AnyNumber here = (n : ℕ) × (here ≡ Some (number n))

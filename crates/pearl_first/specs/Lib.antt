@@ -3,4 +3,7 @@ pub mod Spelling
 pub mod Lexes
 pub mod Outcome
 pub mod Grammar
+pub mod Spelled
 pub mod Forms
+pub mod Stops
+pub mod Rules

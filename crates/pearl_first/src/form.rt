@@ -1,15 +1,28 @@
 // What a token has to be at one place of the grammar, and the grammar's fixed runs of such forms.
 
+ghost use Rattle.std.specs.Prelude.{◌≡◌};
+ghost use Rattle.pearl_first.specs.Spelled.{spelled};
+
 use crate::token::Symbol;
 use crate::word::Word;
 
+/// A name that the grammar asks for.
+#[derive(Clone, Copy, PartialEq, Eq, Debug)]
+pub enum Spelled {
+    M,
+    Tty,
+    Irq,
+    Terminal,
+    F,
+    Skip,
+}
+
 /// What a token has to be.
-#[derive(Clone, Copy, Drop)]
+#[derive(Clone, Copy, PartialEq, Eq, Debug)]
 pub enum Form {
     Word(Word),
     Symbol(Symbol),
-    /// The name with this spelling.
-    Name(&'static [u8]),
+    Name(Spelled),
     AnyName,
     /// The number with this value.
     Number(u64),
@@ -20,19 +33,19 @@ pub enum Form {
 pub const OPENING: [Form; 37] = [
     Form::Word(Word::Module),
     Form::Symbol(Symbol::Open),
-    Form::Name(b"m"),
+    Form::Name(Spelled::M),
     Form::Symbol(Symbol::Close),
     Form::Symbol(Symbol::Semicolon),
     Form::Word(Word::System),
     Form::Symbol(Symbol::Semicolon),
-    Form::Name(b"tty"),
+    Form::Name(Spelled::Tty),
     Form::Symbol(Symbol::Colon),
-    Form::Name(b"TERMINAL"),
+    Form::Name(Spelled::Terminal),
     Form::Symbol(Symbol::Open),
     Form::Number(1),
     Form::Symbol(Symbol::Close),
     Form::Symbol(Symbol::Semicolon),
-    Form::Name(b"irq"),
+    Form::Name(Spelled::Irq),
     Form::Symbol(Symbol::Colon),
     Form::Word(Word::Interrupt),
     Form::Symbol(Symbol::Open),
@@ -42,12 +55,12 @@ pub const OPENING: [Form; 37] = [
     Form::Word(Word::Problem),
     Form::Symbol(Symbol::Semicolon),
     Form::Word(Word::Specify),
-    Form::Name(b"tty"),
+    Form::Name(Spelled::Tty),
     Form::Word(Word::Dation),
     Form::Word(Word::InOut),
     Form::Word(Word::Alphic),
     Form::Symbol(Symbol::Comma),
-    Form::Name(b"irq"),
+    Form::Name(Spelled::Irq),
     Form::Word(Word::Interrupt),
     Form::Symbol(Symbol::Semicolon),
     Form::AnyName,
@@ -64,7 +77,7 @@ pub const STEP: [Form; 9] = [
     Form::Word(Word::To),
     Form::AnyName,
     Form::Word(Word::By),
-    Form::Name(b"F"),
+    Form::Name(Spelled::F),
     Form::Symbol(Symbol::Open),
     Form::AnyNumber,
     Form::Symbol(Symbol::Close),
@@ -73,7 +86,7 @@ pub const STEP: [Form; 9] = [
 /// The end of a statement that ends its line.
 pub const SKIP_END: [Form; 3] = [
     Form::Symbol(Symbol::Comma),
-    Form::Name(b"SKIP"),
+    Form::Name(Spelled::Skip),
     Form::Symbol(Symbol::Semicolon),
 ];
 
@@ -84,3 +97,17 @@ pub const CLOSING: [Form; 4] = [
     Form::Word(Word::ModEnd),
     Form::Symbol(Symbol::Semicolon),
 ];
+
+/// How the name is spelled.
+pub fn spelling(name: Spelled) -> &'static [u8]
+    ensures { result.now ≡ spelled name }
+{
+    match name {
+        Spelled::M => b"m",
+        Spelled::Tty => b"tty",
+        Spelled::Irq => b"irq",
+        Spelled::Terminal => b"TERMINAL",
+        Spelled::F => b"F",
+        Spelled::Skip => b"SKIP",
+    }
+}
