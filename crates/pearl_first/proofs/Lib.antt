@@ -2,3 +2,5 @@ mod Values
 mod Lexing
 mod Standing
 mod Parsing
+mod First
+mod Resolution

@@ -7,3 +7,5 @@ pub mod Spelled
 pub mod Forms
 pub mod Stops
 pub mod Rules
+pub mod Lawful
+pub mod Resolved

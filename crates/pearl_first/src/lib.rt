@@ -5,6 +5,7 @@ pub mod fault;
 mod form;
 mod lexer;
 mod parser;
+mod resolve;
 mod rules;
 mod spelling;
 pub mod token;
