@@ -4,3 +4,4 @@ mod Standing
 mod Parsing
 mod First
 mod Resolution
+mod Ranges

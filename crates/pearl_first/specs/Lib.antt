@@ -1,7 +1,6 @@
 pub mod Words
 pub mod Spelling
 pub mod Lexes
-pub mod Outcome
 pub mod Grammar
 pub mod Spelled
 pub mod Forms
@@ -9,3 +8,4 @@ pub mod Stops
 pub mod Rules
 pub mod Lawful
 pub mod Resolved
+pub mod Outcome

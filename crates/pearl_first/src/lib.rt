@@ -2,6 +2,7 @@
 #![tactic(auto)]
 
 pub mod fault;
+pub mod front_end;
 mod form;
 mod lexer;
 mod parser;
