@@ -1,0 +1,7 @@
+mod Values
+mod Lexing
+mod Standing
+mod Parsing
+mod First
+mod Resolution
+mod Ranges

@@ -1,0 +1,125 @@
+-- What a source's tokens hold is in range, and so is what its tree holds.
+use Rattle.std.proofs.Common.{◌≡◌, ◌≤◌, ◌<◌, ◌+◌, ◌-◌, ◌^◌, ◌||◌, ◌&&◌, ◌==◌, ℕ, zero, suc, Bool, true, false, cond, nat_le, List, [], ◌∷◌, length, take, drop, get_or, slice_get, slice_index, All, Option, Some, None, option_map, true≢false, lit<, refl, sym, ap, subst, ◌∙◌, arith}
+use Rattle.std.specs.Char.{is_ascii_alphabetic, is_ascii_digit}
+use Rattle.std.specs.List.{prefix_len}
+use Rattle.std.proofs.lemmas.Bool.Decides.{nat_tests}
+use Rattle.pearl_first.specs.declared.word.Word.{Word}
+use Rattle.pearl_first.specs.declared.token.What.{What}
+use Rattle.pearl_first.specs.declared.token.What.TheVariants as what
+use Rattle.pearl_first.specs.declared.token.Symbol.{Symbol}
+use Rattle.pearl_first.specs.declared.token.Symbol.TheVariants as symbol
+use Rattle.pearl_first.specs.declared.token.Token.{Token}
+use Rattle.pearl_first.specs.declared.token.Front.{Front}
+use Rattle.pearl_first.specs.declared.tree.Step.{Step}
+use Rattle.pearl_first.specs.declared.tree.Tree.{Tree}
+use Rattle.pearl_first.specs.Words.{words}
+use Rattle.pearl_first.specs.Spelling.{is_name_byte, meaning, id_of, word_or_id, value_of, value_within, number_of, clock_of, milliseconds, symbol_of, sized, digit_count, begins_part, numeral, word_front, front}
+use Rattle.pearl_first.specs.Lexes.{IsToken, AreTokens, Lexes}
+use Rattle.pearl_first.specs.Grammar.{what_at, Stand, IsStep, AreSteps, Spells}
+use Rattle.pearl_first.specs.Lawful.{IsLawful}
+
+-- a name has a byte, and a number is below 2^63
+abbrev pub IsInRange : What → Type 0
+IsInRange (what.Word word) = Unit {0}
+IsInRange (what.Id text) = 0 < length text.items
+IsInRange (what.Number n) = n < 2 ^ 63
+IsInRange (what.Clock time) = Unit {0}
+IsInRange (what.Symbol symbol) = Unit {0}
+
+abbrev IfRange : Option What → Type 0
+IfRange None = Unit {0}
+IfRange (Some w) = IsInRange w
+
+abbrev IfFront : Option Front → Type 0
+IfFront None = Unit {0}
+IfFront (Some f) = IsInRange f.what
+
+sized_range : (w : Option What) (size : ℕ) → IfRange w → IfFront (sized w size)
+sized_range None size h = tt
+sized_range (Some w) size h = h
+
+id_range : (text : List ℕ) → 0 < length text → IfRange (id_of text)
+id_range text h = by (nat_le (length text) 63)
+  where
+    by : (b : Bool) → IfRange (cond b (Some (what.Id (record { items = text }))) None)
+    by true = h
+    by false = tt
+
+word_range : (w : Option Word) (text : List ℕ) → 0 < length text → IfRange (word_or_id w text)
+word_range None text h = id_range text h
+word_range (Some w) text h = tt
+
+number_range : (digits : List ℕ) → IfRange (number_of digits)
+number_range digits = by (nat_le (value_of digits) (2 ^ 63 - 1)) refl
+  where
+    by : (b : Bool) → nat_le (value_of digits) (2 ^ 63 - 1) ≡ b → IfRange (option_map what.Number (cond b (Some (value_of digits)) None))
+    by true e = let below : value_of digits ≤ 2 ^ 63 - 1 = grind (arith, nat_tests) in omega (arith, below)
+    by false e = tt
+
+milliseconds_range : (h m s : Option ℕ) → IfRange (milliseconds h m s)
+milliseconds_range (Some h) (Some m) (Some s) = tt
+milliseconds_range (Some h) (Some m) None = tt
+milliseconds_range (Some h) None s = tt
+milliseconds_range None m s = tt
+
+numeral_range : (bytes : List ℕ) → IfFront (numeral bytes)
+numeral_range bytes =
+    let hours = digit_count bytes in
+    let after_hours = drop hours bytes in
+    let minutes = digit_count (drop 1 after_hours) in
+    let after_minutes = drop minutes (drop 1 after_hours) in
+    let seconds = digit_count (drop 1 after_minutes) in
+    either (begins_part after_hours && begins_part after_minutes)
+      (sized (clock_of (take hours bytes) (take minutes (drop 1 after_hours)) (take seconds (drop 1 after_minutes))) (hours + minutes + seconds + 2))
+      (sized (number_of (take hours bytes)) hours)
+      (sized_range _ _ (milliseconds_range _ _ _)) (sized_range _ _ (number_range (take hours bytes)))
+  where
+    either : (b : Bool) (x y : Option Front) → IfFront x → IfFront y → IfFront (cond b x y)
+    either true x y h k = h
+    either false x y h k = k
+
+symbol_range : (b : ℕ) → IfRange (symbol_of b)
+symbol_range b = either (b == 40) symbol.Open _ (either (b == 41) symbol.Close _ (either (b == 58) symbol.Colon _ (either (b == 59) symbol.Semicolon _ (either (b == 44) symbol.Comma None tt))))
+  where
+    either : (c : Bool) (s : Symbol) (other : Option What) → IfRange other → IfRange (cond c (Some (what.Symbol s)) other)
+    either true s other h = tt
+    either false s other h = h
+
+some_name : (bytes : List ℕ) → is_ascii_alphabetic (slice_index bytes 0) ≡ true → 0 < length (take (prefix_len is_name_byte bytes) bytes)
+some_name [] e = absurd (true≢false (sym e))
+some_name (b ∷ bytes) e =
+    let passes : is_name_byte b ≡ true = ap (λ (t : Bool). t || is_ascii_digit b || b == 95) e in
+    let size : prefix_len is_name_byte (b ∷ bytes) ≡ suc (prefix_len is_name_byte bytes) = ap (λ t. cond t (1 + prefix_len is_name_byte bytes) 0) passes ∙ omega arith in
+    subst (λ n. 0 < length (take n (b ∷ bytes))) (sym size) (omega arith)
+
+front_range : (bytes : List ℕ) → IfFront (front bytes)
+unfolding front
+front_range bytes = by (is_ascii_alphabetic (slice_index bytes 0)) refl (is_ascii_digit (slice_index bytes 0))
+  where
+    by : (a : Bool) → is_ascii_alphabetic (slice_index bytes 0) ≡ a → (d : Bool) → IfFront (cond a (word_front bytes (prefix_len is_name_byte bytes)) (cond d (numeral bytes) (sized (symbol_of (slice_index bytes 0)) 1)))
+    by true e d = sized_range _ _ (word_range (meaning words (take (prefix_len is_name_byte bytes) bytes)) (take (prefix_len is_name_byte bytes) bytes) (some_name bytes e))
+    by false e true = numeral_range bytes
+    by false e false = sized_range (symbol_of (slice_index bytes 0)) 1 (symbol_range (slice_index bytes 0))
+
+token_range : (bytes : List ℕ) (from : ℕ) (token : Token) (to : ℕ) → IsToken bytes from token to → IsInRange token.what
+token_range bytes from token to is = subst IfFront is.begins (front_range (drop token.place bytes))
+
+tokens_range : (bytes : List ℕ) (from : ℕ) (tokens : List Token) (to : ℕ) → AreTokens bytes from tokens to → (k : ℕ) (w : What) → what_at tokens k ≡ Some w → IsInRange w
+tokens_range bytes from [] to are k w e = absurd (cc e)
+tokens_range bytes from (token ∷ tokens) to are zero w e = subst IfRange e (token_range bytes from token are.0 are.1)
+tokens_range bytes from (token ∷ tokens) to are (suc k) w e = tokens_range bytes are.0 tokens to are.2 k w e
+
+steps_small : (tokens : List Token) (from : ℕ) (steps : List Step) (to : ℕ) → ((k : ℕ) (w : What) → what_at tokens k ≡ Some w → IsInRange w) → AreSteps tokens from steps to
+    → All (λ step. step.value < 2 ^ 63) steps
+steps_small tokens from [] to range are k d below = absurd (omega arith)
+steps_small tokens from (step ∷ steps) to range are zero d below = range (from + 1) (what.Number step.value) are.1.words.1.0
+steps_small tokens from (step ∷ steps) to range are (suc k) d below = steps_small tokens are.0 steps to range are.2 k d (omega arith)
+
+-- the opening's name is its token number 32
+named_at : (tokens : List Token) (tree : Tree) → Spells tree tokens → what_at tokens 32 ≡ Some (what.Id tree.task.text)
+named_at tokens tree spells = spells.opens.1.1.1.1.1.1.1.1.1.1.1.1.1.1.1.1.1.1.1.1.1.1.1.1.1.1.1.1.1.1.1.1.0
+
+pub lawful : (bytes : List ℕ) (tokens : List Token) (tree : Tree) → Lexes bytes tokens → Spells tree tokens → IsLawful tree
+lawful bytes tokens tree lexes spells =
+    let range = tokens_range bytes 0 tokens lexes.end lexes.tokens_are in
+    record { named = range 32 (what.Id tree.task.text) (named_at tokens tree spells); small = steps_small tokens 37 tree.steps spells.end range spells.steps }

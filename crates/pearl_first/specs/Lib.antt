@@ -1,0 +1,11 @@
+pub mod Words
+pub mod Spelling
+pub mod Lexes
+pub mod Grammar
+pub mod Spelled
+pub mod Forms
+pub mod Stops
+pub mod Rules
+pub mod Lawful
+pub mod Resolved
+pub mod Outcome
