@@ -53,8 +53,8 @@ within-copies : (count byte : ℕ) → IsTextByte byte → IsTextWithin count (r
 within-copies count byte h = record { fits = omega (arith, length-replicate {A = ℕ} count byte); printable = All-replicate IsTextByte count byte h }
 
 -- decimal digits are bytes of texts
-glyph_text : (upper : Bool) (d : ℕ) → d < 10 → IsTextByte (digit_glyph false d)
-glyph_text upper d small = by (nat_lt d 10)
+glyph_text : (d : ℕ) → d < 10 → IsTextByte (digit_glyph false d)
+glyph_text d small = by (nat_lt d 10)
   where
     by : (b : Bool) → IsTextByte (cond b (48 + d) (87 + d))
     by true = inr (omega arith, omega arith)
@@ -63,7 +63,7 @@ glyph_text upper d small = by (nat_lt d 10)
 digits_onto_text : (k n : ℕ) (acc : List ℕ) → All IsTextByte acc → All IsTextByte (digits_onto k 10 false n acc)
 digits_onto_text zero n acc h = h
 digits_onto_text (suc k) n acc h =
-    let more = All-append IsTextByte (digit_glyph false (n % 10) ∷ []) acc (All-replicate IsTextByte 1 _ (glyph_text false (n % 10) (omega arith))) h in
+    let more = All-append IsTextByte (digit_glyph false (n % 10) ∷ []) acc (All-replicate IsTextByte 1 _ (glyph_text (n % 10) (omega arith))) h in
     either (nat_eq (n / 10) 0) _ _ more (digits_onto_text k (n / 10) _ more)
   where
     either : (b : Bool) (xs ys : List ℕ) → All IsTextByte xs → All IsTextByte ys → All IsTextByte (cond b xs ys)
