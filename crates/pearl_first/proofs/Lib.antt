@@ -5,3 +5,4 @@ mod Parsing
 mod First
 mod Resolution
 mod Ranges
+mod Completion

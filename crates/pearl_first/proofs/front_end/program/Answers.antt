@@ -19,4 +19,4 @@ returns-in-Stuck-clause-refused c =
         (subst (λ ts. IsParseFault ts c.in-Err-tree_of.fault) c.as_slice.ensures.value c.in-Err-tree_of.ensures.refused) in
     let here : c.place_of.result ≡ place_of (length c.args.bytes.now) tokens c.in-Stuck.number =
         c.place_of.ensures ∙ ap (λ ts. place_of (length c.args.bytes.now) ts c.in-Stuck.number) c.as_slice-in-Stuck.ensures.value in
-    inr (record { tokens = tokens; number = c.in-Stuck.number; lexes = c.in-Ok.ensures.tokens; none = stuck.0; here = here })
+    inr (record { tokens = tokens; number = c.in-Stuck.number; lexes = c.in-Ok.ensures.tokens; none = stuck.0; some = stuck.1; here = here })

@@ -1,7 +1,8 @@
-use Rattle.std.proofs.Common.{◌≡◌, ◌≤◌, ◌+◌, ◌++◌, ◌∷◌, [], length, length-append, refl, subst, sym, ap, ◌∙◌, arith}
+use Rattle.std.proofs.Common.{◌≡◌, ◌≤◌, ◌+◌, ◌++◌, ◌∷◌, [], length, length-append, refl, subst, sym, ap, ◌∙◌, lit<, arith}
 use Rattle.pearl_first.specs.declared.tree.Step.{Step}
 use Rattle.pearl_first.specs.Grammar.{AreSteps, IsStep}
-use Rattle.pearl_first.proofs.Parsing.{steps_more, no_step_begins}
+use Rattle.pearl_first.proofs.Completion.{step_begins}
+use Rattle.pearl_first.proofs.Parsing.{steps_more, no_step_begins, opening_stands}
 use Rattle.pearl_first.proofs.parser.steps_of.Goals as goal
 
 pub loop-step-preserved : goal.loop-step-preserved
@@ -20,5 +21,8 @@ loop-step-preserved c =
 
 pub returns-in-Err-clause-refused : goal.returns-in-Err-clause-refused
 returns-in-Err-clause-refused c =
+    let fit = c.requires.opens in
+    let name = fit 32 (lit< tt) in
     (no_step_begins c.args.tokens.now c.loop-step.steps.items c.loop-step.end c.in-Err.k c.loop-step.invariant.are c.in-Err.ensures.within.0 (c.loop-step-test.ensures.value.0 refl) c.in-Err.ensures.refused,
+    step_begins c.args.tokens.now name.0 c.loop-step.steps.items c.loop-step.end c.in-Err.k (opening_stands c.args.tokens.now name.0 fit name.1) c.loop-step.invariant.are c.in-Err.ensures.begun,
     c.in-Err.ensures.within.1)
