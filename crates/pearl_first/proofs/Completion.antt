@@ -67,9 +67,10 @@ stand_begun tokens from ws stand = record {
 get_stand : (tokens : List Token) (from k : ℕ) (ws : List What) → ((j : ℕ) → j < length ws → what_at tokens (from + (k + j)) ≡ slice_get ws j) → Stand tokens from k ws
 get_stand tokens from k [] same = tt
 get_stand tokens from k (w ∷ ws) same =
-    let e : from + k ≡ from + (k + 0) = omega arith in
-    (ap (what_at tokens) e ∙ same 0 (omega arith),
-    get_stand tokens from (suc k) ws (λ j below. let f : from + (suc k + j) ≡ from + (k + suc j) = omega arith in ap (what_at tokens) f ∙ same (suc j) (omega arith)))
+    let e : from + k ≡ from + (k + 0) = omega arith in (
+      ap (what_at tokens) e ∙ same 0 (omega arith),
+      get_stand tokens from (suc k) ws (λ j below. let f : from + (suc k + j) ≡ from + (k + suc j) = omega arith in ap (what_at tokens) f ∙ same (suc j) (omega arith)),
+    )
 
 pub begun_stand : (tokens : List Token) (from : ℕ) (ws : List What) → Begun tokens from (from + length ws) ws → Stand tokens from 0 ws
 begun_stand tokens from ws begun = get_stand tokens from 0 ws (λ j below. let e : from + (0 + j) ≡ from + j = omega arith in ap (what_at tokens) e ∙ begun.same j (omega arith))
@@ -84,8 +85,8 @@ begun_right : (tokens : List Token) (from k : ℕ) (xs ys : List What) → Begun
 begun_right tokens from k xs ys begun = record {
   short = omega (arith, begun.short, length-append xs ys);
   same = λ j below.
-    let e : (from + length xs) + j ≡ from + (length xs + j) = omega arith in
-    ap (what_at tokens) e ∙ begun.same (length xs + j) (omega (arith, e, below)) ∙ get_right xs ys j;
+      let e : (from + length xs) + j ≡ from + (length xs + j) = omega arith in
+      ap (what_at tokens) e ∙ begun.same (length xs + j) (omega (arith, e, below)) ∙ get_right xs ys j;
 }
 
 -- the words of statements
@@ -112,9 +113,11 @@ steps_begun tokens from (step ∷ steps) to are =
     let size = length-append (step_words step) (steps_words steps) in
     let end : to ≡ from + length (steps_words (step ∷ steps)) = omega (arith, rest.0, next, size) in
     let back : Begun tokens (from + length (step_words step)) to (steps_words steps) =
-        subst (λ at. Begun tokens at to (steps_words steps)) next (subst (λ k. Begun tokens are.0 k (steps_words steps)) (sym rest.0) rest.1) in
-    (end, subst (λ k. Begun tokens from k (steps_words (step ∷ steps))) end
-        (join tokens from to (step_words step) (steps_words steps) (stand_begun tokens from (step_words step) are.1.words) back))
+    subst (λ at. Begun tokens at to (steps_words steps)) next (subst (λ k. Begun tokens are.0 k (steps_words steps)) (sym rest.0) rest.1) in (
+      end,
+      subst (λ k. Begun tokens from k (steps_words (step ∷ steps))) end
+          (join tokens from to (step_words step) (steps_words steps) (stand_begun tokens from (step_words step) are.1.words) back),
+    )
 
 -- tokens and statements whose places are all 0
 abbrev plain : List What → List Token
@@ -161,7 +164,7 @@ steps_spelled tokens from (step ∷ steps) places begun =
       end = refl;
     } in
     let rest : Begun tokens next (next + length (steps_words steps)) (steps_words steps) =
-        subst (λ k. Begun tokens next k (steps_words steps)) end (begun_right tokens from (from + length (steps_words (step ∷ steps))) (step_words step) (steps_words steps) begun) in
+    subst (λ k. Begun tokens next k (steps_words steps)) end (begun_right tokens from (from + length (steps_words (step ∷ steps))) (step_words step) (steps_words steps) begun) in
     (next, is, subst (λ k. AreSteps tokens next (map plain_step steps) k) (sym end) (steps_spelled tokens next steps (λ j below. places j (omega (arith, end, below))) rest))
 
 abbrev plain_tree : List ℕ → List Step → Tree
@@ -180,21 +183,23 @@ spelled name steps =
     let end = 37 + length (steps_words steps) in
     let final : 0 + length ws ≡ end + 4 = omega (arith, whole, tail) in
     record {
-  opens = begun_stand tokens 0 (opening name) (begun_left tokens 0 (0 + length ws) (opening name) rest (omega (arith, whole)) all);
-  task = place_plain ws 32 (omega (arith, whole));
-  end = end;
-  steps = steps_spelled tokens 37 steps (λ j below. place_plain ws j (omega (arith, whole, tail, below)))
-      (begun_left tokens 37 (0 + length ws) (steps_words steps) closing (omega (arith, final)) after);
-  closes = begun_stand tokens end closing (subst (λ k. Begun tokens end k closing) final (begun_right tokens 37 (0 + length ws) (steps_words steps) closing after));
-  whole = length_plain ws ∙ omega (arith, final);
-}
+      opens = begun_stand tokens 0 (opening name) (begun_left tokens 0 (0 + length ws) (opening name) rest (omega (arith, whole)) all);
+      task = place_plain ws 32 (omega (arith, whole));
+      end = end;
+      steps = steps_spelled tokens 37 steps (λ j below. place_plain ws j (omega (arith, whole, tail, below)))
+          (begun_left tokens 37 (0 + length ws) (steps_words steps) closing (omega (arith, final)) after);
+      closes = begun_stand tokens end closing (subst (λ k. Begun tokens end k closing) final (begun_right tokens 37 (0 + length ws) (steps_words steps) closing after));
+      whole = length_plain ws ∙ omega (arith, final);
+    }
 
 -- what the words of a program begin with, some program begins with
 begins : (tokens : List Token) (name : List ℕ) (steps : List Step) (k : ℕ) → Begun tokens 0 k (program_words name steps) → SomeBegins tokens k
-begins tokens name steps k begun =
-    (plain_tree name steps, plain (program_words name steps),
-    λ j below. let e : j ≡ 0 + j = omega arith in ap (what_at tokens) e ∙ begun.same j (omega arith) ∙ sym (what_plain (program_words name steps) j),
-    spelled name steps)
+begins tokens name steps k begun = (
+  plain_tree name steps,
+  plain (program_words name steps),
+  λ j below. let e : j ≡ 0 + j = omega arith in ap (what_at tokens) e ∙ begun.same j (omega arith) ∙ sym (what_plain (program_words name steps) j),
+  spelled name steps,
+)
 
 after_steps : (tokens : List Token) (name : List ℕ) (steps : List Step) (at k : ℕ) (after : List What) → Stand tokens 0 0 (opening name) → AreSteps tokens 37 steps at → Begun tokens at k after
     → Begun tokens 0 k (opening name ++ (steps_words steps ++ after))
@@ -235,8 +240,8 @@ fit_begun : (tokens : List Token) (from n : ℕ) (forms : List Form) (ws : List 
 fit_begun tokens from n forms ws within fit tell = record {
   short = omega arith;
   same = λ j below.
-    let e : 0 + j ≡ j = omega arith in
-    ap (λ i. what_at tokens (from + i)) (sym e) ∙ told (λ k. what_at tokens (from + k)) n 0 forms ws tell j (omega arith) (subst (λ i. FitsAt forms j (what_at tokens (from + i))) (sym e) (fit j (omega arith)));
+      let e : 0 + j ≡ j = omega arith in
+      ap (λ i. what_at tokens (from + i)) (sym e) ∙ told (λ k. what_at tokens (from + k)) n 0 forms ws tell j (omega arith) (subst (λ i. FitsAt forms j (what_at tokens (from + i))) (sym e) (fit j (omega arith)));
 }
 
 -- the number at a place that is reached, and else any
@@ -257,8 +262,14 @@ some_name here k n fit = by (either k n)
 -- a statement that begins with what fits, and ends its line or does not
 front_step : (tokens : List Token) (from n : ℕ) → FitFront STEP tokens from n → Bool → Step
 front_step tokens from n fit skip =
-    record { place = 0; value = (some_number (what_at tokens (from + 1)) 1 n (fit 1)).0; target = record { text = record { items = (some_name (what_at tokens (from + 3)) 3 n (fit 3)).0 }; place = 0 };
-      item = 0; width = (some_number (what_at tokens (from + 7)) 7 n (fit 7)).0; skip = skip }
+    record {
+      place = 0;
+      value = (some_number (what_at tokens (from + 1)) 1 n (fit 1)).0;
+      target = record { text = record { items = (some_name (what_at tokens (from + 3)) 3 n (fit 3)).0 }; place = 0 };
+      item = 0;
+      width = (some_number (what_at tokens (from + 7)) 7 n (fit 7)).0;
+      skip = skip;
+    }
 
 abbrev step_front : Step → List What
 step_front step =
@@ -287,6 +298,6 @@ pub opening_begins : (tokens : List Token) (n : ℕ) → n ≤ 37 → FitFront O
 opening_begins tokens n within fit =
     let name = some_name (what_at tokens (0 + 32)) 32 n (fit 32) in
     let begun : Begun tokens 0 (0 + n) (opening name.0) = fit_begun tokens 0 n OPENING (opening name.0) within fit
-        ((λ below fit. fit), ((λ below fit. fit), ((λ below fit. fit), ((λ below fit. fit), ((λ below fit. fit), ((λ below fit. fit), ((λ below fit. fit), ((λ below fit. fit), ((λ below fit. fit), ((λ below fit. fit), ((λ below fit. fit), ((λ below fit. fit), ((λ below fit. fit), ((λ below fit. fit), ((λ below fit. fit), ((λ below fit. fit), ((λ below fit. fit), ((λ below fit. fit), ((λ below fit. fit), ((λ below fit. fit), ((λ below fit. fit), ((λ below fit. fit), ((λ below fit. fit), ((λ below fit. fit), ((λ below fit. fit), ((λ below fit. fit), ((λ below fit. fit), ((λ below fit. fit), ((λ below fit. fit), ((λ below fit. fit), ((λ below fit. fit), ((λ below fit. fit), ((λ below _. name.1 below), ((λ below fit. fit), ((λ below fit. fit), ((λ below fit. fit), ((λ below fit. fit), tt))))))))))))))))))))))))))))))))))))) in
+    ((λ below fit. fit), ((λ below fit. fit), ((λ below fit. fit), ((λ below fit. fit), ((λ below fit. fit), ((λ below fit. fit), ((λ below fit. fit), ((λ below fit. fit), ((λ below fit. fit), ((λ below fit. fit), ((λ below fit. fit), ((λ below fit. fit), ((λ below fit. fit), ((λ below fit. fit), ((λ below fit. fit), ((λ below fit. fit), ((λ below fit. fit), ((λ below fit. fit), ((λ below fit. fit), ((λ below fit. fit), ((λ below fit. fit), ((λ below fit. fit), ((λ below fit. fit), ((λ below fit. fit), ((λ below fit. fit), ((λ below fit. fit), ((λ below fit. fit), ((λ below fit. fit), ((λ below fit. fit), ((λ below fit. fit), ((λ below fit. fit), ((λ below fit. fit), ((λ below _. name.1 below), ((λ below fit. fit), ((λ below fit. fit), ((λ below fit. fit), ((λ below fit. fit), tt))))))))))))))))))))))))))))))))))))) in
     let e : 0 + n ≡ n = omega arith in
     begins tokens name.0 [] n (subst (λ k. Begun tokens 0 k (program_words name.0 [])) e (extend tokens 0 (0 + n) (opening name.0) (steps_words [] ++ closing) begun))

@@ -36,5 +36,5 @@ pub one_more : (before : List Fault) (task : List ℕ) (steps : List Step) (i : 
 one_more before task steps i d inside =
     let step = get_or steps i d in
     let all : steps_faults task (take (i + 1) steps) ≡ steps_faults task (take i steps) ++ step_faults task step =
-        ap (steps_faults task) (take_more steps i d inside) ∙ steps_append task (take i steps) (step ∷ []) ∙ ap (λ zs. steps_faults task (take i steps) ++ zs) (append-nil (step_faults task step)) in
+    ap (steps_faults task) (take_more steps i d inside) ∙ steps_append task (take i steps) (step ∷ []) ∙ ap (λ zs. steps_faults task (take i steps) ++ zs) (append-nil (step_faults task step)) in
     append_assoc before (steps_faults task (take i steps)) (step_faults task step) ∙ ap (λ zs. before ++ zs) (sym all)

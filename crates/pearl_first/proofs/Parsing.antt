@@ -128,7 +128,7 @@ some_end false = omega arith
 pub step_longer : (tokens : List Token) (from : ℕ) (step : Step) (to : ℕ) → IsStep tokens from step to → from + 10 ≤ to
 step_longer tokens from step to is = omega (arith, is.end, some_end step.skip)
 
-same_next : (tokens others : List Token) (from : ℕ) (step other : Step) (to next : ℕ) → IsStep tokens from step to → IsStep others from other next
+pub same_next : (tokens others : List Token) (from : ℕ) (step other : Step) (to next : ℕ) → IsStep tokens from step to → IsStep others from other next
     → what_at tokens (from + 9) ≡ what_at others (from + 9) → to ≡ next
 same_next tokens others from step other to next is are e =
     let skip : step.skip ≡ other.skip = same_end tokens others from step.skip other.skip (ending tokens from step is.words) (ending others from other are.words) e in

@@ -70,9 +70,9 @@ numeral_range bytes =
     let after_minutes = drop minutes (drop 1 after_hours) in
     let seconds = digit_count (drop 1 after_minutes) in
     either (begins_part after_hours && begins_part after_minutes)
-      (sized (clock_of (take hours bytes) (take minutes (drop 1 after_hours)) (take seconds (drop 1 after_minutes))) (hours + minutes + seconds + 2))
-      (sized (number_of (take hours bytes)) hours)
-      (sized_range _ _ (milliseconds_range _ _ _)) (sized_range _ _ (number_range (take hours bytes)))
+    (sized (clock_of (take hours bytes) (take minutes (drop 1 after_hours)) (take seconds (drop 1 after_minutes))) (hours + minutes + seconds + 2))
+    (sized (number_of (take hours bytes)) hours)
+    (sized_range _ _ (milliseconds_range _ _ _)) (sized_range _ _ (number_range (take hours bytes)))
   where
     either : (b : Bool) (x y : Option Front) → IfFront x → IfFront y → IfFront (cond b x y)
     either true x y h k = h

@@ -21,11 +21,12 @@ none_past tokens at past = ap (option_map (λ (t : Token). t.what)) (slice_get_p
 pub is_named : (here : Option What) (found : ArrayVec ℕ 63 (Unit {0})) (text : List ℕ) (answer : Bool) → here ≡ Some (what.Id found) → answer ≡ bytes_eq found.items text
     → IsTrue answer ↔ (here ≡ Some (id text))
 is_named here found text answer is same =
-    let decides = bytes_eq-Decides found.items text in
-    (λ yes. is ∙ ap (λ items. Some (id items)) (decides.0 (sym same ∙ yes)),
-    λ named. let equal : Some (what.Id found) ≡ Some (id text) = sym is ∙ named in
-        let alike : found.items ≡ text = cc equal in
-        same ∙ decides.1 alike)
+    let decides = bytes_eq-Decides found.items text in (
+      λ yes. is ∙ ap (λ items. Some (id items)) (decides.0 (sym same ∙ yes)),
+      λ named. let equal : Some (what.Id found) ≡ Some (id text) = sym is ∙ named in
+          let alike : found.items ≡ text = cc equal in
+          same ∙ decides.1 alike,
+    )
 
 pub fits_nothing : (f : Form) → Fits f None → ⊥
 fits_nothing (form.Word w) fit = cc fit

@@ -1,6 +1,5 @@
 -- Which tokens fit a form.
 use Rattle.std.specs.Prelude.{◌≡◌, ℕ, ◌+◌, ◌<◌, zero, suc, List, [], ◌∷◌, Option, Some, None}
-
 use Rattle.pearl_first.specs.declared.form.Form.{Form}
 use Rattle.pearl_first.specs.declared.form.Form.TheVariants as form
 use Rattle.pearl_first.specs.declared.token.Token.{Token}

@@ -2,13 +2,16 @@
 #![tactic(auto)]
 
 pub mod fault;
-pub mod front_end;
 mod form;
+pub mod front_end;
+pub mod laws;
 mod lexer;
 mod parser;
 mod resolve;
 mod rules;
 mod spelling;
+#[cfg(test)]
+mod tests;
 pub mod token;
 pub mod tree;
 pub mod word;

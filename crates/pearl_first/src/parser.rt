@@ -28,6 +28,7 @@ struct Steps {
 }
 
 const TASK: usize = 32;
+
 const FIRST_STEP: usize = OPENING.len();
 
 fn has_word(tokens: &[Token], at: usize, word: Word) -> bool
@@ -126,7 +127,10 @@ fn fit_count(tokens: &[Token], from: usize, forms: &[Form]) -> usize
     ensures stops { result < length forms.now → FitsAt forms.now result (what_at tokens.now (from + result)) → ⊥ }
 {
     let mut count = 0;
-    while count < forms.len() && from + count < tokens.len() && has_form(tokens, from + count, &forms[count]) {
+    while count < forms.len()
+        && from + count < tokens.len()
+        && has_form(tokens, from + count, &forms[count])
+    {
         count += 1;
     }
     count
@@ -139,7 +143,10 @@ fn name_at(tokens: &[Token], at: usize) -> Name
 {
     match tokens.get(at) {
         Some(token) => match &token.what {
-            What::Id(text) => Name { text: text.clone().unwrap(), place: token.place },
+            What::Id(text) => Name {
+                text: text.clone().unwrap(),
+                place: token.place,
+            },
             _ => unreachable!(),
         },
         None => unreachable!(),
@@ -285,7 +292,10 @@ pub fn tree_of(alloc: Global, tokens: &[Token]) -> Result<Tree, ParseFault>
     let task = name_at(tokens, TASK);
     let found = steps_of(alloc, tokens)?;
     match close_at(tokens, found.end) {
-        Ok(()) => Ok(Tree { task, steps: Listing::new(found.steps) }),
+        Ok(()) => Ok(Tree {
+            task,
+            steps: Listing::new(found.steps),
+        }),
         Err(k) => Err(ParseFault::Stuck(k)),
     }
 }

@@ -15,8 +15,8 @@ pub returns-in-Stuck-clause-refused : goal.returns-in-Stuck-clause-refused
 returns-in-Stuck-clause-refused c =
     let tokens = c.in-Ok.tokens.items in
     let stuck : IsParseFault tokens (Stuck c.in-Stuck.number) =
-        subst (λ fault. IsParseFault tokens fault) c.in-Stuck.is
-        (subst (λ ts. IsParseFault ts c.in-Err-tree_of.fault) c.as_slice.ensures.value c.in-Err-tree_of.ensures.refused) in
+    subst (λ fault. IsParseFault tokens fault) c.in-Stuck.is
+    (subst (λ ts. IsParseFault ts c.in-Err-tree_of.fault) c.as_slice.ensures.value c.in-Err-tree_of.ensures.refused) in
     let here : c.place_of.result ≡ place_of (length c.args.bytes.now) tokens c.in-Stuck.number =
-        c.place_of.ensures ∙ ap (λ ts. place_of (length c.args.bytes.now) ts c.in-Stuck.number) c.as_slice-in-Stuck.ensures.value in
+    c.place_of.ensures ∙ ap (λ ts. place_of (length c.args.bytes.now) ts c.in-Stuck.number) c.as_slice-in-Stuck.ensures.value in
     inr (record { tokens = tokens; number = c.in-Stuck.number; lexes = c.in-Ok.ensures.tokens; none = stuck.0; some = stuck.1; here = here })
