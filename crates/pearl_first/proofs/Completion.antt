@@ -1,13 +1,12 @@
 -- What a program begins with can be completed.
-use Rattle.std.proofs.Common.{◌≡◌, ◌≤◌, ◌<◌, ◌+◌, ◌-◌, ◌⊎◌, inl, inr, ℕ, zero, suc, Bool, true, false, nat_lt, List, [], ◌∷◌, ◌++◌, length, map, slice_get, Option, Some, None, option_map, codes, append_assoc, append-nil, length-append, true≢false, lit<, lit≤, refl, sym, ap, subst, ◌∙◌, arith}
-use Rattle.std.proofs.lemmas.Bool.Decides.{nat_tests}
+use Rattle.std.proofs.Common.{◌≡◌, ◌≤◌, ◌<◌, ◌+◌, ◌⊎◌, inl, inr, ℕ, zero, suc, Bool, true, false, List, [], ◌∷◌, ◌++◌, length, map, slice_get, Option, Some, codes, append_assoc, append-nil, length-append, lit≤, refl, sym, ap, subst, ◌∙◌, arith}
 use Rattle.pearl_first.specs.declared.word.Word.TheVariants.{Put, To, By}
 use Rattle.pearl_first.specs.declared.token.Symbol.TheVariants.{Open, Close}
 use Rattle.pearl_first.specs.declared.token.Token.{Token}
 use Rattle.pearl_first.specs.declared.token.What.{What}
 use Rattle.pearl_first.specs.declared.form.Form.{Form}
 use Rattle.pearl_first.specs.declared.form.Form.TheVariants.{AnyName, AnyNumber}
-use Rattle.pearl_first.specs.declared.form.TheConstants.{OPENING, STEP, SKIP_END, CLOSING}
+use Rattle.pearl_first.specs.declared.form.TheConstants.{OPENING, STEP}
 use Rattle.pearl_first.specs.declared.tree.Step.{Step}
 use Rattle.pearl_first.specs.declared.tree.Tree.{Tree}
 use Rattle.pearl_first.specs.Grammar.{word, sign, id, number, what_at, place_at, opening, closing, step_end, step_words, Stand, IsStep, AreSteps, Spells, SomeBegins}

@@ -1,5 +1,5 @@
 -- How the tokens of two programs agree, and where a parse has to stop.
-use Rattle.std.proofs.Common.{◌≡◌, ◌⊎◌, inl, inr, ◌≤◌, ◌<◌, ◌+◌, ℕ, zero, suc, Bool, true, false, List, [], ◌∷◌, ◌++◌, length, Option, Some, None, codes, refl, sym, ap, subst, ◌∙◌, lit<, arith}
+use Rattle.std.proofs.Common.{◌≡◌, ◌⊎◌, inl, inr, ◌≤◌, ◌<◌, ◌+◌, ℕ, zero, suc, Bool, true, false, List, [], ◌∷◌, ◌++◌, length, Some, codes, refl, sym, ap, subst, ◌∙◌, lit<, arith}
 use Rattle.pearl_first.specs.declared.word.Word.TheVariants.{Put, To, By, End}
 use Rattle.pearl_first.specs.declared.token.Symbol.TheVariants.{Open, Close, Comma, Semicolon}
 use Rattle.pearl_first.specs.declared.token.Token.{Token}
@@ -7,10 +7,9 @@ use Rattle.pearl_first.specs.declared.token.What.{What}
 use Rattle.pearl_first.specs.declared.form.Form.{Form}
 use Rattle.pearl_first.specs.declared.form.TheConstants.{OPENING, STEP, SKIP_END, CLOSING}
 use Rattle.pearl_first.specs.declared.tree.Step.{Step}
-use Rattle.pearl_first.specs.Grammar.{word, sign, id, number, what_at, opening, closing, step_end, step_words, Stand, IsStep, AreSteps, Spells, Agree, NoneBegins}
+use Rattle.pearl_first.specs.Grammar.{word, sign, id, number, what_at, opening, closing, step_end, step_words, Stand, IsStep, AreSteps, Agree, NoneBegins}
 use Rattle.pearl_first.specs.Forms.{Fits, FitsAt, FitFront}
 use Rattle.pearl_first.specs.Stops.{NoEnd, NoStep, NoClosing}
-use Rattle.pearl_first.proofs.Standing.{none_past}
 
 -- each word fits its form
 abbrev pub AllFit : List Form → List What → Type 0

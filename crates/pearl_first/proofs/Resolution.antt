@@ -1,21 +1,19 @@
 -- A tree without faults means a sound program.
-use Rattle.std.proofs.Common.{◌≡◌, ◌≤◌, ◌<◌, ◌+◌, ◌-◌, ◌^◌, ◌||◌, ℕ, zero, suc, pos, negsuc, ◌≤ℤ◌, Bool, true, false, nat_le, nat_lt, cond, rules, List, [], ◌∷◌, ◌++◌, length, map, get_or, slice_get, All, Option, Some, None, lit<, lit≤, refl, sym, ap, subst, ◌∙◌, arith}
+use Rattle.std.proofs.Common.{◌≡◌, ◌≤◌, ◌<◌, ◌+◌, ◌-◌, ◌^◌, ◌||◌, ℕ, zero, suc, pos, Bool, true, false, nat_le, nat_lt, cond, rules, List, [], ◌∷◌, ◌++◌, length, map, get_or, slice_get, All, Some, lit<, lit≤, refl, sym, ap, subst, ◌∙◌, arith}
 use Rattle.std.specs.List.{AllByRecursion}
 use Rattle.std.proofs.lemmas.Bool.Decides.{nat_tests}
 use Rattle.pearl_value.specs.Cells.{FitsFixed}
-use Rattle.pearl_format.specs.declared.item.Item.{Item}
 use Rattle.pearl_format.specs.declared.item.ItemCode.TheVariants.{F}
 use Rattle.pearl_rules.specs.declared.setup.Setup.{Setup}
 use Rattle.pearl_rules.specs.declared.setup.TaskEntry.{TaskEntry}
 use Rattle.pearl_rules.specs.declared.setup.Device.{Device}
-use Rattle.pearl_rules.specs.Tables.{IsTaskEntry, IsDevice, IsSetup, IsWritable, TakesTexts}
-use Rattle.pearl_prog.specs.declared.program.Expr.{Expr}
+use Rattle.pearl_rules.specs.Tables.{IsTaskEntry, IsDevice, IsWritable, TakesTexts}
 use Rattle.pearl_prog.specs.declared.program.Expr.TheVariants.{Number}
 use Rattle.pearl_prog.specs.declared.program.Statement.{Statement}
 use Rattle.pearl_prog.specs.declared.program.Statement.TheVariants.{Put}
 use Rattle.pearl_prog.specs.declared.program.Routine.{Routine}
 use Rattle.pearl_prog.specs.declared.program.Program.{Program}
-use Rattle.pearl_prog.specs.Sound.{IsExpr, FitsFormat, FitsSome, IsPut, IsStatement, IsRoutine, IsSound}
+use Rattle.pearl_prog.specs.Sound.{IsExpr, FitsFormat, FitsSome, IsStatement, IsRoutine, IsSound}
 use Rattle.pearl_first.specs.declared.rules.Fault.{Fault}
 use Rattle.pearl_first.specs.declared.tree.Step.{Step}
 use Rattle.pearl_first.specs.declared.tree.Tree.{Tree}

@@ -1,27 +1,22 @@
 -- The tokens, the tree and the outcome of a source are determined.
-use Rattle.std.proofs.Common.{◌≡◌, ◌⊎◌, inl, inr, ◌≤◌, ◌<◌, ◌+◌, ℕ, zero, suc, Bool, true, false, List, [], ◌∷◌, length, drop, slice_get, slice_index_or, All, Contains, Option, Some, None, option_map, refl, sym, ap, subst, ◌∙◌, arith}
-use Rattle.std.proofs.Common.{lit<}
+use Rattle.std.proofs.Common.{◌≡◌, ◌⊎◌, inl, inr, ◌<◌, ◌+◌, ℕ, zero, suc, Bool, true, false, List, [], ◌∷◌, length, drop, Contains, Option, Some, None, refl, sym, ap, subst, ◌∙◌, arith}
 use Rattle.std.proofs.Math.ListN.{drop_of_length-le}
-use Rattle.pearl_prog.specs.declared.program.Program.{Program}
 use Rattle.pearl_first.specs.declared.word.Word.TheVariants.{Put, End}
-use Rattle.pearl_first.specs.declared.fault.FrontFault.{FrontFault}
 use Rattle.pearl_first.specs.declared.fault.FrontFault.TheVariants.{Syntax, Source, NoMemory}
 use Rattle.pearl_first.specs.declared.token.Token.{Token}
-use Rattle.pearl_first.specs.declared.token.What.{What}
 use Rattle.pearl_first.specs.declared.token.What.TheVariants as what
 use Rattle.pearl_first.specs.declared.token.Front.{Front}
 use Rattle.pearl_first.specs.declared.rules.Fault.{Fault}
-use Rattle.pearl_first.specs.declared.tree.Name.{Name}
 use Rattle.pearl_first.specs.declared.tree.Step.{Step}
 use Rattle.pearl_first.specs.declared.tree.Tree.{Tree}
 use Rattle.pearl_first.specs.Spelling.{front}
-use Rattle.pearl_first.specs.Lexes.{past_blanks, IsToken, AreTokens, Lexes, IsStuck}
-use Rattle.pearl_first.specs.Grammar.{word, sign, id, number, what_at, place_at, closing, step_end, step_words, Stand, IsStep, AreSteps, Spells, Agree, NoneBegins, SomeBegins}
+use Rattle.pearl_first.specs.Lexes.{past_blanks, AreTokens, Lexes, IsStuck}
+use Rattle.pearl_first.specs.Grammar.{word, what_at, closing, step_end, Stand, IsStep, AreSteps, Spells, NoneBegins, SomeBegins}
 use Rattle.pearl_first.specs.Rules.{IsEarlier, IsFirstOf, faults}
 use Rattle.pearl_first.specs.Resolved.{Resolves}
-use Rattle.pearl_first.specs.Outcome.{Accepts, place_of, HasNoTree, BreaksRule, IsRefusedBy}
-use Rattle.pearl_first.specs.Laws.{HasOneReading, HasOneTree, HasOneProgram, HasOneOutcome, IsSameFault, HasOneFault}
-use Rattle.pearl_first.proofs.Parsing.{ending, same_next, steps_on}
+use Rattle.pearl_first.specs.Outcome.{place_of, IsRefusedBy}
+use Rattle.pearl_first.specs.Laws.{HasOneReading, HasOneTree, HasOneProgram, HasOneOutcome, HasOneFault}
+use Rattle.pearl_first.proofs.Parsing.{ending, same_next}
 
 -- no token begins where no byte is left
 none_at_end : front [] ≡ None
@@ -50,7 +45,7 @@ same_tokens bytes from (token ∷ tokens) to (other ∷ others) end are stops al
     let is = are.1 in
     let its = alike.1 in
     let place : token.place ≡ other.place = is.place ∙ sym its.place in
-    let fronts : Some (record { what = token.what; size = is.size }) ≡ Some (record { what = other.what; size = its.size }) =
+    let fronts : ◌≡◌ {A = Option Front} (Some (record { what = token.what; size = is.size })) (Some (record { what = other.what; size = its.size })) =
     sym is.begins ∙ ap (λ at. front (drop at bytes)) place ∙ its.begins in
     let both : ◌≡◌ {A = Front} (record { what = token.what; size = is.size }) (record { what = other.what; size = its.size }) = cc fronts in
     let what : token.what ≡ other.what = ap (λ (f : Front). f.what) both in

@@ -1,5 +1,5 @@
 -- Which tokens a tree spells, and with which tokens no program begins.
-use Rattle.std.specs.Prelude.{◌≡◌, ℕ, suc, ◌+◌, ◌<◌, ◌≤◌, Bool, true, false, List, [], ◌∷◌, ◌++◌, length, Option, Some, None, codes, slice_get}
+use Rattle.std.specs.Prelude.{◌≡◌, ℕ, suc, ◌+◌, ◌<◌, ◌≤◌, Bool, true, false, List, [], ◌∷◌, ◌++◌, length, Option, Some, codes, slice_get}
 use Rattle.std.specs.Option.{option_map}
 use Rattle.pearl_first.specs.declared.word.Word.{Word}
 use Rattle.pearl_first.specs.declared.word.Word.TheVariants.{Module, ModEnd, System, Problem, Specify, Dation, InOut, Alphic, Interrupt, Task, Main, Put, To, By, End}

@@ -60,11 +60,10 @@ pub fn program(alloc: Global, bytes: &[u8]) -> Result<Prog, FrontFault>
     match tree_of(alloc, tokens.as_slice()) {
         Ok(tree) => checked(alloc, &tree),
         Err(fault) => match fault {
-            ParseFault::Stuck(number) => Err(FrontFault::Syntax(place_of(
-                end,
-                tokens.as_slice(),
-                number,
-            ))),
+            ParseFault::Stuck(number) => {
+                let place = place_of(end, tokens.as_slice(), number);
+                Err(FrontFault::Syntax(place))
+            }
             ParseFault::NoMemory => Err(FrontFault::NoMemory),
         },
     }

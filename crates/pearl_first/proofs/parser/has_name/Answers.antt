@@ -1,4 +1,4 @@
-use Rattle.std.proofs.Common.{◌≡◌, ◌≢◌, Some, None, Option, false, ap, sym, ◌∙◌, arith, true≢false, bytes_eq}
+use Rattle.std.proofs.Common.{◌≡◌, Some, ap, sym, ◌∙◌, true≢false, bytes_eq}
 use Rattle.pearl_first.specs.declared.token.What.TheVariants as what
 use Rattle.pearl_first.specs.Grammar.{what_at}
 use Rattle.pearl_first.proofs.Standing.{token_here, none_past, is_named}

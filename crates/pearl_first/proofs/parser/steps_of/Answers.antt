@@ -1,5 +1,4 @@
 use Rattle.std.proofs.Common.{◌≡◌, ◌≤◌, ◌+◌, ◌++◌, ◌∷◌, [], length, length-append, refl, subst, sym, ap, ◌∙◌, lit<, arith}
-use Rattle.pearl_first.specs.declared.tree.Step.{Step}
 use Rattle.pearl_first.specs.Grammar.{AreSteps, IsStep}
 use Rattle.pearl_first.proofs.Completion.{step_begins}
 use Rattle.pearl_first.proofs.Parsing.{steps_more, no_step_begins, opening_stands}
