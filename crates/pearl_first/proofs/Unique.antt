@@ -106,9 +106,9 @@ same_steps : (tokens : List Token) (from : ℕ) (steps : List Step) (to : ℕ) (
     → AreSteps tokens from others end → Stand tokens end 0 closing → steps ≡ others
 same_steps tokens from [] to [] end are closes alike also = refl
 same_steps tokens from [] to (other ∷ others) end are closes alike also =
-    absurd (let e = sym (end_here tokens from to are closes) ∙ put_here tokens from other alike.0 alike.1 in cc e)
+    cc (sym (end_here tokens from to are closes) ∙ put_here tokens from other alike.0 alike.1)
 same_steps tokens from (step ∷ steps) to [] end are closes alike also =
-    absurd (let e = sym (end_here tokens from end alike also) ∙ put_here tokens from step are.0 are.1 in cc e)
+    cc (sym (end_here tokens from end alike also) ∙ put_here tokens from step are.0 are.1)
 same_steps tokens from (step ∷ steps) to (other ∷ others) end are closes alike also =
     let same = same_step tokens from step other are.0 alike.0 are.1 alike.1 in
     let rest = same_steps tokens are.0 steps to others end are.2 closes (subst (λ at. AreSteps tokens at others end) (sym same.1) alike.2) also in

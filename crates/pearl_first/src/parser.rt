@@ -27,7 +27,8 @@ struct Steps {
     end: usize,
 }
 
-const TASK: usize = 32;
+// The number of the token that names the task.
+const TASK_NAME: usize = 32;
 
 const FIRST_STEP: usize = OPENING.len();
 
@@ -289,7 +290,7 @@ pub fn tree_of(alloc: Global, tokens: &[Token]) -> Result<Tree, ParseFault>
     if count < OPENING.len() {
         return Err(ParseFault::Stuck(count));
     }
-    let task = name_at(tokens, TASK);
+    let task = name_at(tokens, TASK_NAME);
     let found = steps_of(alloc, tokens)?;
     match close_at(tokens, found.end) {
         Ok(()) => Ok(Tree {
