@@ -1,7 +1,6 @@
 -- The tokens, the tree and the outcome of a source are determined.
-use Rattle.std.proofs.Common.{◌≡◌, ◌⊎◌, inl, inr, ◌<◌, ◌+◌, ℕ, zero, suc, Bool, true, false, List, [], ◌∷◌, length, drop, Contains, Option, Some, None, refl, sym, ap, subst, ◌∙◌, arith}
+use Rattle.std.proofs.Common.{◌≡◌, ◌⊎◌, inl, inr, ◌<◌, ℕ, zero, suc, Bool, true, false, List, [], ◌∷◌, length, drop, Contains, Option, Some, None, refl, sym, ap, subst, ◌∙◌, arith}
 use Rattle.std.proofs.Math.ListN.{drop_of_length-le}
-use Rattle.pearl_first.specs.declared.word.Word.TheVariants.{Put, End}
 use Rattle.pearl_first.specs.declared.fault.FrontFault.TheVariants.{Syntax, Source, NoMemory}
 use Rattle.pearl_first.specs.declared.token.Token.{Token}
 use Rattle.pearl_first.specs.declared.token.What.TheVariants as what
@@ -11,7 +10,7 @@ use Rattle.pearl_first.specs.declared.tree.Step.{Step}
 use Rattle.pearl_first.specs.declared.tree.Tree.{Tree}
 use Rattle.pearl_first.specs.Spelling.{front}
 use Rattle.pearl_first.specs.Lexes.{past_blanks, AreTokens, Lexes, IsStuck}
-use Rattle.pearl_first.specs.Grammar.{word, what_at, closing, step_end, Stand, IsStep, AreSteps, Spells, NoneBegins, SomeBegins}
+use Rattle.pearl_first.specs.Grammar.{what_at, closing, step_end, Stand, IsStep, AreSteps, Spells, NoneBegins, SomeBegins}
 use Rattle.pearl_first.specs.Rules.{IsEarlier, IsFirstOf, faults}
 use Rattle.pearl_first.specs.Resolved.{Resolves}
 use Rattle.pearl_first.specs.Outcome.{place_of, IsRefusedBy}
@@ -96,19 +95,13 @@ same_step tokens from a b to next is its =
     same_skip tokens from true false s t = let e = sym s.0 ∙ t.0 in cc e
     same_skip tokens from false true s t = let e = sym s.0 ∙ t.0 in cc e
 
-put_here : (tokens : List Token) (from : ℕ) (step : Step) (to : ℕ) → IsStep tokens from step to → what_at tokens from ≡ Some (word Put)
-put_here tokens from step to is = let e : from ≡ from + 0 = omega arith in ap (what_at tokens) e ∙ is.words.0
-
-end_here : (tokens : List Token) (from end : ℕ) → from ≡ end → Stand tokens end 0 closing → what_at tokens from ≡ Some (word End)
-end_here tokens from end same closes = let e : from ≡ end + 0 = omega (arith, same) in ap (what_at tokens) e ∙ closes.0
-
 same_steps : (tokens : List Token) (from : ℕ) (steps : List Step) (to : ℕ) (others : List Step) (end : ℕ) → AreSteps tokens from steps to → Stand tokens to 0 closing
     → AreSteps tokens from others end → Stand tokens end 0 closing → steps ≡ others
 same_steps tokens from [] to [] end are closes alike also = refl
 same_steps tokens from [] to (other ∷ others) end are closes alike also =
-    cc (sym (end_here tokens from to are closes) ∙ put_here tokens from other alike.0 alike.1)
+    cc
 same_steps tokens from (step ∷ steps) to [] end are closes alike also =
-    cc (sym (end_here tokens from end alike also) ∙ put_here tokens from step are.0 are.1)
+    cc
 same_steps tokens from (step ∷ steps) to (other ∷ others) end are closes alike also =
     let same = same_step tokens from step other are.0 alike.0 are.1 alike.1 in
     let rest = same_steps tokens are.0 steps to others end are.2 closes (subst (λ at. AreSteps tokens at others end) (sym same.1) alike.2) also in

@@ -1,4 +1,5 @@
--- Which tokens a tree spells, and with which tokens no program begins.
+-- Which tokens a tree spells, and with which tokens no program begins: the fixed head of a module, one task with any
+-- number of PUT statements, and the end.
 use Rattle.std.specs.Prelude.{◌≡◌, ℕ, suc, ◌+◌, ◌<◌, ◌≤◌, Bool, true, false, List, [], ◌∷◌, ◌++◌, length, Option, Some, codes, slice_get}
 use Rattle.std.specs.Option.{option_map}
 use Rattle.pearl_first.specs.declared.word.Word.{Word}

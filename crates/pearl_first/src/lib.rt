@@ -1,4 +1,5 @@
-// The first language, from the bytes of a source to its resolved program.
+// A first part of PEARL 90, from the bytes of a source to its resolved program: a module with a fixed head and one
+// task, whose statements write numbers to a terminal.
 #![tactic(auto)]
 
 pub mod fault;
