@@ -6,4 +6,4 @@ mod First
 mod Resolution
 mod Ranges
 mod Completion
-mod Unique
+pub mod Unique
