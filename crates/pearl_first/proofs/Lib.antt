@@ -5,3 +5,5 @@ mod Parsing
 mod First
 mod Resolution
 mod Ranges
+mod Completion
+pub mod Unique

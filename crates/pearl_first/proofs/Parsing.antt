@@ -1,16 +1,14 @@
 -- How the tokens of two programs agree, and where a parse has to stop.
-use Rattle.std.proofs.Common.{◌≡◌, ◌⊎◌, inl, inr, ◌≤◌, ◌<◌, ◌+◌, ℕ, zero, suc, Bool, true, false, List, [], ◌∷◌, ◌++◌, length, Option, Some, None, codes, refl, sym, ap, subst, ◌∙◌, lit<, arith}
-use Rattle.pearl_first.specs.declared.word.Word.TheVariants.{Put, To, By, End}
-use Rattle.pearl_first.specs.declared.token.Symbol.TheVariants.{Open, Close, Comma, Semicolon}
+use Rattle.std.proofs.Common.{◌≡◌, ◌⊎◌, inl, inr, ◌≤◌, ◌<◌, ◌+◌, ℕ, zero, suc, Bool, true, false, List, [], ◌∷◌, ◌++◌, length, Some, refl, sym, ap, subst, ◌∙◌, lit<, arith}
+use Rattle.pearl_first.specs.declared.word.Word.TheVariants.{Put, End}
 use Rattle.pearl_first.specs.declared.token.Token.{Token}
 use Rattle.pearl_first.specs.declared.token.What.{What}
 use Rattle.pearl_first.specs.declared.form.Form.{Form}
-use Rattle.pearl_first.specs.declared.form.TheConstants.{OPENING, STEP, SKIP_END, CLOSING}
+use Rattle.pearl_first.specs.declared.form.TheConstants.{OPENING}
 use Rattle.pearl_first.specs.declared.tree.Step.{Step}
-use Rattle.pearl_first.specs.Grammar.{word, sign, id, number, what_at, opening, closing, step_end, step_words, Stand, IsStep, AreSteps, Spells, Agree, NoneBegins}
+use Rattle.pearl_first.specs.Grammar.{word, id, what_at, opening, closing, step_end, step_words, Stand, IsStep, AreSteps, Agree, NoneBegins}
 use Rattle.pearl_first.specs.Forms.{Fits, FitsAt, FitFront}
 use Rattle.pearl_first.specs.Stops.{NoEnd, NoStep, NoClosing}
-use Rattle.pearl_first.proofs.Standing.{none_past}
 
 -- each word fits its form
 abbrev pub AllFit : List Form → List What → Type 0
@@ -52,43 +50,6 @@ shift_back tokens from j k m (w ∷ ws) e stand =
     let at : from + m ≡ (from + j) + k = omega arith in
     (ap (what_at tokens) at ∙ stand.0, shift_back tokens from j (suc k) (suc m) ws (omega arith) stand.1)
 
--- the words of a statement up to its item's closing bracket
-abbrev step_front : Step → List What
-step_front step =
-    word Put ∷ number step.value ∷ word To ∷ id step.target.text.items ∷ word By ∷
-    id (codes "F") ∷ sign Open ∷ number step.width ∷ sign Close ∷ []
-
-step_fits : (step : Step) → AllFit STEP (step_front step)
-step_fits step = (refl, ((step.value, refl), (refl, ((step.target.text.items, refl), (refl, (refl, (refl, ((step.width, refl), (refl, tt)))))))))
-
-skip_fits : AllFit SKIP_END (step_end true)
-skip_fits = (refl, (refl, (refl, tt)))
-
-closing_fits : AllFit CLOSING closing
-closing_fits = (refl, (refl, (refl, (refl, tt))))
-
-pub no_skip_end : (tokens : List Token) (at n : ℕ) → what_at tokens at ≡ Some (sign Comma) → n < 3 → (FitsAt SKIP_END n (what_at tokens (at + n)) → ⊥) → NoEnd tokens at (at + n)
-no_skip_end tokens at n comma below never others true agree stand = conflict tokens others at SKIP_END (step_end true) [] skip_fits stand n below agree never
-no_skip_end tokens at n comma below never others false agree stand =
-    let first : what_at tokens at ≡ what_at others at = agree at (omega arith) in
-    let zeroth : at + 0 ≡ at = omega arith in
-    let other : what_at others at ≡ Some (sign Semicolon) = ap (what_at others) (sym zeroth) ∙ stand.0 in
-    absurd (let e = sym comma ∙ first ∙ other in cc e)
-
-pub no_end : (tokens : List Token) (at : ℕ) → (what_at tokens at ≡ Some (sign Comma) → ⊥) → (what_at tokens at ≡ Some (sign Semicolon) → ⊥) → NoEnd tokens at at
-no_end tokens at comma semicolon others skip agree stand =
-    let first : what_at tokens at ≡ what_at others at = agree at (omega arith) in
-    let zeroth : at ≡ at + 0 = omega arith in
-    by skip (first ∙ ap (what_at others) zeroth) stand
-  where
-    by : (skip : Bool) → what_at tokens at ≡ what_at others (at + 0) → Stand others at 0 (step_end skip) → ⊥
-    by true e stand = comma (e ∙ stand.0)
-    by false e stand = semicolon (e ∙ stand.0)
-
-pub no_step_front : (tokens : List Token) (from n : ℕ) → n < 9 → (FitsAt STEP n (what_at tokens (from + n)) → ⊥) → NoStep tokens from (from + n)
-no_step_front tokens from n below never others step to agree is =
-    conflict tokens others from STEP (step_front step) (step_end step.skip) (step_fits step) is.words n below agree never
-
 -- the end of a statement is what stands from its tenth token on
 pub ending : (tokens : List Token) (from : ℕ) (step : Step) → Stand tokens from 0 (step_words step) → Stand tokens from 9 (step_end step.skip)
 ending tokens from step stand = stand.1.1.1.1.1.1.1.1.1
@@ -96,9 +57,6 @@ ending tokens from step stand = stand.1.1.1.1.1.1.1.1.1
 pub no_step_end : (tokens : List Token) (from k : ℕ) → NoEnd tokens (from + 9) k → NoStep tokens from k
 no_step_end tokens from k never others step to agree is =
     never others step.skip agree (shift others from 9 0 9 (step_end step.skip) refl (ending others from step is.words))
-
-pub no_closing : (tokens : List Token) (at n : ℕ) → n < 4 → (FitsAt CLOSING n (what_at tokens (at + n)) → ⊥) → NoClosing tokens at (at + n)
-no_closing tokens at n below never others agree stand whole = conflict tokens others at CLOSING closing [] closing_fits stand n below agree never
 
 pub opening_fits : (name : List ℕ) → AllFit OPENING (opening name)
 opening_fits name = (refl, (refl, (refl, (refl, (refl, (refl, (refl, (refl, (refl, (refl, (refl, (refl, (refl, (refl, (refl, (refl, (refl, (refl, (refl, (refl, (refl, (refl, (refl, (refl, (refl, (refl, (refl, (refl, (refl, (refl, (refl, (refl, ((name, refl), (refl, (refl, (refl, (refl, tt)))))))))))))))))))))))))))))))))))))
@@ -128,7 +86,7 @@ some_end false = omega arith
 pub step_longer : (tokens : List Token) (from : ℕ) (step : Step) (to : ℕ) → IsStep tokens from step to → from + 10 ≤ to
 step_longer tokens from step to is = omega (arith, is.end, some_end step.skip)
 
-same_next : (tokens others : List Token) (from : ℕ) (step other : Step) (to next : ℕ) → IsStep tokens from step to → IsStep others from other next
+pub same_next : (tokens others : List Token) (from : ℕ) (step other : Step) (to next : ℕ) → IsStep tokens from step to → IsStep others from other next
     → what_at tokens (from + 9) ≡ what_at others (from + 9) → to ≡ next
 same_next tokens others from step other to next is are e =
     let skip : step.skip ≡ other.skip = same_end tokens others from step.skip other.skip (ending tokens from step is.words) (ending others from other are.words) e in

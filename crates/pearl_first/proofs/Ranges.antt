@@ -1,5 +1,5 @@
 -- What a source's tokens hold is in range, and so is what its tree holds.
-use Rattle.std.proofs.Common.{◌≡◌, ◌≤◌, ◌<◌, ◌+◌, ◌-◌, ◌^◌, ◌||◌, ◌&&◌, ◌==◌, ℕ, zero, suc, Bool, true, false, cond, nat_le, List, [], ◌∷◌, length, take, drop, get_or, slice_get, slice_index, All, Option, Some, None, option_map, true≢false, lit<, refl, sym, ap, subst, ◌∙◌, arith}
+use Rattle.std.proofs.Common.{◌≡◌, ◌≤◌, ◌<◌, ◌+◌, ◌-◌, ◌^◌, ◌||◌, ◌&&◌, ◌==◌, ℕ, zero, suc, Bool, true, false, cond, nat_le, List, [], ◌∷◌, length, take, drop, slice_index, All, Option, Some, None, option_map, true≢false, refl, sym, ap, subst, ◌∙◌, arith}
 use Rattle.std.specs.Char.{is_ascii_alphabetic, is_ascii_digit}
 use Rattle.std.specs.List.{prefix_len}
 use Rattle.std.proofs.lemmas.Bool.Decides.{nat_tests}
@@ -13,9 +13,9 @@ use Rattle.pearl_first.specs.declared.token.Front.{Front}
 use Rattle.pearl_first.specs.declared.tree.Step.{Step}
 use Rattle.pearl_first.specs.declared.tree.Tree.{Tree}
 use Rattle.pearl_first.specs.Words.{words}
-use Rattle.pearl_first.specs.Spelling.{is_name_byte, meaning, id_of, word_or_id, value_of, value_within, number_of, clock_of, milliseconds, symbol_of, sized, digit_count, begins_part, numeral, word_front, front}
+use Rattle.pearl_first.specs.Spelling.{is_name_byte, meaning, id_of, word_or_id, value_of, number_of, clock_of, milliseconds, symbol_of, sized, digit_count, begins_part, numeral, word_front, front}
 use Rattle.pearl_first.specs.Lexes.{IsToken, AreTokens, Lexes}
-use Rattle.pearl_first.specs.Grammar.{what_at, Stand, IsStep, AreSteps, Spells}
+use Rattle.pearl_first.specs.Grammar.{what_at, AreSteps, Spells}
 use Rattle.pearl_first.specs.Lawful.{IsLawful}
 
 -- a name has a byte, and a number is below 2^63
@@ -70,9 +70,9 @@ numeral_range bytes =
     let after_minutes = drop minutes (drop 1 after_hours) in
     let seconds = digit_count (drop 1 after_minutes) in
     either (begins_part after_hours && begins_part after_minutes)
-      (sized (clock_of (take hours bytes) (take minutes (drop 1 after_hours)) (take seconds (drop 1 after_minutes))) (hours + minutes + seconds + 2))
-      (sized (number_of (take hours bytes)) hours)
-      (sized_range _ _ (milliseconds_range _ _ _)) (sized_range _ _ (number_range (take hours bytes)))
+    (sized (clock_of (take hours bytes) (take minutes (drop 1 after_hours)) (take seconds (drop 1 after_minutes))) (hours + minutes + seconds + 2))
+    (sized (number_of (take hours bytes)) hours)
+    (sized_range _ _ (milliseconds_range _ _ _)) (sized_range _ _ (number_range (take hours bytes)))
   where
     either : (b : Bool) (x y : Option Front) → IfFront x → IfFront y → IfFront (cond b x y)
     either true x y h k = h

@@ -1,21 +1,19 @@
 -- A tree without faults means a sound program.
-use Rattle.std.proofs.Common.{◌≡◌, ◌≤◌, ◌<◌, ◌+◌, ◌-◌, ◌^◌, ◌||◌, ℕ, zero, suc, pos, negsuc, ◌≤ℤ◌, Bool, true, false, nat_le, nat_lt, cond, rules, List, [], ◌∷◌, ◌++◌, length, map, get_or, slice_get, All, Option, Some, None, lit<, lit≤, refl, sym, ap, subst, ◌∙◌, arith}
+use Rattle.std.proofs.Common.{◌≡◌, ◌≤◌, ◌<◌, ◌+◌, ◌-◌, ◌^◌, ◌||◌, ℕ, zero, suc, pos, Bool, true, false, nat_le, nat_lt, cond, rules, List, [], ◌∷◌, ◌++◌, length, map, get_or, slice_get, All, Some, lit<, lit≤, refl, sym, ap, subst, ◌∙◌, arith}
 use Rattle.std.specs.List.{AllByRecursion}
 use Rattle.std.proofs.lemmas.Bool.Decides.{nat_tests}
 use Rattle.pearl_value.specs.Cells.{FitsFixed}
-use Rattle.pearl_format.specs.declared.item.Item.{Item}
 use Rattle.pearl_format.specs.declared.item.ItemCode.TheVariants.{F}
 use Rattle.pearl_rules.specs.declared.setup.Setup.{Setup}
 use Rattle.pearl_rules.specs.declared.setup.TaskEntry.{TaskEntry}
 use Rattle.pearl_rules.specs.declared.setup.Device.{Device}
-use Rattle.pearl_rules.specs.Tables.{IsTaskEntry, IsDevice, IsSetup, IsWritable, TakesTexts}
-use Rattle.pearl_prog.specs.declared.program.Expr.{Expr}
+use Rattle.pearl_rules.specs.Tables.{IsTaskEntry, IsDevice, IsWritable, TakesTexts}
 use Rattle.pearl_prog.specs.declared.program.Expr.TheVariants.{Number}
 use Rattle.pearl_prog.specs.declared.program.Statement.{Statement}
 use Rattle.pearl_prog.specs.declared.program.Statement.TheVariants.{Put}
 use Rattle.pearl_prog.specs.declared.program.Routine.{Routine}
 use Rattle.pearl_prog.specs.declared.program.Program.{Program}
-use Rattle.pearl_prog.specs.Sound.{IsExpr, FitsFormat, FitsSome, IsPut, IsStatement, IsRoutine, IsSound}
+use Rattle.pearl_prog.specs.Sound.{IsExpr, FitsFormat, FitsSome, IsStatement, IsRoutine, IsSound}
 use Rattle.pearl_first.specs.declared.rules.Fault.{Fault}
 use Rattle.pearl_first.specs.declared.tree.Step.{Step}
 use Rattle.pearl_first.specs.declared.tree.Tree.{Tree}
@@ -108,11 +106,12 @@ puts_sound setup [] number [] takes formats fit small are = tt
 puts_sound setup [] number (s ∷ statements) takes formats fit small are = absurd are
 puts_sound setup (step ∷ steps) number [] takes formats fit small are = absurd are
 puts_sound setup (step ∷ steps) number (s ∷ statements) takes formats fit small are =
-    let e : number ≡ number + 0 = omega arith in
-    (put_sound setup step number s takes (ap (slice_get setup.formats) e ∙ formats 0) (fit 0 step (omega arith)) (small 0 step (omega arith)) are.0,
-    puts_sound setup steps (number + 1) statements takes
-    (λ k. let f : (number + 1) + k ≡ number + suc k = omega arith in ap (slice_get setup.formats) f ∙ formats (suc k))
-    (λ k d below. fit (suc k) d (omega arith)) (λ k d below. small (suc k) d (omega arith)) are.1)
+    let e : number ≡ number + 0 = omega arith in (
+      put_sound setup step number s takes (ap (slice_get setup.formats) e ∙ formats 0) (fit 0 step (omega arith)) (small 0 step (omega arith)) are.0,
+      puts_sound setup steps (number + 1) statements takes
+          (λ k. let f : (number + 1) + k ≡ number + suc k = omega arith in ap (slice_get setup.formats) f ∙ formats (suc k))
+          (λ k d below. fit (suc k) d (omega arith)) (λ k d below. small (suc k) d (omega arith)) are.1,
+    )
 
 routines_sound : (setup : Setup) (steps : List Step) (routines : List Routine) → ((statements : List Statement) → ArePuts steps 0 statements → AllByRecursion (IsStatement setup) statements)
     → IsOneRoutine steps routines → AllByRecursion (IsRoutine setup) routines × (length routines ≡ 1)
@@ -130,16 +129,16 @@ pub resolved_sound : (tree : Tree) (p : Program) → faults tree ≡ [] → IsLa
 resolved_sound tree p faultless lawful resolves =
     let takes : TakesTexts p.setup 1 = subst (λ (ds : List Device). IsWritable (slice_get ds 1)) (sym resolves.devices) tt in
     let formats : (k : ℕ) → slice_get p.setup.formats (0 + k) ≡ slice_get (map format_of tree.steps) k =
-        λ k. let e : 0 + k ≡ k = omega arith in ap (slice_get p.setup.formats) e ∙ ap (λ fs. slice_get fs k) resolves.formats in
+    λ k. let e : 0 + k ≡ k = omega arith in ap (slice_get p.setup.formats) e ∙ ap (λ fs. slice_get fs k) resolves.formats in
     let routines = routines_sound p.setup tree.steps p.tasks
-        (λ statements are. puts_sound p.setup tree.steps 0 statements takes formats (all_fit tree faultless) lawful.small are) resolves.routine in
+    (λ statements are. puts_sound p.setup tree.steps 0 statements takes formats (all_fit tree faultless) lawful.small are) resolves.routine in
     record {
-  setup = record {
-    tasks = subst (λ ts. AllByRecursion IsTaskEntry ts) (sym resolves.tasks) (tasks_sound tree.task.text.items lawful.named);
-    devices = subst (λ ds. AllByRecursion IsDevice ds) (sym resolves.devices) devices_sound;
-    few_tasks = subst (λ (ts : List TaskEntry). length ts ≤ 200) (sym resolves.tasks) (lit≤ tt);
-    few_devices = subst (λ (ds : List Device). length ds ≤ 396) (sym resolves.devices) (lit≤ tt);
-  };
-  routines = routines.0;
-  each = routines.1 ∙ sym (ap (λ (ts : List TaskEntry). length ts) resolves.tasks);
-}
+      setup = record {
+        tasks = subst (λ ts. AllByRecursion IsTaskEntry ts) (sym resolves.tasks) (tasks_sound tree.task.text.items lawful.named);
+        devices = subst (λ ds. AllByRecursion IsDevice ds) (sym resolves.devices) devices_sound;
+        few_tasks = subst (λ (ts : List TaskEntry). length ts ≤ 200) (sym resolves.tasks) (lit≤ tt);
+        few_devices = subst (λ (ds : List Device). length ds ≤ 396) (sym resolves.devices) (lit≤ tt);
+      };
+      routines = routines.0;
+      each = routines.1 ∙ sym (ap (λ (ts : List TaskEntry). length ts) resolves.tasks);
+    }

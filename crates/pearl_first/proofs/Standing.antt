@@ -1,5 +1,5 @@
 -- What stands at the tokens, number by number.
-use Rattle.std.proofs.Common.{◌≡◌, ◌≢◌, ◌⊎◌, inl, inr, ◌≤◌, ◌<◌, ◌+◌, ℕ, zero, suc, Bool, true, false, List, [], ◌∷◌, ◌++◌, length, get_or, slice_get, Option, Some, None, option_map, bytes_eq, IsTrue, ◌↔◌, refl, sym, ap, subst, ◌∙◌, arith}
+use Rattle.std.proofs.Common.{◌≡◌, ◌≤◌, ◌<◌, ℕ, zero, suc, Bool, List, [], ◌∷◌, length, get_or, Option, Some, None, option_map, bytes_eq, IsTrue, ◌↔◌, refl, sym, ap, ◌∙◌, arith}
 use Rattle.std.proofs.lemmas.Option.{slice_get_read, slice_get_past}
 use Rattle.std.proofs.lemmas.Slice.Eq.{bytes_eq-Decides}
 use Rattle.arrayvec.specs.declared.array_vec.ArrayVec.{ArrayVec}
@@ -8,8 +8,8 @@ use Rattle.pearl_first.specs.declared.token.What.{What}
 use Rattle.pearl_first.specs.declared.token.What.TheVariants as what
 use Rattle.pearl_first.specs.declared.form.Form.{Form}
 use Rattle.pearl_first.specs.declared.form.Form.TheVariants as form
-use Rattle.pearl_first.specs.Grammar.{what_at, id, number, Stand, Agree}
-use Rattle.pearl_first.specs.Forms.{Fits, FitsAt, FitFront}
+use Rattle.pearl_first.specs.Grammar.{what_at, id}
+use Rattle.pearl_first.specs.Forms.{Fits, FitsAt}
 
 pub token_here : (tokens : List Token) (at : ℕ) (token : Token) → at < length tokens → token ≡ get_or tokens at token → what_at tokens at ≡ Some token.what
 token_here tokens at token inside same = ap (option_map (λ (t : Token). t.what)) (slice_get_read tokens (length tokens) at token refl inside same)
@@ -21,11 +21,12 @@ none_past tokens at past = ap (option_map (λ (t : Token). t.what)) (slice_get_p
 pub is_named : (here : Option What) (found : ArrayVec ℕ 63 (Unit {0})) (text : List ℕ) (answer : Bool) → here ≡ Some (what.Id found) → answer ≡ bytes_eq found.items text
     → IsTrue answer ↔ (here ≡ Some (id text))
 is_named here found text answer is same =
-    let decides = bytes_eq-Decides found.items text in
-    (λ yes. is ∙ ap (λ items. Some (id items)) (decides.0 (sym same ∙ yes)),
-    λ named. let equal : Some (what.Id found) ≡ Some (id text) = sym is ∙ named in
-        let alike : found.items ≡ text = cc equal in
-        same ∙ decides.1 alike)
+    let decides = bytes_eq-Decides found.items text in (
+      λ yes. is ∙ ap (λ items. Some (id items)) (decides.0 (sym same ∙ yes)),
+      λ named. let equal : Some (what.Id found) ≡ Some (id text) = sym is ∙ named in
+          let alike : found.items ≡ text = cc equal in
+          same ∙ decides.1 alike,
+    )
 
 pub fits_nothing : (f : Form) → Fits f None → ⊥
 fits_nothing (form.Word w) fit = cc fit

@@ -1,5 +1,5 @@
 -- Digits only raise a value.
-use Rattle.std.proofs.Common.{◌≡◌, ◌≤◌, ◌<◌, ◌*◌, ◌+◌, ◌-◌, ℕ, suc, List, [], ◌∷◌, fold, drop, length, get_or, Option, Some, None, nat_le, if◌then◌else◌, refl, sym, ap, subst, arith}
+use Rattle.std.proofs.Common.{◌≡◌, ◌≤◌, ◌<◌, ◌*◌, ◌+◌, ◌-◌, ℕ, suc, List, [], ◌∷◌, fold, drop, length, get_or, Some, None, nat_le, if◌then◌else◌, subst, arith}
 use Rattle.std.proofs.Math.Seq.{drop-cons}
 use Rattle.std.proofs.lemmas.Bool.Decides.{nat_tests}
 use Rattle.pearl_first.specs.Spelling.{next_value, value_of, value_within}

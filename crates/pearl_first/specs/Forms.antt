@@ -1,11 +1,9 @@
 -- Which tokens fit a form.
-use Rattle.std.specs.Prelude.{◌≡◌, ℕ, ◌+◌, ◌<◌, zero, suc, List, [], ◌∷◌, Option, Some, None}
-
+use Rattle.std.specs.Prelude.{◌≡◌, ℕ, ◌+◌, ◌<◌, zero, suc, List, [], ◌∷◌, Option, Some}
 use Rattle.pearl_first.specs.declared.form.Form.{Form}
 use Rattle.pearl_first.specs.declared.form.Form.TheVariants as form
 use Rattle.pearl_first.specs.declared.token.Token.{Token}
 use Rattle.pearl_first.specs.declared.token.What.{What}
-use Rattle.pearl_first.specs.declared.token.What.TheVariants as what
 use Rattle.pearl_first.specs.Spelled.{spelled}
 use Rattle.pearl_first.specs.Grammar.{what_at, word, sign, id, number}
 

@@ -1,5 +1,6 @@
--- Which tokens a tree spells, and with which tokens no program begins.
-use Rattle.std.specs.Prelude.{◌≡◌, ℕ, suc, ◌+◌, ◌≤◌, Bool, true, false, List, [], ◌∷◌, ◌++◌, length, Option, Some, None, codes, slice_get}
+-- Which tokens a tree spells, and with which tokens no program begins: the fixed head of a module, one task with any
+-- number of PUT statements, and the end.
+use Rattle.std.specs.Prelude.{◌≡◌, ℕ, suc, ◌+◌, ◌<◌, ◌≤◌, Bool, true, false, List, [], ◌∷◌, ◌++◌, length, Option, Some, codes, slice_get}
 use Rattle.std.specs.Option.{option_map}
 use Rattle.pearl_first.specs.declared.word.Word.{Word}
 use Rattle.pearl_first.specs.declared.word.Word.TheVariants.{Module, ModEnd, System, Problem, Specify, Dation, InOut, Alphic, Interrupt, Task, Main, Put, To, By, End}
@@ -93,3 +94,8 @@ Agree tokens others k = (j : ℕ) → j ≤ k → what_at tokens j ≡ what_at o
 -- no program begins with the tokens up to and with number k
 abbrev pub NoneBegins : List Token → ℕ → Type 0
 NoneBegins tokens k = (tree : Tree) (others : List Token) → Agree tokens others k → Spells tree others → ⊥
+
+-- some program begins with the tokens before number k
+abbrev pub SomeBegins : List Token → ℕ → Type 0
+SomeBegins tokens k =
+    (tree : Tree) × (others : List Token) × ((j : ℕ) → j < k → what_at tokens j ≡ what_at others j) × Spells tree others

@@ -1,6 +1,5 @@
 -- What is in range in each token and tree of a source.
-use Rattle.std.specs.Prelude.{ℕ, ◌<◌, ◌^◌, List, length, All}
-use Rattle.pearl_first.specs.declared.tree.Step.{Step}
+use Rattle.std.specs.Prelude.{◌<◌, ◌^◌, length, All}
 use Rattle.pearl_first.specs.declared.tree.Tree.{Tree}
 
 -- the task has a name, and the numbers are below 2^63

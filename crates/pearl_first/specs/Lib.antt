@@ -9,3 +9,4 @@ pub mod Rules
 pub mod Lawful
 pub mod Resolved
 pub mod Outcome
+pub mod Laws

@@ -6,7 +6,7 @@ use Rattle.pearl_first.specs.declared.fault.FrontFault.TheVariants.{Syntax, Sour
 use Rattle.pearl_first.specs.declared.token.Token.{Token}
 use Rattle.pearl_first.specs.declared.tree.Tree.{Tree}
 use Rattle.pearl_first.specs.Lexes.{Lexes, IsStuck}
-use Rattle.pearl_first.specs.Grammar.{place_at, Spells, NoneBegins}
+use Rattle.pearl_first.specs.Grammar.{place_at, Spells, NoneBegins, SomeBegins}
 use Rattle.pearl_first.specs.Rules.{faults, IsFirstOf}
 use Rattle.pearl_first.specs.Resolved.{Resolves}
 
@@ -23,12 +23,13 @@ pub record Accepts (bytes : List ℕ) (p : Program) : Type 0 where
 abbrev pub place_of : ℕ → List Token → ℕ → ℕ
 place_of end tokens k = unwrap_or (place_at tokens k) end
 
--- the source has tokens, and no program begins with those up to and with the one at this place
+-- the source has tokens, and the one at this place is the first such that no program begins with those up to and with it
 pub record HasNoTree (bytes : List ℕ) (place : ℕ) : Type 0 where
   pub tokens : List Token
   pub number : ℕ
   pub lexes : Lexes bytes tokens
   pub none : NoneBegins tokens number
+  pub some : SomeBegins tokens number
   pub here : place ≡ place_of (length bytes) tokens number
 
 -- the source's tokens spell a tree whose first fault is this

@@ -1,5 +1,5 @@
 -- What program a tree means.
-use Rattle.std.specs.Prelude.{◌≡◌, ℕ, ◌+◌, ◌-◌, ◌^◌, ◌<◌, ◌≤◌, pos, Bool, true, false, nat_le, if◌then◌else◌, List, [], ◌∷◌, length, map, All}
+use Rattle.std.specs.Prelude.{◌≡◌, ℕ, ◌+◌, ◌-◌, ◌^◌, pos, Bool, true, false, nat_le, if◌then◌else◌, List, [], ◌∷◌, map}
 use Rattle.pearl_format.specs.declared.item.Item.{Item}
 use Rattle.pearl_format.specs.declared.item.ItemCode.TheVariants.{F, Skip}
 use Rattle.pearl_rules.specs.declared.setup.TaskEntry.{TaskEntry}

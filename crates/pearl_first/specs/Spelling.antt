@@ -5,7 +5,6 @@ use Rattle.std.specs.Char.{is_ascii_alphabetic, is_ascii_digit}
 use Rattle.std.specs.List.{prefix_len}
 use Rattle.std.specs.Str.{bytes_eq}
 use Rattle.pearl_first.specs.declared.word.Word.{Word}
-use Rattle.pearl_first.specs.declared.token.Symbol.{Symbol}
 use Rattle.pearl_first.specs.declared.token.Symbol.TheVariants as symbol
 use Rattle.pearl_first.specs.declared.token.What.{What}
 use Rattle.pearl_first.specs.declared.token.What.TheVariants as what

@@ -34,7 +34,10 @@ fn checked(alloc: Global, tree: &Tree) -> Result<Prog, FrontFault>
     ensures refused { IfErr result (λ fault. spec.IsTreeFault tree.now fault) }
 {
     match first_fault(tree) {
-        Some(fault) => Err(FrontFault::Source { place: fault.place, rule: fault.rule }),
+        Some(fault) => Err(FrontFault::Source {
+            place: fault.place,
+            rule: fault.rule,
+        }),
         None => match resolve(alloc, tree) {
             Ok(prog) => Ok(prog),
             Err(_) => Err(FrontFault::NoMemory),
@@ -57,7 +60,10 @@ pub fn program(alloc: Global, bytes: &[u8]) -> Result<Prog, FrontFault>
     match tree_of(alloc, tokens.as_slice()) {
         Ok(tree) => checked(alloc, &tree),
         Err(fault) => match fault {
-            ParseFault::Stuck(number) => Err(FrontFault::Syntax(place_of(end, tokens.as_slice(), number))),
+            ParseFault::Stuck(number) => {
+                let place = place_of(end, tokens.as_slice(), number);
+                Err(FrontFault::Syntax(place))
+            }
             ParseFault::NoMemory => Err(FrontFault::NoMemory),
         },
     }

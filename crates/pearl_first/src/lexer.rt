@@ -42,7 +42,10 @@ pub fn tokens_of(alloc: Global, bytes: &[u8]) -> Result<Vec<Token>, FrontFault>
     while place < bytes.len() {
         match front(rest_of(bytes, place)) {
             Some(front) => {
-                let token = Token { place: place as u32, what: front.what };
+                let token = Token {
+                    place: place as u32,
+                    what: front.what,
+                };
                 append(&mut tokens, token)?;
                 end = place + front.size;
                 place = past_blanks(bytes, end);

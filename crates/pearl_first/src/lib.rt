@@ -1,14 +1,18 @@
-// The first language, from the bytes of a source to its resolved program.
+// A first part of PEARL 90, from the bytes of a source to its resolved program: a module with a fixed head and one
+// task, whose statements write numbers to a terminal.
 #![tactic(auto)]
 
 pub mod fault;
-pub mod front_end;
 mod form;
+pub mod front_end;
+pub mod laws;
 mod lexer;
 mod parser;
 mod resolve;
 mod rules;
 mod spelling;
+#[cfg(test)]
+mod tests;
 pub mod token;
 pub mod tree;
 pub mod word;

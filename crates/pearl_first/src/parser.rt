@@ -3,7 +3,7 @@
 ghost use Rattle.std.specs.Prelude.{◌≡◌, ℕ, ◌+◌, ◌-◌, ◌<◌, ◌≤◌, ◌↔◌, ◌^◌, length, IfOk, IfErr, OnOk, IsTrue, Some, List, [], ◌∷◌, ◌++◌};
 ghost use Rattle.pearl_first.specs.Forms.{Fits, FitsAt, FitFront};
 ghost use Rattle.pearl_first.specs.Grammar.{what_at, place_at, id, number, opening, closing, step_end, step_words, Stand, IsStep, AreSteps, Spells};
-ghost use Rattle.pearl_first.specs.Stops.{NoEnd, NoStep, NoClosing, IsParseFault};
+ghost use Rattle.pearl_first.specs.Stops.{Begun, EndBegun, StepBegun, NoEnd, NoStep, NoClosing, IsParseFault};
 
 use crate::form::{CLOSING, Form, OPENING, SKIP_END, STEP, spelling};
 use crate::token::{Symbol, Token, What};
@@ -27,7 +27,9 @@ struct Steps {
     end: usize,
 }
 
-const TASK: usize = 32;
+// The number of the token that names the task.
+const TASK_NAME: usize = 32;
+
 const FIRST_STEP: usize = OPENING.len();
 
 fn has_word(tokens: &[Token], at: usize, word: Word) -> bool
@@ -126,7 +128,10 @@ fn fit_count(tokens: &[Token], from: usize, forms: &[Form]) -> usize
     ensures stops { result < length forms.now → FitsAt forms.now result (what_at tokens.now (from + result)) → ⊥ }
 {
     let mut count = 0;
-    while count < forms.len() && from + count < tokens.len() && has_form(tokens, from + count, &forms[count]) {
+    while count < forms.len()
+        && from + count < tokens.len()
+        && has_form(tokens, from + count, &forms[count])
+    {
         count += 1;
     }
     count
@@ -139,7 +144,10 @@ fn name_at(tokens: &[Token], at: usize) -> Name
 {
     match tokens.get(at) {
         Some(token) => match &token.what {
-            What::Id(text) => Name { text: text.clone().unwrap(), place: token.place },
+            What::Id(text) => Name {
+                text: text.clone().unwrap(),
+                place: token.place,
+            },
             _ => unreachable!(),
         },
         None => unreachable!(),
@@ -172,6 +180,7 @@ fn end_at(tokens: &[Token], at: usize) -> Result<bool, usize>
     ensures end { IfOk result (λ skip. Stand tokens.now at 0 (step_end skip)) }
     ensures inside { IfOk result (λ skip. at + length (step_end skip) ≤ length tokens.now) }
     ensures refused { IfErr result (λ k. NoEnd tokens.now at k) }
+    ensures begun { IfErr result (λ k. EndBegun tokens.now at k) }
     ensures within { IfErr result (λ k. (at ≤ k) × (k ≤ length tokens.now)) }
 {
     if has_symbol(tokens, at, Symbol::Comma) {
@@ -192,6 +201,7 @@ fn step_at(tokens: &[Token], from: usize) -> Result<Step, usize>
     ensures step { IfOk result (λ step. IsStep tokens.now from step (from + length (step_words step))) }
     ensures inside { IfOk result (λ step. from + length (step_words step) ≤ length tokens.now) }
     ensures refused { IfErr result (λ k. NoStep tokens.now from k) }
+    ensures begun { IfErr result (λ k. StepBegun tokens.now from k) }
     ensures within { IfErr result (λ k. (from ≤ k) × (k ≤ length tokens.now)) }
 {
     let count = fit_count(tokens, from, &STEP);
@@ -230,7 +240,8 @@ fn append(steps: &mut Vec<Step>, step: Step) -> Result<(), ParseFault>
 }
 
 fn steps_of(alloc: Global, tokens: &[Token]) -> Result<Steps, ParseFault>
-    requires { 37 ≤ length tokens.now }
+    requires opens { FitFront OPENING tokens.now 0 37 }
+    requires long { 37 ≤ length tokens.now }
     ensures steps { IfOk result (λ found. AreSteps tokens.now 37 found.steps.items found.end) }
     ensures inside { IfOk result (λ found. found.end ≤ length tokens.now) }
     ensures few { IfOk result (λ found. length found.steps.items ≤ found.end) }
@@ -256,6 +267,7 @@ fn close_at(tokens: &[Token], at: usize) -> Result<(), usize>
     ensures closes { OnOk result (Stand tokens.now at 0 closing) }
     ensures whole { OnOk result (length tokens.now ≡ at + 4) }
     ensures refused { IfErr result (λ k. NoClosing tokens.now at k) }
+    ensures begun { IfErr result (λ k. Begun tokens.now at k closing) }
     ensures within { IfErr result (λ k. (at ≤ k) × (k ≤ length tokens.now)) }
 {
     let count = fit_count(tokens, at, &CLOSING);
@@ -278,10 +290,13 @@ pub fn tree_of(alloc: Global, tokens: &[Token]) -> Result<Tree, ParseFault>
     if count < OPENING.len() {
         return Err(ParseFault::Stuck(count));
     }
-    let task = name_at(tokens, TASK);
+    let task = name_at(tokens, TASK_NAME);
     let found = steps_of(alloc, tokens)?;
     match close_at(tokens, found.end) {
-        Ok(()) => Ok(Tree { task, steps: Listing::new(found.steps) }),
+        Ok(()) => Ok(Tree {
+            task,
+            steps: Listing::new(found.steps),
+        }),
         Err(k) => Err(ParseFault::Stuck(k)),
     }
 }

@@ -15,6 +15,7 @@ use pearl_value::listing::Listing;
 use std::alloc::{AllocError, Global};
 
 const TTY: u32 = 1;
+
 const SHORT_MAX: u64 = (1 << 31) - 1;
 
 fn literal_of(value: u64) -> Expr
@@ -22,7 +23,10 @@ fn literal_of(value: u64) -> Expr
     ensures { result ≡ spec.literal_of value }
 {
     let len = if value <= SHORT_MAX { 31 } else { 63 };
-    Expr::Number { len, value: value as i64 }
+    Expr::Number {
+        len,
+        value: value as i64,
+    }
 }
 
 fn format_of(alloc: Global, step: &Step) -> Result<Listing<Item>, AllocError>
@@ -30,9 +34,15 @@ fn format_of(alloc: Global, step: &Step) -> Result<Listing<Item>, AllocError>
     ensures { IfOk result (λ items. items ≡ spec.format_of step.now) }
 {
     let mut items = Vec::new(alloc);
-    items.push(Item { code: ItemCode::F, width: step.width as u8 })?;
+    items.push(Item {
+        code: ItemCode::F,
+        width: step.width as u8,
+    })?;
     if step.skip {
-        items.push(Item { code: ItemCode::Skip, width: 0 })?;
+        items.push(Item {
+            code: ItemCode::Skip,
+            width: 0,
+        })?;
     }
     Ok(Listing::new(items))
 }
@@ -55,7 +65,11 @@ fn put_of(alloc: Global, step: &Step, format: u32) -> Result<Statement, AllocErr
 {
     let mut values = Vec::new(alloc);
     values.push(literal_of(step.value))?;
-    Ok(Statement::Put { values, device: TTY, format })
+    Ok(Statement::Put {
+        values,
+        device: TTY,
+        format,
+    })
 }
 
 fn body_of(alloc: Global, steps: &[Step]) -> Result<Vec<Statement>, AllocError>
@@ -76,7 +90,10 @@ fn devices_of(alloc: Global) -> Result<Listing<Device>, AllocError>
 {
     let mut devices = Vec::new(alloc);
     devices.push(Device::Interrupt { number: 3 })?;
-    devices.push(Device::Terminal { number: 1, direction: Direction::InOut })?;
+    devices.push(Device::Terminal {
+        number: 1,
+        direction: Direction::InOut,
+    })?;
     Ok(Listing::new(devices))
 }
 
@@ -84,7 +101,11 @@ fn tasks_of(alloc: Global, name: &ArrayVec<u8, 63>) -> Result<Listing<TaskEntry>
     ensures { IfOk result (λ tasks. tasks ≡ spec.task_of name.now.items ∷ []) }
 {
     let mut tasks = Vec::new(alloc);
-    tasks.push(TaskEntry { name: name.clone().unwrap(), priority: 255, main: true })?;
+    tasks.push(TaskEntry {
+        name: name.clone().unwrap(),
+        priority: 255,
+        main: true,
+    })?;
     Ok(Listing::new(tasks))
 }
 
@@ -111,7 +132,11 @@ pub fn resolve(alloc: Global, tree: &Tree) -> Result<Prog, AllocError>
     let formats = formats_of(alloc, tree.steps.as_slice())?;
     let routines = routines_of(alloc, tree.steps.as_slice())?;
     Ok(Prog::new(Program {
-        setup: Setup { tasks, devices, formats },
+        setup: Setup {
+            tasks,
+            devices,
+            formats,
+        },
         tasks: routines,
     }))
 }

@@ -23,6 +23,7 @@ pub enum Sort {
 }
 
 const WIDTH_MAX: u64 = 255;
+
 const SUM_MAX: u64 = 1024;
 
 fn is_specified(name: &[u8]) -> bool
@@ -66,14 +67,22 @@ fn is_other(sort: Option<Sort>) -> bool
 fn fault_if(broken: bool, place: u32, rule: u8) -> Option<Fault>
     ensures { spec.IsFirstOf (spec.fault_if broken place rule) result }
 {
-    if broken { Some(Fault { place, rule }) } else { None }
+    if broken {
+        Some(Fault { place, rule })
+    } else {
+        None
+    }
 }
 
 fn comes_before(a: Fault, b: Fault) -> bool
     ensures yes { result ≡ true → spec.IsEarlier a b }
     ensures otherwise { result ≡ false → spec.IsEarlier b a }
 {
-    if a.place == b.place { a.rule <= b.rule } else { a.place < b.place }
+    if a.place == b.place {
+        a.rule <= b.rule
+    } else {
+        a.place < b.place
+    }
 }
 
 fn earlier(a: Option<Fault>, b: Option<Fault>) -> Option<Fault>
@@ -97,7 +106,11 @@ fn earlier(a: Option<Fault>, b: Option<Fault>) -> Option<Fault>
 fn has_wide_sum(step: &Step) -> bool
     ensures { result ≡ nat_lt 1024 (step.now.width + spec.skip_width step.now.skip) }
 {
-    if step.skip { step.width >= SUM_MAX } else { step.width > SUM_MAX }
+    if step.skip {
+        step.width >= SUM_MAX
+    } else {
+        step.width > SUM_MAX
+    }
 }
 
 fn has_bad_width(step: &Step) -> bool

@@ -11,6 +11,7 @@ use crate::word::{WORDS, Word};
 use arrayvec::ArrayVec;
 
 const NUMBER_MAX: u64 = (1 << 63) - 1;
+
 const ID_MAX: usize = 63;
 
 fn is_blank(byte: u8) -> bool
@@ -149,7 +150,9 @@ fn value_within(digits: &[u8], max: u64) -> Option<u64>
 {
     let mut value: u64 = 0;
     for digit in digits {
-        let next = value.saturating_mul(10).saturating_add(u64::from(digit.saturating_sub(b'0')));
+        let next = value
+            .saturating_mul(10)
+            .saturating_add(u64::from(digit.saturating_sub(b'0')));
         if next > max {
             return None;
         }
@@ -228,7 +231,11 @@ fn numeral(bytes: &[u8]) -> Option<Front>
     let seconds_on = skip_one(after_minutes);
     let seconds = digit_count(seconds_on);
     if begins_part(after_hours) && begins_part(after_minutes) {
-        let clock = clock_of(front_of(bytes, hours), front_of(minutes_on, minutes), front_of(seconds_on, seconds));
+        let clock = clock_of(
+            front_of(bytes, hours),
+            front_of(minutes_on, minutes),
+            front_of(seconds_on, seconds),
+        );
         with_size(clock, hours + minutes + seconds + 2)
     } else {
         with_size(number_of(front_of(bytes, hours)), hours)

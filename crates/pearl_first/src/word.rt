@@ -18,7 +18,7 @@ pub enum Word {
     To,
     By,
     End,
-    /// A word of the whole language that no program of the first language has.
+    /// A word of the whole language that no program of this part of it has.
     Other,
 }
 

@@ -11,10 +11,10 @@ loop-place-preserved c =
     let more : c.append.new.tokens.items ≡ c.loop-place.tokens.items ++ record { place = at; what = c.in-Some.front.what } ∷ [] = c.in_ok-append-in-Some.ensures.more in
     let many : length c.append.new.tokens.items ≡ length c.loop-place.tokens.items + 1 = ap length more ∙ length-append _ _ in
     record {
-  tokens_are = subst (λ tokens. AreTokens c.args.bytes.now 0 tokens (at + c.in-Some.front.size)) (sym more)
-      (one_more c.args.bytes.now 0 c.loop-place.tokens.items (record { place = at; what = c.in-Some.front.what }) c.loop-place.end (at + c.in-Some.front.size) c.loop-place.invariant.tokens_are
-      (record { size = c.in-Some.front.size; place = c.loop-place.invariant.here; begins = begins; end = refl }));
-  here = c.past_blanks-place-in-Some.ensures.value;
-  inside = c.past_blanks-place-in-Some.ensures.within;
-  few = omega (arith, many, c.in-Some.ensures.some, c.past_blanks-place-in-Some.ensures.on);
-}
+      tokens_are = subst (λ tokens. AreTokens c.args.bytes.now 0 tokens (at + c.in-Some.front.size)) (sym more)
+          (one_more c.args.bytes.now 0 c.loop-place.tokens.items (record { place = at; what = c.in-Some.front.what }) c.loop-place.end (at + c.in-Some.front.size) c.loop-place.invariant.tokens_are
+          (record { size = c.in-Some.front.size; place = c.loop-place.invariant.here; begins = begins; end = refl }));
+      here = c.past_blanks-place-in-Some.ensures.value;
+      inside = c.past_blanks-place-in-Some.ensures.within;
+      few = omega (arith, many, c.in-Some.ensures.some, c.past_blanks-place-in-Some.ensures.on);
+    }

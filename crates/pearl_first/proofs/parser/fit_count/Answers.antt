@@ -1,4 +1,4 @@
-use Rattle.std.proofs.Common.{◌+◌, ℕ, arith, subst, sym, refl, true≢false, below_more}
+use Rattle.std.proofs.Common.{◌+◌, arith, subst, sym, refl, true≢false, below_more}
 use Rattle.pearl_first.specs.Forms.{FitsAt}
 use Rattle.pearl_first.specs.Grammar.{what_at}
 use Rattle.pearl_first.proofs.Standing.{none_past, nothing_fits, form_here}

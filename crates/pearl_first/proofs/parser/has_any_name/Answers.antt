@@ -11,11 +11,13 @@ returns-in-Id c =
 
 pub returns-in_default : goal.returns-in_default
 returns-in_default c =
-    let here : what_at c.args.tokens.now c.args.at ≡ Some c.in-Some.token.now.what = token_here _ _ _ c.in-Some.ensures.lookup.3.0 c.in-Some.ensures.lookup.1 in
-    (λ h. absurd (true≢false (sym h)), λ named.
-        let equal = sym here ∙ named.1 in
-        let is : c.in-Some.token.now.what ≡ what.Id (record { items = named.0 }) = cc equal in
-        absurd (c.in_default.not-Id _ is))
+    let here : what_at c.args.tokens.now c.args.at ≡ Some c.in-Some.token.now.what = token_here _ _ _ c.in-Some.ensures.lookup.3.0 c.in-Some.ensures.lookup.1 in (
+      λ h. absurd (true≢false (sym h)),
+      λ named.
+          let equal = sym here ∙ named.1 in
+          let is : c.in-Some.token.now.what ≡ what.Id (record { items = named.0 }) = cc equal in
+          absurd (c.in_default.not-Id _ is),
+    )
 
 pub returns-in-None : goal.returns-in-None
 returns-in-None c =

@@ -1,4 +1,4 @@
-use Rattle.std.proofs.Common.{◌≡◌, ◌≢◌, Some, None, Option, false, ap, sym, ◌∙◌, arith, true≢false, bytes_eq}
+use Rattle.std.proofs.Common.{◌≡◌, Some, ap, sym, ◌∙◌, true≢false, bytes_eq}
 use Rattle.pearl_first.specs.declared.token.What.TheVariants as what
 use Rattle.pearl_first.specs.Grammar.{what_at}
 use Rattle.pearl_first.proofs.Standing.{token_here, none_past, is_named}
@@ -11,11 +11,13 @@ returns-in-Id c =
 
 pub returns-in_default : goal.returns-in_default
 returns-in_default c =
-    let here : what_at c.args.tokens.now c.args.at ≡ Some c.in-Some.token.now.what = token_here _ _ _ c.in-Some.ensures.lookup.3.0 c.in-Some.ensures.lookup.1 in
-    (λ h. absurd (true≢false (sym h)), λ named.
-        let equal = sym here ∙ named in
-        let is : c.in-Some.token.now.what ≡ what.Id (record { items = c.args.text.now }) = cc equal in
-        absurd (c.in_default.not-Id _ is))
+    let here : what_at c.args.tokens.now c.args.at ≡ Some c.in-Some.token.now.what = token_here _ _ _ c.in-Some.ensures.lookup.3.0 c.in-Some.ensures.lookup.1 in (
+      λ h. absurd (true≢false (sym h)),
+      λ named.
+          let equal = sym here ∙ named in
+          let is : c.in-Some.token.now.what ≡ what.Id (record { items = c.args.text.now }) = cc equal in
+          absurd (c.in_default.not-Id _ is),
+    )
 
 pub returns-in-None : goal.returns-in-None
 returns-in-None c =

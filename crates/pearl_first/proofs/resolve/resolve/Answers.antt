@@ -1,5 +1,4 @@
 use Rattle.std.proofs.Common.{◌<◌, length, map, get_or, ap, subst, sym, ◌∙◌, arith}
-use Rattle.pearl_first.specs.declared.tree.Step.{Step}
 use Rattle.pearl_first.specs.Resolved.{format_of, IsOneRoutine}
 use Rattle.pearl_first.proofs.Resolution.{all_fit, resolved_sound}
 use Rattle.pearl_first.proofs.resolve.resolve.Goals as goal
