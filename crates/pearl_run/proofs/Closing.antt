@@ -1,0 +1,100 @@
+-- How a run of one task starts and is closed.
+use Rattle.std.proofs.Common.{◌≡◌, ℕ, suc, ◌≤◌, List, [], ◌∷◌, ◌++◌, Bool, true, false, Option, Some, None, length, slice_get, vec_capacity, sym, ap, ◌∙◌, subst, arith}
+use Rattle.std.specs.Result.{OnOk, OnErr}
+use Rattle.std.specs.Prelude.{Result, Ok, Err}
+use Rattle.std.specs.List.{AllByRecursion}
+use Rattle.std.proofs.lemmas.List.{append-nil}
+use Rattle.pearl_rules.specs.declared.action.Action.{Action}
+use Rattle.pearl_rules.specs.declared.entry.Entry.{Entry}
+use Rattle.pearl_rules.specs.declared.event.Shown.{Shown}
+use Rattle.pearl_rules.specs.declared.row.Mode.{Mode}
+use Rattle.pearl_rules.specs.declared.row.Mode.TheVariants.{Dormant, Active}
+use Rattle.pearl_rules.specs.declared.row.TaskRow.{TaskRow}
+use Rattle.pearl_rules.specs.declared.setup.Setup.{Setup}
+use Rattle.pearl_rules.specs.declared.setup.TaskEntry.{TaskEntry}
+use Rattle.pearl_rules.specs.Core.{Core, first_mode}
+use Rattle.pearl_rules.specs.Pick.{Offered, shown_of, states_first, states}
+use Rattle.pearl_rules.specs.Runs.{Machine, machine_start, machine_offers, unsettled}
+use Rattle.pearl_code.specs.declared.object.Code.{Code}
+use Rattle.pearl_code.specs.declared.object.Object.{Object}
+use Rattle.pearl_code.specs.Rows.{Stack, engine, instructions_or_none}
+use Rattle.pearl_code.specs.Valid.{IsCode, IsValid, RunsFrom}
+use Rattle.pearl_script.specs.Lines.{state_line, close_line, lines_of}
+use Rattle.pearl_script.specs.Words.{task_name}
+use Rattle.pearl_run.specs.declared.frame.Frame.{Frame}
+use Rattle.pearl_run.specs.declared.task.Task.{Task}
+use Rattle.pearl_run.specs.Frame.{stack_of, depth_of, depth_or_none, IsReady, IsSteady}
+use Rattle.pearl_run.specs.Task.{Begins, starting_mode}
+use Rattle.pearl_run.specs.Seen.{Seen, IsAt, Goes}
+use Rattle.pearl_run.proofs.Steps.{one, settle_steps}
+use Rattle.pearl_run.proofs.Goes.{at, goes_to}
+use Rattle.pearl_run.proofs.Marking.{seen_of}
+
+-- the lines at the end
+closing_at : (setup : Setup) (core : Core) (offers : Offered) (row : TaskRow) (moment : ℕ) (name : List ℕ) (shown : Shown) →
+    core.tasks ≡ row ∷ [] → core.moment ≡ moment → name ≡ task_name setup 0 → shown ≡ shown_of core offers 0 →
+    lines_of setup (states core offers) ++ close_line core.moment ≡ state_line moment name shown ++ close_line moment
+closing_at setup core offers row moment name shown tasks time named shows =
+    let f : ℕ → List ℕ → Shown → List ℕ = λ m n s. state_line m n s ++ close_line m in
+    ap (λ n. lines_of setup (states_first core offers n) ++ close_line core.moment) (ap length tasks)
+    ∙ (ap (λ t. t ++ close_line core.moment) (append-nil _)
+    ∙ (ap (λ m. f m (task_name setup 0) (shown_of core offers 0)) time
+    ∙ (ap (λ n. f moment n (shown_of core offers 0)) (sym named) ∙ ap (f moment name) (sym shows))))
+
+pub closing : (seen : Seen) (o : Object) (task : Task) (last : Option ℕ) (moment : ℕ) (m : Machine Stack) (name : List ℕ) (shown : Shown) (first second : List ℕ) →
+    seen_of o task last moment ≡ seen → IsAt seen m → name ≡ task_name o.setup 0 → shown ≡ shown_of m.core (machine_offers m) 0 →
+    first ≡ state_line moment name shown → second ≡ close_line moment →
+    lines_of seen.object.setup (states m.core (machine_offers m)) ++ close_line m.core.moment ≡ first ++ second
+closing seen o task last moment m name shown first second view is named shows one two =
+    closing_at seen.object.setup m.core (machine_offers m) task.row moment name shown (is.tasks ∙ sym (ap (λ (s : Seen). s.tasks) view))
+    (is.moment ∙ sym (ap (λ (s : Seen). s.moment) view)) (named ∙ ap (λ (s : Seen). task_name s.object.setup 0) view) shows
+    ∙ (ap (λ t. t ++ close_line moment) (sym one) ∙ ap (λ t. first ++ t) (sym two))
+
+-- what follows where a call did not fail, and where it did
+pub on_ok : {T E P Q : Type 0} → (P → Q) → (r : Result T E) → OnOk r P → OnOk r Q
+on_ok f (Ok x) h = f h
+on_ok f (Err e) h = tt
+
+pub on_err : {T E P Q : Type 0} → (P → Q) → (r : Result T E) → OnErr r P → OnErr r Q
+on_err f (Ok x) h = tt
+on_err f (Err e) h = f h
+
+-- the code of a valid object stands well at its first instruction
+code_runs : (setup : Setup) (codes : List Code) → length codes ≡ 1 → AllByRecursion (IsCode setup) codes →
+    RunsFrom setup (depth_or_none (slice_get codes 0)) (Some []) (instructions_or_none (slice_get codes 0))
+code_runs setup [] single all = absurd (omega arith)
+code_runs setup (code ∷ codes) single all = all.0.runs
+
+pub start_ready : (o : Object) (frame : Frame) → IsValid o → length o.tasks ≡ 1 → frame.place ≡ 0 → frame.operands.items ≡ [] →
+    depth_of o 0 ≤ vec_capacity frame.operands → IsReady o frame
+start_ready o frame valid single first empty room = record {
+  steady = subst (IsSteady o) (sym (ap (λ n. let s : Stack = record { place = n; operands = frame.operands.items } in s) first
+      ∙ ap (λ xs. let s : Stack = record { place = 0; operands = xs } in s) empty)) (code_runs o.setup o.tasks single valid.codes);
+  room = room;
+}
+
+-- the run of one task starts where the machine stands
+started : (o : Object) (name : _) (priority : ℕ) (main : Bool) (new : Task) (entries : List Entry) →
+    new.row.mode ≡ first_mode main priority → Begins o (first_mode main priority) (stack_of new.frame) new.offer →
+    Goes (machine_start (engine o) (record { name = name; priority = priority; main = main } ∷ []) entries) entries (seen_of o new None 0) []
+started o name priority false new entries mode begins =
+    let f : Mode → Machine Stack = λ mode. at (seen_of o (record { row = record { mode = mode }; frame = new.frame; offer = new.offer }) None 0) [] entries in
+    let same : f Dormant ≡ f new.row.mode = ap f (sym mode) in
+    goes_to _ entries (seen_of o new None 0) [] 0 same (ap unsettled (sym same))
+started o name priority true new entries mode begins =
+    let m : Machine Stack = machine_start (engine o) (record { name = name; priority = priority; main = true } ∷ []) entries in
+    let f : Mode → Option Action → Machine Stack =
+    λ mode x. at (seen_of o (record { row = record { mode = mode }; frame = new.frame; offer = x }) None 0) m.core.told entries in
+    let same : f (Active priority false) (Some begins.0) ≡ f new.row.mode new.offer =
+    ap (λ mode. f mode (Some begins.0)) (sym mode) ∙ ap (f new.row.mode) (sym begins.2) in
+    goes_to m entries (seen_of o new None 0) [] (suc begins.1.steps)
+    (settle_steps o m.core entries (record { place = 0; operands = [] }) (stack_of new.frame) begins.0 begins.1 ∙ same)
+    (ap unsettled (sym same))
+
+pub starts : (o : Object) (tasks : List TaskEntry) (new : Task) (entries : List Entry) → length tasks ≡ 1 →
+    new.row.mode ≡ starting_mode (slice_get tasks 0) → Begins o new.row.mode (stack_of new.frame) new.offer →
+    Goes (machine_start (engine o) tasks entries) entries (seen_of o new None 0) []
+starts o [] new entries single mode begins = absurd (omega arith)
+starts o (task ∷ []) new entries single mode begins =
+    started o task.name task.priority task.main new entries mode (subst (λ m. Begins o m (stack_of new.frame) new.offer) mode begins)
+starts o (task ∷ other ∷ tasks) new entries single mode begins = absurd (omega arith)

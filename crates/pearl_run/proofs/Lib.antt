@@ -1,0 +1,8 @@
+pub mod Scheduling
+pub mod Operands
+pub mod Steps
+pub mod Goes
+pub mod Marking
+pub mod Runs
+pub mod Closing
+pub mod Hand

@@ -1,0 +1,104 @@
+-- What a whole entry does.
+use Rattle.std.proofs.Common.{◌≡◌, ℕ, suc, ◌+◌, ◌-◌, ◌<◌, List, [], ◌∷◌, ◌++◌, Option, Some, None, length, refl, sym, ap, ◌∙◌, subst, arith}
+use Rattle.std.proofs.lemmas.List.{append-nil, length-append}
+use Rattle.std.proofs.Math.Seq.{take-append-add}
+use Rattle.pearl_rules.specs.declared.entry.Entry.{Entry}
+use Rattle.pearl_rules.specs.declared.entry.Entry.TheVariants.{Run}
+use Rattle.pearl_rules.specs.declared.event.Event.{Event}
+use Rattle.pearl_rules.specs.declared.setup.Setup.{Setup}
+use Rattle.pearl_rules.specs.Core.{Said, Happened}
+use Rattle.pearl_rules.specs.Pick.{pick}
+use Rattle.pearl_rules.specs.Runs.{Machine, Acts, machine_offers, machine_next, machine_after, next_mark, unsettled_from}
+use Rattle.pearl_code.specs.Rows.{Stack, engine}
+use Rattle.pearl_io.specs.Outside.{Takes, TakesFront}
+use Rattle.pearl_io.proofs.Pieces.{takes_more}
+use Rattle.pearl_script.specs.Lines.{said_line, lines_of}
+use Rattle.pearl_script.proofs.LineLemmas.{lines_of-next}
+use Rattle.pearl_run.specs.Seen.{Seen, IsAt, Handles, Picks, Marks}
+use Rattle.pearl_run.specs.Told.{IsCutOff}
+use Rattle.pearl_run.proofs.Goes.{goes_on}
+
+-- before the first mark
+pub run_none_yet : (seen : Seen) (count : ℕ) → unsettled_from 0 seen.running ≡ None → Handles seen (Run count) (Run count ∷ []) seen []
+run_none_yet seen count settled m rest is leads = record {
+  steps = 0;
+  stands = is;
+  leads = leads;
+  says = sym (append-nil _);
+  settled = ap (λ r. unsettled_from 0 r) is.running ∙ settled;
+}
+
+-- what remains of the entry changes nothing more
+run_over : (old new : Seen) (count left : ℕ) (told : List (ℕ × Said)) → Handles old (Run count) (Run left ∷ []) new told →
+    ((a : Machine Stack) (rest : List Entry) → IsAt new a → next_mark (pick a.core (machine_offers a)) (Run left ∷ rest) ≡ next_mark (pick a.core (machine_offers a)) rest) →
+    Handles old (Run count) [] new told
+run_over old new count left told handles over m rest is leads =
+    let g = handles m rest is leads in
+    record {
+      steps = g.steps;
+      stands = g.stands;
+      leads = g.leads ∙ over (machine_after (engine new.object) m g.steps) rest g.stands;
+      says = g.says;
+      settled = g.settled;
+    }
+
+-- where no task can act
+pub run_stops : (old new : Seen) (count left : ℕ) (told : List (ℕ × Said)) → Handles old (Run count) (Run left ∷ []) new told → Picks new None →
+    Handles old (Run count) [] new told
+run_stops old new count left told handles none =
+    run_over old new count left told handles (λ a rest stands.
+    subst (λ p. next_mark p (Run left ∷ rest) ≡ next_mark p rest) (sym (none a stands)) refl)
+
+-- where no pick is left
+pub run_ends : (old new : Seen) (count left : ℕ) (told : List (ℕ × Said)) → left ≡ 0 → Handles old (Run count) (Run left ∷ []) new told →
+    Handles old (Run count) [] new told
+run_ends old new count left told e handles =
+    run_over old new count left told handles (λ a rest stands. rw e (dropped (pick a.core (machine_offers a)) rest))
+  where
+    dropped : (picked : Option ℕ) (rest : List Entry) → next_mark picked (Run 0 ∷ rest) ≡ next_mark picked rest
+    dropped None rest = refl
+    dropped (Some t) rest = refl
+
+-- one mark more
+pub run_more : (old mid new : Seen) (count left : ℕ) (told : List (ℕ × Said)) (event : Event) → 0 < left → new.object ≡ mid.object →
+    Handles old (Run count) (Run left ∷ []) mid told → Marks mid new event →
+    Handles old (Run count) (Run (left - 1) ∷ []) new (told ++ (mid.moment, Happened event) ∷ [])
+run_more old mid new count left told event some same handles marks m rest is leads =
+    let g = handles m rest is leads in
+    let a : Machine Stack = machine_after (engine mid.object) m g.steps in
+    let e : left ≡ suc (left - 1) = omega arith in
+    let next : machine_next a ≡ Some (record { mark = Acts 0; rest = Run (left - 1) ∷ rest }) =
+    g.leads ∙ (ap (λ n. next_mark (pick a.core (machine_offers a)) (Run n ∷ rest)) e
+    ∙ ap (λ p. next_mark p (Run (suc (left - 1)) ∷ rest)) (marks.picks a g.stands)) in
+    goes_on m (Run left ∷ rest) (Run (left - 1) ∷ rest) mid new told _ same g (marks.goes a (Run (left - 1) ∷ rest) g.stands next)
+
+-- what was taken with one line more
+pub takes_line : (setup : Setup) (old mid new : Option (List ℕ)) (told : List (ℕ × Said)) (said : ℕ × Said) →
+    Takes old mid (lines_of setup told) → Takes mid new (said_line setup said) → Takes old new (lines_of setup (told ++ said ∷ []))
+takes_line setup old mid new told said before after = rw lines_of-next (takes_more old mid new _ _ before after)
+
+pub cuts_line : (setup : Setup) (old mid new : Option (List ℕ)) (told : List (ℕ × Said)) (said : ℕ × Said) →
+    Takes old mid (lines_of setup told) → TakesFront mid new (said_line setup said) → IsCutOff setup old new (told ++ said ∷ [])
+cuts_line setup old mid new told said before after = record {
+  before = told;
+  last = said;
+  all = refl;
+  count = after.0;
+  short = after.1;
+  taken = takes_more old mid new _ _ before after.2;
+}
+
+-- of lines that are cut off a front was taken
+pub cut_front : (setup : Setup) (old new : Option (List ℕ)) (told : List (ℕ × Said)) → IsCutOff setup old new told → TakesFront old new (lines_of setup told)
+cut_front setup old new told cut =
+    let lines : lines_of setup told ≡ lines_of setup cut.before ++ said_line setup cut.last = ap (lines_of setup) cut.all ∙ lines_of-next setup cut.before cut.last in
+    rw lines (
+      length (lines_of setup cut.before) + cut.count,
+      omega (arith, cut.short, length-append (lines_of setup cut.before) (said_line setup cut.last)),
+      rw take-append-add cut.taken,
+    )
+
+-- nothing was taken yet
+pub takes_nothing : (old : Option (List ℕ)) → Takes old old []
+takes_nothing None = refl
+takes_nothing (Some bytes) = ap Some (sym (append-nil _))

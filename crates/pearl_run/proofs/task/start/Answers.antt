@@ -1,0 +1,23 @@
+use Rattle.std.proofs.Common.{refl, sym, subst}
+use Rattle.pearl_run.specs.Frame.{IsReady}
+use Rattle.pearl_run.specs.declared.frame.Frame.{Frame}
+use Rattle.pearl_run.proofs.Closing.{start_ready}
+use Rattle.pearl_run.proofs.task.start.Goals as goal
+use Rattle.pearl_run.proofs.task.start.Goals.{in-Dormant, in-Active}
+
+pub settle-requires : goal.settle-requires
+settle-requires c = start_ready _ _ c.requires.valid c.requires.single refl c.requires.empty c.requires.room
+
+pub returns-clause-runnable : goal.returns-clause-runnable
+returns-clause-runnable c = record {
+  valid = c.requires.valid;
+  single = c.requires.single;
+  ready = elim c.match-mode.branch [
+    | in-Dormant w ↦ subst (λ (f : Frame). IsReady c.args.object.now f) (sym w.frame-is) (start_ready _ _ c.requires.valid c.requires.single refl c.requires.empty c.requires.room)
+    | in-Active w ↦ subst (λ (f : Frame). IsReady c.args.object.now f) (sym w.frame-is) w.settle.ensures.ready
+  ];
+  offered = elim c.match-mode.branch [
+    | in-Dormant w ↦ rw (w.offer-is, w.in-Dormant.is) tt
+    | in-Active w ↦ rw (w.offer-is, w.in-Active.is) w.settle.ensures.terminal
+  ];
+}

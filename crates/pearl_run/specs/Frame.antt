@@ -1,0 +1,51 @@
+-- What holds of a task's stack wherever its code stands, and where its code goes up to the next action.
+use Rattle.std.specs.Prelude.{◌≡◌, ℕ, zero, suc, ◌≤◌, Option, Some, None, map, drop, vec_capacity, slice_get}
+use Rattle.pearl_value.specs.Cells.{kind_of}
+use Rattle.pearl_rules.specs.declared.action.Action.{Action}
+use Rattle.pearl_rules.specs.declared.action.Action.TheVariants.{Put, End, Trap}
+use Rattle.pearl_rules.specs.declared.setup.Setup.{Setup}
+use Rattle.pearl_rules.specs.Tables.{TakesTexts}
+use Rattle.pearl_rules.specs.Runs.{Silent, Offers}
+use Rattle.pearl_code.specs.declared.object.Code.{Code}
+use Rattle.pearl_code.specs.declared.object.Object.{Object}
+use Rattle.pearl_code.specs.Rows.{Stack, row, fetched, code_of}
+use Rattle.pearl_code.specs.Valid.{RunsFrom}
+use Rattle.pearl_run.specs.declared.frame.Frame.{Frame}
+
+abbrev pub stack_of : Frame → Stack
+stack_of frame = record { place = frame.place; operands = frame.operands.items }
+
+abbrev pub depth_or_none : Option Code → ℕ
+depth_or_none None = 0
+depth_or_none (Some code) = code.depth
+
+-- the most operands that the object's first task has
+abbrev pub depth_of : Object → ℕ → ℕ
+depth_of o t = depth_or_none (slice_get o.tasks t)
+
+-- the operands are of the kinds that the instructions from the place on ask for
+abbrev pub IsSteady : Object → Stack → Type 0
+IsSteady o stack = RunsFrom o.setup (depth_of o 0) (Some (map kind_of stack.operands)) (drop stack.place (code_of o 0))
+
+-- and there is memory for all operands
+pub record IsReady (o : Object) (frame : Frame) : Type 0 where
+  pub steady : IsSteady o (stack_of frame)
+  pub room : depth_of o 0 ≤ vec_capacity frame.operands
+
+-- in this many silent instructions of the object's one task the stack becomes that one
+abbrev pub Silently : Object → Stack → ℕ → Stack → Type 0
+Silently o stack zero after = stack ≡ after
+Silently o stack (suc n) after =
+    (before : Stack) × Silently o stack n before × (row o (fetched o 0 before) before ≡ Silent after)
+
+-- silent instructions lead to a stack, and the next one offers this action
+pub record Settles (o : Object) (stack after : Stack) (action : Action) : Type 0 where
+  pub steps : ℕ
+  pub silent : Silently o stack steps after
+  pub offers : row o (fetched o 0 after) after ≡ Offers action
+
+-- a text is for a terminal that takes texts
+abbrev pub HasTerminal : Setup → Action → Type 0
+HasTerminal setup (Put device text) = TakesTexts setup device
+HasTerminal setup End = Unit {0}
+HasTerminal setup (Trap trap) = Unit {0}

@@ -1,0 +1,5 @@
+pub mod Seen
+pub mod Frame
+pub mod Task
+pub mod Told
+pub mod Hand

@@ -1,0 +1,215 @@
+//! The machine, from the start of a run to its end.
+
+ghost use Rattle.std.specs.Prelude.{◌≡◌, ℕ, ◌≤◌, ◌⊎◌, List, [], ◌∷◌, ◌++◌, Option, Some, None, IfOk, IfSome, MatchOption, OnOk, OnErr, length};
+ghost use Rattle.pearl_rules.specs.Core.{Said, Happened, first_events};
+ghost use Rattle.pearl_rules.specs.Pick.{states, shown_of};
+ghost use Rattle.pearl_rules.specs.declared.entry.Entry.{Entry};
+ghost use Rattle.pearl_rules.specs.declared.entry.Entry.TheVariants.{Run};
+ghost use Rattle.pearl_rules.specs.Runs.{Machine as RunOf, machine_start, machine_offers};
+ghost use Rattle.pearl_code.specs.Rows.{Stack, engine};
+ghost use Rattle.pearl_code.specs.Valid.{IsValid};
+ghost use Rattle.pearl_io.specs.Outside.{Rose, Takes, TakesFront};
+ghost use Rattle.pearl_script.specs.Lines.{IsEventOf, event_line as line_of_event, close_line as line_of_close, lines_of};
+ghost use Rattle.pearl_script.specs.Words.{task_name};
+ghost use Rattle.pearl_run.specs.Seen.{Seen, IsAt, Goes, Handles, Picks, Marks};
+ghost use Rattle.pearl_run.specs.Told.{IsCutOff};
+
+use crate::frame::depth;
+use crate::scheduler::{is_task, pick, shown_as};
+use crate::task::{Task, perform, start};
+use arrayvec::ArrayVec;
+use pearl_code::object::Object;
+use pearl_io::{Sink, WriteFault, put_all};
+use pearl_rules::entry::Entry;
+use pearl_rules::event::{Event, Shown};
+use pearl_rules::setup::Setup;
+use pearl_script::transcript::{close_line, event_line, state_line};
+use std::alloc::{AllocError, Global};
+use std::marker::Model;
+
+/// Executes an object of one task. Contracts see the object and the state of its run.
+#[derive(Drop)]
+pub struct Machine {
+    object: Object,
+    task: Task,
+    last: Option<u32>,
+    moment: u64,
+}
+
+impl Model for Machine {
+    ghost use Rattle.std.specs.Prelude.{[], ◌∷◌};
+    ghost use Rattle.pearl_run.specs.Seen.{Seen};
+    ghost use Rattle.pearl_run.specs.Task.{kept_of, IsRunnable};
+
+    ghost Value = { Seen };
+
+    ghost view = { λ m. record {
+      object = m.object;
+      moment = m.moment;
+      tasks = m.task.row ∷ [];
+      last = m.last;
+      running = kept_of m.task ∷ [];
+    } };
+
+    ghost invariant = { λ m. IsRunnable m.object m.task };
+}
+
+impl Machine {
+    /// The machine at the start of a run. It takes all the memory that the run needs.
+    pub fn load(alloc: Global, object: Object) -> Result<Machine, AllocError>
+        requires valid { IsValid object }
+        requires single { length object.tasks ≡ 1 }
+        ensures object { IfOk result (λ machine. machine.object ≡ object) }
+        ensures start { IfOk result (λ machine. (entries : List Entry) →
+            Goes (machine_start (engine object) object.setup.tasks entries) entries machine []) }
+    {
+        let operands = Vec::with_capacity(alloc, depth(&object) as usize)?;
+        let task = start(&object, operands);
+        Ok(Machine {
+            object,
+            task,
+            last: None,
+            moment: 0,
+        })
+    }
+
+    /// The tables of the object.
+    pub fn setup(&self) -> &Setup
+        ensures { result.now ≡ self.now.object.setup }
+    {
+        &self.object.setup
+    }
+
+    /// Hands the sink the lines that open a run: for each task that is active at the start, that it started.
+    ///
+    /// After [`WriteFault`] a front of these bytes was taken, and not all.
+    pub fn begin<K: Sink>(&self, sink: &mut K) -> Result<(), WriteFault>
+        ensures ok { let setup = self.now.object.setup in
+            OnOk result (Takes (K.taken sink.old) (K.taken sink.new) (lines_of setup (first_events 0 setup.tasks))) }
+        ensures err { let setup = self.now.object.setup in
+            OnErr result (TakesFront (K.taken sink.old) (K.taken sink.new) (lines_of setup (first_events 0 setup.tasks))) }
+        ensures cause { OnErr result (Rose (K.faults sink.old) (K.faults sink.new) ⊎ K.full sink.new) }
+        ensures later { K.faults sink.old ≤ K.faults sink.new }
+    {
+        let Some(task) = self.object.setup.tasks.as_slice().first() else {
+            return Ok(());
+        };
+        if !task.main {
+            return Ok(());
+        }
+        let event = Event::Start {
+            task: 0,
+            priority: task.priority,
+        };
+        self.tell(0, &event, sink)
+    }
+
+    /// Makes all marks of one entry, and hands the sink the line of each event as one piece.
+    ///
+    /// After [`WriteFault`] the machine stands after the mark whose line was not taken whole.
+    pub fn entry<K: Sink>(&mut self, entry: &Entry, sink: &mut K) -> Result<(), WriteFault>
+        ensures object { self.new.object ≡ self.old.object }
+        ensures ok { OnOk result ((told : List (ℕ × Said)) × Handles self.old entry.now [] self.new told
+            × Takes (K.taken sink.old) (K.taken sink.new) (lines_of self.old.object.setup told)) }
+        ensures err { OnErr result ((told : List (ℕ × Said)) × (left : List Entry) × Handles self.old entry.now left self.new told
+            × IsCutOff self.old.object.setup (K.taken sink.old) (K.taken sink.new) told) }
+        ensures cause { OnErr result (Rose (K.faults sink.old) (K.faults sink.new) ⊎ K.full sink.new) }
+        ensures later { K.faults sink.old ≤ K.faults sink.new }
+    {
+        match entry {
+            Entry::Run(count) => self.run(*count, sink),
+        }
+    }
+
+    /// Hands the sink the last lines: how the task stands, and that the run is closed, each as one piece.
+    ///
+    /// After [`WriteFault`] a front of these bytes was taken, and not all.
+    pub fn close<K: Sink>(&self, sink: &mut K) -> Result<(), WriteFault>
+        ensures ok { (m : RunOf Stack) → IsAt self.now m → OnOk result (Takes (K.taken sink.old) (K.taken sink.new)
+            (lines_of self.now.object.setup (states m.core (machine_offers m)) ++ line_of_close m.core.moment)) }
+        ensures err { (m : RunOf Stack) → IsAt self.now m → OnErr result (TakesFront (K.taken sink.old) (K.taken sink.new)
+            (lines_of self.now.object.setup (states m.core (machine_offers m)) ++ line_of_close m.core.moment)) }
+        ensures cause { OnErr result (Rose (K.faults sink.old) (K.faults sink.new) ⊎ K.full sink.new) }
+        ensures later { K.faults sink.old ≤ K.faults sink.new }
+    {
+        let mut line = ArrayVec::new();
+        let shown = self.shown();
+        state_line(
+            self.moment,
+            name_of_task(&self.object.setup),
+            &shown,
+            &mut line,
+        );
+        put_all(sink, line.as_slice())?;
+        close_line(self.moment, &mut line);
+        put_all(sink, line.as_slice())
+    }
+
+    // One mark, and what happened; nothing where no task can act.
+    fn mark(&mut self) -> Option<Event>
+        ensures object { self.new.object ≡ self.old.object }
+        ensures moment { self.new.moment ≡ self.old.moment }
+        ensures mark { MatchOption result (Picks self.old None × (self.new ≡ self.old)) (λ event. Marks self.old self.new event) }
+        ensures event { IfSome result (IsEventOf self.new.object.setup) }
+    {
+        let task = pick(&[self.task.row], &[self.task.offer.is_some()], self.last)?;
+        let action = self.task.offer.take()?;
+        self.last = Some(task);
+        Some(perform(&self.object, &mut self.task, action))
+    }
+
+    // Up to so many marks, with the line of each.
+    fn run<K: Sink>(&mut self, count: u64, sink: &mut K) -> Result<(), WriteFault>
+        ensures object { self.new.object ≡ self.old.object }
+        ensures ok { OnOk result ((told : List (ℕ × Said)) × Handles self.old (Run count) [] self.new told
+            × Takes (K.taken sink.old) (K.taken sink.new) (lines_of self.old.object.setup told)) }
+        ensures err { OnErr result ((told : List (ℕ × Said)) × (left : List Entry) × Handles self.old (Run count) left self.new told
+            × IsCutOff self.old.object.setup (K.taken sink.old) (K.taken sink.new) told) }
+        ensures cause { OnErr result (Rose (K.faults sink.old) (K.faults sink.new) ⊎ K.full sink.new) }
+        ensures later { K.faults sink.old ≤ K.faults sink.new }
+    {
+        let moment = self.moment;
+        let mut left = count;
+        while left > 0 {
+            let Some(event) = self.mark() else {
+                return Ok(());
+            };
+            left -= 1;
+            self.tell(moment, &event, sink)?;
+        }
+        Ok(())
+    }
+
+    // How the task stands.
+    fn shown(&self) -> Shown
+        ensures { (m : RunOf Stack) → IsAt self.now m → result ≡ shown_of m.core (machine_offers m) 0 }
+    {
+        let possible = self.task.offer.is_some();
+        let picked = pick(&[self.task.row], &[possible], self.last);
+        shown_as(self.task.row.mode, possible, is_task(picked, 0))
+    }
+
+    // Hands the sink the line of an event.
+    fn tell<K: Sink>(&self, moment: u64, event: &Event, sink: &mut K) -> Result<(), WriteFault>
+        requires { IsEventOf self.now.object.setup event.now }
+        ensures ok { OnOk result (Takes (K.taken sink.old) (K.taken sink.new) (line_of_event moment event.now self.now.object.setup)) }
+        ensures err { OnErr result (TakesFront (K.taken sink.old) (K.taken sink.new) (line_of_event moment event.now self.now.object.setup)) }
+        ensures cause { OnErr result (Rose (K.faults sink.old) (K.faults sink.new) ⊎ K.full sink.new) }
+        ensures later { K.faults sink.old ≤ K.faults sink.new }
+    {
+        let mut line = ArrayVec::new();
+        event_line(moment, event, &self.object.setup, &mut line);
+        put_all(sink, line.as_slice())
+    }
+}
+
+// The name of the first task.
+fn name_of_task(setup: &Setup) -> &[u8]
+    ensures name { result.now ≡ task_name setup.now 0 }
+    ensures fits { length result.now ≤ 63 }
+{
+    match setup.tasks.as_slice().first() {
+        Some(task) => task.name.as_slice(),
+        None => &[],
+    }
+}

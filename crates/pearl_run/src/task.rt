@@ -1,0 +1,100 @@
+//! The object's one task, and what its actions do.
+
+ghost use Rattle.std.specs.Prelude.{◌≡◌, ◌≢◌, ◌<◌, ◌≤◌, [], length, slice_get, vec_capacity};
+ghost use Rattle.pearl_code.specs.Valid.{IsValid};
+ghost use Rattle.pearl_script.specs.Lines.{IsEventOf};
+ghost use Rattle.pearl_run.specs.Frame.{IsReady, HasTerminal, depth_of, stack_of};
+ghost use Rattle.pearl_run.specs.Task.{HasOffered, IsRunnable, Begins, Performs, starting_mode};
+
+use crate::frame::{Frame, go_on, settle};
+use pearl_code::object::Object;
+use pearl_rules::action::Action;
+use pearl_rules::event::Event;
+use pearl_rules::row::{Mode, TaskRow};
+use pearl_rules::setup::Setup;
+use pearl_value::cell::Cell;
+
+// How the task stands, its stack, and the action that it has offered while it is active.
+#[derive(Drop)]
+pub struct Task {
+    pub row: TaskRow,
+    pub frame: Frame,
+    pub offer: Option<Action>,
+}
+
+// The mode of the object's one task at the start.
+fn first_mode(setup: &Setup) -> Mode
+    ensures { result ≡ starting_mode (slice_get setup.now.tasks 0) }
+{
+    match setup.tasks.as_slice().first() {
+        None => Mode::Dormant,
+        Some(task) => {
+            if task.main {
+                Mode::Active {
+                    priority: task.priority,
+                    suspended: false,
+                }
+            } else {
+                Mode::Dormant
+            }
+        }
+    }
+}
+
+/// The task at the start of a run, with this memory for its operands. Where it is active it offers its first action.
+pub fn start(object: &Object, operands: Vec<Cell>) -> Task
+    requires valid { IsValid object.now }
+    requires single { length object.now.tasks ≡ 1 }
+    requires empty { operands.items ≡ [] }
+    requires room { depth_of object.now 0 ≤ vec_capacity operands }
+    ensures runnable { IsRunnable object.now result }
+    ensures mode { result.row.mode ≡ starting_mode (slice_get object.now.setup.tasks 0) }
+    ensures begins { Begins object.now result.row.mode (stack_of result.frame) result.offer }
+{
+    let mode = first_mode(&object.setup);
+    let mut frame = Frame { place: 0, operands };
+    let offer = match mode {
+        Mode::Dormant => None,
+        Mode::Active { .. } => Some(settle(object, &mut frame)),
+    };
+    Task {
+        row: TaskRow { mode },
+        frame,
+        offer,
+    }
+}
+
+/// Does the task's action, and answers what happened. Where the task goes on it offers its next action.
+pub fn perform(object: &Object, task: &mut Task, action: Action) -> Event
+    requires named { 0 < length object.now.setup.tasks }
+    requires ready { IsReady object.now task.old.frame }
+    requires terminal { HasTerminal object.now.setup action }
+    ensures performs { Performs object.now task.old action task.new result }
+    ensures ready { IsReady object.now task.new.frame }
+    ensures offered { task.old.row.mode ≢ Mode.Dormant → HasOffered object.now.setup task.new.row.mode task.new.offer }
+    ensures event { IsEventOf object.now.setup result }
+{
+    match action {
+        Action::Put { device, text } => {
+            go_on(object, &mut task.frame);
+            task.offer = Some(settle(object, &mut task.frame));
+            Event::Out { device, text }
+        }
+        Action::End => {
+            end(task);
+            Event::End(0)
+        }
+        Action::Trap(trap) => {
+            end(task);
+            Event::Trap { task: 0, trap }
+        }
+    }
+}
+
+// The task becomes dormant.
+fn end(task: &mut Task)
+    ensures { task.new ≡ record task.old { row = record { mode = Mode.Dormant }; offer = None } }
+{
+    task.row.mode = Mode::Dormant;
+    task.offer = None;
+}
