@@ -1,0 +1,11 @@
+pub mod JournalLaws
+pub mod TakenLaws
+pub mod ReplayLaws
+pub mod RunEnds
+pub mod TranscriptLaws
+pub mod DueLaws
+pub mod Endings
+pub mod LineLaws
+pub mod ReplayEnds
+pub mod RunLaws
+pub mod WordLaws

@@ -1,0 +1,64 @@
+-- Where a faithful machine is, the source's run is, or comes to.
+use Rattle.std.proofs.Common.{◌≡◌, ℕ, List, ◌++◌, None, ap, sym, ◌∙◌, subst}
+use Rattle.pearl_rules.specs.declared.entry.Entry.{Entry}
+use Rattle.pearl_rules.specs.Core.{Said}
+use Rattle.pearl_rules.specs.Pick.{states}
+use Rattle.pearl_rules.specs.Runs.{Source, source_next, source_offers, Machine, machine_after, machine_offers, machine_next, next_mark, unsettled, marked}
+use Rattle.pearl_rules.specs.Runs as runs
+use Rattle.pearl_rules.specs.Laws.{EndsAlike, EndsTelling}
+use Rattle.pearl_rules.proofs.EndLaws.{ends_alike}
+use Rattle.pearl_rules.proofs.RunLaws.{last_tells}
+use Rattle.pearl_rules.proofs.PickLaws.{states-offers}
+use Rattle.pearl_prog.specs.declared.program.Program.{Program}
+use Rattle.pearl_meaning.specs.Meaning.{offer, source_run}
+use Rattle.pearl_code.specs.declared.object.Object.{Object}
+use Rattle.pearl_code.specs.Rows.{Stack, engine}
+use Rattle.pearl_gen.specs.Faithful.{IsFaithfulTo}
+use Rattle.pearl_top.specs.Replay.{start_of, Tells}
+
+-- the source's last state, beside a core and offers of the machine
+pub record EndsAs (p : Program) (es : List Entry) (m : Machine Stack) : Type 0 where
+  pub marks : ℕ
+  pub no_mark : source_next (offer p) (source_run p es marks) ≡ None
+  pub core : m.core ≡ (source_run p es marks).core
+  pub states_alike : states m.core (machine_offers m) ≡ states (source_run p es marks).core (source_offers (offer p) (source_run p es marks))
+
+-- the tables are the program's
+same_tasks : (p : Program) (o : Object) (es : List Entry) (k : ℕ) → IsFaithfulTo p o → runs.source_run (offer p) o.setup.tasks es k ≡ source_run p es k
+same_tasks p o es k faithful = ap (λ setup. runs.source_run (offer p) setup.tasks es k) faithful.tables
+
+-- where nothing is unsettled and no entry is left, the source's run has ended alike
+pub ends_as_source : (p : Program) (o : Object) (es : List Entry) (n : ℕ) → IsFaithfulTo p o →
+    unsettled (machine_after (engine o) (start_of o es) n) ≡ None → machine_next (machine_after (engine o) (start_of o es) n) ≡ None →
+    EndsAs p es (machine_after (engine o) (start_of o es) n)
+ends_as_source p o es n faithful settled no_mark =
+    let k = marked (engine o) o.setup.tasks es n in
+    let e : runs.source_run (offer p) o.setup.tasks es k ≡ source_run p es k = same_tasks p o es k faithful in
+    let alike : EndsAlike (offer p) (engine o) o.setup.tasks es n = ends_alike (offer p) (engine o) o.setup.tasks _ _ faithful.runs es n (record { settled = settled; no_mark = no_mark }) in
+    let same : (machine_after (engine o) (start_of o es) n).core ≡ (source_run p es k).core = faithful.runs.same_core es n ∙ ap (λ s. s.core) e in record {
+      marks = k;
+      no_mark = subst (λ s. source_next (offer p) s ≡ None) e alike.ended;
+      core = same;
+      states_alike = states-offers (machine_after (engine o) (start_of o es) n).core (source_run p es k).core
+          (machine_offers (machine_after (engine o) (start_of o es) n)) (source_offers (offer p) (source_run p es k)) (ap (λ c. c.moment) same) (ap (λ c. c.tasks) same) (ap (λ c. c.last) same)
+          (λ t. faithful.runs.all_offers es n settled t ∙ ap (λ s. source_offers (offer p) s t) e);
+    }
+
+-- what the machine has told, the source's run has told at its end, and more behind it
+pub record EndsBehind (p : Program) (es : List Entry) (told : List (ℕ × Said)) : Type 0 where
+  pub marks : ℕ
+  pub no_mark : source_next (offer p) (source_run p es marks) ≡ None
+  pub more : List (ℕ × Said)
+  pub says : (source_run p es marks).core.told ≡ told ++ more
+
+pub ends_behind : (p : Program) (o : Object) (es : List Entry) (told : List (ℕ × Said)) → IsFaithfulTo p o → Tells o es told →
+    EndsBehind p es ((start_of o es).core.told ++ told)
+ends_behind p o es told faithful tells =
+    let k = marked (engine o) o.setup.tasks es tells.steps in
+    let ends : EndsTelling (offer p) o.setup.tasks es k = last_tells (offer p) o.setup.tasks es k in
+    let e : runs.source_run (offer p) o.setup.tasks es ends.last ≡ source_run p es ends.last = same_tasks p o es ends.last faithful in record {
+      marks = ends.last;
+      no_mark = subst (λ s. source_next (offer p) s ≡ None) e ends.no_mark;
+      more = ends.more;
+      says = ap (λ s. s.core.told) (sym e) ∙ ends.told ∙ ap (λ x. x ++ ends.more) (ap (λ c. c.told) (sym (faithful.runs.same_core es tells.steps)) ∙ tells.says);
+    }

@@ -1,0 +1,11 @@
+pub mod Status
+pub mod Journal
+pub mod Commands
+pub mod Taken
+pub mod Transcript
+pub mod Replay
+pub mod JournalDue
+pub mod Parts
+pub mod Outcome
+pub mod Ready
+pub mod Halts

@@ -1,0 +1,11 @@
+// The top call: words and files to a status and bytes.
+#![tactic(auto)]
+
+mod command;
+mod ending;
+mod journal;
+mod machine_run;
+mod refuse;
+mod replay;
+pub mod status;
+pub mod top;

@@ -1,0 +1,46 @@
+// How a call ends.
+
+ghost use Rattle.std.specs.Prelude.{◌≡◌};
+ghost use Rattle.pearl_top.specs.Status.{code_of};
+
+/// How a call ends.
+#[derive(Clone, Copy, PartialEq, Eq, Debug)]
+pub enum Status {
+    /// The command was carried out to its end.
+    Done,
+    /// The words are no command.
+    Usage,
+    /// The source is refused.
+    Refused,
+    /// The object is refused. No command reads an object yet.
+    BadObject,
+    /// A line of the journal is refused.
+    BadJournal,
+    /// A file could not be read.
+    ReadFault,
+    /// What was to be written was not taken.
+    WriteFault,
+    /// There was no memory.
+    NoMemory,
+    /// A file has more bytes than its limit.
+    TooLong,
+}
+
+impl Status {
+    /// The exit status of the process, from 0 to 8 in the order of the variants.
+    pub fn code(&self) -> u8
+        ensures { result ≡ code_of self.now }
+    {
+        match self {
+            Status::Done => 0,
+            Status::Usage => 1,
+            Status::Refused => 2,
+            Status::BadObject => 3,
+            Status::BadJournal => 4,
+            Status::ReadFault => 5,
+            Status::WriteFault => 6,
+            Status::NoMemory => 7,
+            Status::TooLong => 8,
+        }
+    }
+}
