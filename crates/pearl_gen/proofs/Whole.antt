@@ -21,6 +21,8 @@ use Rattle.pearl_code.specs.Rows.{Stack, instructions_or_none, code_of, engine}
 use Rattle.pearl_code.specs.MachineRun.{total_rows}
 use Rattle.pearl_gen.specs.Plain.{Plain, Put, End, plain_of, value_of, push_of, statement_code, body_code, IsCodeOf}
 use Rattle.pearl_gen.specs.Faithful.{IsFaithfulTo}
+use Rattle.pearl_gen.specs.Alone.{MeansAlone}
+use Rattle.pearl_gen.proofs.Alone.{offers_alone}
 use Rattle.pearl_gen.proofs.Point.{Point, Nowhere, AtEnd, InPut, point_of, code_at, meaning_at, HasOperands, IsPoint, code_at-point_of, meaning_at-point_of, HasOperands-point_of}
 use Rattle.pearl_gen.proofs.Standing.{Stands, alone, step-plain, plain_row, first_of, sound_next}
 use Rattle.pearl_gen.proofs.Valid.{zip_length}
@@ -144,4 +146,12 @@ pub faithful_to : (p : Program) (setup : Setup) (codes : List Code) → IsSound 
 faithful_to p setup codes sound same all = subst (λ setup. IsFaithfulTo p (record { setup = setup; tasks = codes })) (sym same) record {
   tables = refl;
   runs = runs_all p codes sound all (sym sound.each ∙ zip_length p.tasks codes all);
+}
+
+pub means_alone : (p : Program) (setup : Setup) (codes : List Code) → IsSound p → setup ≡ p.setup → AllZip IsCodeOf p.tasks codes →
+    MeansAlone p (record { setup = setup; tasks = codes })
+means_alone p setup codes sound same all = subst (λ setup. MeansAlone p (record { setup = setup; tasks = codes })) (sym same) record {
+  offers = let o : Object = record { setup = p.setup; tasks = codes } in
+      offers_alone (offer p) (engine o) (Stands p o) (weight o) (total_rows codes) (alone p o (begins p codes sound all))
+      (soon p p.setup codes (total_rows codes + 1) (omega arith) (omega arith));
 }

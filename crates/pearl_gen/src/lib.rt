@@ -4,6 +4,7 @@
 ghost use Rattle.std.specs.Prelude.{IfOk};
 ghost use Rattle.pearl_code.specs.Valid.{IsValid};
 ghost use Rattle.pearl_gen.specs.Faithful.{IsFaithfulTo};
+ghost use Rattle.pearl_gen.specs.Alone.{MeansAlone};
 
 mod routines;
 mod tables;
@@ -19,6 +20,7 @@ use std::alloc::{AllocError as NoMemory, Global};
 pub fn generate(alloc: Global, prog: &Prog) -> Result<Object, NoMemory>
     ensures valid { IfOk result (λ o. IsValid o) }
     ensures faithful { IfOk result (λ o. IsFaithfulTo prog.now o) }
+    ensures alone { IfOk result (λ o. MeansAlone prog.now o) }
 {
     let program = prog.parts();
     let setup = tables::copy_setup(alloc, &program.setup)?;
