@@ -9,3 +9,4 @@ pub mod LineLaws
 pub mod ReplayEnds
 pub mod RunLaws
 pub mod WordLaws
+pub mod Completeness

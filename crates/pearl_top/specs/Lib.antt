@@ -7,5 +7,6 @@ pub mod Replay
 pub mod JournalDue
 pub mod Parts
 pub mod Outcome
+pub mod Complete
 pub mod Ready
 pub mod Halts
