@@ -10,3 +10,5 @@ pub mod ReplayEnds
 pub mod RunLaws
 pub mod WordLaws
 pub mod Completeness
+pub mod AlikeLaws
+pub mod OneOutcome

@@ -8,5 +8,6 @@ pub mod JournalDue
 pub mod Parts
 pub mod Outcome
 pub mod Complete
+pub mod Laws
 pub mod Ready
 pub mod Halts
