@@ -12,14 +12,14 @@ use Rattle.pearl_top.specs.Transcript.{Cut}
 use Rattle.pearl_top.specs.Parts.{EndsBadly, PartDue}
 use Rattle.pearl_top.proofs.JournalLaws.{HasMore, journal_lines-front, ended_lines-front, entries-bad}
 
-le_true : (a b : ℕ) → a ≤ b → nat_le a b ≡ true
+pub le_true : (a b : ℕ) → a ≤ b → nat_le a b ≡ true
 le_true a b h = grind (arith, nat_tests)
 
-le_false : (a b : ℕ) → b < a → nat_le a b ≡ false
+pub le_false : (a b : ℕ) → b < a → nat_le a b ≡ false
 le_false a b h = grind (arith, nat_tests)
 
 -- a journal within the limit is handled whole
-handled-whole : (journal : List ℕ) → length journal ≤ journal_limit → handled journal ≡ journal_lines journal
+pub handled-whole : (journal : List ℕ) → length journal ≤ journal_limit → handled journal ≡ journal_lines journal
 handled-whole journal h = ap (λ b. handled_if b journal) (le_true (length journal) journal_limit h)
 
 -- and of a longer one the lines that end within it

@@ -9,3 +9,6 @@ pub mod LineLaws
 pub mod ReplayEnds
 pub mod RunLaws
 pub mod WordLaws
+pub mod Completeness
+pub mod AlikeLaws
+pub mod OneOutcome

@@ -7,5 +7,7 @@ pub mod Replay
 pub mod JournalDue
 pub mod Parts
 pub mod Outcome
+pub mod Complete
+pub mod Laws
 pub mod Ready
 pub mod Halts

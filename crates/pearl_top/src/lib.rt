@@ -4,6 +4,7 @@
 mod command;
 mod ending;
 mod journal;
+pub mod laws;
 mod machine_run;
 mod refuse;
 mod replay;

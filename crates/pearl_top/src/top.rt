@@ -3,6 +3,7 @@
 ghost use Rattle.std.specs.Prelude.{◌≡◌, ◌≢◌, ◌≤◌, ◌⊎◌, ℕ, List, Some, length, map, string_bytes};
 ghost use Rattle.pearl_io.specs.Outside.{Files, Rose, content};
 ghost use Rattle.pearl_top.specs.Commands.{Run, NoCommand, command_of};
+ghost use Rattle.pearl_top.specs.Complete.{IsInOrder};
 ghost use Rattle.pearl_top.specs.JournalDue.{JournalDue};
 ghost use Rattle.pearl_top.specs.Outcome.{Due, ReadRose, SourceAndJournal, source_limit};
 ghost use Rattle.pearl_top.specs.Taken.{Ends};
@@ -37,6 +38,11 @@ pub fn pearl<S: Shelf, K: Sink>(
     // What was taken is due with the status; after a write fault a front of what is due with some status, and not all.
     ensures ends { (files : Files) → S.holds shelf.old ≡ Some files → Ends (K.taken sink.old) (K.taken sink.new)
         (Due (command_of (map string_bytes words.now)) files (λ name. Rose (S.faults shelf.old name) (S.faults shelf.new name))) result }
+
+    // Where the files that the words name are in order, and neither reading nor writing failed, the run comes to its end, unless memory is out.
+    ensures complete { (files : Files) → S.holds shelf.old ≡ Some files → IsInOrder (command_of (map string_bytes words.now)) files →
+        ¬ (ReadRose (command_of (map string_bytes words.now)) (λ name. Rose (S.faults shelf.old name) (S.faults shelf.new name))) →
+        ¬ (Rose (K.faults sink.old) (K.faults sink.new) ⊎ K.full sink.new) → (result ≡ Status.Done) ⊎ (result ≡ Status.NoMemory) }
 
     // When each status comes that the files don't decide.
     ensures usage { result ≡ Status.Usage → command_of (map string_bytes words.now) ≡ NoCommand }

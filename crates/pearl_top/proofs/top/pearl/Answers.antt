@@ -1,7 +1,18 @@
+use Rattle.std.proofs.Common.{subst}
 use Rattle.pearl_top.specs.Commands.{Run}
+use Rattle.pearl_top.specs.Complete.{IsInOrder}
+use Rattle.pearl_top.proofs.Completeness.{completes_as}
 use Rattle.pearl_top.proofs.WordLaws.{due_command}
 use Rattle.pearl_top.proofs.top.pearl.Goals as goal
 
 pub returns-in-Run-clause-ends : goal.returns-in-Run-clause-ends
 returns-in-Run-clause-ends g c files holds =
     due_command _ (Run c.in-Run.source.now c.in-Run.journal.now) files _ _ _ _ c.in-Run.ensures (c.run.ensures.ends files holds)
+
+pub returns-in-Run-clause-complete : goal.returns-in-Run-clause-complete
+returns-in-Run-clause-complete g c files holds order no_read no_write =
+    completes_as _ (Run c.in-Run.source.now c.in-Run.journal.now) files _ _ _ _ _ c.in-Run.ensures
+    (c.run.ensures.ends files holds) c.run.ensures.read c.run.ensures.write order no_read no_write
+
+pub returns-in-None-clause-complete : goal.returns-in-None-clause-complete
+returns-in-None-clause-complete g c files holds order no_read no_write = absurd (subst (λ command. IsInOrder command files) c.in-None.ensures order)

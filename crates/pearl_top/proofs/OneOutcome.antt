@@ -1,0 +1,167 @@
+-- A command and the files held have at most one status and one list of bytes.
+use Rattle.std.proofs.Common.{◌≡◌, ◌≢◌, ◌<◌, ◌⊎◌, ◌+◌, ℕ, List, Bool, true, false, nat_le, length, refl, ap, sym, ◌∙◌, subst, inl, inr, arith}
+use Rattle.pearl_io.specs.Outside.{Files, content}
+use Rattle.pearl_prog.specs.declared.program.Program.{Program}
+use Rattle.pearl_first.specs.declared.fault.FrontFault.{FrontFault}
+use Rattle.pearl_first.specs.declared.fault.FrontFault.TheVariants as fault
+use Rattle.pearl_first.specs.Laws.{IsSameFault}
+use Rattle.pearl_first.proofs.Unique.{one_fault}
+use Rattle.pearl_script.specs.declared.refusal.Refusal.TheVariants as refusal
+use Rattle.pearl_script.specs.Refusals.{refusal_line}
+use Rattle.pearl_top.specs.declared.status.Status.{Status}
+use Rattle.pearl_top.specs.declared.status.Status.TheVariants.{Done, Usage, Refused, BadObject, BadJournal, ReadFault, WriteFault, NoMemory, TooLong}
+use Rattle.pearl_top.specs.Commands.{Run, NoCommand}
+use Rattle.pearl_top.specs.Journal.{Ending, Entries, All, Bad}
+use Rattle.pearl_top.specs.JournalDue.{IsRun, JournalDue, handled, journal_limit}
+use Rattle.pearl_top.specs.Laws.{AreAlike, HasOneOutcome}
+use Rattle.pearl_top.specs.Outcome.{Due, IsRefused, IsSource, SourceAndJournal, SourceDue, fault_line, source_limit}
+use Rattle.pearl_top.specs.Transcript.{Close, Closed, Cut, IsTranscript}
+use Rattle.pearl_top.proofs.AlikeLaws.{one_meaning, transcript_same}
+use Rattle.pearl_top.proofs.Completeness.{not_refused}
+use Rattle.pearl_top.proofs.DueLaws.{handled-whole, le_true, le_false}
+
+-- AT AND AFTER THE JOURNAL
+
+-- the status, by how the lines that are handled end, and whether the journal is within its limit
+abbrev status_of : Ending → Bool → Status
+status_of All true = Done
+status_of All false = TooLong
+status_of (Bad line code) fits = BadJournal
+
+-- and what closes the transcript
+abbrev close_of : Ending → Bool → Close
+close_of All true = Closed
+close_of All false = Cut (refusal.TooLong (journal_limit + 1))
+close_of (Bad line code) fits = Cut (refusal.Journal line code)
+
+abbrev fits_in : List ℕ → Bool
+fits_in journal = nat_le (length journal) journal_limit
+
+-- what comes where nothing outside fails and memory is there
+record Comes (p : Program) (journal : List ℕ) (status : Status) (bytes : List ℕ) : Type 0 where
+  ending : Ending
+  is : status ≡ status_of ending (fits_in journal)
+  run : IsRun p (handled journal) ending (close_of ending (fits_in journal)) bytes
+
+comes_all : (p : Program) (journal bytes : List ℕ) (fits : Bool) → fits_in journal ≡ fits → IsRun p (handled journal) All (close_of All fits) bytes →
+    Comes p journal (status_of All fits) bytes
+comes_all p journal bytes fits e run = record {
+  ending = All;
+  is = ap (status_of All) (sym e);
+  run = subst (λ b. IsRun p (handled journal) All (close_of All b) bytes) (sym e) run;
+}
+
+comes : (p : Program) (journal : List ℕ) (status : Status) (bytes : List ℕ) → status ≢ NoMemory → JournalDue p journal ⊥ status bytes →
+    Comes p journal status bytes
+comes p journal Done bytes known due =
+    comes_all p journal bytes true (le_true (length journal) journal_limit due.0)
+    (subst (λ lines. IsRun p lines All Closed bytes) (sym (handled-whole journal due.0)) due.1)
+comes p journal Usage bytes known due = absurd due
+comes p journal Refused bytes known due = absurd due
+comes p journal BadObject bytes known due = absurd due
+comes p journal BadJournal bytes known due = record { ending = Bad due.line due.code; is = refl; run = due.run }
+comes p journal ReadFault bytes known due = absurd due.0
+comes p journal WriteFault bytes known due = absurd due
+comes p journal NoMemory bytes known due = absurd (known refl)
+comes p journal TooLong bytes known due = comes_all p journal bytes false (le_false (length journal) journal_limit due.0) due.1
+
+-- programs that are alike bring one thing about over one journal
+comes_once : (p q : Program) (journal : List ℕ) (status other : Status) (bytes others : List ℕ) → AreAlike p q → Comes p journal status bytes →
+    Comes q journal other others → (status ≡ other) × (bytes ≡ others)
+comes_once p q journal status other bytes others alike one two =
+    let same : ◌≡◌ {A = Entries} (record { accepted = one.run.es; ending = one.ending }) (record { accepted = two.run.es; ending = two.ending }) =
+    sym one.run.read ∙ two.run.read in
+    let es : one.run.es ≡ two.run.es = ap (λ (e : Entries). e.accepted) same in
+    let ending : one.ending ≡ two.ending = ap (λ (e : Entries). e.ending) same in
+    let close : close_of one.ending (fits_in journal) ≡ close_of two.ending (fits_in journal) = ap (λ e. close_of e (fits_in journal)) ending in
+    let written : IsTranscript q one.run.es (close_of one.ending (fits_in journal)) others =
+    subst (λ entries. IsTranscript q entries (close_of one.ending (fits_in journal)) others) (sym es)
+    (subst (λ c. IsTranscript q two.run.es c others) (sym close) two.run.written) in (
+      one.is ∙ ap (λ e. status_of e (fits_in journal)) ending ∙ sym two.is,
+      transcript_same p q alike one.run.es (close_of one.ending (fits_in journal)) bytes others one.run.written written,
+    )
+
+-- AT THE SOURCE
+
+same_fault : (cause other : FrontFault) → cause ≢ fault.NoMemory → other ≢ fault.NoMemory → IsSameFault cause other → cause ≡ other
+same_fault fault.NoMemory other known too same = absurd (known refl)
+same_fault (fault.Syntax place) fault.NoMemory known too same = absurd (too refl)
+same_fault (fault.Syntax place) (fault.Syntax other) known too same = same
+same_fault (fault.Syntax place) (fault.Source other rule) known too same = same
+same_fault (fault.Source place rule) fault.NoMemory known too same = absurd (too refl)
+same_fault (fault.Source place rule) (fault.Syntax other) known too same = same
+same_fault (fault.Source place rule) (fault.Source other also) known too same = same
+
+refused_once : (source bytes others : List ℕ) → IsRefused source bytes → IsRefused source others → bytes ≡ others
+refused_once source bytes others one two =
+    let same : one.cause ≡ two.cause = same_fault one.cause two.cause one.known two.known (one_fault source one.cause two.cause one.refused two.refused) in
+    one.text ∙ ap (λ cause. refusal_line (fault_line cause)) same ∙ sym two.text
+
+-- a source that is too long
+abbrev IsLong : List ℕ → List ℕ → Type 0
+IsLong source bytes = (source_limit < length source) × (bytes ≡ refusal_line (refusal.TooLong (source_limit + 1)))
+
+-- the source is refused, or is too long, or is accepted and brings something about over the journal
+abbrev Ended : List ℕ → List ℕ → Status → List ℕ → Type 0
+Ended source journal status bytes =
+    ((status ≡ Refused) × IsRefused source bytes)
+    ⊎ (((status ≡ TooLong) × IsLong source bytes) ⊎ ((p : Program) × IsSource source p × Comes p journal status bytes))
+
+ended_at_source : (source journal : List ℕ) (status : Status) (bytes : List ℕ) → status ≢ NoMemory → SourceDue source ⊥ status bytes →
+    Ended source journal status bytes
+ended_at_source source journal Done bytes known due = absurd due
+ended_at_source source journal Usage bytes known due = absurd due
+ended_at_source source journal Refused bytes known due = inl (refl, due)
+ended_at_source source journal BadObject bytes known due = absurd due
+ended_at_source source journal BadJournal bytes known due = absurd due
+ended_at_source source journal ReadFault bytes known due = absurd due.0
+ended_at_source source journal WriteFault bytes known due = absurd due
+ended_at_source source journal NoMemory bytes known due = absurd (known refl)
+ended_at_source source journal TooLong bytes known due = inr (inl (refl, due))
+
+ended : (source journal : List ℕ) (status : Status) (bytes : List ℕ) → status ≢ NoMemory → SourceAndJournal source journal ⊥ ⊥ status bytes →
+    Ended source journal status bytes
+ended source journal status bytes known (inl due) = ended_at_source source journal status bytes known due
+ended source journal status bytes known (inr (p, is_source, due)) = inr (inr (p, is_source, comes p journal status bytes known due))
+
+long_or_not : (source bytes others : List ℕ) → IsRefused source bytes → IsLong source others → ⊥
+long_or_not source bytes others one two = let h = one.within in omega (arith, two.0)
+
+long_source : (source bytes : List ℕ) (p : Program) → IsSource source p → IsLong source bytes → ⊥
+long_source source bytes p one two = let h = one.within in omega (arith, two.0)
+
+ended_once : (source journal : List ℕ) (status other : Status) (bytes others : List ℕ) → Ended source journal status bytes → Ended source journal other others →
+    (status ≡ other) × (bytes ≡ others)
+ended_once source journal status other bytes others (inl (e, refused)) (inl (f, also)) = (e ∙ sym f, refused_once source bytes others refused also)
+ended_once source journal status other bytes others (inl (e, refused)) (inr (inl (f, long))) = absurd (long_or_not source bytes others refused long)
+ended_once source journal status other bytes others (inl (e, refused)) (inr (inr (q, is_source, comes))) = absurd (not_refused source bytes q is_source refused)
+ended_once source journal status other bytes others (inr (inl (e, long))) (inl (f, refused)) = absurd (long_or_not source others bytes refused long)
+ended_once source journal status other bytes others (inr (inl (e, long))) (inr (inl (f, also))) = (e ∙ sym f, long.1 ∙ sym also.1)
+ended_once source journal status other bytes others (inr (inl (e, long))) (inr (inr (q, is_source, comes))) = absurd (long_source source bytes q is_source long)
+ended_once source journal status other bytes others (inr (inr (p, is_source, come))) (inl (f, refused)) = absurd (not_refused source others p is_source refused)
+ended_once source journal status other bytes others (inr (inr (p, is_source, come))) (inr (inl (f, long))) = absurd (long_source source others p is_source long)
+ended_once source journal status other bytes others (inr (inr (p, is_source, come))) (inr (inr (q, also, too))) =
+    comes_once p q journal status other bytes others (one_meaning source p q is_source also) come too
+
+-- FOR ALL WORDS
+
+no_command : (files : Files) (status : Status) (bytes : List ℕ) → Due NoCommand files (λ name. ⊥) status bytes →
+    (status ≡ Usage) × (bytes ≡ refusal_line refusal.Usage)
+no_command files Done bytes due = absurd due
+no_command files Usage bytes due = (refl, due)
+no_command files Refused bytes due = absurd due
+no_command files BadObject bytes due = absurd due
+no_command files BadJournal bytes due = absurd due
+no_command files ReadFault bytes due = absurd due
+no_command files WriteFault bytes due = absurd due
+no_command files NoMemory bytes due = absurd due
+no_command files TooLong bytes due = absurd due
+
+pub one_outcome : HasOneOutcome
+one_outcome NoCommand files status other bytes others is its =
+    let one = no_command files status bytes is.due in
+    let two = no_command files other others its.due in (one.0 ∙ sym two.0, one.1 ∙ sym two.1)
+one_outcome (Run source journal) files status other bytes others is its =
+    ended_once (content files source) (content files journal) status other bytes others
+    (ended (content files source) (content files journal) status bytes is.memory is.due)
+    (ended (content files source) (content files journal) other others its.memory its.due)

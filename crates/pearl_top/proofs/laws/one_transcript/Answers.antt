@@ -1,0 +1,5 @@
+use Rattle.pearl_top.proofs.AlikeLaws.{one_transcript}
+use Rattle.pearl_top.proofs.laws.one_transcript.Goals as goal
+
+pub returns : goal.returns
+returns c = one_transcript

@@ -1,0 +1,22 @@
+-- Which words and files bring a run to its end.
+use Rattle.std.specs.Prelude.{◌≡◌, ℕ, ◌≤◌, List, length}
+use Rattle.pearl_io.specs.Outside.{Files, content}
+use Rattle.pearl_rules.specs.declared.entry.Entry.{Entry}
+use Rattle.pearl_prog.specs.declared.program.Program.{Program}
+use Rattle.pearl_top.specs.Commands.{Command, Run, NoCommand}
+use Rattle.pearl_top.specs.Journal.{All, entries, journal_lines}
+use Rattle.pearl_top.specs.JournalDue.{journal_limit}
+use Rattle.pearl_top.specs.Outcome.{IsSource}
+
+-- an accepted source, and a journal of which all lines are accepted, each within its limit
+pub record AreInOrder (source journal : List ℕ) : Type 0 where
+  pub p : Program
+  pub is_source : IsSource source p
+  pub within : length journal ≤ journal_limit
+  pub es : List Entry
+  pub read : entries (journal_lines journal) ≡ record { accepted = es; ending = All }
+
+-- the words are a command, and the files that they name are in order
+abbrev pub IsInOrder : Command → Files → Type 0
+IsInOrder NoCommand files = ⊥
+IsInOrder (Run source journal) files = AreInOrder (content files source) (content files journal)

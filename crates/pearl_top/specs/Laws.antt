@@ -1,0 +1,29 @@
+-- The definitions determine the answer.
+use Rattle.std.specs.Prelude.{◌≡◌, ℕ, List}
+use Rattle.pearl_io.specs.Outside.{Files}
+use Rattle.pearl_rules.specs.declared.action.Answer.{Answer}
+use Rattle.pearl_rules.specs.declared.entry.Entry.{Entry}
+use Rattle.pearl_prog.specs.declared.program.Program.{Program}
+use Rattle.pearl_meaning.specs.Meaning.{offer}
+use Rattle.pearl_top.specs.declared.status.Status.{Status}
+use Rattle.pearl_top.specs.Commands.{Command}
+use Rattle.pearl_top.specs.Outcome.{IsSource, IsOutcome}
+use Rattle.pearl_top.specs.Transcript.{Close, IsTranscript}
+
+-- two programs of one source have the same tables, and their tasks do the same after the same answers
+pub record AreAlike (p q : Program) : Type 0 where
+  pub setup : p.setup ≡ q.setup
+  pub offers : (task : ℕ) (answers : List Answer) → offer p task answers ≡ offer q task answers
+
+abbrev pub HasOneMeaning : Type 0
+HasOneMeaning = (source : List ℕ) (p q : Program) → IsSource source p → IsSource source q → AreAlike p q
+
+-- a source writes one thing over the entries of a journal
+abbrev pub HasOneTranscript : Type 0
+HasOneTranscript = (source : List ℕ) (p q : Program) → IsSource source p → IsSource source q → (es : List Entry) (close : Close) (bytes others : List ℕ) →
+    IsTranscript p es close bytes → IsTranscript q es close others → bytes ≡ others
+
+-- a command and the files held have at most one status, and at most one list of bytes
+abbrev pub HasOneOutcome : Type 0
+HasOneOutcome = (command : Command) (files : Files) (status other : Status) (bytes others : List ℕ) →
+    IsOutcome command files status bytes → IsOutcome command files other others → (status ≡ other) × (bytes ≡ others)

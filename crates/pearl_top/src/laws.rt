@@ -1,0 +1,18 @@
+// The definitions determine what a call brings about.
+
+ghost use Rattle.pearl_top.specs.Laws.{HasOneMeaning, HasOneTranscript, HasOneOutcome};
+
+/// Two programs of one source have the same tables, and their tasks do the same after the same answers.
+pub fn one_meaning()
+    ensures { HasOneMeaning }
+{}
+
+/// A source writes one thing over the entries of a journal.
+pub fn one_transcript()
+    ensures { HasOneTranscript }
+{}
+
+/// A command and the files held have at most one status and one list of bytes, where nothing outside fails and memory is there.
+pub fn one_outcome()
+    ensures { HasOneOutcome }
+{}
