@@ -9,4 +9,6 @@ mod machine_run;
 mod refuse;
 mod replay;
 pub mod status;
+#[cfg(test)]
+mod tests;
 pub mod top;
