@@ -28,6 +28,7 @@ pub fn replay<K: Sink>(machine: &mut Machine, journal: &[u8], part: Part, sink: 
     ensures ends { (p : Program) → Ready p machine.old → Ends (K.taken sink.old) (K.taken sink.new)
         (λ status bytes. PartDue p part journal.now status (opening_lines p ++ bytes)) result }
     ensures usage { result ≢ Status.Usage }
+    ensures object { result ≢ Status.BadObject }
     ensures read { result ≡ Status.ReadFault → part ≡ Part.Fault }
     ensures write { result ≡ Status.WriteFault → Rose (K.faults sink.old) (K.faults sink.new) ⊎ K.full sink.new }
     ensures later { K.faults sink.old ≤ K.faults sink.new }
@@ -48,6 +49,7 @@ fn finish<K: Sink>(machine: &Machine, part: Part, sink: &mut K) -> Status
     ensures ends { (p : Program) (es : List Entry) (told : List (ℕ × Said)) → IsFaithfulTo p machine.now.object → Ran machine.now.object es machine.now told →
         Ends (K.taken sink.old) (K.taken sink.new) (ClosingDue p machine.now.object es told part) result }
     ensures usage { result ≢ Status.Usage }
+    ensures object { result ≢ Status.BadObject }
     ensures read { result ≡ Status.ReadFault → part ≡ Part.Fault }
     ensures write { result ≡ Status.WriteFault → Rose (K.faults sink.old) (K.faults sink.new) ⊎ K.full sink.new }
     ensures later { K.faults sink.old ≤ K.faults sink.new }

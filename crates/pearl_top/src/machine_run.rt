@@ -27,6 +27,7 @@ pub fn run_machine<S: Shelf, K: Sink>(
     ensures ends { (p : Program) (files : Files) → Ready p machine.old → S.holds shelf.old ≡ Some files → Ends (K.taken sink.old) (K.taken sink.new)
         (JournalDue p (content files journal.now) (Rose (S.faults shelf.old journal.now) (S.faults shelf.new journal.now))) result }
     ensures usage { result ≢ Status.Usage }
+    ensures object { result ≢ Status.BadObject }
     ensures read { result ≡ Status.ReadFault → Rose (S.faults shelf.old journal.now) (S.faults shelf.new journal.now) }
     ensures write { result ≡ Status.WriteFault → Rose (K.faults sink.old) (K.faults sink.new) ⊎ K.full sink.new }
     ensures held { S.holds shelf.new ≡ S.holds shelf.old }

@@ -6,7 +6,8 @@ ghost use Rattle.pearl_top.specs.Commands.{Run, NoCommand, command_of};
 ghost use Rattle.pearl_top.specs.Complete.{IsInOrder};
 ghost use Rattle.pearl_top.specs.JournalDue.{JournalDue};
 ghost use Rattle.pearl_top.specs.Outcome.{Due, ReadRose, SourceAndJournal, source_limit};
-ghost use Rattle.pearl_top.specs.Taken.{Ends};
+ghost use Rattle.pearl_script.specs.Refusals.{refusal_line as line_of_refusal};
+ghost use Rattle.pearl_top.specs.Taken.{Just, Ends};
 
 use crate::command::{Command, command_of_words};
 use crate::machine_run::run_machine;
@@ -46,6 +47,9 @@ pub fn pearl<S: Shelf, K: Sink>(
 
     // When each status comes that the files don't decide.
     ensures usage { result ≡ Status.Usage → command_of (map string_bytes words.now) ≡ NoCommand }
+    ensures no_line { command_of (map string_bytes words.now) ≡ NoCommand →
+        Ends (K.taken sink.old) (K.taken sink.new) (Just Status.Usage (line_of_refusal Refusal.Usage)) result }
+    ensures object { result ≢ Status.BadObject }
     ensures no_command { command_of (map string_bytes words.now) ≡ NoCommand → (result ≡ Status.Usage) ⊎ (result ≡ Status.WriteFault) }
     ensures read { result ≡ Status.ReadFault →
         ReadRose (command_of (map string_bytes words.now)) (λ name. Rose (S.faults shelf.old name) (S.faults shelf.new name)) }
@@ -73,6 +77,7 @@ fn run<S: Shelf, K: Sink>(
     ensures ends { (files : Files) → S.holds shelf.old ≡ Some files → Ends (K.taken sink.old) (K.taken sink.new)
         (Due (Run source.now journal.now) files (λ name. Rose (S.faults shelf.old name) (S.faults shelf.new name))) result }
     ensures usage { result ≢ Status.Usage }
+    ensures object { result ≢ Status.BadObject }
     ensures read { result ≡ Status.ReadFault → ReadRose (Run source.now journal.now) (λ name. Rose (S.faults shelf.old name) (S.faults shelf.new name)) }
     ensures write { result ≡ Status.WriteFault → Rose (K.faults sink.old) (K.faults sink.new) ⊎ K.full sink.new }
     ensures held { S.holds shelf.new ≡ S.holds shelf.old }
@@ -99,6 +104,7 @@ fn run_source<S: Shelf, K: Sink>(
     ensures ends { (files : Files) → S.holds shelf.old ≡ Some files → Ends (K.taken sink.old) (K.taken sink.new)
         (SourceAndJournal source.now (content files journal.now) ⊥ (Rose (S.faults shelf.old journal.now) (S.faults shelf.new journal.now))) result }
     ensures usage { result ≢ Status.Usage }
+    ensures object { result ≢ Status.BadObject }
     ensures read { result ≡ Status.ReadFault → Rose (S.faults shelf.old journal.now) (S.faults shelf.new journal.now) }
     ensures write { result ≡ Status.WriteFault → Rose (K.faults sink.old) (K.faults sink.new) ⊎ K.full sink.new }
     ensures held { S.holds shelf.new ≡ S.holds shelf.old }
@@ -129,6 +135,7 @@ fn run_program<S: Shelf, K: Sink>(
     ensures ends { (files : Files) → S.holds shelf.old ≡ Some files → Ends (K.taken sink.old) (K.taken sink.new)
         (JournalDue prog.now (content files journal.now) (Rose (S.faults shelf.old journal.now) (S.faults shelf.new journal.now))) result }
     ensures usage { result ≢ Status.Usage }
+    ensures object { result ≢ Status.BadObject }
     ensures read { result ≡ Status.ReadFault → Rose (S.faults shelf.old journal.now) (S.faults shelf.new journal.now) }
     ensures write { result ≡ Status.WriteFault → Rose (K.faults sink.old) (K.faults sink.new) ⊎ K.full sink.new }
     ensures held { S.holds shelf.new ≡ S.holds shelf.old }
