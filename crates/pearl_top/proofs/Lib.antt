@@ -12,3 +12,4 @@ pub mod WordLaws
 pub mod Completeness
 pub mod AlikeLaws
 pub mod OneOutcome
+pub mod Settled

@@ -145,22 +145,22 @@ ended_once source journal status other bytes others (inr (inr (p, is_source, com
 
 -- FOR ALL WORDS
 
-no_command : (files : Files) (status : Status) (bytes : List ℕ) → Due NoCommand files (λ name. ⊥) status bytes →
+pub no_command : (files : Files) (rose : List ℕ → Type 0) (status : Status) (bytes : List ℕ) → Due NoCommand files rose status bytes →
     (status ≡ Usage) × (bytes ≡ refusal_line refusal.Usage)
-no_command files Done bytes due = absurd due
-no_command files Usage bytes due = (refl, due)
-no_command files Refused bytes due = absurd due
-no_command files BadObject bytes due = absurd due
-no_command files BadJournal bytes due = absurd due
-no_command files ReadFault bytes due = absurd due
-no_command files WriteFault bytes due = absurd due
-no_command files NoMemory bytes due = absurd due
-no_command files TooLong bytes due = absurd due
+no_command files rose Done bytes due = absurd due
+no_command files rose Usage bytes due = (refl, due)
+no_command files rose Refused bytes due = absurd due
+no_command files rose BadObject bytes due = absurd due
+no_command files rose BadJournal bytes due = absurd due
+no_command files rose ReadFault bytes due = absurd due
+no_command files rose WriteFault bytes due = absurd due
+no_command files rose NoMemory bytes due = absurd due
+no_command files rose TooLong bytes due = absurd due
 
 pub one_outcome : HasOneOutcome
 one_outcome NoCommand files status other bytes others is its =
-    let one = no_command files status bytes is.due in
-    let two = no_command files other others its.due in (one.0 ∙ sym two.0, one.1 ∙ sym two.1)
+    let one = no_command files (λ name. ⊥) status bytes is.due in
+    let two = no_command files (λ name. ⊥) other others its.due in (one.0 ∙ sym two.0, one.1 ∙ sym two.1)
 one_outcome (Run source journal) files status other bytes others is its =
     ended_once (content files source) (content files journal) status other bytes others
     (ended (content files source) (content files journal) status bytes is.memory is.due)

@@ -100,6 +100,6 @@ pub due_same : (source other journal : List ℕ) (a b : Type 0) (old new : Optio
 due_same source other journal a b old new status same ends = subst (λ bytes. Ends old new (SourceAndJournal bytes journal a b) status) same ends
 
 -- the words are those of this command
-pub due_command : (command other : Command) (files : Files) (rose : List ℕ → Type 0) (old new : Option (List ℕ)) (status : Status) → command ≡ other →
-    Ends old new (Due other files rose) status → Ends old new (Due command files rose) status
-due_command command other files rose old new status same ends = subst (λ words. Ends old new (Due words files rose) status) (sym same) ends
+pub due_command : (words other : Command) (files : Files) (rose : List ℕ → Type 0) (old new : Option (List ℕ)) (status : Status) → words ≡ other →
+    Ends old new (Due other files rose) status → Ends old new (Due words files rose) status
+due_command words other files rose old new status same ends = subst (λ as_said. Ends old new (Due as_said files rose) status) (sym same) ends

@@ -5,9 +5,9 @@ ghost use Rattle.pearl_io.specs.Outside.{Files, Rose, content};
 ghost use Rattle.pearl_top.specs.Commands.{Run, NoCommand, command_of};
 ghost use Rattle.pearl_top.specs.Complete.{IsInOrder};
 ghost use Rattle.pearl_top.specs.JournalDue.{JournalDue};
-ghost use Rattle.pearl_top.specs.Outcome.{Due, ReadRose, SourceAndJournal, source_limit};
+ghost use Rattle.pearl_top.specs.Outcome.{Due, IsOutcome, ReadRose, SourceAndJournal, source_limit};
 ghost use Rattle.pearl_script.specs.Refusals.{refusal_line as line_of_refusal};
-ghost use Rattle.pearl_top.specs.Taken.{Just, Ends};
+ghost use Rattle.pearl_top.specs.Taken.{Ends, Finishes, Just};
 
 use crate::command::{Command, command_of_words};
 use crate::machine_run::run_machine;
@@ -39,6 +39,12 @@ pub fn pearl<S: Shelf, K: Sink>(
     // What was taken is due with the status; after a write fault a front of what is due with some status, and not all.
     ensures ends { (files : Files) → S.holds shelf.old ≡ Some files → Ends (K.taken sink.old) (K.taken sink.new)
         (Due (command_of (map string_bytes words.now)) files (λ name. Rose (S.faults shelf.old name) (S.faults shelf.new name))) result }
+
+    // Where neither reading nor writing failed, and memory was there, what was taken is, with the status, the one outcome.
+    ensures outcome { (files : Files) → S.holds shelf.old ≡ Some files →
+        ¬ (ReadRose (command_of (map string_bytes words.now)) (λ name. Rose (S.faults shelf.old name) (S.faults shelf.new name))) →
+        ¬ (Rose (K.faults sink.old) (K.faults sink.new) ⊎ K.full sink.new) → result ≢ Status.NoMemory →
+        Finishes (K.taken sink.old) (K.taken sink.new) (IsOutcome (command_of (map string_bytes words.now)) files result) }
 
     // Where the files that the words name are in order, and neither reading nor writing failed, the run comes to its end, unless memory is out.
     ensures complete { (files : Files) → S.holds shelf.old ≡ Some files → IsInOrder (command_of (map string_bytes words.now)) files →

@@ -2,6 +2,7 @@ use Rattle.std.proofs.Common.{subst}
 use Rattle.pearl_top.specs.Commands.{Run}
 use Rattle.pearl_top.specs.Complete.{IsInOrder}
 use Rattle.pearl_top.proofs.Completeness.{completes_as}
+use Rattle.pearl_top.proofs.Settled.{settles, settles_none}
 use Rattle.pearl_top.proofs.WordLaws.{due_command}
 use Rattle.pearl_top.proofs.top.pearl.Goals as goal
 
@@ -16,3 +17,12 @@ returns-in-Run-clause-complete g c files holds order no_read no_write =
 
 pub returns-in-None-clause-complete : goal.returns-in-None-clause-complete
 returns-in-None-clause-complete g c files holds order no_read no_write = absurd (subst (λ command. IsInOrder command files) c.in-None.ensures order)
+
+pub returns-in-Run-clause-outcome : goal.returns-in-Run-clause-outcome
+returns-in-Run-clause-outcome g c files holds no_read no_write known =
+    settles _ (Run c.in-Run.source.now c.in-Run.journal.now) files _ _ _ _ _ c.in-Run.ensures
+    (c.run.ensures.ends files holds) c.run.ensures.read c.run.ensures.write no_read no_write known
+
+pub returns-in-None-clause-outcome : goal.returns-in-None-clause-outcome
+returns-in-None-clause-outcome g c files holds no_read no_write known =
+    settles_none _ files _ _ _ _ c.in-None.ensures c.refuse.ensures.ends c.refuse.ensures.cause no_write known
