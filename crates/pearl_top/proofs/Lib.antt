@@ -13,3 +13,4 @@ pub mod Completeness
 pub mod AlikeLaws
 pub mod OneOutcome
 pub mod Settled
+pub mod Explained

@@ -1,6 +1,6 @@
 -- What is due for the words, from what is due for the source and for the journal.
-use Rattle.std.proofs.Common.{◌≡◌, ◌≢◌, ◌≤◌, ℕ, List, [], Option, refl, sym, subst, inl, inr, length}
-use Rattle.pearl_io.specs.Outside.{Files}
+use Rattle.std.proofs.Common.{◌≡◌, ◌≢◌, ◌≤◌, ℕ, List, [], Option, Some, refl, sym, subst, inl, inr, length}
+use Rattle.pearl_io.specs.Outside.{Files, content}
 use Rattle.pearl_rules.specs.declared.entry.Entry.{Entry}
 use Rattle.pearl_prog.specs.declared.program.Program.{Program}
 use Rattle.pearl_code.specs.declared.object.Object.{Object}
@@ -13,9 +13,9 @@ use Rattle.pearl_script.specs.declared.refusal.Refusal.TheVariants as refusal
 use Rattle.pearl_script.specs.Refusals.{refusal_line}
 use Rattle.pearl_top.specs.declared.status.Status.{Status}
 use Rattle.pearl_top.specs.declared.status.Status.TheVariants.{Done, Usage, Refused, BadObject, BadJournal, ReadFault, WriteFault, NoMemory, TooLong}
-use Rattle.pearl_top.specs.Commands.{Command}
+use Rattle.pearl_top.specs.Commands.{Command, Run}
 use Rattle.pearl_top.specs.JournalDue.{JournalDue}
-use Rattle.pearl_top.specs.Outcome.{Due, SourceDue, SourceAndJournal, fault_line, source_limit}
+use Rattle.pearl_top.specs.Outcome.{Due, DueFor, MayRead, SourceDue, SourceAndJournal, fault_line, source_limit}
 use Rattle.pearl_top.specs.Ready.{Ready}
 use Rattle.pearl_top.specs.Replay.{start_of}
 use Rattle.pearl_top.specs.Taken.{Ends, Just}
@@ -103,3 +103,23 @@ due_same source other journal a b old new status same ends = subst (λ bytes. En
 pub due_command : (words other : Command) (files : Files) (rose : List ℕ → Type 0) (old new : Option (List ℕ)) (status : Status) → words ≡ other →
     Ends old new (Due other files rose) status → Ends old new (Due words files rose) status
 due_command words other files rose old new status same ends = subst (λ as_said. Ends old new (Due as_said files rose) status) (sym same) ends
+
+-- where the shelf tells what it holds, what is due for the bytes of the files is due for the files
+pub due_told : (source_name journal_name source journal : List ℕ) (held : Option Files) (files : Files) (rose : List ℕ → Type 0) (old new : Option (List ℕ)) (status : Status) →
+    held ≡ Some files → MayRead (Run source_name journal_name) held source journal →
+    Ends old new (DueFor (Run source_name journal_name) source journal rose) status → Ends old new (Due (Run source_name journal_name) files rose) status
+due_told source_name journal_name source journal held files rose old new status told read ends =
+    let is : MayRead (Run source_name journal_name) (Some files) source journal = subst (λ h. MayRead (Run source_name journal_name) h source journal) told read in
+    subst (λ s. Ends old new (SourceAndJournal s (content files journal_name) (rose source_name) (rose journal_name)) status) is.0
+    (subst (λ j. Ends old new (SourceAndJournal source j (rose source_name) (rose journal_name)) status) is.1 ends)
+
+-- the words are those of this command, whatever the shelf tells
+pub due_for : (words other : Command) (source journal : List ℕ) (held : Option Files) (rose : List ℕ → Type 0) (old new : Option (List ℕ)) (status : Status) → words ≡ other →
+    MayRead other held source journal → Ends old new (DueFor other source journal rose) status →
+    (source journal : List ℕ) × MayRead words held source journal × Ends old new (DueFor words source journal rose) status
+due_for words other source journal held rose old new status same read ends = (
+  source,
+  journal,
+  subst (λ as_said. MayRead as_said held source journal) (sym same) read,
+  subst (λ as_said. Ends old new (DueFor as_said source journal rose) status) (sym same) ends,
+)

@@ -1,5 +1,5 @@
 -- Which status and which bytes belong to some words and files.
-use Rattle.std.specs.Prelude.{◌≡◌, ◌≢◌, ℕ, ◌+◌, ◌<◌, ◌≤◌, ◌⊎◌, List, length}
+use Rattle.std.specs.Prelude.{◌≡◌, ◌≢◌, ℕ, ◌+◌, ◌<◌, ◌≤◌, ◌⊎◌, List, length, Option, Some, None}
 use Rattle.pearl_io.specs.Outside.{Files, content}
 use Rattle.pearl_first.specs.declared.fault.FrontFault.{FrontFault}
 use Rattle.pearl_first.specs.declared.fault.FrontFault.TheVariants as fault
@@ -69,3 +69,21 @@ pub record IsOutcome (command : Command) (files : Files) (status : Status) (byte
 abbrev pub ReadRose : Command → (List ℕ → Type 0) → Type 0
 ReadRose NoCommand rose = ⊥
 ReadRose (Run source journal) rose = rose source ⊎ rose journal
+
+-- WHERE A SHELF MAY NOT TELL WHAT IT HOLDS
+
+-- bytes that a file of this name may have: those held, where that is told
+abbrev pub MayHave : Option Files → List ℕ → List ℕ → Type 0
+MayHave None name bytes = Unit {0}
+MayHave (Some files) name bytes = bytes ≡ content files name
+
+-- the same of the files that the words name
+abbrev pub MayRead : Command → Option Files → List ℕ → List ℕ → Type 0
+MayRead NoCommand held source journal = Unit {0}
+MayRead (Run source_name journal_name) held source journal = MayHave held source_name source × MayHave held journal_name journal
+
+-- what is due for the words, where these are the bytes of their source and journal
+abbrev pub DueFor : Command → List ℕ → List ℕ → (List ℕ → Type 0) → Status → List ℕ → Type 0
+DueFor NoCommand source journal rose Usage bytes = bytes ≡ refusal_line refusal.Usage
+DueFor NoCommand source journal rose status bytes = ⊥
+DueFor (Run source_name journal_name) source journal rose status bytes = SourceAndJournal source journal (rose source_name) (rose journal_name) status bytes

@@ -1,9 +1,10 @@
 // A machine over the journal of a shelf.
 
-ghost use Rattle.std.specs.Prelude.{◌≡◌, ◌≢◌, ◌≤◌, ◌⊎◌, ℕ, List, Some};
-ghost use Rattle.pearl_io.specs.Outside.{Files, Rose, content};
+ghost use Rattle.std.specs.Prelude.{◌≡◌, ◌≢◌, ◌≤◌, ◌⊎◌, ℕ, List};
+ghost use Rattle.pearl_io.specs.Outside.{Rose};
 ghost use Rattle.pearl_prog.specs.declared.program.Program.{Program};
 ghost use Rattle.pearl_top.specs.JournalDue.{JournalDue};
+ghost use Rattle.pearl_top.specs.Outcome.{MayHave};
 ghost use Rattle.pearl_top.specs.Ready.{Ready};
 ghost use Rattle.pearl_top.specs.Taken.{Ends};
 
@@ -24,8 +25,8 @@ pub fn run_machine<S: Shelf, K: Sink>(
     shelf: &mut S,
     sink: &mut K,
 ) -> Status
-    ensures ends { (p : Program) (files : Files) → Ready p machine.old → S.holds shelf.old ≡ Some files → Ends (K.taken sink.old) (K.taken sink.new)
-        (JournalDue p (content files journal.now) (Rose (S.faults shelf.old journal.now) (S.faults shelf.new journal.now))) result }
+    ensures ends { (p : Program) → Ready p machine.old → (bytes : List ℕ) × MayHave (S.holds shelf.old) journal.now bytes × Ends (K.taken sink.old) (K.taken sink.new)
+        (JournalDue p bytes (Rose (S.faults shelf.old journal.now) (S.faults shelf.new journal.now))) result }
     ensures usage { result ≢ Status.Usage }
     ensures object { result ≢ Status.BadObject }
     ensures read { result ≡ Status.ReadFault → Rose (S.faults shelf.old journal.now) (S.faults shelf.new journal.now) }

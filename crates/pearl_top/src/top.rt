@@ -1,11 +1,11 @@
 // The top call.
 
 ghost use Rattle.std.specs.Prelude.{◌≡◌, ◌≢◌, ◌≤◌, ◌⊎◌, ℕ, List, Some, length, map, string_bytes};
-ghost use Rattle.pearl_io.specs.Outside.{Files, Rose, content};
+ghost use Rattle.pearl_io.specs.Outside.{Files, Rose};
 ghost use Rattle.pearl_top.specs.Commands.{Run, NoCommand, command_of};
 ghost use Rattle.pearl_top.specs.Complete.{IsInOrder};
 ghost use Rattle.pearl_top.specs.JournalDue.{JournalDue};
-ghost use Rattle.pearl_top.specs.Outcome.{Due, IsOutcome, ReadRose, SourceAndJournal, source_limit};
+ghost use Rattle.pearl_top.specs.Outcome.{Due, DueFor, IsOutcome, MayHave, MayRead, ReadRose, SourceAndJournal, source_limit};
 ghost use Rattle.pearl_script.specs.Refusals.{refusal_line as line_of_refusal};
 ghost use Rattle.pearl_top.specs.Taken.{Ends, Finishes, Just};
 
@@ -36,7 +36,11 @@ pub fn pearl<S: Shelf, K: Sink>(
     shelf: &mut S,
     sink: &mut K,
 ) -> Status
-    // What was taken is due with the status; after a write fault a front of what is due with some status, and not all.
+    // What was taken is due with the status; after a write fault a front of what is due with some status, and not all. The bytes of the files are those held,
+    // where the shelf tells them, and else some bytes that they may have.
+    ensures due { (source journal : List ℕ) × MayRead (command_of (map string_bytes words.now)) (S.holds shelf.old) source journal ×
+        Ends (K.taken sink.old) (K.taken sink.new)
+        (DueFor (command_of (map string_bytes words.now)) source journal (λ name. Rose (S.faults shelf.old name) (S.faults shelf.new name))) result }
     ensures ends { (files : Files) → S.holds shelf.old ≡ Some files → Ends (K.taken sink.old) (K.taken sink.new)
         (Due (command_of (map string_bytes words.now)) files (λ name. Rose (S.faults shelf.old name) (S.faults shelf.new name))) result }
 
@@ -80,8 +84,8 @@ fn run<S: Shelf, K: Sink>(
     shelf: &mut S,
     sink: &mut K,
 ) -> Status
-    ensures ends { (files : Files) → S.holds shelf.old ≡ Some files → Ends (K.taken sink.old) (K.taken sink.new)
-        (Due (Run source.now journal.now) files (λ name. Rose (S.faults shelf.old name) (S.faults shelf.new name))) result }
+    ensures ends { (read asked : List ℕ) × MayRead (Run source.now journal.now) (S.holds shelf.old) read asked × Ends (K.taken sink.old) (K.taken sink.new)
+        (DueFor (Run source.now journal.now) read asked (λ name. Rose (S.faults shelf.old name) (S.faults shelf.new name))) result }
     ensures usage { result ≢ Status.Usage }
     ensures object { result ≢ Status.BadObject }
     ensures read { result ≡ Status.ReadFault → ReadRose (Run source.now journal.now) (λ name. Rose (S.faults shelf.old name) (S.faults shelf.new name)) }
@@ -107,8 +111,8 @@ fn run_source<S: Shelf, K: Sink>(
     sink: &mut K,
 ) -> Status
     requires { length source.now ≤ source_limit }
-    ensures ends { (files : Files) → S.holds shelf.old ≡ Some files → Ends (K.taken sink.old) (K.taken sink.new)
-        (SourceAndJournal source.now (content files journal.now) ⊥ (Rose (S.faults shelf.old journal.now) (S.faults shelf.new journal.now))) result }
+    ensures ends { (bytes : List ℕ) × MayHave (S.holds shelf.old) journal.now bytes × Ends (K.taken sink.old) (K.taken sink.new)
+        (SourceAndJournal source.now bytes ⊥ (Rose (S.faults shelf.old journal.now) (S.faults shelf.new journal.now))) result }
     ensures usage { result ≢ Status.Usage }
     ensures object { result ≢ Status.BadObject }
     ensures read { result ≡ Status.ReadFault → Rose (S.faults shelf.old journal.now) (S.faults shelf.new journal.now) }
@@ -138,8 +142,8 @@ fn run_program<S: Shelf, K: Sink>(
     sink: &mut K,
 ) -> Status
     requires { length prog.now.setup.tasks ≡ 1 }
-    ensures ends { (files : Files) → S.holds shelf.old ≡ Some files → Ends (K.taken sink.old) (K.taken sink.new)
-        (JournalDue prog.now (content files journal.now) (Rose (S.faults shelf.old journal.now) (S.faults shelf.new journal.now))) result }
+    ensures ends { (bytes : List ℕ) × MayHave (S.holds shelf.old) journal.now bytes × Ends (K.taken sink.old) (K.taken sink.new)
+        (JournalDue prog.now bytes (Rose (S.faults shelf.old journal.now) (S.faults shelf.new journal.now))) result }
     ensures usage { result ≢ Status.Usage }
     ensures object { result ≢ Status.BadObject }
     ensures read { result ≡ Status.ReadFault → Rose (S.faults shelf.old journal.now) (S.faults shelf.new journal.now) }

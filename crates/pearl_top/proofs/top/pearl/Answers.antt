@@ -1,19 +1,25 @@
 use Rattle.std.proofs.Common.{subst}
+use Rattle.pearl_io.specs.Outside.{Rose}
 use Rattle.pearl_top.specs.Commands.{Run}
 use Rattle.pearl_top.specs.Complete.{IsInOrder}
 use Rattle.pearl_top.proofs.Completeness.{completes_as}
 use Rattle.pearl_top.proofs.Settled.{settles, settles_none}
-use Rattle.pearl_top.proofs.WordLaws.{due_command}
+use Rattle.pearl_top.proofs.WordLaws.{due_command, due_told, due_for}
 use Rattle.pearl_top.proofs.top.pearl.Goals as goal
+
+pub returns-in-Run-clause-due : goal.returns-in-Run-clause-due
+returns-in-Run-clause-due g c =
+    let ends = c.run.ensures.ends in
+    due_for _ (Run c.in-Run.source.now c.in-Run.journal.now) ends.0 ends.1 _ _ _ _ _ c.in-Run.ensures ends.2 ends.3
 
 pub returns-in-Run-clause-ends : goal.returns-in-Run-clause-ends
 returns-in-Run-clause-ends g c files holds =
-    due_command _ (Run c.in-Run.source.now c.in-Run.journal.now) files _ _ _ _ c.in-Run.ensures (c.run.ensures.ends files holds)
+    due_command _ (Run c.in-Run.source.now c.in-Run.journal.now) files _ _ _ _ c.in-Run.ensures (due_told c.in-Run.source.now c.in-Run.journal.now c.run.ensures.ends.0 c.run.ensures.ends.1 (g.S.Shelf.holds c.args.shelf.now) files (λ name. Rose (g.S.Shelf.faults c.args.shelf.now name) (g.S.Shelf.faults c.run.new.shelf name)) _ _ _ holds c.run.ensures.ends.2 c.run.ensures.ends.3)
 
 pub returns-in-Run-clause-complete : goal.returns-in-Run-clause-complete
 returns-in-Run-clause-complete g c files holds order no_read no_write =
     completes_as _ (Run c.in-Run.source.now c.in-Run.journal.now) files _ _ _ _ _ c.in-Run.ensures
-    (c.run.ensures.ends files holds) c.run.ensures.read c.run.ensures.write order no_read no_write
+    (due_told c.in-Run.source.now c.in-Run.journal.now c.run.ensures.ends.0 c.run.ensures.ends.1 (g.S.Shelf.holds c.args.shelf.now) files (λ name. Rose (g.S.Shelf.faults c.args.shelf.now name) (g.S.Shelf.faults c.run.new.shelf name)) _ _ _ holds c.run.ensures.ends.2 c.run.ensures.ends.3) c.run.ensures.read c.run.ensures.write order no_read no_write
 
 pub returns-in-None-clause-complete : goal.returns-in-None-clause-complete
 returns-in-None-clause-complete g c files holds order no_read no_write = absurd (subst (λ command. IsInOrder command files) c.in-None.ensures order)
@@ -21,7 +27,7 @@ returns-in-None-clause-complete g c files holds order no_read no_write = absurd 
 pub returns-in-Run-clause-outcome : goal.returns-in-Run-clause-outcome
 returns-in-Run-clause-outcome g c files holds no_read no_write known =
     settles _ (Run c.in-Run.source.now c.in-Run.journal.now) files _ _ _ _ _ c.in-Run.ensures
-    (c.run.ensures.ends files holds) c.run.ensures.read c.run.ensures.write no_read no_write known
+    (due_told c.in-Run.source.now c.in-Run.journal.now c.run.ensures.ends.0 c.run.ensures.ends.1 (g.S.Shelf.holds c.args.shelf.now) files (λ name. Rose (g.S.Shelf.faults c.args.shelf.now name) (g.S.Shelf.faults c.run.new.shelf name)) _ _ _ holds c.run.ensures.ends.2 c.run.ensures.ends.3) c.run.ensures.read c.run.ensures.write no_read no_write known
 
 pub returns-in-None-clause-outcome : goal.returns-in-None-clause-outcome
 returns-in-None-clause-outcome g c files holds no_read no_write known =
