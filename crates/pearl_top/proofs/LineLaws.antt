@@ -160,11 +160,6 @@ rose_from a b c full h (inr is_full) = inr is_full
 pub whole_last : (part : Part) (bytes : List ℕ) → part ≡ Whole → journal_lines bytes ≡ bytes ∷ [] → part_lines part bytes ≡ bytes ∷ []
 whole_last part bytes e h = subst (λ q. part_lines q bytes ≡ bytes ∷ []) (sym e) h
 
--- a part that isn't whole has no such line
-pub part_none : (part : Part) (bytes : List ℕ) → ended_lines bytes ≡ [] → (part ≡ TooLong) ⊎ (part ≡ Fault) → part_lines part bytes ≡ []
-part_none part bytes h (inl e) = subst (λ q. part_lines q bytes ≡ []) (sym e) h
-part_none part bytes h (inr e) = subst (λ q. part_lines q bytes ≡ []) (sym e) h
-
 -- one more line, by the tables of the machine as it stands
 pub progress_more_at : (setup : Setup) (lines : List (List ℕ)) (count : ℕ) (text : List ℕ) (left : List (List ℕ)) (seen mid after : Seen)
     (old between new : Option (List ℕ)) → mid.object.setup ≡ setup →
@@ -181,11 +176,3 @@ pub progress_last : (setup : Setup) (part : Part) (journal bytes : List ℕ) (co
     Progress setup (part_lines part journal) count (bytes ∷ []) seen mid old between
 progress_last setup part journal bytes count seen mid old between whole none so_far =
     subst (λ left. Progress setup (part_lines part journal) count left seen mid old between) (whole_last part bytes whole none.0) so_far
-
--- no line is left of a part
-pub progress_all_of : (setup : Setup) (part : Part) (journal bytes : List ℕ) (count : ℕ) (seen after : Seen) (old new : Option (List ℕ)) →
-    (part ≡ TooLong) ⊎ (part ≡ Fault) → (journal_lines bytes ≡ bytes ∷ []) × (ended_lines bytes ≡ []) →
-    Progress setup (part_lines part journal) count (part_lines part bytes) seen after old new → LinesDone setup (part_lines part journal) All seen after old new
-progress_all_of setup part journal bytes count seen after old new cut none so_far =
-    progress_all setup (part_lines part journal) count seen after old new
-    (subst (λ left. Progress setup (part_lines part journal) count left seen after old new) (part_none part bytes none.1 cut) so_far)

@@ -17,12 +17,7 @@ use Rattle.pearl_top.specs.Taken.{Ends, Just}
 use Rattle.pearl_top.proofs.DueLaws.{due_whole, due_long, due_fault}
 use Rattle.pearl_top.proofs.TakenLaws.{ends_short, ends_after, ends_as}
 
--- a count that rose stays risen
-pub rose_on : (a b c : ℕ) → a ≤ b → Rose a b → b ≤ c → Rose a c
-rose_on a b c h (inl less) k = inl (omega arith)
-rose_on a b c h (inr last) k = grind arith
-
--- and rose from earlier on
+-- a count that rose later rose from earlier on
 pub rose_since : (a b c : ℕ) → a ≤ b → Rose b c → Rose a c
 rose_since a b c h (inl less) = inl (omega arith)
 rose_since a b c h (inr last) = inr last

@@ -46,7 +46,8 @@ pub fn replay<K: Sink>(machine: &mut Machine, journal: &[u8], part: Part, sink: 
 
 // Writes what closes the transcript after all lines were carried out.
 fn finish<K: Sink>(machine: &Machine, part: Part, sink: &mut K) -> Status
-    ensures ends { (p : Program) (es : List Entry) (told : List (ℕ × Said)) → IsFaithfulTo p machine.now.object → Ran machine.now.object es machine.now told →
+    ensures ends { (p : Program) (es : List Entry) (told : List (ℕ × Said)) → IsFaithfulTo p machine.now.object →
+        Ran machine.now.object es machine.now told →
         Ends (K.taken sink.old) (K.taken sink.new) (ClosingDue p machine.now.object es told part) result }
     ensures usage { result ≢ Status.Usage }
     ensures object { result ≢ Status.BadObject }

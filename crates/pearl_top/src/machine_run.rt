@@ -25,8 +25,9 @@ pub fn run_machine<S: Shelf, K: Sink>(
     shelf: &mut S,
     sink: &mut K,
 ) -> Status
-    ensures ends { (p : Program) → Ready p machine.old → (bytes : List ℕ) × MayHave (S.holds shelf.old) journal.now bytes × Ends (K.taken sink.old) (K.taken sink.new)
-        (JournalDue p bytes (Rose (S.faults shelf.old journal.now) (S.faults shelf.new journal.now))) result }
+    ensures ends { let risen = Rose (S.faults shelf.old journal.now) (S.faults shelf.new journal.now) in
+        (p : Program) → Ready p machine.old → (bytes : List ℕ) × MayHave (S.holds shelf.old) journal.now bytes
+        × Ends (K.taken sink.old) (K.taken sink.new) (JournalDue p bytes risen) result }
     ensures usage { result ≢ Status.Usage }
     ensures object { result ≢ Status.BadObject }
     ensures read { result ≡ Status.ReadFault → Rose (S.faults shelf.old journal.now) (S.faults shelf.new journal.now) }

@@ -25,44 +25,53 @@ use std::alloc::Global;
 // The most bytes that a source may have.
 const SOURCE_LIMIT: u64 = 1_048_576;
 
-/// Carries out the command of the words after the program's name: reads the files that it names from the shelf, and writes what is due to the
-/// sink, each line as one piece.
+/// Carries out the command of the words after the program's name: reads the files that it names from the shelf, and
+/// writes what is due to the sink, each line as one piece.
 ///
-/// Memory may run out at any time but with words that are no command, and then the line `error memory` is due. What is due otherwise,
-/// and with which status, is `Due`.
+/// Memory may run out at any time but with words that are no command, and then the line `error memory` is due. What is due
+/// otherwise, and with which status, is `Due`.
 pub fn pearl<S: Shelf, K: Sink>(
     alloc: Global,
     words: &[String],
     shelf: &mut S,
     sink: &mut K,
 ) -> Status
-    // What was taken is due with the status; after a write fault a front of what is due with some status, and not all. The bytes of the files are those held,
-    // where the shelf tells them, and else some bytes that they may have.
-    ensures due { (source journal : List ℕ) × MayRead (command_of (map string_bytes words.now)) (S.holds shelf.old) source journal ×
-        Ends (K.taken sink.old) (K.taken sink.new)
-        (DueFor (command_of (map string_bytes words.now)) source journal (λ name. Rose (S.faults shelf.old name) (S.faults shelf.new name))) result }
-    ensures ends { (files : Files) → S.holds shelf.old ≡ Some files → Ends (K.taken sink.old) (K.taken sink.new)
-        (Due (command_of (map string_bytes words.now)) files (λ name. Rose (S.faults shelf.old name) (S.faults shelf.new name))) result }
+    // What was taken is due with the status; after a write fault a front of what is due with some status, and not all.
+    // The bytes of the files are those held, where the shelf tells them, and else some bytes that they may have.
+    ensures due { let command = command_of (map string_bytes words.now) in
+        let risen = λ (name : List ℕ). Rose (S.faults shelf.old name) (S.faults shelf.new name) in
+        (source journal : List ℕ) × MayRead command (S.holds shelf.old) source journal
+        × Ends (K.taken sink.old) (K.taken sink.new) (DueFor command source journal risen) result }
+    ensures ends { let command = command_of (map string_bytes words.now) in
+        let risen = λ (name : List ℕ). Rose (S.faults shelf.old name) (S.faults shelf.new name) in
+        (files : Files) → S.holds shelf.old ≡ Some files →
+        Ends (K.taken sink.old) (K.taken sink.new) (Due command files risen) result }
 
     // Where neither reading nor writing failed, and memory was there, what was taken is, with the status, the one outcome.
-    ensures outcome { (files : Files) → S.holds shelf.old ≡ Some files →
-        ¬ (ReadRose (command_of (map string_bytes words.now)) (λ name. Rose (S.faults shelf.old name) (S.faults shelf.new name))) →
+    ensures outcome { let command = command_of (map string_bytes words.now) in
+        let risen = λ (name : List ℕ). Rose (S.faults shelf.old name) (S.faults shelf.new name) in
+        (files : Files) → S.holds shelf.old ≡ Some files → ¬ (ReadRose command risen) →
         ¬ (Rose (K.faults sink.old) (K.faults sink.new) ⊎ K.full sink.new) → result ≢ Status.NoMemory →
-        Finishes (K.taken sink.old) (K.taken sink.new) (IsOutcome (command_of (map string_bytes words.now)) files result) }
+        Finishes (K.taken sink.old) (K.taken sink.new) (IsOutcome command files result) }
 
-    // Where the files that the words name are in order, and neither reading nor writing failed, the run comes to its end, unless memory is out.
-    ensures complete { (files : Files) → S.holds shelf.old ≡ Some files → IsInOrder (command_of (map string_bytes words.now)) files →
-        ¬ (ReadRose (command_of (map string_bytes words.now)) (λ name. Rose (S.faults shelf.old name) (S.faults shelf.new name))) →
-        ¬ (Rose (K.faults sink.old) (K.faults sink.new) ⊎ K.full sink.new) → (result ≡ Status.Done) ⊎ (result ≡ Status.NoMemory) }
+    // Where the files that the words name are in order, and neither reading nor writing failed, the run comes to its end,
+    // unless memory is out.
+    ensures complete { let command = command_of (map string_bytes words.now) in
+        let risen = λ (name : List ℕ). Rose (S.faults shelf.old name) (S.faults shelf.new name) in
+        (files : Files) → S.holds shelf.old ≡ Some files → IsInOrder command files → ¬ (ReadRose command risen) →
+        ¬ (Rose (K.faults sink.old) (K.faults sink.new) ⊎ K.full sink.new) →
+        (result ≡ Status.Done) ⊎ (result ≡ Status.NoMemory) }
 
     // When each status comes that the files don't decide.
     ensures usage { result ≡ Status.Usage → command_of (map string_bytes words.now) ≡ NoCommand }
+    ensures no_command { command_of (map string_bytes words.now) ≡ NoCommand →
+        (result ≡ Status.Usage) ⊎ (result ≡ Status.WriteFault) }
     ensures no_line { command_of (map string_bytes words.now) ≡ NoCommand →
         Ends (K.taken sink.old) (K.taken sink.new) (Just Status.Usage (line_of_refusal Refusal.Usage)) result }
     ensures object { result ≢ Status.BadObject }
-    ensures no_command { command_of (map string_bytes words.now) ≡ NoCommand → (result ≡ Status.Usage) ⊎ (result ≡ Status.WriteFault) }
-    ensures read { result ≡ Status.ReadFault →
-        ReadRose (command_of (map string_bytes words.now)) (λ name. Rose (S.faults shelf.old name) (S.faults shelf.new name)) }
+    ensures read { let command = command_of (map string_bytes words.now) in
+        let risen = λ (name : List ℕ). Rose (S.faults shelf.old name) (S.faults shelf.new name) in
+        result ≡ Status.ReadFault → ReadRose command risen }
     ensures write { result ≡ Status.WriteFault → Rose (K.faults sink.old) (K.faults sink.new) ⊎ K.full sink.new }
 
     // What stays the same.
@@ -84,11 +93,13 @@ fn run<S: Shelf, K: Sink>(
     shelf: &mut S,
     sink: &mut K,
 ) -> Status
-    ensures ends { (read asked : List ℕ) × MayRead (Run source.now journal.now) (S.holds shelf.old) read asked × Ends (K.taken sink.old) (K.taken sink.new)
-        (DueFor (Run source.now journal.now) read asked (λ name. Rose (S.faults shelf.old name) (S.faults shelf.new name))) result }
+    ensures ends { let risen = λ (name : List ℕ). Rose (S.faults shelf.old name) (S.faults shelf.new name) in
+        (read asked : List ℕ) × MayRead (Run source.now journal.now) (S.holds shelf.old) read asked
+        × Ends (K.taken sink.old) (K.taken sink.new) (DueFor (Run source.now journal.now) read asked risen) result }
     ensures usage { result ≢ Status.Usage }
     ensures object { result ≢ Status.BadObject }
-    ensures read { result ≡ Status.ReadFault → ReadRose (Run source.now journal.now) (λ name. Rose (S.faults shelf.old name) (S.faults shelf.new name)) }
+    ensures read { result ≡ Status.ReadFault → Rose (S.faults shelf.old source.now) (S.faults shelf.new source.now)
+        ⊎ Rose (S.faults shelf.old journal.now) (S.faults shelf.new journal.now) }
     ensures write { result ≡ Status.WriteFault → Rose (K.faults sink.old) (K.faults sink.new) ⊎ K.full sink.new }
     ensures held { S.holds shelf.new ≡ S.holds shelf.old }
     ensures shelf_later { (name : List ℕ) → S.faults shelf.old name ≤ S.faults shelf.new name }
@@ -111,8 +122,9 @@ fn run_source<S: Shelf, K: Sink>(
     sink: &mut K,
 ) -> Status
     requires { length source.now ≤ source_limit }
-    ensures ends { (bytes : List ℕ) × MayHave (S.holds shelf.old) journal.now bytes × Ends (K.taken sink.old) (K.taken sink.new)
-        (SourceAndJournal source.now bytes ⊥ (Rose (S.faults shelf.old journal.now) (S.faults shelf.new journal.now))) result }
+    ensures ends { let risen = Rose (S.faults shelf.old journal.now) (S.faults shelf.new journal.now) in
+        (bytes : List ℕ) × MayHave (S.holds shelf.old) journal.now bytes
+        × Ends (K.taken sink.old) (K.taken sink.new) (SourceAndJournal source.now bytes ⊥ risen) result }
     ensures usage { result ≢ Status.Usage }
     ensures object { result ≢ Status.BadObject }
     ensures read { result ≡ Status.ReadFault → Rose (S.faults shelf.old journal.now) (S.faults shelf.new journal.now) }
@@ -142,8 +154,9 @@ fn run_program<S: Shelf, K: Sink>(
     sink: &mut K,
 ) -> Status
     requires { length prog.now.setup.tasks ≡ 1 }
-    ensures ends { (bytes : List ℕ) × MayHave (S.holds shelf.old) journal.now bytes × Ends (K.taken sink.old) (K.taken sink.new)
-        (JournalDue prog.now bytes (Rose (S.faults shelf.old journal.now) (S.faults shelf.new journal.now))) result }
+    ensures ends { let risen = Rose (S.faults shelf.old journal.now) (S.faults shelf.new journal.now) in
+        (bytes : List ℕ) × MayHave (S.holds shelf.old) journal.now bytes
+        × Ends (K.taken sink.old) (K.taken sink.new) (JournalDue prog.now bytes risen) result }
     ensures usage { result ≢ Status.Usage }
     ensures object { result ≢ Status.BadObject }
     ensures read { result ≡ Status.ReadFault → Rose (S.faults shelf.old journal.now) (S.faults shelf.new journal.now) }
