@@ -13,8 +13,10 @@ pub struct OutSink<'a, R: Print> {
 }
 
 impl<'a, R: Print> OutSink<'a, R> {
-    /// The standard output of this runtime.
-    pub fn new(rt: &'a R) -> Self {
+    /// The standard output of this runtime, with no fault so far.
+    pub fn new(rt: &'a R) -> Self
+        ensures { result.faults ≡ 0 }
+    {
         OutSink { rt, faults: 0 }
     }
 }

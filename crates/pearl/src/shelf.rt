@@ -16,8 +16,10 @@ pub struct FileShelf<'a, R: Files<File = File>> {
 }
 
 impl<'a, R: Files<File = File>> FileShelf<'a, R> {
-    /// The files that this runtime opens.
-    pub fn new(rt: &'a R) -> Self {
+    /// The files that this runtime opens, with no fault so far.
+    pub fn new(rt: &'a R) -> Self
+        ensures { result.faults ≡ 0 }
+    {
         FileShelf { rt, faults: 0 }
     }
 }
