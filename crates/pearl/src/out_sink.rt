@@ -1,6 +1,6 @@
 // Standard output as a sink.
 
-ghost use Rattle.std.specs.Prelude.{◌≤◌, ◌≡◌, None};
+ghost use Rattle.std.specs.Prelude.{◌≡◌, None};
 
 use pearl_io::{Failed, Sink};
 use std::io::Print;
