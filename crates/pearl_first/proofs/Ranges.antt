@@ -1,8 +1,10 @@
 -- What a source's tokens hold is in range, and so is what its tree holds.
-use Rattle.std.proofs.Common.{◌≡◌, ◌≤◌, ◌<◌, ◌+◌, ◌-◌, ◌^◌, ◌||◌, ◌&&◌, ◌==◌, ℕ, zero, suc, Bool, true, false, cond, nat_le, List, [], ◌∷◌, length, take, drop, slice_index, All, Option, Some, None, option_map, true≢false, refl, sym, ap, subst, ◌∙◌, arith}
+use Rattle.std.proofs.Common.{◌≡◌, ◌≤◌, ◌<◌, ◌+◌, ◌-◌, ◌^◌, ◌||◌, ◌&&◌, ◌==◌, ℕ, zero, suc, Bool, true, false, IsTrue, cond, nat_le, List, [], ◌∷◌, length, take, drop, slice_index, All, Option, Some, None, option_map, true≢false, refl, sym, ap, subst, ◌∙◌, arith}
 use Rattle.std.specs.Char.{is_ascii_alphabetic, is_ascii_digit}
-use Rattle.std.specs.List.{prefix_len}
+use Rattle.std.specs.List.{prefix_len, list_all}
+use Rattle.std.proofs.lemmas.Bool.{and_from}
 use Rattle.std.proofs.lemmas.Bool.Decides.{nat_tests}
+use Rattle.pearl_rules.specs.Tables.{is_name_byte, is_id}
 use Rattle.pearl_first.specs.declared.word.Word.{Word}
 use Rattle.pearl_first.specs.declared.token.What.{What}
 use Rattle.pearl_first.specs.declared.token.What.TheVariants as what
@@ -13,15 +15,15 @@ use Rattle.pearl_first.specs.declared.token.Front.{Front}
 use Rattle.pearl_first.specs.declared.tree.Step.{Step}
 use Rattle.pearl_first.specs.declared.tree.Tree.{Tree}
 use Rattle.pearl_first.specs.Words.{words}
-use Rattle.pearl_first.specs.Spelling.{is_name_byte, meaning, id_of, word_or_id, value_of, number_of, clock_of, milliseconds, symbol_of, sized, digit_count, begins_part, numeral, word_front, front}
+use Rattle.pearl_first.specs.Spelling.{meaning, id_of, word_or_id, value_of, number_of, clock_of, milliseconds, symbol_of, sized, digit_count, begins_part, numeral, word_front, front}
 use Rattle.pearl_first.specs.Lexes.{IsToken, AreTokens, Lexes}
 use Rattle.pearl_first.specs.Grammar.{what_at, AreSteps, Spells}
 use Rattle.pearl_first.specs.Lawful.{IsLawful}
 
--- a name has a byte, and a number is below 2^63
+-- a name is an id, and a number is below 2^63
 abbrev pub IsInRange : What → Type 0
 IsInRange (what.Word word) = Unit {0}
-IsInRange (what.Id text) = 0 < length text.items
+IsInRange (what.Id text) = IsTrue (is_id text.items)
 IsInRange (what.Number n) = n < 2 ^ 63
 IsInRange (what.Clock time) = Unit {0}
 IsInRange (what.Symbol symbol) = Unit {0}
@@ -38,14 +40,18 @@ sized_range : (w : Option What) (size : ℕ) → IfRange w → IfFront (sized w 
 sized_range None size h = tt
 sized_range (Some w) size h = h
 
-id_range : (text : List ℕ) → 0 < length text → IfRange (id_of text)
-id_range text h = by (nat_le (length text) 63)
-  where
-    by : (b : Bool) → IfRange (cond b (Some (what.Id (record { items = text }))) None)
-    by true = h
-    by false = tt
+-- what an id asks of its bytes, its size aside
+abbrev IsName : List ℕ → Type 0
+IsName text = IsTrue (is_ascii_alphabetic (slice_index text 0)) × IsTrue (list_all is_name_byte text)
 
-word_range : (w : Option Word) (text : List ℕ) → 0 < length text → IfRange (word_or_id w text)
+id_range : (text : List ℕ) → IsName text → IfRange (id_of text)
+id_range text h = by (nat_le (length text) 63) refl
+  where
+    by : (b : Bool) → nat_le (length text) 63 ≡ b → IfRange (cond b (Some (what.Id (record { items = text }))) None)
+    by true e = and_from _ _ (and_from _ _ h.0 h.1) e
+    by false e = tt
+
+word_range : (w : Option Word) (text : List ℕ) → IsName text → IfRange (word_or_id w text)
 word_range None text h = id_range text h
 word_range (Some w) text h = tt
 
@@ -85,19 +91,28 @@ symbol_range b = either (b == 40) symbol.Open _ (either (b == 41) symbol.Close _
     either true s other h = tt
     either false s other h = h
 
-some_name : (bytes : List ℕ) → is_ascii_alphabetic (slice_index bytes 0) ≡ true → 0 < length (take (prefix_len is_name_byte bytes) bytes)
-some_name [] e = absurd (true≢false (sym e))
-some_name (b ∷ bytes) e =
+prefix_passes : (p : ℕ → Bool) (xs : List ℕ) → IsTrue (list_all p (take (prefix_len p xs) xs))
+prefix_passes p [] = refl
+prefix_passes p (x ∷ xs) = by (p x) refl (prefix_passes p xs)
+  where
+    by : (b : Bool) → p x ≡ b → IsTrue (list_all p (take (prefix_len p xs) xs)) → IsTrue (list_all p (take (cond b (1 + prefix_len p xs) 0) (x ∷ xs)))
+    by true e rest = let one : suc (prefix_len p xs) ≡ 1 + prefix_len p xs = omega arith in subst (λ n. IsTrue (list_all p (take n (x ∷ xs)))) one (and_from _ _ e rest)
+    by false e rest = refl
+
+-- the run of name bytes at the front is a name where it begins with a letter
+run_is_name : (bytes : List ℕ) → IsTrue (is_ascii_alphabetic (slice_index bytes 0)) → IsName (take (prefix_len is_name_byte bytes) bytes)
+run_is_name [] e = absurd (true≢false (sym e))
+run_is_name (b ∷ bytes) e =
     let passes : is_name_byte b ≡ true = ap (λ (t : Bool). t || is_ascii_digit b || b == 95) e in
     let size : prefix_len is_name_byte (b ∷ bytes) ≡ suc (prefix_len is_name_byte bytes) = ap (λ t. cond t (1 + prefix_len is_name_byte bytes) 0) passes ∙ omega arith in
-    subst (λ n. 0 < length (take n (b ∷ bytes))) (sym size) (omega arith)
+    (subst (λ n. IsTrue (is_ascii_alphabetic (slice_index (take n (b ∷ bytes)) 0))) (sym size) e, prefix_passes is_name_byte (b ∷ bytes))
 
 front_range : (bytes : List ℕ) → IfFront (front bytes)
 unfolding front
 front_range bytes = by (is_ascii_alphabetic (slice_index bytes 0)) refl (is_ascii_digit (slice_index bytes 0))
   where
     by : (a : Bool) → is_ascii_alphabetic (slice_index bytes 0) ≡ a → (d : Bool) → IfFront (cond a (word_front bytes (prefix_len is_name_byte bytes)) (cond d (numeral bytes) (sized (symbol_of (slice_index bytes 0)) 1)))
-    by true e d = sized_range _ _ (word_range (meaning words (take (prefix_len is_name_byte bytes) bytes)) (take (prefix_len is_name_byte bytes) bytes) (some_name bytes e))
+    by true e d = sized_range _ _ (word_range (meaning words (take (prefix_len is_name_byte bytes) bytes)) (take (prefix_len is_name_byte bytes) bytes) (run_is_name bytes e))
     by false e true = numeral_range bytes
     by false e false = sized_range (symbol_of (slice_index bytes 0)) 1 (symbol_range (slice_index bytes 0))
 

@@ -1,5 +1,5 @@
 -- A tree without faults means a sound program.
-use Rattle.std.proofs.Common.{◌≡◌, ◌≤◌, ◌<◌, ◌+◌, ◌-◌, ◌^◌, ◌||◌, ℕ, zero, suc, pos, Bool, true, false, nat_le, nat_lt, cond, rules, List, [], ◌∷◌, ◌++◌, length, map, get_or, slice_get, All, Some, lit<, lit≤, refl, sym, ap, subst, ◌∙◌, arith}
+use Rattle.std.proofs.Common.{◌≡◌, ◌≤◌, ◌<◌, ◌+◌, ◌-◌, ◌^◌, ◌||◌, ℕ, zero, suc, pos, Bool, true, false, IsTrue, nat_le, nat_lt, cond, rules, List, [], ◌∷◌, ◌++◌, length, map, get_or, slice_get, All, Some, inl, lit<, lit≤, refl, sym, ap, subst, ◌∙◌, arith}
 use Rattle.std.specs.List.{AllByRecursion}
 use Rattle.std.proofs.lemmas.Bool.Decides.{nat_tests}
 use Rattle.pearl_value.specs.Cells.{FitsFixed}
@@ -7,7 +7,7 @@ use Rattle.pearl_format.specs.declared.item.ItemCode.TheVariants.{F}
 use Rattle.pearl_rules.specs.declared.setup.Setup.{Setup}
 use Rattle.pearl_rules.specs.declared.setup.TaskEntry.{TaskEntry}
 use Rattle.pearl_rules.specs.declared.setup.Device.{Device}
-use Rattle.pearl_rules.specs.Tables.{IsTaskEntry, IsDevice, IsWritable, TakesTexts}
+use Rattle.pearl_rules.specs.Tables.{is_id, IsTaskEntry, IsDevice, AreRising, IsFormat, IsWritable, TakesTexts}
 use Rattle.pearl_prog.specs.declared.program.Expr.TheVariants.{Number}
 use Rattle.pearl_prog.specs.declared.program.Statement.{Statement}
 use Rattle.pearl_prog.specs.declared.program.Statement.TheVariants.{Put}
@@ -119,11 +119,22 @@ routines_sound setup steps [] sound one = absurd one
 routines_sound setup steps (routine ∷ []) sound one = ((sound routine.body.items one, tt), refl)
 routines_sound setup steps (routine ∷ other ∷ others) sound one = absurd one
 
-tasks_sound : (name : List ℕ) → 0 < length name → AllByRecursion IsTaskEntry (task_of name ∷ [])
+tasks_sound : (name : List ℕ) → IsTrue (is_id name) → AllByRecursion IsTaskEntry (task_of name ∷ [])
 tasks_sound name named = (record { urgent = (lit< tt, lit≤ tt); named = named }, tt)
 
 devices_sound : AllByRecursion IsDevice devices
 devices_sound = ((lit< tt, lit≤ tt), ((lit< tt, lit≤ tt), tt))
+
+format_lawful : (step : Step) → IsFit step → IsFormat (format_of step)
+format_lawful step fit = by step.skip fit.sum
+  where
+    by : (skip : Bool) → step.width + skip_width skip ≤ 1024 → IsFormat (record { code = F; width = step.width } ∷ skip_items skip)
+    by true sum = record { items = ((fit.low, fit.high), (tt, tt)); few = lit≤ tt; short = omega (arith, sum) }
+    by false sum = record { items = ((fit.low, fit.high), tt); few = lit≤ tt; short = omega (arith, sum) }
+
+formats_lawful : (steps : List Step) → All IsFit steps → AllByRecursion IsFormat (map format_of steps)
+formats_lawful [] fit = tt
+formats_lawful (step ∷ steps) fit = (format_lawful step (fit 0 step (omega arith)), formats_lawful steps (λ k d below. fit (suc k) d (omega arith)))
 
 pub resolved_sound : (tree : Tree) (p : Program) → faults tree ≡ [] → IsLawful tree → Resolves tree p → IsSound p
 resolved_sound tree p faultless lawful resolves =
@@ -136,6 +147,8 @@ resolved_sound tree p faultless lawful resolves =
       setup = record {
         tasks = subst (λ ts. AllByRecursion IsTaskEntry ts) (sym resolves.tasks) (tasks_sound tree.task.text.items lawful.named);
         devices = subst (λ ds. AllByRecursion IsDevice ds) (sym resolves.devices) devices_sound;
+        rising = subst (λ ds. AreRising ds) (sym resolves.devices) (inl (lit< tt), tt);
+        formats = subst (λ fs. AllByRecursion IsFormat fs) (sym resolves.formats) (formats_lawful tree.steps (all_fit tree faultless));
         few_tasks = subst (λ (ts : List TaskEntry). length ts ≤ 200) (sym resolves.tasks) (lit≤ tt);
         few_devices = subst (λ (ds : List Device). length ds ≤ 396) (sym resolves.devices) (lit≤ tt);
       };

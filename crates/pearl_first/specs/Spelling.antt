@@ -4,6 +4,7 @@ use Rattle.std.specs.Option.{option_map}
 use Rattle.std.specs.Char.{is_ascii_alphabetic, is_ascii_digit}
 use Rattle.std.specs.List.{prefix_len}
 use Rattle.std.specs.Str.{bytes_eq}
+pub use Rattle.pearl_rules.specs.Tables.{is_name_byte}
 use Rattle.pearl_first.specs.declared.word.Word.{Word}
 use Rattle.pearl_first.specs.declared.token.Symbol.TheVariants as symbol
 use Rattle.pearl_first.specs.declared.token.What.{What}
@@ -13,10 +14,6 @@ use Rattle.pearl_first.specs.Words.{words}
 
 abbrev pub is_blank : ℕ → Bool
 is_blank b = b == 10 || b == 32
-
--- a letter, a digit or `_`
-abbrev pub is_name_byte : ℕ → Bool
-is_name_byte b = is_ascii_alphabetic b || is_ascii_digit b || b == 95
 
 -- the meaning of a word in a table
 abbrev pub meaning : List (List ℕ × Word) → List ℕ → Option Word

@@ -1,7 +1,11 @@
 -- What the tables of a program or an object are like.
-use Rattle.std.specs.Prelude.{ℕ, ◌<◌, ◌≤◌, List, [], Option, Some, None, length, slice_get}
-use Rattle.std.specs.List.{AllByRecursion}
+use Rattle.std.specs.Prelude.{◌≡◌, ◌⊎◌, ℕ, ◌<◌, ◌≤◌, Bool, ◌&&◌, ◌||◌, ◌==◌, nat_le, IsTrue, List, [], ◌∷◌, Option, Some, None, length, slice_index, slice_get}
+use Rattle.std.specs.Char.{is_ascii_alphabetic, is_ascii_digit}
+use Rattle.std.specs.List.{AllByRecursion, list_all}
+use Rattle.pearl_format.specs.declared.item.ItemCode.{ItemCode}
+use Rattle.pearl_format.specs.declared.item.ItemCode.TheVariants.{F, Skip}
 use Rattle.pearl_format.specs.declared.item.Item.{Item}
+use Rattle.pearl_format.specs.Items.{width_sum, data_count}
 use Rattle.pearl_rules.specs.declared.setup.TaskEntry.{TaskEntry}
 use Rattle.pearl_rules.specs.declared.setup.Device.{Device}
 use Rattle.pearl_rules.specs.declared.setup.Device.TheVariants.{Interrupt, Terminal}
@@ -9,22 +13,62 @@ use Rattle.pearl_rules.specs.declared.setup.Direction.{Direction}
 use Rattle.pearl_rules.specs.declared.setup.Direction.TheVariants.{In, Out, InOut}
 use Rattle.pearl_rules.specs.declared.setup.Setup.{Setup}
 
--- a declared priority is from 1 to 255, and a name has at least one byte
+-- a letter, a digit or `_`
+abbrev pub is_name_byte : ℕ → Bool
+is_name_byte b = is_ascii_alphabetic b || is_ascii_digit b || b == 95
+
+-- an id begins with a letter, goes on with letters, digits and `_`, and has at most 63 bytes; that it is also none of the
+-- language's words isn't asked here
+abbrev pub is_id : List ℕ → Bool
+is_id name = is_ascii_alphabetic (slice_index name 0) && list_all is_name_byte name && nat_le (length name) 63
+
+-- a declared priority is from 1 to 255
 pub record IsTaskEntry (task : TaskEntry) : Type 0 where
   pub urgent : (0 < task.priority) × (task.priority ≤ 255)
-  pub named : 0 < length task.name.items
+  pub named : IsTrue (is_id task.name.items)
 
-abbrev pub IsNumber : ℕ → Type 0
-IsNumber number = (0 < number) × (number ≤ 99)
+-- INTERRUPT comes before TERMINAL
+abbrev pub sort_rank : Device → ℕ
+sort_rank (Interrupt number) = 0
+sort_rank (Terminal number direction) = 1
+
+abbrev pub own_number : Device → ℕ
+own_number (Interrupt number) = number
+own_number (Terminal number direction) = number
 
 abbrev pub IsDevice : Device → Type 0
-IsDevice (Interrupt number) = IsNumber number
-IsDevice (Terminal number direction) = IsNumber number
+IsDevice device = (0 < own_number device) × (own_number device ≤ 99)
 
--- at most 200 tasks and 396 devices
+-- by sort, and then by number
+abbrev pub IsBefore : Device → Device → Type 0
+IsBefore a b = (sort_rank a < sort_rank b) ⊎ ((sort_rank a ≡ sort_rank b) × (own_number a < own_number b))
+
+-- each device comes before the next, so none stands twice
+abbrev pub AreRising : List Device → Type 0
+AreRising [] = Unit {0}
+AreRising (device ∷ []) = Unit {0}
+AreRising (device ∷ next ∷ devices) = IsBefore device next × AreRising (next ∷ devices)
+
+abbrev pub HasWidth : ItemCode → ℕ → Type 0
+HasWidth F width = (0 < width) × (width ≤ 255)
+HasWidth Skip width = Unit {0}
+
+-- F has a width from 1 to 255
+abbrev pub IsItem : Item → Type 0
+IsItem item = HasWidth item.code item.width
+
+-- at most 64 of the items take a value, and their widths are at most 1,024 together
+pub record IsFormat (format : List Item) : Type 0 where
+  pub items : AllByRecursion IsItem format
+  pub few : data_count format ≤ 64
+  pub short : width_sum format ≤ 1024
+
+-- at most 200 tasks and 396 devices; a format is lawful also where no PUT uses it
 pub record IsSetup (setup : Setup) : Type 0 where
   pub tasks : AllByRecursion IsTaskEntry setup.tasks
   pub devices : AllByRecursion IsDevice setup.devices
+  pub rising : AreRising setup.devices
+  pub formats : AllByRecursion IsFormat setup.formats
   pub few_tasks : length setup.tasks ≤ 200
   pub few_devices : length setup.devices ≤ 396
 

@@ -6,20 +6,21 @@ use Rattle.std.specs.List.{AllByRecursion}
 use Rattle.std.proofs.lemmas.List.{append-nil}
 use Rattle.pearl_rules.specs.declared.action.Action.{Action}
 use Rattle.pearl_rules.specs.declared.entry.Entry.{Entry}
+use Rattle.pearl_rules.specs.declared.event.Event.TheVariants.{Start}
 use Rattle.pearl_rules.specs.declared.event.Shown.{Shown}
 use Rattle.pearl_rules.specs.declared.row.Mode.{Mode}
 use Rattle.pearl_rules.specs.declared.row.Mode.TheVariants.{Dormant, Active}
 use Rattle.pearl_rules.specs.declared.row.TaskRow.{TaskRow}
 use Rattle.pearl_rules.specs.declared.setup.Setup.{Setup}
 use Rattle.pearl_rules.specs.declared.setup.TaskEntry.{TaskEntry}
-use Rattle.pearl_rules.specs.Core.{Core, first_mode}
+use Rattle.pearl_rules.specs.Core.{Core, first_mode, first_events, first_events_if}
 use Rattle.pearl_rules.specs.Pick.{Offered, shown_of, states_first, states}
 use Rattle.pearl_rules.specs.Runs.{Machine, machine_start, machine_offers, unsettled}
 use Rattle.pearl_code.specs.declared.object.Code.{Code}
 use Rattle.pearl_code.specs.declared.object.Object.{Object}
 use Rattle.pearl_code.specs.Rows.{Stack, engine, instructions_or_none}
 use Rattle.pearl_code.specs.Valid.{IsCode, IsValid, RunsFrom}
-use Rattle.pearl_script.specs.Lines.{state_line, close_line, lines_of}
+use Rattle.pearl_script.specs.Lines.{event_line, state_line, close_line, lines_of}
 use Rattle.pearl_script.specs.Words.{task_name}
 use Rattle.pearl_run.specs.declared.frame.Frame.{Frame}
 use Rattle.pearl_run.specs.declared.task.Task.{Task}
@@ -29,6 +30,15 @@ use Rattle.pearl_run.specs.Seen.{Seen, IsAt, Goes}
 use Rattle.pearl_run.proofs.Steps.{one, settle_steps}
 use Rattle.pearl_run.proofs.Goes.{at, goes_to}
 use Rattle.pearl_run.proofs.Marking.{seen_of}
+
+-- the lines at the start of a run of one task, which is MAIN
+pub opening_line : (setup : Setup) (tasks : List TaskEntry) (task : TaskEntry) → length tasks ≡ 1 → Some task ≡ slice_get tasks 0 → task.main ≡ true
+    → lines_of setup (first_events 0 tasks) ≡ event_line 0 (Start 0 task.priority) setup
+opening_line setup [] task one first main = absurd (omega arith)
+opening_line setup (t ∷ []) task one first main =
+    let same : t ≡ task = cc in
+    ap (λ b. lines_of setup (first_events_if b 0 t.priority [])) (ap (λ (x : TaskEntry). x.main) same ∙ main) ∙ append-nil _ ∙ ap (λ (x : TaskEntry). event_line 0 (Start 0 x.priority) setup) same
+opening_line setup (t ∷ u ∷ tasks) task one first main = absurd (omega arith)
 
 -- the lines at the end
 closing_at : (setup : Setup) (core : Core) (offers : Offered) (row : TaskRow) (moment : ℕ) (name : List ℕ) (shown : Shown) →

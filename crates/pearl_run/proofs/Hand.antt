@@ -15,8 +15,13 @@ use Rattle.pearl_run.specs.Hand.{hand_setup, hand_code, IsSeventeen, IsHand}
 
 setup_is : IsSetup hand_setup
 setup_is = record {
-  tasks = (record { urgent = (lit< tt, lit≤ tt); named = lit< tt }, tt);
+  tasks = (record { urgent = (lit< tt, lit≤ tt); named = refl }, tt);
   devices = ((lit< tt, lit≤ tt), tt);
+  rising = tt;
+  formats = (
+    record { items = ((lit< tt, lit≤ tt), (tt, tt)); few = lit≤ tt; short = lit≤ tt },
+    (record { items = ((lit< tt, lit≤ tt), tt); few = lit≤ tt; short = lit≤ tt }, tt),
+  );
   few_tasks = lit≤ tt;
   few_devices = lit≤ tt;
 }
