@@ -1,0 +1,4 @@
+pub mod Rising
+pub mod Orders
+pub mod TableOfOperators
+pub mod TableOfWords

@@ -1,0 +1,5 @@
+pub mod Rising
+pub mod Words
+pub mod Operators
+pub mod Instructions
+pub mod Laws

@@ -1,0 +1,90 @@
+use crate::family::*;
+use crate::instruction::{CodeRow, find_code};
+use crate::opcode::*;
+use crate::operator::{OPS, find_op};
+use crate::word::{WORDS, find_word, words};
+
+#[test]
+fn words_have_the_codes_of_their_meanings(rt: HostRuntime) {
+    let cases: [(&[u8], Option<u8>); 16] = [
+        (b"MODULE", Some(0)),
+        (b"DECLARE", Some(4)),
+        (b"DCL", Some(4)),
+        (b"SPECIFY", Some(5)),
+        (b"SPC", Some(5)),
+        (b"INV", Some(6)),
+        (b"CHAR", Some(14)),
+        (b"CHARACTER", Some(14)),
+        (b"IN", Some(20)),
+        (b"INOUT", Some(22)),
+        (b"LEAVE", Some(97)),
+        (b"MOD", None),
+        (b"MODULES", None),
+        (b"module", None),
+        (b"ZZZ", None),
+        (b"", None),
+    ];
+    for (text, code) in &cases {
+        assert_eq!(rt; find_word(words(), text), *code);
+        assert_eq!(rt; find_word(&WORDS, text), *code);
+    }
+}
+
+#[test]
+fn operators_have_rows_for_their_families(rt: HostRuntime) {
+    // The operator, its left and right family, and the rank and the result's family where there is a row.
+    let cases: [(u8, u8, u8, Option<(u8, u8)>); 16] = [
+        (PLUS, ABSENT, FIXED, Some((0, FIXED))),
+        (SIGN, ABSENT, DURATION, Some((0, FIXED))),
+        (NOT, ABSENT, FIXED, None),
+        (POW, FIXED, FIXED, Some((1, FIXED))),
+        (POW, DURATION, FIXED, None),
+        (MUL, FIXED, DURATION, Some((2, DURATION))),
+        (MUL, DURATION, DURATION, None),
+        (DIV, DURATION, DURATION, Some((2, FIXED))),
+        (DIV, FIXED, DURATION, None),
+        (CAT, CHAR, BIT, None),
+        (SUB, CLOCK, CLOCK, Some((3, DURATION))),
+        (SUB, DURATION, CLOCK, None),
+        (LT, BIT, BIT, None),
+        (NE, BIT, BIT, Some((5, BIT))),
+        (EXOR, BIT, BIT, Some((7, BIT))),
+        (53, FIXED, FIXED, None),
+    ];
+    for (code, left, right, expected) in &cases {
+        let found = match find_op(&OPS, *code, *left, *right) {
+            Some(row) => Some((row.rank, row.result)),
+            None => None,
+        };
+        assert_eq!(rt; found, *expected);
+    }
+}
+
+#[test]
+fn an_instruction_is_found_by_its_opcode(rt: HostRuntime) {
+    let rows: [CodeRow; 3] = [
+        CodeRow {
+            opcode: 0,
+            name: b"Const",
+            operands: b"L",
+        },
+        CodeRow {
+            opcode: 4,
+            name: b"Drop",
+            operands: b"",
+        },
+        CodeRow {
+            opcode: 7,
+            name: b"LoadAt",
+            operands: b"cn",
+        },
+    ];
+    match find_code(&rows, 7) {
+        Some(row) => {
+            assert_eq!(rt; row.name, b"LoadAt".as_slice());
+            assert_eq!(rt; row.operands, b"cn".as_slice());
+        }
+        None => assert!(rt; false, "no row"),
+    }
+    assert!(rt; find_code(&rows, 5).is_none());
+}
