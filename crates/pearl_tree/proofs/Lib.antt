@@ -1,0 +1,3 @@
+pub mod ExpressionLists
+pub mod TypeLists
+pub mod StatementLists

@@ -1,0 +1,11 @@
+pub mod WordCodes
+pub mod Symbols
+pub mod Standing
+pub mod Expressions
+pub mod Types
+pub mod Formats
+pub mod Declarations
+pub mod Statements
+pub mod Modules
+pub mod Tokens
+pub mod Lawful

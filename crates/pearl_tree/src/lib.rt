@@ -1,0 +1,15 @@
+// The tree of a whole source and the tokens that it is read from. The definitions in specs/ say which tokens a tree
+// spells.
+#![tactic(auto)]
+
+pub mod declaration;
+pub mod expression;
+pub mod fault;
+pub mod format;
+pub mod literal;
+pub mod name;
+pub mod parts;
+pub mod statement;
+pub mod token;
+pub mod tree;
+pub mod typing;

@@ -1,0 +1,26 @@
+// A list in a tree.
+
+ghost use Rattle.std.specs.Prelude.{◌≡◌};
+
+/// Parts of a node that stand one after the other. It has no view as a list: a type that contains itself through a
+/// list that has one is refused.
+#[derive(Drop)]
+pub struct Parts<T> {
+    items: Vec<T>,
+}
+
+impl<T> Parts<T> {
+    /// These parts, in the memory that holds them.
+    pub fn new(items: Vec<T>) -> Parts<T>
+        ensures { result.items ≡ items }
+    {
+        Parts { items }
+    }
+
+    /// The parts, in order.
+    pub fn as_slice(&self) -> &[T]
+        ensures { result.now ≡ self.now.items.items }
+    {
+        self.items.as_slice()
+    }
+}
