@@ -1,5 +1,5 @@
 -- What a reference in an expression and its brackets spell, told by the lists that their fields show.
-use Rattle.std.proofs.Common.{◌≡◌, ℕ, ◌+◌, ◌-◌, ◌<◌, List, [], ◌∷◌, Option, Some, None, refl, ap, ◌∙◌, ◌≤◌, length, Box, Global}
+use Rattle.std.proofs.Common.{◌≡◌, ℕ, ◌+◌, ◌-◌, ◌<◌, List, Option, refl, ap, ◌∙◌, ◌≤◌, length, Box, Global}
 use mathlib.Core.Former.{Count}
 use Rattle.pearl_tree.specs.declared.parts.Parts.{Parts}
 use Rattle.pearl_tree.specs.declared.name.Number.{Number}
@@ -31,7 +31,7 @@ module _ (tokens : List Token) where
   more_subscripts depth from _ end_of-Expr to = refl
   more_subscripts depth from _ (more_of-Expr expr rest) to =
       λ i. (m : ℕ) × HasSymbol tokens from s.comma × SpellsExpr tokens depth (from + 1) expr m ×
-          more_subscripts depth m _ rest to i
+      more_subscripts depth m _ rest to i
 
   subscripts : (depth from : ℕ) (n : _) (row : Row_of-Expr n) (to : ℕ) →
       SpellsSubscripts tokens depth from row to ≡
@@ -53,8 +53,8 @@ module _ (tokens : List Token) where
   spells_subscripts depth from exprs place to =
       let row = subscripts_of (Subscripts exprs place) in
       λ i. (m : ℕ) × IsAt tokens from place × HasSymbol tokens from s.left_round × (0 < depth) ×
-          (subscripts (depth - 1) (from + 1) row.0 row.1 m ∙ ap (λ xs. SpellsList tokens (SpellsExpr tokens (depth - 1)) (from + 1) xs m) (items_hidden-the_row-Expr-1 exprs.items)) i ×
-          HasSymbol tokens m s.right_round × (to ≡ m + 1)
+      (subscripts (depth - 1) (from + 1) row.0 row.1 m ∙ ap (λ xs. SpellsList tokens (SpellsExpr tokens (depth - 1)) (from + 1) xs m) (items_hidden-the_row-Expr-1 exprs.items)) i ×
+      HasSymbol tokens m s.right_round × (to ≡ m + 1)
 
   abbrev selectors_of : Primary → (n : Count) × Row_of-Selector n
   selectors_of (primary.Ref' _ _ row _) = (_, row)
@@ -67,8 +67,8 @@ module _ (tokens : List Token) where
   spells_ref depth from reference to =
       let row = selectors_of (primary.Ref reference) in
       λ i. IsAt tokens from reference.place × IsName tokens from reference.name ×
-          (selectors depth (from + 1) row.0 row.1 to ∙
-          ap (λ xs. SpellsEach (SpellsSelector tokens depth) (from + 1) xs to) (items_hidden-the_row-Selector-0 reference.selectors.items)) i
+      (selectors depth (from + 1) row.0 row.1 to ∙
+      ap (λ xs. SpellsEach (SpellsSelector tokens depth) (from + 1) xs to) (items_hidden-the_row-Selector-0 reference.selectors.items)) i
 
   -- [ number ] ( LWB | UPB ) ref
   pub spells_limit : (depth from : ℕ) (dimension : Option Number) (side : Side) (array : Ref) (place to : ℕ) →
@@ -78,10 +78,10 @@ module _ (tokens : List Token) where
   spells_limit depth from dimension side array place to =
       let row = selectors_of (primary.Limit dimension side array place) in
       λ i. (m : ℕ) × IsAt tokens from place × SpellsMaybe (SpellsNumber tokens) from dimension m ×
-          HasWord tokens m (side_word side) ×
-          (IsAt tokens (m + 1) array.place × IsName tokens (m + 1) array.name ×
-          (selectors depth (m + 1 + 1) row.0 row.1 to ∙
-          ap (λ xs. SpellsEach (SpellsSelector tokens depth) (m + 1 + 1) xs to) (items_hidden-the_row-Selector-0 array.selectors.items)) i)
+      HasWord tokens m (side_word side) ×
+      (IsAt tokens (m + 1) array.place × IsName tokens (m + 1) array.name ×
+      (selectors depth (m + 1 + 1) row.0 row.1 to ∙
+      ap (λ xs. SpellsEach (SpellsSelector tokens depth) (m + 1 + 1) xs to) (items_hidden-the_row-Selector-0 array.selectors.items)) i)
 
   -- "(" expr ")"
   pub spells_group : (depth from : ℕ) (inner : Box Expr Global) (place to : ℕ) →

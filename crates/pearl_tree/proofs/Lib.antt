@@ -1,3 +1,4 @@
 pub mod ExpressionLists
 pub mod TypeLists
 pub mod StatementLists
+mod Examples

@@ -1,5 +1,5 @@
 -- What a STRUCT spells, told by the list of its fields.
-use Rattle.std.proofs.Common.{◌≡◌, ℕ, ◌+◌, ◌-◌, ◌<◌, List, [], ◌∷◌, refl, ap, ◌∙◌}
+use Rattle.std.proofs.Common.{◌≡◌, ℕ, ◌+◌, ◌-◌, ◌<◌, List, refl, ap, ◌∙◌}
 use mathlib.Core.Former.{Count}
 use Rattle.pearl_tree.specs.declared.parts.Parts.{Parts}
 use Rattle.pearl_tree.specs.declared.typing.Field.{Field}
@@ -18,7 +18,7 @@ module _ (tokens : List Token) where
   more_fields depth from _ (more_of-Field names bounds typing place rest) to =
       let field : Field = record { names = names; bounds = bounds; typing = typing; place = place } in
       λ i. (m : ℕ) × HasSymbol tokens from s.comma × SpellsField tokens depth (from + 1) field m ×
-          more_fields depth m _ rest to i
+      more_fields depth m _ rest to i
 
   fields_list : (depth from : ℕ) (n : _) (row : Row_of-Field n) (to : ℕ) →
       SpellsFields tokens depth from row to ≡
@@ -42,7 +42,7 @@ module _ (tokens : List Token) where
   spells_struct depth from fields place to =
       let row = fields_of (Struct fields place) in
       λ i. (m : ℕ) × IsAt tokens from place × HasWord tokens from w.STRUCT × (0 < depth) ×
-          HasSymbol tokens (from + 1) s.left_square ×
-          (fields_list (depth - 1) (from + 2) row.0 row.1 m ∙
-          ap (λ xs. SpellsList tokens (SpellsField tokens (depth - 1)) (from + 2) xs m) (items_hidden-the_row-Field-0 fields.items)) i ×
-          HasSymbol tokens m s.right_square × (to ≡ m + 1)
+      HasSymbol tokens (from + 1) s.left_square ×
+      (fields_list (depth - 1) (from + 2) row.0 row.1 m ∙
+      ap (λ xs. SpellsList tokens (SpellsField tokens (depth - 1)) (from + 2) xs m) (items_hidden-the_row-Field-0 fields.items)) i ×
+      HasSymbol tokens m s.right_square × (to ≡ m + 1)

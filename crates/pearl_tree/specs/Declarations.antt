@@ -16,7 +16,7 @@ use Rattle.pearl_tree.specs.declared.declaration.Spec.{Spec}
 use Rattle.pearl_tree.specs.declared.declaration.Spec.TheVariants as spec
 use Rattle.pearl_tree.specs.declared.declaration.Param.{Param}
 use Rattle.pearl_tree.specs.declared.token.Token.{Token}
-use Rattle.pearl_tree.specs.Standing.{Spelling, IsAt, HasWord, HasSymbol, HasId, IsName, IsNumber, SpellsNumber, SpellsFlag, SpellsMaybeHeaded, SpellsBracketedNumber}
+use Rattle.pearl_tree.specs.Standing.{Spelling, IsAt, HasWord, HasSymbol, HasId, IsName, IsNumber, SpellsNumber, SpellsFlag, SpellsMaybeHeaded}
 use Rattle.pearl_tree.specs.Expressions.{SpellsConst}
 use Rattle.pearl_tree.specs.Types.{SpellsNames, SpellsBounds, SpellsBasic, SpellsWholeTyping}
 use Rattle.pearl_tree.specs.Symbols as s
@@ -31,7 +31,8 @@ IsDeviceWord tokens k (device.Interrupt place) = IsAt tokens k place × HasWord 
 abbrev pub SpellsDevice : List Token → Spelling Device
 SpellsDevice tokens from device to =
     IsAt tokens from device.place × IsName tokens from device.name × HasSymbol tokens (from + 1) s.colon ×
-    IsDeviceWord tokens (from + 2) device.word × SpellsBracketedNumber tokens (from + 3) device.number (from + 6) ×
+    IsDeviceWord tokens (from + 2) device.word × HasSymbol tokens (from + 3) s.left_round ×
+    IsNumber tokens (from + 4) device.number × HasSymbol tokens (from + 5) s.right_round ×
     HasSymbol tokens (from + 6) s.semicolon × (to ≡ from + 7)
 
 -- prio = PRIO number

@@ -1,6 +1,6 @@
 -- What makes a tree or a part of one lawful: its names, numbers, decimals, clocks, bits and texts are those of lawful
 -- tokens, and the limits hold on what stands within one another and on the number of operators.
-use Rattle.std.specs.Prelude.{ℕ, ◌-◌, ◌<◌, ◌≤◌, List, length, All, Option, IfSome}
+use Rattle.std.specs.Prelude.{ℕ, ◌-◌, ◌<◌, ◌≤◌, length, All, IfSome}
 use Rattle.pearl_tree.specs.declared.name.Name.{Name}
 use Rattle.pearl_tree.specs.declared.name.Number.{Number}
 use Rattle.pearl_tree.specs.declared.name.Names.{Names}
@@ -27,7 +27,6 @@ use Rattle.pearl_tree.specs.declared.typing.Typing as typing
 use Rattle.pearl_tree.specs.declared.declaration.DeviceWord.{DeviceWord}
 use Rattle.pearl_tree.specs.declared.declaration.DeviceWord.TheVariants as device
 use Rattle.pearl_tree.specs.declared.declaration.Device.{Device}
-use Rattle.pearl_tree.specs.declared.declaration.Prio.{Prio}
 use Rattle.pearl_tree.specs.declared.declaration.Item.{Item}
 use Rattle.pearl_tree.specs.declared.declaration.Sema.{Sema}
 use Rattle.pearl_tree.specs.declared.declaration.Declared.{Declared}
@@ -45,7 +44,7 @@ use Rattle.pearl_tree.specs.declared.statement.Start.TheVariants as start
 use Rattle.pearl_tree.specs.declared.statement.Once.{Once}
 use Rattle.pearl_tree.specs.declared.statement.Once.TheVariants as once
 use Rattle.pearl_tree.specs.declared.statement.BodyDecl.{BodyDecl}
-use Rattle.pearl_tree.specs.declared.statement.Stmt.{Stmt, Empty, Assign, Call, If', Case', Repeat', Exit, Begin', Return, Activate, Continue, Resume, Task, Sema, Interrupt, Put, Get, Send, Take, Row_of-Stmt, end_of-Stmt, more_of-Stmt, Row_of-Branch, end_of-Branch, more_of-Branch, Held-Stmt-If-2, None', Some'}
+use Rattle.pearl_tree.specs.declared.statement.Stmt.{Stmt, Empty, Assign, Call, If', Case', Repeat', Exit, Begin', Return, Activate, Continue, Resume, OnTask, OnSemas, OnInterrupt, Put, Get, Send, Take, Row_of-Stmt, end_of-Stmt, more_of-Stmt, Row_of-Branch, end_of-Branch, more_of-Branch, Held-Stmt-If-2, None', Some'}
 use Rattle.pearl_tree.specs.declared.statement.Body.{Body}
 use Rattle.pearl_tree.specs.declared.tree.TaskHead.{TaskHead}
 use Rattle.pearl_tree.specs.declared.tree.TaskHead.TheVariants.{PrioFirst, MainFirst}
@@ -230,9 +229,9 @@ abbrev mutual
       IfSome start IsLawfulStart × IsLawfulName task × IfSome priority IsLawfulExpr
   IsLawfulStmt depth (Continue once task place) = IfSome once IsLawfulOnce × IsLawfulName task
   IsLawfulStmt depth (Resume once place) = IsLawfulOnce once
-  IsLawfulStmt depth (Task word task place) = IfSome task IsLawfulName
-  IsLawfulStmt depth (Sema word names place) = All IsLawfulName names.items.items
-  IsLawfulStmt depth (Interrupt word name place) = IsLawfulName name
+  IsLawfulStmt depth (OnTask word task place) = IfSome task IsLawfulName
+  IsLawfulStmt depth (OnSemas word names place) = All IsLawfulName names.items.items
+  IsLawfulStmt depth (OnInterrupt word name place) = IsLawfulName name
   IsLawfulStmt depth (Put values dation formats place) =
       All IsLawfulExpr values.items.items × IsLawfulName dation × All IsLawfulFmt formats.items.items
   IsLawfulStmt depth (Get targets dation formats place) =

@@ -12,7 +12,7 @@ use Rattle.pearl_tree.specs.declared.tree.ModuleName.{ModuleName}
 use Rattle.pearl_tree.specs.declared.tree.ModuleName.TheVariants.{Bracketed, Bare}
 use Rattle.pearl_tree.specs.declared.tree.Tree.{Tree}
 use Rattle.pearl_tree.specs.declared.token.Token.{Token}
-use Rattle.pearl_tree.specs.Standing.{Spelling, IsAt, HasWord, HasSymbol, IsName, SpellsName, SpellsFlag, SpellsSymbolFlag, SpellsMaybe, SpellsEach, SpellsList, SpellsMaybeBracketed, SpellsBracketedNumber}
+use Rattle.pearl_tree.specs.Standing.{Spelling, IsAt, HasWord, HasSymbol, IsName, IsNumber, SpellsName, SpellsFlag, SpellsSymbolFlag, SpellsMaybe, SpellsEach, SpellsList, SpellsMaybeBracketed}
 use Rattle.pearl_tree.specs.Types.{SpellsWholeTyping, SpellsBasic, sort_word}
 use Rattle.pearl_tree.specs.Declarations.{SpellsDevice, SpellsPrio, SpellsDeclared, SpellsSpec, SpellsParam}
 use Rattle.pearl_tree.specs.Statements.{SpellsWholeBody}
@@ -41,8 +41,8 @@ abbrev pub SpellsDecl : List Token → Spelling Decl
 -- LENGTH ( FIXED | BIT | CHAR ) "(" number ")" ";"
 SpellsDecl tokens from (decl.Length sort number place) to =
     IsAt tokens from place × HasWord tokens from w.LENGTH × HasWord tokens (from + 1) (sort_word sort) ×
-    SpellsBracketedNumber tokens (from + 2) number (from + 5) × HasSymbol tokens (from + 5) s.semicolon ×
-    (to ≡ from + 6)
+    HasSymbol tokens (from + 2) s.left_round × IsNumber tokens (from + 3) number ×
+    HasSymbol tokens (from + 4) s.right_round × HasSymbol tokens (from + 5) s.semicolon × (to ≡ from + 6)
 -- TYPE id type ";"
 SpellsDecl tokens from (decl.Type name typing place) to =
     (m : ℕ) × IsAt tokens from place × HasWord tokens from w.TYPE × IsName tokens (from + 1) name ×

@@ -17,7 +17,7 @@ use Rattle.pearl_tree.specs.declared.statement.SemaWord.TheVariants.{Request, Re
 use Rattle.pearl_tree.specs.declared.statement.InterruptWord.{InterruptWord}
 use Rattle.pearl_tree.specs.declared.statement.InterruptWord.TheVariants.{Enable, Disable, Trigger}
 use Rattle.pearl_tree.specs.declared.statement.BodyDecl.{BodyDecl}
-use Rattle.pearl_tree.specs.declared.statement.Stmt.{Stmt, Empty, Assign, Call, If', Case', Repeat', Exit, Begin', Return, Activate, Continue, Resume, Task, Sema, Interrupt, Put, Get, Send, Take, Row_of-Stmt, end_of-Stmt, more_of-Stmt, Row_of-Branch, end_of-Branch, more_of-Branch, Held-Stmt-If-2, None', Some'}
+use Rattle.pearl_tree.specs.declared.statement.Stmt.{Stmt, Empty, Assign, Call, If', Case', Repeat', Exit, Begin', Return, Activate, Continue, Resume, OnTask, OnSemas, OnInterrupt, Put, Get, Send, Take, Row_of-Stmt, end_of-Stmt, more_of-Stmt, Row_of-Branch, end_of-Branch, more_of-Branch, Held-Stmt-If-2, None', Some'}
 use Rattle.pearl_tree.specs.declared.statement.Body.{Body}
 use Rattle.pearl_tree.specs.declared.statement.Branch.{Branch}
 use Rattle.pearl_tree.specs.declared.token.Token.{Token}
@@ -173,16 +173,16 @@ abbrev mutual
       (a : ℕ) × IsAt tokens from place × SpellsOnce tokens from once a × HasWord tokens a w.RESUME ×
       HasSymbol tokens (a + 1) s.semicolon × (to ≡ a + 2)
   -- ( SUSPEND | TERMINATE | PREVENT ) [ id ] ";"
-  SpellsStmt tokens depth from (Task word task place) to =
+  SpellsStmt tokens depth from (OnTask word task place) to =
       (a : ℕ) × IsAt tokens from place × HasWord tokens from (task_word word) ×
       SpellsMaybe (SpellsName tokens) (from + 1) task a × HasSymbol tokens a s.semicolon × (to ≡ a + 1)
   -- ( REQUEST | RELEASE ) id { "," id } ";"
-  SpellsStmt tokens depth from (Sema word names place) to =
+  SpellsStmt tokens depth from (OnSemas word names place) to =
       (a : ℕ) × IsAt tokens from place × HasWord tokens from (sema_word word) ×
       SpellsList tokens (SpellsName tokens) (from + 1) names.items.items a × HasSymbol tokens a s.semicolon ×
       (to ≡ a + 1)
   -- ( ENABLE | DISABLE | TRIGGER ) id ";"
-  SpellsStmt tokens depth from (Interrupt word name place) to =
+  SpellsStmt tokens depth from (OnInterrupt word name place) to =
       IsAt tokens from place × HasWord tokens from (interrupt_word word) × IsName tokens (from + 1) name ×
       HasSymbol tokens (from + 2) s.semicolon × (to ≡ from + 3)
   -- PUT [ expr { "," expr } ] TO id BY fmt { "," fmt } ";"

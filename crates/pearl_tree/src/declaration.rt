@@ -74,7 +74,10 @@ pub enum Class {
 #[derive(Drop)]
 pub enum Spec {
     /// `names INTERRUPT`
-    Interrupt { names: Names, place: u32 },
+    Interrupt {
+        names: Names,
+        place: u32,
+    },
     /// `names DATION ( IN | OUT | INOUT ) ( ALPHIC | BASIC basic ) [ "CONTROL" "(" ALL ")" ]`
     Dation {
         names: Names,

@@ -115,11 +115,19 @@ pub enum Primary {
     /// `ref`
     Ref(Ref),
     /// `"(" expr ")"`
-    Group { inner: Box<Expr>, place: u32 },
+    Group {
+        inner: Box<Expr>,
+        place: u32,
+    },
     /// `NOW`
-    Now { place: u32 },
+    Now {
+        place: u32,
+    },
     /// `TRY id`
-    Try { name: Name, place: u32 },
+    Try {
+        name: Name,
+        place: u32,
+    },
     /// `[ number ] ( LWB | UPB ) ref`
     Limit {
         dimension: Option<Number>,

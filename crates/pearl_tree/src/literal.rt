@@ -33,7 +33,10 @@ pub enum Duration {
         place: u32,
     },
     /// `secs SEC`
-    Seconds { seconds: Secs, place: u32 },
+    Seconds {
+        seconds: Secs,
+        place: u32,
+    },
 }
 
 /// The rule `literal`.
@@ -44,10 +47,7 @@ pub enum Literal {
     /// `bits`
     Bits { len: u8, value: u64, place: u32 },
     /// `text`
-    Text {
-        text: ArrayVec<u8, 255>,
-        place: u32,
-    },
+    Text { text: ArrayVec<u8, 255>, place: u32 },
     /// `clock`, as milliseconds since midnight
     Clock { milliseconds: u32, place: u32 },
     /// `duration`

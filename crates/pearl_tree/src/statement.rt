@@ -103,7 +103,9 @@ pub struct Body {
 #[derive(Drop)]
 pub enum Stmt {
     /// `";"`
-    Empty { place: u32 },
+    Empty {
+        place: u32,
+    },
     /// `ref ":=" expr ";"`
     Assign {
         target: Ref,
@@ -142,11 +144,19 @@ pub enum Stmt {
         place: u32,
     },
     /// `EXIT ";"`
-    Exit { place: u32 },
+    Exit {
+        place: u32,
+    },
     /// `BEGIN body END ";"`
-    Begin { body: Body, place: u32 },
+    Begin {
+        body: Body,
+        place: u32,
+    },
     /// `RETURN [ "(" expr ")" ] ";"`
-    Return { value: Option<Expr>, place: u32 },
+    Return {
+        value: Option<Expr>,
+        place: u32,
+    },
     /// `[ start ] ACTIVATE id [ PRIO expr ] ";"`
     Activate {
         start: Option<Start>,
@@ -161,21 +171,24 @@ pub enum Stmt {
         place: u32,
     },
     /// `once RESUME ";"`
-    Resume { once: Once, place: u32 },
+    Resume {
+        once: Once,
+        place: u32,
+    },
     /// `( SUSPEND | TERMINATE | PREVENT ) [ id ] ";"`
-    Task {
+    OnTask {
         word: TaskWord,
         task: Option<Name>,
         place: u32,
     },
     /// `( REQUEST | RELEASE ) id { "," id } ";"`
-    Sema {
+    OnSemas {
         word: SemaWord,
         names: Parts<Name>,
         place: u32,
     },
     /// `( ENABLE | DISABLE | TRIGGER ) id ";"`
-    Interrupt {
+    OnInterrupt {
         word: InterruptWord,
         name: Name,
         place: u32,

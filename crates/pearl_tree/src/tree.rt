@@ -34,7 +34,10 @@ pub enum Decl {
         place: u32,
     },
     /// `SPC spec { "," spec } ";"`
-    Specify { specs: Parts<Spec>, place: u32 },
+    Specify {
+        specs: Parts<Spec>,
+        place: u32,
+    },
     /// `id ":" TASK ( [ prio ] [ MAIN ] | MAIN prio ) ";" body END ";"`
     Task {
         name: Name,

@@ -11,7 +11,7 @@ pub struct Int {
     pub place: u32,
 }
 
-/// The rule `bound`: `int [ ":" int ]`
+/// The rule `bound`: `int [ ":" int ]`. With one number, this is the upper bound, and the lower bound is 1.
 #[derive(Clone, Copy)]
 pub struct Bound {
     pub first: Int,
@@ -37,9 +37,13 @@ pub enum Basic {
         place: u32,
     },
     /// `CLOCK`
-    Clock { place: u32 },
+    Clock {
+        place: u32,
+    },
     /// `DURATION`
-    Duration { place: u32 },
+    Duration {
+        place: u32,
+    },
 }
 
 /// The rule `type`.

@@ -1,0 +1,76 @@
+-- Small trees and the tokens that they spell.
+use Rattle.std.proofs.Common.{◌≡◌, ℕ, List, [], ◌∷◌, Option, Some, None, refl, arith, ◌≤◌, ◌<◌, length}
+use Rattle.pearl_tree.specs.declared.parts.Parts.{Parts}
+use Rattle.pearl_tree.specs.declared.token.Token.{Token}
+use Rattle.pearl_tree.specs.declared.token.What.{What}
+use Rattle.pearl_tree.specs.declared.token.What.TheVariants as what
+use Rattle.pearl_tree.specs.declared.literal.Literal.TheVariants as literal
+use Rattle.pearl_tree.specs.declared.expression.Dyad.TheVariants as dyad
+use Rattle.pearl_tree.specs.declared.expression.Monadic.{Monadic}
+use Rattle.pearl_tree.specs.declared.expression.Expr.{Expr, Operand', Dyadic'}
+use Rattle.pearl_tree.specs.declared.expression.Primary as primary
+use Rattle.pearl_tree.specs.Expressions.{SpellsWhole, SpellsMonadic}
+use Rattle.pearl_tree.specs.Standing.{SpellsEach}
+use Rattle.pearl_tree.specs.Symbols as s
+use Rattle.pearl_tree.specs.WordCodes as w
+
+abbrev token : ℕ → What → Token
+token place what = record { place = place; what = what }
+
+-- 1 + 2 * 3
+abbrev sum_of_product : List Token
+sum_of_product =
+    token 0 (what.Number 1) ∷ token 2 (what.Symbol s.plus) ∷ token 4 (what.Number 2) ∷ token 6 (what.Symbol s.star) ∷
+    token 8 (what.Number 3) ∷ []
+
+-- 1 * 2 + 3
+abbrev product_and_sum : List Token
+product_and_sum =
+    token 0 (what.Number 1) ∷ token 2 (what.Symbol s.star) ∷ token 4 (what.Number 2) ∷ token 6 (what.Symbol s.plus) ∷
+    token 8 (what.Number 3) ∷ []
+
+module _ (none : Parts Monadic) (empty : none.items.items ≡ []) where
+  abbrev literal_at : ℕ → ℕ → Expr
+  literal_at value place =
+      Operand' none (primary.Literal (literal.Number (record { value = value; place = place }))) place
+
+  short : length none.items.items ≤ 8
+  short = rw empty (omega arith)
+
+  each : (k : ℕ) → SpellsEach (SpellsMonadic sum_of_product) k none.items.items k
+  each k = rw empty refl
+
+  -- the product stands on the right of the sum
+  sums_product : (p q r t : _) →
+      SpellsWhole sum_of_product 0
+      (Dyadic' p (literal_at 1 0) (record { operator = dyad.Plus; place = 2 }) q
+      (Dyadic' r (literal_at 2 4) (record { operator = dyad.Times; place = 6 }) t (literal_at 3 8) 4) 0) 5
+  sums_product p q r t = (
+    (
+      1,
+      refl,
+      (0, refl, short, each 0, ((refl, refl), refl)),
+      refl,
+      refl,
+      (
+        3,
+        refl,
+        (2, refl, short, each 2, ((refl, refl), refl)),
+        refl,
+        refl,
+        (4, refl, short, each 4, ((refl, refl), refl)),
+        omega arith,
+        omega arith,
+      ),
+      omega arith,
+      omega arith,
+    ),
+    omega arith,
+  )
+
+  -- the sum doesn't stand on the right of the product
+  no_products_sum : (p q r t : _) →
+      SpellsWhole product_and_sum 0
+      (Dyadic' p (literal_at 1 0) (record { operator = dyad.Times; place = 2 }) q
+      (Dyadic' r (literal_at 2 4) (record { operator = dyad.Plus; place = 6 }) t (literal_at 3 8) 4) 0) 5 → ⊥
+  no_products_sum p q r t spelled = let wrong : 3 < 2 = spelled.0.7 in absurd (omega arith)
