@@ -2,6 +2,8 @@
 #![tactic(auto)]
 
 pub mod cell;
+pub mod conversion;
 pub mod kind;
 pub mod listing;
+pub mod operator;
 pub mod trap;
