@@ -4,3 +4,7 @@ pub mod WellFormed
 pub mod Blanks
 pub mod Conversions
 pub mod Rows
+pub mod Arithmetic
+pub mod Strings
+pub mod Comparisons
+pub mod Applied
