@@ -6,16 +6,13 @@ use Rattle.pearl_value.specs.declared.cell.Cell.{Cell}
 use Rattle.pearl_value.specs.declared.cell.Cell.TheVariants.{Fixed, Bits, Chars}
 use Rattle.pearl_value.specs.declared.trap.Trap.{Trap}
 use Rattle.pearl_value.specs.declared.trap.Trap.TheVariants.{Range}
+use Rattle.pearl_value.specs.Blanks.{widened}
 
 -- >< : the first value's bytes or bits, then the second's
 abbrev pub joined_of : Cell → Cell → Result Cell Trap
 joined_of (Chars text) (Chars other) = Ok (Chars (record { items = text.items ++ other.items }))
 joined_of (Bits len value) (Bits more other) = Ok (Bits (len + more) (value * 2 ^ more + other))
 joined_of _ _ = Err Range
-
--- the bits with zeros on the right, up to the length `room`
-abbrev pub widened : ℕ → ℕ → ℕ → ℕ
-widened len value room = value * 2 ^ (room - len)
 
 -- the bits turned left by `by` places, at most `len`: the first `by` of them come last
 abbrev pub turned : ℕ → ℕ → ℕ → ℕ

@@ -4,7 +4,7 @@ ghost use Rattle.std.specs.Prelude.{◌≡◌, ◌↔◌, ◌-◌, ◌*◌, ◌^
 ghost use Rattle.pearl_value.specs.Kinds.{IsKind};
 ghost use Rattle.pearl_value.specs.Cells.{kind_of};
 ghost use Rattle.pearl_value.specs.WellFormed.{IsWellFormed};
-ghost use Rattle.pearl_value.specs.Blanks.{filled_to, blank_of};
+ghost use Rattle.pearl_value.specs.Blanks.{filled_to, widened, blank_of};
 ghost use Rattle.pearl_value.specs.Conversions.{SuitsKind, fits_fixed, fixed_of, converted};
 
 use crate::cell::Cell;
@@ -23,6 +23,20 @@ pub(crate) fn filled(text: &ArrayVec<u8, 255>, len: u8) -> ArrayVec<u8, 255>
         longer.push(b' ');
     }
     longer
+}
+
+/// The kind of a value; of a reference that of what it refers to.
+pub fn kind(cell: &Cell) -> Kind
+    ensures { result ≡ kind_of cell.now }
+{
+    match cell {
+        Cell::Fixed { len, .. } => Kind::Fixed(*len),
+        Cell::Bits { len, .. } => Kind::Bits(*len),
+        Cell::Chars(text) => Kind::Chars(text.len() as u8),
+        Cell::Clock(_) => Kind::Clock,
+        Cell::Span(_) => Kind::Span,
+        Cell::Ref { kind, .. } => *kind,
+    }
 }
 
 /// What a variable of this kind holds before anything is put into it: 0, zeros, blanks, 00:00:00 or 0 SEC.
@@ -97,7 +111,7 @@ pub(crate) fn filled_bits(value: u64, len: u8, room: u8) -> u64
     requires some { 0 < len }
     requires suit { len ≤ room }
     requires most { room ≤ 64 }
-    ensures value { result ≡ value * 2 ^ (room - len) }
+    ensures value { result ≡ widened len value room }
     ensures below { result < 2 ^ room }
 {
     value << (room - len)

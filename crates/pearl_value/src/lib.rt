@@ -10,4 +10,6 @@ pub mod kind;
 pub mod listing;
 pub mod operator;
 pub(crate) mod strings;
+#[cfg(test)]
+mod tests;
 pub mod trap;
