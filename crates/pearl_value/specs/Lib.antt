@@ -1,2 +1,10 @@
 pub mod Kinds
 pub mod Cells
+pub mod WellFormed
+pub mod Blanks
+pub mod Conversions
+pub mod Rows
+pub mod Arithmetic
+pub mod Strings
+pub mod Comparisons
+pub mod Applied
