@@ -1,5 +1,5 @@
 -- Small trees and the tokens that they spell.
-use Rattle.std.proofs.Common.{◌≡◌, ℕ, List, [], ◌∷◌, Option, Some, None, refl, arith, ◌≤◌, ◌<◌, length}
+use Rattle.std.proofs.Common.{◌≡◌, ℕ, List, [], ◌∷◌, refl, arith, ◌≤◌, ◌<◌, length}
 use Rattle.pearl_tree.specs.declared.parts.Parts.{Parts}
 use Rattle.pearl_tree.specs.declared.token.Token.{Token}
 use Rattle.pearl_tree.specs.declared.token.What.{What}
@@ -12,7 +12,6 @@ use Rattle.pearl_tree.specs.declared.expression.Primary as primary
 use Rattle.pearl_tree.specs.Expressions.{SpellsWhole, SpellsMonadic}
 use Rattle.pearl_tree.specs.Standing.{SpellsEach}
 use Rattle.pearl_tree.specs.Symbols as s
-use Rattle.pearl_tree.specs.WordCodes as w
 
 abbrev token : ℕ → What → Token
 token place what = record { place = place; what = what }
