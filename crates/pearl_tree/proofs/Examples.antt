@@ -1,5 +1,5 @@
 -- Small trees and the tokens that they spell.
-use Rattle.std.proofs.Common.{◌≡◌, ℕ, List, [], ◌∷◌, Option, Some, None, refl, arith, ◌≤◌, ◌<◌, length}
+use Rattle.std.proofs.Common.{◌≡◌, ℕ, List, [], ◌∷◌, None, false, refl, sym, subst, arith, ◌≤◌, ◌<◌, length}
 use Rattle.pearl_tree.specs.declared.parts.Parts.{Parts}
 use Rattle.pearl_tree.specs.declared.token.Token.{Token}
 use Rattle.pearl_tree.specs.declared.token.What.{What}
@@ -11,6 +11,11 @@ use Rattle.pearl_tree.specs.declared.expression.Expr.{Expr, Operand', Dyadic'}
 use Rattle.pearl_tree.specs.declared.expression.Primary as primary
 use Rattle.pearl_tree.specs.Expressions.{SpellsWhole, SpellsMonadic}
 use Rattle.pearl_tree.specs.Standing.{SpellsEach}
+use Rattle.pearl_tree.specs.declared.statement.Stmt.{Stmt, If, Exit}
+use Rattle.pearl_tree.specs.declared.tree.Decl.{Decl}
+use Rattle.pearl_tree.specs.Statements.{SpellsStmt}
+use Rattle.pearl_tree.specs.Modules.{Spells}
+use Rattle.pearl_tree.proofs.StatementLists.{spells_if}
 use Rattle.pearl_tree.specs.Symbols as s
 use Rattle.pearl_tree.specs.WordCodes as w
 
@@ -74,3 +79,39 @@ module _ (none : Parts Monadic) (empty : none.items.items ≡ []) where
       (Dyadic' p (literal_at 1 0) (record { operator = dyad.Times; place = 2 }) q
       (Dyadic' r (literal_at 2 4) (record { operator = dyad.Plus; place = 6 }) t (literal_at 3 8) 4) 0) 5 → ⊥
   no_products_sum p q r t spelled = let wrong : 3 < 2 = spelled.0.7 in absurd (omega arith)
+
+-- IF 1 THEN EXIT; FIN;
+abbrev if_exit : List Token
+if_exit =
+    token 0 (what.Word w.IF) ∷ token 3 (what.Number 1) ∷ token 5 (what.Word w.THEN) ∷ token 10 (what.Word w.EXIT) ∷
+    token 14 (what.Symbol s.semicolon) ∷ token 16 (what.Word w.FIN) ∷ token 19 (what.Symbol s.semicolon) ∷ []
+
+-- the statements within are seen as the list that the field shows
+ifs_statement : (none : Parts Monadic) (empty : none.items.items ≡ []) → (statements : Parts Stmt) →
+    statements.items.items ≡ Exit 10 ∷ [] → SpellsStmt if_exit 1 0 (If (literal_at none empty 1 3) statements None 0) 7
+ifs_statement none empty statements one =
+    subst (λ X. X) (sym (spells_if if_exit 1 0 (literal_at none empty 1 3) statements None 0 7)) (
+      2,
+      5,
+      5,
+      refl,
+      omega arith,
+      (refl, ((1, refl, rw empty (omega arith), rw empty refl, ((refl, refl), refl)), omega arith)),
+      refl,
+      rw one (5, (refl, refl, refl, refl), refl),
+      refl,
+      refl,
+      refl,
+      refl,
+    )
+
+-- MODULE; PROBLEM; MODEND
+abbrev least_module : List Token
+least_module =
+    token 0 (what.Word w.MODULE) ∷ token 6 (what.Symbol s.semicolon) ∷ token 8 (what.Word w.PROBLEM) ∷
+    token 15 (what.Symbol s.semicolon) ∷ token 17 (what.Word w.MODEND) ∷ []
+
+modules_least : (none : Parts Decl) → none.items.items ≡ [] →
+    Spells (record { name = None; system = None; declarations = none; semicolon = false; place = 0 }) least_module
+modules_least none empty =
+    record { spells = (1, 2, 4, refl, refl, refl, refl, refl, refl, refl, rw empty refl, refl, refl) }

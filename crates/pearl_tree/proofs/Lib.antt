@@ -2,3 +2,5 @@ pub mod ExpressionLists
 pub mod TypeLists
 pub mod StatementLists
 mod Examples
+pub mod SpelledLists
+pub mod SpelledLawful
