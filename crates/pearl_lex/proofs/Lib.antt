@@ -1,0 +1,5 @@
+pub mod Values
+pub mod Lexing
+pub mod BitsRoom
+pub mod Chars
+pub mod WordMeaning
