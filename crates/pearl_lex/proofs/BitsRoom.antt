@@ -1,5 +1,5 @@
 -- A number that digits of a few bits each spell has no more bits than they.
-use Rattle.std.proofs.Common.{◌≡◌, ◌<◌, ◌≤◌, ◌+◌, ◌*◌, ◌^◌, ℕ, suc, Bool, true, false, ◌&&◌, nat_lt, List, ◌∷◌, length, drop, get_or, fold, refl, subst, sym, ap, ◌∙◌, arith}
+use Rattle.std.proofs.Common.{◌≡◌, ◌<◌, ◌≤◌, ◌+◌, ◌*◌, ◌^◌, ℕ, suc, Bool, true, false, ◌&&◌, nat_lt, List, ◌∷◌, length, drop, get_or, fold, refl, sym, ap, ◌∙◌, arith}
 use Rattle.std.specs.List.{list_all}
 use Rattle.std.proofs.Math.Nat.{add-mul, mul-le-mul_right, pow-le-pow_right}
 use Rattle.std.proofs.Math.Seq.{drop-cons}

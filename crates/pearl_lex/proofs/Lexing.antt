@@ -1,5 +1,5 @@
 -- Blanks, comments and tokens one after another.
-use Rattle.std.proofs.Common.{◌≡◌, ◌<◌, ◌+◌, ℕ, List, [], ◌∷◌, ◌++◌, drop, refl, sym, subst, ap, ◌∙◌, arith}
+use Rattle.std.proofs.Common.{◌≡◌, ◌<◌, ◌+◌, ℕ, List, [], ◌∷◌, ◌++◌, drop, refl, sym, subst, ap, ◌∙◌}
 use Rattle.pearl_tree.specs.declared.token.Token.{Token}
 use Rattle.pearl_lex.specs.Spelling.{space_len}
 use Rattle.pearl_lex.specs.Lexes.{AreSpaces, IsSpace, IsToken, AreTokens}

@@ -1,5 +1,5 @@
 -- The table of words gives each word the code by which the grammar names it.
-use Rattle.std.proofs.Common.{◌≡◌, ◌↔◌, ℕ, zero, suc, Bool, true, false, ◌&&◌, List, [], ◌∷◌, Option, Some, None, IfSome, length, All, refl, sym, subst, ap, ◌∙◌, Decides, eqb, get_or, arith, if◌then◌else◌}
+use Rattle.std.proofs.Common.{◌≡◌, ◌↔◌, ℕ, zero, suc, Bool, true, false, ◌&&◌, List, [], ◌∷◌, Option, Some, None, IfSome, All, refl, sym, subst, ap, ◌∙◌, Decides, eqb, get_or, arith, if◌then◌else◌}
 use Rattle.std.specs.List.{Any, Contains, list_all, list_any}
 use Rattle.std.specs.Str.{bytes_eq}
 use Rattle.std.proofs.lemmas.Bool.{eqb-true}

@@ -7,3 +7,5 @@ pub mod lexer;
 mod literal;
 mod quoted;
 mod spelling;
+#[cfg(test)]
+mod tests;

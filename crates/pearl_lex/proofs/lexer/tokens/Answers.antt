@@ -1,4 +1,4 @@
-use Rattle.std.proofs.Common.{◌≡◌, ◌+◌, ◌++◌, ◌∷◌, [], drop, Some, refl, subst, sym, ap, ◌∙◌, arith}
+use Rattle.std.proofs.Common.{◌≡◌, ◌+◌, ◌++◌, ◌∷◌, [], drop, Some, refl, subst, sym, ap, ◌∙◌}
 use Rattle.pearl_lex.specs.Lexes.{AreTokens}
 use Rattle.pearl_lex.specs.Front.{front}
 use Rattle.pearl_lex.proofs.Lexing.{one_more}

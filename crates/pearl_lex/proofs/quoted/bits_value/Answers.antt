@@ -1,4 +1,4 @@
-use Rattle.std.proofs.Common.{◌≡◌, get_or, ◌<◌, ◌+◌, ◌*◌, ◌^◌, ap, subst, sym, ◌∙◌, arith}
+use Rattle.std.proofs.Common.{◌≡◌, get_or, ◌+◌, ◌*◌, ◌^◌, ap, ◌∙◌, arith}
 use Rattle.std.proofs.lemmas.Nat.{pow_pos}
 use Rattle.pearl_lex.specs.Quoted.{digit_value}
 use Rattle.pearl_lex.proofs.BitsRoom.{bits_step, bits_room, digits_go_on, value_goes_on}

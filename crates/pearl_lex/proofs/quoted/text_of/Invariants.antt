@@ -1,4 +1,4 @@
-use Rattle.std.proofs.Common.{◌≡◌, ◌+◌, ◌-◌, ◌≤◌, ◌++◌, length, drop}
+use Rattle.std.proofs.Common.{◌≡◌, ◌≤◌, ◌++◌, length}
 use Rattle.pearl_lex.specs.Quoted.{chars_of}
 use Rattle.pearl_lex.proofs.quoted.text_of.Given as goal
 
