@@ -1,11 +1,11 @@
 -- A number that digits of a few bits each spell has no more bits than they.
-use Rattle.std.proofs.Common.{◌≡◌, ◌<◌, ◌≤◌, ◌+◌, ◌*◌, ◌^◌, ℕ, suc, Bool, true, false, ◌&&◌, nat_lt, List, ◌∷◌, length, drop, get_or, fold, refl, sym, ap, ◌∙◌, arith}
+use Rattle.std.proofs.Common.{◌≡◌, ◌<◌, ◌≤◌, ◌+◌, ◌*◌, ◌^◌, ℕ, suc, true, List, ◌∷◌, length, drop, get_or, fold, sym, ap, ◌∙◌, arith}
 use Rattle.std.specs.List.{list_all}
 use Rattle.std.proofs.Math.Nat.{add-mul, mul-le-mul_right, pow-le-pow_right}
 use Rattle.std.proofs.Math.Seq.{drop-cons}
 use Rattle.std.proofs.lemmas.Nat.{mul-add-lt, pow-add}
-use Rattle.std.proofs.lemmas.Bool.Decides.{nat_tests}
 use Rattle.pearl_lex.specs.Quoted.{digit_value, is_digit_of}
+use Rattle.pearl_lex.proofs.Passes.{and_front, and_back, less}
 
 pub bits_step : (w i v d : ℕ) → v < 2 ^ (i * w) → d < 2 ^ w → v * 2 ^ w + d < 2 ^ ((i + 1) * w)
 bits_step w i v d few less =
@@ -24,17 +24,6 @@ bits_room w i n v d few less inside all =
     let power : 2 ^ ((i + 1) * w) ≤ 2 ^ 64 = pow-le-pow_right some within in
     omega (arith, step, power)
 
-and_front : (a b : Bool) → (a && b) ≡ true → a ≡ true
-and_front true b e = refl
-and_front false b e = e
-
-and_back : (a b : Bool) → (a && b) ≡ true → b ≡ true
-and_back true b e = e
-and_back false b e = absurd (let f = e in cc f)
-
-is_less : (a b : ℕ) → nat_lt a b ≡ true → a < b
-is_less a b h = grind (arith, nat_tests)
-
 next_drop : (digits : List ℕ) (i : ℕ) → i < length digits → drop i digits ≡ get_or digits i 0 ∷ drop (i + 1) digits
 next_drop digits i inside =
     let e : suc i ≡ i + 1 = omega arith in
@@ -45,7 +34,7 @@ pub digits_go_on : (w : ℕ) (digits : List ℕ) (i : ℕ) → i < length digits
     → (digit_value (get_or digits i 0) < 2 ^ w) × (list_all (is_digit_of w) (drop (i + 1) digits) ≡ true)
 digits_go_on w digits i inside all =
     let here : list_all (is_digit_of w) (get_or digits i 0 ∷ drop (i + 1) digits) ≡ true = sym (ap (list_all (is_digit_of w)) (next_drop digits i inside)) ∙ all in (
-      is_less (digit_value (get_or digits i 0)) (2 ^ w) (and_front (is_digit_of w (get_or digits i 0)) (list_all (is_digit_of w) (drop (i + 1) digits)) here),
+      less (digit_value (get_or digits i 0)) (2 ^ w) (and_front (is_digit_of w (get_or digits i 0)) (list_all (is_digit_of w) (drop (i + 1) digits)) here),
       and_back (is_digit_of w (get_or digits i 0)) (list_all (is_digit_of w) (drop (i + 1) digits)) here,
     )
 

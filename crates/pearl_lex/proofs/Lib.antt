@@ -3,3 +3,6 @@ pub mod Lexing
 pub mod BitsRoom
 pub mod Chars
 pub mod WordMeaning
+pub mod Passes
+pub mod Placed
+pub mod Lawful

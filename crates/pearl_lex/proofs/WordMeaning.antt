@@ -10,14 +10,7 @@ use Rattle.pearl_tables.specs.declared.word.WordRow.{WordRow}
 use Rattle.pearl_tables.specs.Words.{meanings, IsWord, AreTheWords}
 use Rattle.pearl_tree.specs.WordCodes.{words}
 use Rattle.pearl_lex.specs.Spelling.{meaning}
-
-and_front : (a b : Bool) → (a && b) ≡ true → a ≡ true
-and_front true b e = refl
-and_front false b e = e
-
-and_back : (a b : Bool) → (a && b) ≡ true → b ≡ true
-and_back true b e = e
-and_back false b e = absurd (let f = e in cc f)
+use Rattle.pearl_lex.proofs.Passes.{and_front, and_back}
 
 abbrev is_word : List ℕ → ℕ → Bool
 is_word text code = list_any (λ word. bytes_eq word text) (get_or meanings code [])

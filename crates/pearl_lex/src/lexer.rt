@@ -1,6 +1,7 @@
 // The tokens of a source.
 
 ghost use Rattle.std.specs.Prelude.{◌≡◌, ◌+◌, ◌-◌, ◌<◌, ◌≤◌, ◌^◌, length, drop, IfOk, IfErr, OnOk, [], ◌∷◌, ◌++◌};
+ghost use Rattle.pearl_tree.specs.Tokens.{AreLawful, PlacesRise};
 ghost use Rattle.pearl_lex.specs.declared.fault.LexFault.{LexFault};
 ghost use Rattle.pearl_lex.specs.Spelling.{space_len};
 ghost use Rattle.pearl_lex.specs.Lexes.{IsSpace, Lexes, IsRefusedAt};
@@ -41,6 +42,8 @@ fn append(tokens: &mut Vec<Token>, token: Token) -> Result<(), LexFault>
 pub fn tokens(alloc: Global, bytes: &[u8]) -> Result<Vec<Token>, LexFault>
     requires { length bytes.now < 2 ^ 32 - 1 }
     ensures tokens { IfOk result (λ tokens. Lexes bytes.now tokens.items) }
+    ensures lawful { IfOk result (λ tokens. AreLawful tokens.items) }
+    ensures placed { IfOk result (λ tokens. PlacesRise 0 (length bytes.now) tokens.items) }
     ensures refused { IfErr result (λ fault. IsRefusedAt bytes.now fault) }
 {
     let mut tokens = Vec::new(alloc);
