@@ -1,0 +1,5 @@
+pub mod Spelling
+pub mod Literals
+pub mod Quoted
+pub mod Front
+pub mod Lexes

@@ -1,0 +1,11 @@
+// The tokens of a source: words, names, numbers, times, bits, texts and symbols, with blanks and comments between them.
+#![tactic(auto)]
+
+pub mod fault;
+pub mod front;
+pub mod lexer;
+mod literal;
+mod quoted;
+mod spelling;
+#[cfg(test)]
+mod tests;
