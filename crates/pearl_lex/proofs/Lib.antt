@@ -6,3 +6,4 @@ pub mod WordMeaning
 pub mod Passes
 pub mod Placed
 pub mod Lawful
+pub mod Unique

@@ -16,10 +16,11 @@ pub record IsSpace (bytes : List ℕ) (from : ℕ) (to : ℕ) : Type 0 where
   pub sizes : List ℕ
   pub are : AreSpaces bytes from sizes to
 
--- after blanks and comments, the token begins the bytes at its place, and ends at `to`
+-- after blanks and comments, and where no further one begins, the token begins the bytes at its place, and ends at `to`
 pub record IsToken (bytes : List ℕ) (from : ℕ) (token : Token) (to : ℕ) : Type 0 where
   pub size : ℕ
   pub place : IsSpace bytes from token.place
+  pub no_space : space_len (drop token.place bytes) ≡ 0
   pub begins : front (drop token.place bytes) ≡ Some (record { what = token.what; size = size })
   pub end : to ≡ token.place + size
 

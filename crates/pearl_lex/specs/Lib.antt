@@ -3,3 +3,4 @@ pub mod Literals
 pub mod Quoted
 pub mod Front
 pub mod Lexes
+pub mod Laws

@@ -3,6 +3,7 @@
 
 pub mod fault;
 pub mod front;
+pub mod laws;
 pub mod lexer;
 mod literal;
 mod quoted;

@@ -18,7 +18,7 @@ loop-place-preserved c =
     record {
       tokens_are = subst (λ tokens. AreTokens c.args.bytes.now 0 tokens (at + c.in-Some.front.size)) (sym more)
           (one_more c.args.bytes.now 0 c.loop-place.tokens.items (record { place = at; what = c.in-Some.front.what }) c.loop-place.end (at + c.in-Some.front.size) c.loop-place.invariant.tokens_are
-          (record { size = c.in-Some.front.size; place = c.loop-place.invariant.here; begins = begins; end = refl }));
+          (record { size = c.in-Some.front.size; place = c.loop-place.invariant.here; no_space = c.loop-place.invariant.no_space; begins = begins; end = refl }));
       here = c.past_space-place-in-Some.ensures.space;
       no_space = c.past_space-place-in-Some.ensures.none;
       spelled = subst (All (λ (token : Token). IsLawfulWhat token.what)) (sym more)

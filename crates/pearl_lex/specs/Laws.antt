@@ -1,0 +1,16 @@
+-- The definitions determine the answer.
+use Rattle.std.specs.Prelude.{◌≡◌, ℕ, List}
+use Rattle.pearl_tree.specs.declared.token.Token.{Token}
+use Rattle.pearl_lex.specs.Lexes.{Lexes, IsStuck}
+
+-- a source has at most one list of tokens
+abbrev pub HasOneReading : Type 0
+HasOneReading = (bytes : List ℕ) (tokens others : List Token) → Lexes bytes tokens → Lexes bytes others → tokens ≡ others
+
+-- a source has no tokens at one place at most
+abbrev pub HasOnePlace : Type 0
+HasOnePlace = (bytes : List ℕ) (place other : ℕ) → IsStuck bytes place → IsStuck bytes other → place ≡ other
+
+-- no source both has tokens and is refused
+abbrev pub IsNeverBoth : Type 0
+IsNeverBoth = (bytes : List ℕ) (tokens : List Token) (place : ℕ) → Lexes bytes tokens → ¬ IsStuck bytes place

@@ -1,0 +1,18 @@
+// The definitions determine what a source gives.
+
+ghost use Rattle.pearl_lex.specs.Laws.{HasOneReading, HasOnePlace, IsNeverBoth};
+
+/// A source has at most one list of tokens.
+pub fn one_reading()
+    ensures { HasOneReading }
+{}
+
+/// A source has no tokens at one place at most.
+pub fn one_place()
+    ensures { HasOnePlace }
+{}
+
+/// No source both has tokens and is refused.
+pub fn never_both()
+    ensures { IsNeverBoth }
+{}
