@@ -9,11 +9,11 @@ use Rattle.pearl_code.specs.Rows.{Stack, engine}
 
 -- the state after so many machine steps
 abbrev pub machine_run : Object → List Entry → ℕ → Machine Stack
-machine_run o entries n = runs.machine_run (engine o) o.setup.tasks entries n
+machine_run o entries n = runs.machine_run (engine o) o.setup entries n
 
 -- how many of these steps are marks
 abbrev pub marked : Object → List Entry → ℕ → ℕ
-marked o entries n = runs.marked (engine o) o.setup.tasks entries n
+marked o entries n = runs.marked (engine o) o.setup entries n
 
 -- the number of all instructions
 abbrev pub total_rows : List Code → ℕ

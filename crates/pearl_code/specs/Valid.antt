@@ -2,12 +2,18 @@
 use Rattle.std.specs.Prelude.{◌≡◌, ℕ, ◌<◌, ◌≤◌, List, [], ◌∷◌, ◌++◌, Option, Some, None, length}
 use Rattle.std.specs.List.{AllByRecursion}
 use Rattle.pearl_value.specs.declared.kind.Kind.{Kind}
-use Rattle.pearl_value.specs.Cells.{kind_of, IsCell}
+use Rattle.pearl_value.specs.declared.operator.Dyad.{Dyad}
+use Rattle.pearl_value.specs.Kinds.{IsKind}
+use Rattle.pearl_value.specs.Cells.{kind_of}
+use Rattle.pearl_value.specs.WellFormed.{IsWellFormed}
+use Rattle.pearl_value.specs.Conversions.{SuitsKind}
+use Rattle.pearl_value.specs.Rows.{row2}
 use Rattle.pearl_format.specs.Items.{Suits, width_sum}
 use Rattle.pearl_rules.specs.declared.setup.Setup.{Setup}
 use Rattle.pearl_rules.specs.Tables.{IsSetup, TakesTexts, format_of}
+use Rattle.pearl_rules.specs.Slots.{slot_kind}
 use Rattle.pearl_code.specs.declared.instr.Instr.{Instr}
-use Rattle.pearl_code.specs.declared.instr.Instr.TheVariants.{Const, Put, End}
+use Rattle.pearl_code.specs.declared.instr.Instr.TheVariants.{Const, Conv, Read, Write, Dyadic, Put, End}
 use Rattle.pearl_code.specs.declared.object.Code.{Code}
 use Rattle.pearl_code.specs.declared.object.Object.{Object}
 
@@ -19,6 +25,30 @@ Shape = Option (List Kind)
 abbrev pub kinds_of : Shape → List Kind
 kinds_of None = []
 kinds_of (Some kinds) = kinds
+
+-- CONV has on top of those in `left` a kind that suits the one that it converts to
+pub record FitsConv (to : Kind) (kinds left : List Kind) : Type 0 where
+  pub from : Kind
+  pub stacked : kinds ≡ left ++ from ∷ []
+  pub suits : SuitsKind from to
+  pub kind : IsKind to
+
+-- READ names a slot, and there is room for its value
+pub record FitsRead (setup : Setup) (depth slot : ℕ) (kinds : List Kind) : Type 0 where
+  pub named : slot < length setup.slots
+  pub room : length kinds < depth
+
+-- WRITE names a slot, whose kind is on top of those in `left`
+pub record FitsWrite (setup : Setup) (slot : ℕ) (kinds left : List Kind) : Type 0 where
+  pub named : slot < length setup.slots
+  pub stacked : kinds ≡ left ++ slot_kind setup slot ∷ []
+
+-- an operator has a row for the two kinds on top of those in `left`, and this kind
+pub record FitsDyadic (op : Dyad) (kinds left : List Kind) (result : Kind) : Type 0 where
+  pub x : Kind
+  pub y : Kind
+  pub stacked : kinds ≡ left ++ x ∷ y ∷ []
+  pub row : row2 op x y ≡ Some result
 
 -- PUT names a terminal that takes texts and a format whose items suit the kinds on top of those in `left`
 pub record FitsPut (setup : Setup) (device format : ℕ) (kinds left : List Kind) : Type 0 where
@@ -35,7 +65,15 @@ pub record FitsPut (setup : Setup) (device format : ℕ) (kinds left : List Kind
 abbrev pub RunsFrom : Setup → ℕ → Shape → List Instr → Type 0
 RunsFrom setup depth shape [] = shape ≡ None
 RunsFrom setup depth shape (Const x ∷ rest) =
-    IsCell x.value × (length (kinds_of shape) < depth) × RunsFrom setup depth (Some (kinds_of shape ++ kind_of x.value ∷ [])) rest
+    IsWellFormed x.value × (length (kinds_of shape) < depth) × RunsFrom setup depth (Some (kinds_of shape ++ kind_of x.value ∷ [])) rest
+RunsFrom setup depth shape (Conv to ∷ rest) =
+    (left : List Kind) × FitsConv to (kinds_of shape) left × RunsFrom setup depth (Some (left ++ to ∷ [])) rest
+RunsFrom setup depth shape (Read slot ∷ rest) =
+    FitsRead setup depth slot (kinds_of shape) × RunsFrom setup depth (Some (kinds_of shape ++ slot_kind setup slot ∷ [])) rest
+RunsFrom setup depth shape (Write slot ∷ rest) =
+    (left : List Kind) × FitsWrite setup slot (kinds_of shape) left × RunsFrom setup depth (Some left) rest
+RunsFrom setup depth shape (Dyadic op ∷ rest) =
+    (left : List Kind) × (result : Kind) × FitsDyadic op (kinds_of shape) left result × RunsFrom setup depth (Some (left ++ result ∷ [])) rest
 RunsFrom setup depth shape (Put device format ∷ rest) =
     (left : List Kind) × FitsPut setup device format (kinds_of shape) left × RunsFrom setup depth (Some left) rest
 RunsFrom setup depth shape (End ∷ rest) = (kinds_of shape ≡ []) × RunsFrom setup depth None rest

@@ -34,4 +34,4 @@ offer p t answers = next_action (exec_all p.setup (body_of p t) (store_at_start 
 
 -- the state of the program's run over these entries after so many marks
 abbrev pub source_run : Program → List Entry → ℕ → Source
-source_run p entries m = runs.source_run (offer p) p.setup.tasks entries m
+source_run p entries m = runs.source_run (offer p) p.setup entries m

@@ -16,6 +16,10 @@ pub struct Prog {
 impl Model for Prog {
     ghost use Rattle.pearl_prog.specs.declared.program.Program.{Program};
     ghost use Rattle.pearl_prog.specs.Sound.{IsSound};
+    ghost use Rattle.pearl_prog.specs.contracts.program.Expr as expr;
+    ghost use Rattle.std.specs.Coded.{codes};
+
+    ghost coded = { Prim.hlevel (codes, expr.the_row.coded) };
 
     ghost Value = { Program };
 

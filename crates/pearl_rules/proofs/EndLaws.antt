@@ -7,7 +7,7 @@ use Rattle.pearl_rules.specs.declared.action.Action.{Action}
 use Rattle.pearl_rules.specs.declared.action.Answer.{Answer}
 use Rattle.pearl_rules.specs.declared.entry.Entry.{Entry}
 use Rattle.pearl_rules.specs.declared.entry.Entry.TheVariants.{Run}
-use Rattle.pearl_rules.specs.declared.setup.TaskEntry.{TaskEntry}
+use Rattle.pearl_rules.specs.declared.setup.Setup.{Setup}
 use Rattle.pearl_rules.specs.Pick.{pick}
 use Rattle.pearl_rules.specs.Runs.{Mark, Acts, Coming, next_of_run, next_mark, kept_at, Supplier, Source, source_offers, source_next, source_acts, source_mark, source_step, source_start, source_after, source_run, Engine, Running, Machine, machine_offers, machine_next, machine_does, machine_acts, machine_mark, machine_step, machine_run, marks_in_step, marked, unsettled, told_at_end}
 use Rattle.pearl_rules.specs.Faithful.{IsFaithful}
@@ -15,23 +15,23 @@ use Rattle.pearl_rules.specs.Laws.{HasEnded, EndsAlike, Comes, IsBeforeEnd, with
 use Rattle.pearl_rules.proofs.Simulation.{step_silent, step_mark, step_source, marks_silent, marks_mark}
 
 -- where the machine is at its end, so is the source, and both tell the same
-pub ends_alike : (offer : Supplier) {S : Type 0} (engine : Engine S) (tasks : List TaskEntry) (count rows : ℕ) → IsFaithful offer engine tasks count rows →
-    (es : List Entry) (n : ℕ) → HasEnded engine tasks es n → EndsAlike offer engine tasks es n
-ends_alike offer engine tasks count rows faithful es n has_ended = record {
+pub ends_alike : (offer : Supplier) {S : Type 0} (engine : Engine S) (setup : Setup) (count rows : ℕ) → IsFaithful offer engine setup count rows →
+    (es : List Entry) (n : ℕ) → HasEnded engine setup es n → EndsAlike offer engine setup es n
+ends_alike offer engine setup count rows faithful es n has_ended = record {
   ended = sym same_next ∙ has_ended.no_mark;
   same_told = ap₂ (λ core o. told_at_end core o) (faithful.same_core es n) same_offers;
   same_moment = ap (λ core. core.moment) (faithful.same_core es n);
 }
   where
     source : Source
-    source = source_run offer tasks es (marked engine tasks es n)
+    source = source_run offer setup es (marked engine setup es n)
 
-    same_offers : machine_offers (machine_run engine tasks es n) ≡ source_offers offer source
+    same_offers : machine_offers (machine_run engine setup es n) ≡ source_offers offer source
     same_offers = fun_ext (faithful.all_offers es n has_ended.settled)
 
-    same_next : machine_next (machine_run engine tasks es n) ≡ source_next offer source
+    same_next : machine_next (machine_run engine setup es n) ≡ source_next offer source
     same_next =
-        ap₂ (λ core entries. next_mark (pick core (machine_offers (machine_run engine tasks es n))) entries) (faithful.same_core es n) (faithful.same_entries es n)
+        ap₂ (λ core entries. next_mark (pick core (machine_offers (machine_run engine setup es n))) entries) (faithful.same_core es n) (faithful.same_entries es n)
         ∙ ap (λ o. next_mark (pick source.core o) source.entries) same_offers
 
 -- where no mark comes a step changes nothing
@@ -54,38 +54,38 @@ stays_to offer s m n h e =
     ap (λ j. source_after offer s j) same ∙ stays offer s m e (n - m)
 
 -- a run has one last state
-pub one_end : (offer : Supplier) (tasks : List TaskEntry) (es : List Entry) (m n : ℕ) → source_next offer (source_run offer tasks es m) ≡ None →
-    source_next offer (source_run offer tasks es n) ≡ None → source_run offer tasks es m ≡ source_run offer tasks es n
-one_end offer tasks es m n e f = by_order (cases_lt m n)
+pub one_end : (offer : Supplier) (setup : Setup) (es : List Entry) (m n : ℕ) → source_next offer (source_run offer setup es m) ≡ None →
+    source_next offer (source_run offer setup es n) ≡ None → source_run offer setup es m ≡ source_run offer setup es n
+one_end offer setup es m n e f = by_order (cases_lt m n)
   where
-    by_order : (m < n) ⊎ (n ≤ m) → source_run offer tasks es m ≡ source_run offer tasks es n
-    by_order (inl less) = sym (stays_to offer (source_start tasks es) m n (omega arith) e)
-    by_order (inr up) = stays_to offer (source_start tasks es) n m up f
+    by_order : (m < n) ⊎ (n ≤ m) → source_run offer setup es m ≡ source_run offer setup es n
+    by_order (inl less) = sym (stays_to offer (source_start setup es) m n (omega arith) e)
+    by_order (inr up) = stays_to offer (source_start setup es) n m up f
 
 -- where a mark comes after m marks, each of the marks before came
-pub came : (offer : Supplier) (tasks : List TaskEntry) (es : List Entry) (m : ℕ) → source_next offer (source_run offer tasks es m) ≢ None →
-    Comes offer tasks es (suc m)
-came offer tasks es m next k h e =
-    next (subst (λ s. source_next offer s ≡ None) (sym (stays_to offer (source_start tasks es) k m (omega arith) e)) e)
+pub came : (offer : Supplier) (setup : Setup) (es : List Entry) (m : ℕ) → source_next offer (source_run offer setup es m) ≢ None →
+    Comes offer setup es (suc m)
+came offer setup es m next k h e =
+    next (subst (λ s. source_next offer s ≡ None) (sym (stays_to offer (source_start setup es) k m (omega arith) e)) e)
 
 -- the number of marks after which a run is at its end for the first time
-pub record FirstEnd (offer : Supplier) (tasks : List TaskEntry) (es : List Entry) (m : ℕ) : Type 0 where
+pub record FirstEnd (offer : Supplier) (setup : Setup) (es : List Entry) (m : ℕ) : Type 0 where
   pub at : ℕ
   pub within : at ≤ m
-  pub comes : Comes offer tasks es at
-  pub same : source_run offer tasks es at ≡ source_run offer tasks es m
+  pub comes : Comes offer setup es at
+  pub same : source_run offer setup es at ≡ source_run offer setup es m
 
 -- a run that is at its end came there by marks alone
-pub first_end : (offer : Supplier) (tasks : List TaskEntry) (es : List Entry) (m : ℕ) → FirstEnd offer tasks es m
-first_end offer tasks es zero = record { at = 0; within = omega arith; comes = λ k h. let no : ⊥ = omega arith in absurd no; same = refl }
-first_end offer tasks es (suc m) = by_next (first_end offer tasks es m) (source_next offer (source_run offer tasks es m)) refl
+pub first_end : (offer : Supplier) (setup : Setup) (es : List Entry) (m : ℕ) → FirstEnd offer setup es m
+first_end offer setup es zero = record { at = 0; within = omega arith; comes = λ k h. let no : ⊥ = omega arith in absurd no; same = refl }
+first_end offer setup es (suc m) = by_next (first_end offer setup es m) (source_next offer (source_run offer setup es m)) refl
   where
-    by_next : FirstEnd offer tasks es m → (coming : Option Coming) → source_next offer (source_run offer tasks es m) ≡ coming → FirstEnd offer tasks es (suc m)
+    by_next : FirstEnd offer setup es m → (coming : Option Coming) → source_next offer (source_run offer setup es m) ≡ coming → FirstEnd offer setup es (suc m)
     by_next first None e =
         let h = first.within in
-        record { at = first.at; within = omega arith; comes = first.comes; same = first.same ∙ sym (stays_one offer (source_run offer tasks es m) e) }
+        record { at = first.at; within = omega arith; comes = first.comes; same = first.same ∙ sym (stays_one offer (source_run offer setup es m) e) }
     by_next first (Some coming) e =
-        record { at = suc m; within = omega arith; comes = came offer tasks es m (λ none. none-some coming (sym none ∙ e)); same = refl }
+        record { at = suc m; within = omega arith; comes = came offer setup es m (λ none. none-some coming (sym none ∙ e)); same = refl }
 
 -- more entries after the first ones leave the next mark as it is, where one comes
 pub next-more : (picked : Option ℕ) (es more : List Entry) (coming : Coming) → next_mark picked es ≡ Some coming →
@@ -137,12 +137,12 @@ step-more offer s more next = by_next (source_next offer s) refl
         ∙ ap (λ x. with_more x more) (sym (step_source offer s (Some coming) e))
 
 -- the run over a journal begins with the run over its first entries, for as long as marks come of those
-pub goes_alike : (offer : Supplier) (tasks : List TaskEntry) (es more : List Entry) (m : ℕ) → Comes offer tasks es m →
-    source_run offer tasks (es ++ more) m ≡ with_more (source_run offer tasks es m) more
-goes_alike offer tasks es more zero comes = refl
-goes_alike offer tasks es more (suc m) comes =
-    ap (λ s. source_step offer s) (goes_alike offer tasks es more m (λ k h. comes k (omega arith)))
-    ∙ step-more offer (source_run offer tasks es m) more (comes m (omega arith))
+pub goes_alike : (offer : Supplier) (setup : Setup) (es more : List Entry) (m : ℕ) → Comes offer setup es m →
+    source_run offer setup (es ++ more) m ≡ with_more (source_run offer setup es m) more
+goes_alike offer setup es more zero comes = refl
+goes_alike offer setup es more (suc m) comes =
+    ap (λ s. source_step offer s) (goes_alike offer setup es more m (λ k h. comes k (omega arith)))
+    ∙ step-more offer (source_run offer setup es m) more (comes m (omega arith))
 
 -- the machine does a task's action alike before more entries
 does-more : {S : Type 0} (engine : Engine S) (m : Machine S) (more : List Entry) (t : ℕ) (rest : List Entry) (stack : S) (offered : Option Action) →
@@ -190,19 +190,19 @@ machine_step-more {S} engine m more before = by_unsettled (unsettled m) refl
     }
 
 -- the machine's run over a journal begins with the run over its first entries, until that is at its end
-pub machine_goes_alike : {S : Type 0} (engine : Engine S) (tasks : List TaskEntry) (es more : List Entry) (n : ℕ) → IsBeforeEnd engine tasks es n →
-    machine_run engine tasks (es ++ more) n ≡ machine_with_more (machine_run engine tasks es n) more
-machine_goes_alike engine tasks es more zero before = refl
-machine_goes_alike engine tasks es more (suc n) before =
-    ap (λ m. machine_step engine m) (machine_goes_alike engine tasks es more n (λ k h. before k (omega arith)))
-    ∙ (machine_step-more engine (machine_run engine tasks es n) more (λ e f. before n (omega arith) (record { settled = e; no_mark = f }))).same_step
+pub machine_goes_alike : {S : Type 0} (engine : Engine S) (setup : Setup) (es more : List Entry) (n : ℕ) → IsBeforeEnd engine setup es n →
+    machine_run engine setup (es ++ more) n ≡ machine_with_more (machine_run engine setup es n) more
+machine_goes_alike engine setup es more zero before = refl
+machine_goes_alike engine setup es more (suc n) before =
+    ap (λ m. machine_step engine m) (machine_goes_alike engine setup es more n (λ k h. before k (omega arith)))
+    ∙ (machine_step-more engine (machine_run engine setup es n) more (λ e f. before n (omega arith) (record { settled = e; no_mark = f }))).same_step
 
 -- with the same count of marks
-pub marked_alike : {S : Type 0} (engine : Engine S) (tasks : List TaskEntry) (es more : List Entry) (n : ℕ) → IsBeforeEnd engine tasks es n →
-    marked engine tasks (es ++ more) n ≡ marked engine tasks es n
-marked_alike engine tasks es more zero before = refl
-marked_alike engine tasks es more (suc n) before =
-    let fewer : IsBeforeEnd engine tasks es n = λ k h. before k (omega arith) in
-    let same = ap (λ m. marks_in_step m) (machine_goes_alike engine tasks es more n fewer)
-    ∙ (machine_step-more engine (machine_run engine tasks es n) more (λ e f. before n (omega arith) (record { settled = e; no_mark = f }))).same_marks in
-    ap₂ (λ j k. j + k) (marked_alike engine tasks es more n fewer) same
+pub marked_alike : {S : Type 0} (engine : Engine S) (setup : Setup) (es more : List Entry) (n : ℕ) → IsBeforeEnd engine setup es n →
+    marked engine setup (es ++ more) n ≡ marked engine setup es n
+marked_alike engine setup es more zero before = refl
+marked_alike engine setup es more (suc n) before =
+    let fewer : IsBeforeEnd engine setup es n = λ k h. before k (omega arith) in
+    let same = ap (λ m. marks_in_step m) (machine_goes_alike engine setup es more n fewer)
+    ∙ (machine_step-more engine (machine_run engine setup es n) more (λ e f. before n (omega arith) (record { settled = e; no_mark = f }))).same_marks in
+    ap₂ (λ j k. j + k) (marked_alike engine setup es more n fewer) same

@@ -8,7 +8,7 @@ use Rattle.pearl_rules.specs.declared.entry.Entry.TheVariants.{Run}
 use Rattle.pearl_rules.specs.declared.row.Mode.{Mode}
 use Rattle.pearl_rules.specs.declared.row.Mode.TheVariants.{Dormant, Active}
 use Rattle.pearl_rules.specs.declared.row.TaskRow.{TaskRow}
-use Rattle.pearl_rules.specs.declared.setup.TaskEntry.{TaskEntry}
+use Rattle.pearl_rules.specs.declared.setup.Setup.{Setup}
 use Rattle.pearl_rules.specs.Core.{Said, first_events, row_of}
 use Rattle.pearl_rules.specs.Pick.{is_possible, is_ready, is_ready_row, pick}
 use Rattle.pearl_rules.specs.Runs.{Mark, Acts, Coming, next_of_run, next_mark, kept_at, mapped, Supplier, Source, source_offers, source_next, source_acts, source_mark, source_step_by, source_step, source_start, source_after, source_run}
@@ -111,11 +111,11 @@ ends_or_falls offer s (suc m) = by_before (ends_or_falls offer s m)
     by_before (inr falls) = by_next falls (source_next offer here) refl
 
 -- every run over a journal's entries ends
-pub source_ends : (offer : Supplier) (tasks : List TaskEntry) (es : List Entry) → (m : ℕ) × (source_next offer (source_run offer tasks es m) ≡ None)
-source_ends offer tasks es = by_fall (ends_or_falls offer (source_start tasks es) (suc (picks_left es)))
+pub source_ends : (offer : Supplier) (setup : Setup) (es : List Entry) → (m : ℕ) × (source_next offer (source_run offer setup es m) ≡ None)
+source_ends offer setup es = by_fall (ends_or_falls offer (source_start setup es) (suc (picks_left es)))
   where
-    by_fall : End offer (source_start tasks es) ⊎ (picks_left (source_run offer tasks es (suc (picks_left es))).entries + suc (picks_left es) ≤ picks_left es) →
-        End offer (source_start tasks es)
+    by_fall : End offer (source_start setup es) ⊎ (picks_left (source_run offer setup es (suc (picks_left es))).entries + suc (picks_left es) ≤ picks_left es) →
+        End offer (source_start setup es)
     by_fall (inl end) = end
     by_fall (inr falls) = absurd (omega arith)
 
@@ -160,38 +160,38 @@ after_tells offer s m (suc k) =
     (after_tells offer s m k) (step_tells offer (source_after offer s (m + k))))
 
 -- later marks only tell more
-pub tells_more : (offer : Supplier) (tasks : List TaskEntry) (es : List Entry) (m k : ℕ) →
-    (more : List (ℕ × Said)) × ((source_run offer tasks es (m + k)).core.told ≡ (source_run offer tasks es m).core.told ++ more)
-tells_more offer tasks es m k = after_tells offer (source_start tasks es) m k
+pub tells_more : (offer : Supplier) (setup : Setup) (es : List Entry) (m k : ℕ) →
+    (more : List (ℕ × Said)) × ((source_run offer setup es (m + k)).core.told ≡ (source_run offer setup es m).core.told ++ more)
+tells_more offer setup es m k = after_tells offer (source_start setup es) m k
 
 -- a run comes to an end at which all that was told after any number of marks stands first
-pub last_tells : (offer : Supplier) (tasks : List TaskEntry) (es : List Entry) (m : ℕ) → EndsTelling offer tasks es m
-last_tells offer tasks es m = by_order (cases_lt end.0 m)
+pub last_tells : (offer : Supplier) (setup : Setup) (es : List Entry) (m : ℕ) → EndsTelling offer setup es m
+last_tells offer setup es m = by_order (cases_lt end.0 m)
   where
-    end : (n : ℕ) × (source_next offer (source_run offer tasks es n) ≡ None)
-    end = source_ends offer tasks es
+    end : (n : ℕ) × (source_next offer (source_run offer setup es n) ≡ None)
+    end = source_ends offer setup es
 
-    by_order : (end.0 < m) ⊎ (m ≤ end.0) → EndsTelling offer tasks es m
+    by_order : (end.0 < m) ⊎ (m ≤ end.0) → EndsTelling offer setup es m
     by_order (inl before) =
-        let same = stays_to offer (source_start tasks es) end.0 m (omega arith) end.1 in
+        let same = stays_to offer (source_start setup es) end.0 m (omega arith) end.1 in
         record {
           last = end.0;
           no_mark = end.1;
           more = [];
-          told = ap (λ s. s.core.told) (sym same) ∙ sym (append-nil (source_run offer tasks es m).core.told);
+          told = ap (λ s. s.core.told) (sym same) ∙ sym (append-nil (source_run offer setup es m).core.told);
         }
     by_order (inr up) =
         let same : m + (end.0 - m) ≡ end.0 = omega arith in
-        let on = subst (λ n. TellsOn (source_run offer tasks es m) (source_run offer tasks es n)) same (tells_more offer tasks es m (end.0 - m)) in
+        let on = subst (λ n. TellsOn (source_run offer setup es m) (source_run offer setup es n)) same (tells_more offer setup es m (end.0 - m)) in
         record { last = end.0; no_mark = end.1; more = on.0; told = on.1 }
 
 -- HOW A RUN OPENS
 
 -- at its start a run has told the starts of the MAIN tasks
-pub opens_at_start : (offer : Supplier) (tasks : List TaskEntry) (es : List Entry) → (source_run offer tasks es 0).core.told ≡ first_events 0 tasks
-opens_at_start offer tasks es = refl
+pub opens_at_start : (offer : Supplier) (setup : Setup) (es : List Entry) → (source_run offer setup es 0).core.told ≡ first_events 0 setup.tasks
+opens_at_start offer setup es = refl
 
 -- and whatever it has told later begins with those
-pub opens_with : (offer : Supplier) (tasks : List TaskEntry) (es : List Entry) (m : ℕ) →
-    (more : List (ℕ × Said)) × ((source_run offer tasks es m).core.told ≡ first_events 0 tasks ++ more)
-opens_with offer tasks es m = subst (λ n. TellsOn (source_start tasks es) (source_run offer tasks es n)) (zero-add m) (tells_more offer tasks es 0 m)
+pub opens_with : (offer : Supplier) (setup : Setup) (es : List Entry) (m : ℕ) →
+    (more : List (ℕ × Said)) × ((source_run offer setup es m).core.told ≡ first_events 0 setup.tasks ++ more)
+opens_with offer setup es m = subst (λ n. TellsOn (source_start setup es) (source_run offer setup es n)) (zero-add m) (tells_more offer setup es 0 m)

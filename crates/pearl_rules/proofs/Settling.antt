@@ -2,13 +2,14 @@
 use Rattle.std.proofs.Common.{◌≡◌, ◌≢◌, ℕ, zero, suc, ◌+◌, ◌*◌, ◌<◌, ◌≤◌, List, [], ◌∷◌, Option, Some, None, length, slice_set, refl, sym, ap, subst, ◌∙◌, add-zero, zero-add, suc-mul, arith}
 use Rattle.pearl_rules.specs.declared.action.Action.{Action}
 use Rattle.pearl_rules.specs.declared.action.Answer.{Answer}
+use Rattle.pearl_rules.specs.declared.setup.Setup.{Setup}
 use Rattle.pearl_rules.specs.Runs.{Coming, kept_at, Supplier, Source, source_next, source_after, Stepped, Silent, Offers, Engine, Running, Machine, machine_next, unsettled, stepped, machine_step, machine_after, marked_after}
 use Rattle.pearl_rules.specs.Faithful.{Alone, Soon}
 use Rattle.pearl_rules.proofs.KeptLaws.{Both, AllAt}
 use Rattle.pearl_rules.proofs.Simulation.{Here, Simulates, at_place, found, step_silent, marks_silent, marks_mark, sim_next, sim_after}
 
-module _ (offer : Supplier) (S : Type 0) (engine : Engine S) (Stands : ℕ → List Answer → S → Type 0) (weight : ℕ → S → ℕ) (rows : ℕ)
-    (alone : Alone offer engine Stands) (soon : Soon engine Stands weight rows) where
+module _ (setup : Setup) (offer : Supplier) (S : Type 0) (engine : Engine S) (Stands : ℕ → List Answer → S → Type 0) (weight : ℕ → S → ℕ) (rows : ℕ)
+    (alone : Alone setup offer engine Stands) (soon : Soon engine Stands weight rows) where
   -- what a task owes that has offered nothing yet
   abbrev owed_by : ℕ → S → Option Action → ℕ
   owed_by t stack None = suc (weight t stack)
@@ -77,10 +78,10 @@ module _ (offer : Supplier) (S : Type 0) (engine : Engine S) (Stands : ℕ → L
 
   module _ (count : ℕ) where
     -- a step of an unsettled task
-    debt_step : (m : Machine S) (s : Source) → Simulates engine Stands count m s → (u : ℕ) (stack : S) → unsettled m ≡ Some (u, stack) →
+    debt_step : (m : Machine S) (s : Source) → Simulates setup engine Stands count m s → (u : ℕ) (stack : S) → unsettled m ≡ Some (u, stack) →
         debt (machine_step engine m) < debt m
     debt_step m s sim u stack e =
-        let here = at_place offer S engine Stands alone s.heard m.running sim.all u in
+        let here = at_place setup offer S engine Stands alone s.heard m.running sim.all u in
         let at = found m u stack e in
         let before = subst (λ y. Both (List Answer) (Running S) (Here engine Stands) u (kept_at s.heard u) y) at here in
         let x = Some (stepped stack (engine.step u stack)) in
@@ -97,14 +98,14 @@ module _ (offer : Supplier) (S : Type 0) (engine : Engine S) (Stands : ℕ → L
       no_mark : marked_after engine start at ≡ marked_after engine start n
 
     -- a machine that owes no more than `room` settles within as many steps
-    settles : (from : Source) (start : Machine S) → Simulates engine Stands count start from → (room n : ℕ) →
+    settles : (from : Source) (start : Machine S) → Simulates setup engine Stands count start from → (room n : ℕ) →
         debt (machine_after engine start n) ≤ room → Settles start n room
     settles from start sim zero n owes = by_unsettled (unsettled (machine_after engine start n)) refl
       where
         by_unsettled : (x : Option (ℕ × S)) → unsettled (machine_after engine start n) ≡ x → Settles start n zero
         by_unsettled None e = record { at = n; within = omega arith; none = e; no_mark = refl }
         by_unsettled (Some x) e =
-            let here = sim_after offer S engine Stands alone count from start sim n in
+            let here = sim_after setup offer S engine Stands alone count from start sim n in
             let less = debt_step (machine_after engine start n) (source_after offer from (marked_after engine start n)) here x.0 x.1 e in
             let no : ⊥ = omega arith in
             absurd no
@@ -114,7 +115,7 @@ module _ (offer : Supplier) (S : Type 0) (engine : Engine S) (Stands : ℕ → L
             (debt (machine_after engine start (suc n)) ≤ room → Settles start (suc n) room) → Settles start n (suc room)
         by_unsettled None e later = record { at = n; within = omega arith; none = e; no_mark = refl }
         by_unsettled (Some x) e later =
-            let here = sim_after offer S engine Stands alone count from start sim n in
+            let here = sim_after setup offer S engine Stands alone count from start sim n in
             let less = debt_step (machine_after engine start n) (source_after offer from (marked_after engine start n)) here x.0 x.1 e in
             let s = later (omega arith) in
             let none = marks_silent (machine_after engine start n) x e in
@@ -140,10 +141,10 @@ module _ (offer : Supplier) (S : Type 0) (engine : Engine S) (Stands : ℕ → L
       pub none : unsettled (machine_after engine start at) ≡ None
 
     -- after its last mark the machine settles
-    pub settled_with : (from : Source) (start : Machine S) → Simulates engine Stands count start from → (m room : ℕ) → Reaches start m room →
+    pub settled_with : (from : Source) (start : Machine S) → Simulates setup engine Stands count start from → (m room : ℕ) → Reaches start m room →
         SettledWith start m (room + count * rows)
     settled_with from start sim m room r =
-        let here = sim_after offer S engine Stands alone count from start sim r.at in
+        let here = sim_after setup offer S engine Stands alone count from start sim r.at in
         let places = here.places in
         let owes : debt (machine_after engine start r.at) ≤ count * rows =
         subst (λ c. debt (machine_after engine start r.at) ≤ c * rows) places
@@ -154,7 +155,7 @@ module _ (offer : Supplier) (S : Type 0) (engine : Engine S) (Stands : ℕ → L
         record { at = s.at; within = omega arith; made = s.no_mark ∙ r.made; none = s.none }
 
     -- where m marks come the machine makes them
-    pub reaches : (from : Source) (start : Machine S) → Simulates engine Stands count start from → (m : ℕ) →
+    pub reaches : (from : Source) (start : Machine S) → Simulates setup engine Stands count start from → (m : ℕ) →
         ((k : ℕ) → k < m → source_next offer (source_after offer from k) ≢ None) → Reaches start m (m * (count * rows + 1))
     reaches from start sim zero comes = record { at = 0; within = omega arith; made = refl }
     reaches from start sim (suc m) comes = go (reaches from start sim m (λ k h. comes k (omega arith)))
@@ -162,8 +163,8 @@ module _ (offer : Supplier) (S : Type 0) (engine : Engine S) (Stands : ℕ → L
         settled_next : (at : ℕ) → unsettled (machine_after engine start at) ≡ None → marked_after engine start at ≡ m →
             machine_next (machine_after engine start at) ≢ None
         settled_next at none made e =
-            let here = sim_after offer S engine Stands alone count from start sim at in
-            let same = sim_next offer S engine Stands alone count (machine_after engine start at) (source_after offer from (marked_after engine start at)) here none in
+            let here = sim_after setup offer S engine Stands alone count from start sim at in
+            let same = sim_next setup offer S engine Stands alone count (machine_after engine start at) (source_after offer from (marked_after engine start at)) here none in
             comes m (omega arith) (subst (λ j. source_next offer (source_after offer from j) ≡ None) made (sym same ∙ e))
 
         by_next : (at : ℕ) → unsettled (machine_after engine start at) ≡ None → marked_after engine start at ≡ m →

@@ -1,18 +1,21 @@
 -- The machine goes the way of the source: step by step the same core, the same entries, and each task at the same place.
 use Rattle.std.proofs.Common.{◌≡◌, ℕ, zero, suc, ◌+◌, List, [], ◌∷◌, ◌++◌, Option, Some, None, length, map, slice_set, refl, sym, ap, ap₂, subst, ◌∙◌, length-set, add-zero, add-one, zero-add, arith}
+use Rattle.std.specs.List.{AllByRecursion}
 use Rattle.std.proofs.Math.Path.{fun_ext}
 use Rattle.std.proofs.lemmas.Option.{none-some, same_Some}
 use Rattle.std.proofs.lemmas.List.{length-map}
+use Rattle.pearl_value.specs.WellFormed.{IsWellFormed}
 use Rattle.pearl_rules.specs.declared.action.Action.{Action}
 use Rattle.pearl_rules.specs.declared.action.Answer.{Answer}
 use Rattle.pearl_rules.specs.declared.entry.Entry.{Entry}
-use Rattle.pearl_rules.specs.declared.setup.TaskEntry.{TaskEntry}
+use Rattle.pearl_rules.specs.declared.setup.Setup.{Setup}
 use Rattle.pearl_rules.specs.Core.{Core, first_row}
+use Rattle.pearl_rules.specs.Slots.{HasKinds}
 use Rattle.pearl_rules.specs.Pick.{pick}
 use Rattle.pearl_rules.specs.Effect.{Reply, Hears, Ends, effect}
 use Rattle.pearl_rules.specs.Runs.{Mark, Acts, Coming, next_mark, kept_at, mapped, Supplier, Source, source_offers, source_next, heard_more, source_settled, source_acts, source_mark, source_step_by, source_step, source_start, source_after, Stepped, Silent, Offers, Engine, Running, Machine, offer_of, machine_offers, machine_next, unsettled_here, unsettled_from, unsettled, stepped, answered, fresh, machine_settled, machine_does, machine_acts, machine_mark, machine_mark_by, machine_step_by, machine_step, machine_start, machine_after, count_if, marks_by, marks_in_step, marked_after}
 use Rattle.pearl_rules.specs.Faithful.{Alone}
-use Rattle.pearl_rules.proofs.EffectLaws.{effect-length}
+use Rattle.pearl_rules.proofs.EffectLaws.{effect-length, opening-kinds, effect-kinds, effect-answers}
 use Rattle.pearl_rules.proofs.KeptLaws.{refreshed-length, Both, AllAt, at_at, set_at, set_right, refreshed_at}
 
 -- an active task's code stands where its answers lead, and what it has offered is what its next instruction offers
@@ -21,10 +24,11 @@ pub record Here {S : Type 0} (engine : Engine S) (Stands : ℕ → List Answer �
   pub offered : (action : Action) → running.offer ≡ Some action → engine.step t running.stack ≡ Offers action
 
 -- a machine and a source's state that go together
-pub record Simulates {S : Type 0} (engine : Engine S) (Stands : ℕ → List Answer → S → Type 0) (count : ℕ) (m : Machine S) (s : Source) : Type 0 where
+pub record Simulates (setup : Setup) {S : Type 0} (engine : Engine S) (Stands : ℕ → List Answer → S → Type 0) (count : ℕ) (m : Machine S) (s : Source) : Type 0 where
   pub same_core : m.core ≡ s.core
   pub same_entries : m.entries ≡ s.entries
   pub all : AllAt (List Answer) (Running S) (Here engine Stands) 0 s.heard m.running
+  pub kinds : HasKinds setup m.core
   pub tasks : length m.core.tasks ≡ count
   pub places : length m.running ≡ count
 
@@ -130,7 +134,7 @@ marks_silent m x e = ap (λ u. marks_by m u) e
 pub marks_mark : {S : Type 0} (m : Machine S) (coming : Option Coming) → unsettled m ≡ None → machine_next m ≡ coming → marks_in_step m ≡ count_if coming
 marks_mark m coming e next = ap (λ u. marks_by m u) e ∙ ap (λ c. count_if c) next
 
-module _ (offer : Supplier) (S : Type 0) (engine : Engine S) (Stands : ℕ → List Answer → S → Type 0) (alone : Alone offer engine Stands) where
+module _ (setup : Setup) (offer : Supplier) (S : Type 0) (engine : Engine S) (Stands : ℕ → List Answer → S → Type 0) (alone : Alone setup offer engine Stands) where
   -- one task on both sides
   abbrev pub BothHere : ℕ → Option (List Answer) → Option (Running S) → Type 0
   BothHere = Both (List Answer) (Running S) (Here engine Stands)
@@ -186,12 +190,16 @@ module _ (offer : Supplier) (S : Type 0) (engine : Engine S) (Stands : ℕ → L
 
   -- what a task hears leads both sides to the same place
   replied : (heard : List (Option (List Answer))) (running : List (Option (Running S))) → AllHere heard running → (t : ℕ) (so_far : List Answer)
-      (stack : S) (action : Action) → Stands t so_far stack → engine.step t stack ≡ Offers action → (core : Core) (reply : Reply) →
+      (stack : S) (action : Action) → Stands t so_far stack → engine.step t stack ≡ Offers action → (core : Core) → HasKinds setup core → (reply : Reply) →
       (effect core t action).reply ≡ reply → AllHere (heard_more heard t so_far reply) (answered engine running t stack reply)
-  replied heard running all t so_far stack action stands offers core (Hears answer) e =
+  replied heard running all t so_far stack action stands offers core kinds (Hears answer) e =
       set_place heard running all t (Some (so_far ++ answer ∷ [])) (Some (record { stack = engine.answer t stack answer; offer = None }))
-      (record { stands = alone.answered t so_far stack action core answer stands offers e; offered = λ other h. absurd (none-some other h) })
-  replied heard running all t so_far stack action stands offers core Ends e = set_place heard running all t None None tt
+      (record {
+        stands = alone.answered t so_far stack action answer stands offers
+            (effect-answers setup core t action answer kinds (alone.fits t so_far stack action stands offers) e);
+        offered = λ other h. absurd (none-some other h);
+      })
+  replied heard running all t so_far stack action stands offers core kinds Ends e = set_place heard running all t None None tt
 
   -- a task that begins stands at its beginning
   begun : (u : ℕ) → Here engine Stands u [] (fresh engine u)
@@ -200,7 +208,7 @@ module _ (offer : Supplier) (S : Type 0) (engine : Engine S) (Stands : ℕ → L
   module _ (count : ℕ) where
     -- the two go together
     abbrev pub Sim : Machine S → Source → Type 0
-    Sim m s = Simulates engine Stands count m s
+    Sim m s = Simulates setup engine Stands count m s
 
     -- one instruction of an unsettled task is no mark
     sim_silent : (m : Machine S) (s : Source) → Sim m s → (u : ℕ) (stack : S) → unsettled m ≡ Some (u, stack) → Sim (machine_step engine m) s
@@ -212,6 +220,7 @@ module _ (offer : Supplier) (S : Type 0) (engine : Engine S) (Stands : ℕ → L
           same_core = sim.same_core;
           same_entries = sim.same_entries;
           all = set_code s.heard m.running sim.all u next (stepped_here u (kept_at s.heard u) stack before);
+          kinds = sim.kinds;
           tasks = sim.tasks;
           places = length-set m.running u next ∙ sim.places;
         } in
@@ -243,7 +252,8 @@ module _ (offer : Supplier) (S : Type 0) (engine : Engine S) (Stands : ℕ → L
           same_entries = refl;
           all = refreshed_at (List Answer) (Running S) (Here engine Stands) (λ u. []) (fresh engine) begun 0 done.core.tasks
               (heard_more s.heard t so_far done.reply) (answered engine m.running t stack done.reply)
-              (replied s.heard m.running sim.all t so_far stack action stands offers m.core done.reply refl);
+              (replied s.heard m.running sim.all t so_far stack action stands offers m.core sim.kinds done.reply refl);
+          kinds = effect-kinds setup m.core t action sim.kinds (alone.fits t so_far stack action stands offers);
           tasks = kept;
           places = refreshed-length (fresh engine) 0 done.core.tasks (answered engine m.running t stack done.reply) ∙ kept;
         } in
@@ -305,13 +315,14 @@ module _ (offer : Supplier) (S : Type 0) (engine : Engine S) (Stands : ℕ → L
     sim_after start m sim (suc n) = sim_step start (marked_after engine m n) (machine_after engine m n) (sim_after start m sim n)
 
     -- at the start
-    pub sim_start : (tasks : List TaskEntry) (es : List Entry) → length tasks ≡ count → Sim (machine_start engine tasks es) (source_start tasks es)
-    sim_start tasks es size =
-        let kept : length (map first_row tasks) ≡ count = length-map tasks first_row ∙ size in
+    pub sim_start : AllByRecursion IsWellFormed setup.slots → (es : List Entry) → length setup.tasks ≡ count → Sim (machine_start engine setup es) (source_start setup es)
+    sim_start slots es size =
+        let kept : length (map first_row setup.tasks) ≡ count = length-map setup.tasks first_row ∙ size in
         record {
           same_core = refl;
           same_entries = refl;
-          all = refreshed_at (List Answer) (Running S) (Here engine Stands) (λ u. []) (fresh engine) begun 0 (map first_row tasks) [] [] tt;
+          all = refreshed_at (List Answer) (Running S) (Here engine Stands) (λ u. []) (fresh engine) begun 0 (map first_row setup.tasks) [] [] tt;
+          kinds = opening-kinds setup.slots slots;
           tasks = kept;
-          places = refreshed-length (fresh engine) 0 (map first_row tasks) [] ∙ kept;
+          places = refreshed-length (fresh engine) 0 (map first_row setup.tasks) [] ∙ kept;
         }

@@ -1,5 +1,8 @@
--- What the state of a run is, apart from the tasks' own variables: the time, how each task stands, who acted last, what was told.
-use Rattle.std.specs.Prelude.{ℕ, ◌+◌, List, [], ◌∷◌, ◌++◌, Bool, true, false, Option, Some, None, map, slice_get, slice_set}
+-- What the state of a run is, apart from the tasks' own variables: the time, how each task stands, what the module's variables hold,
+-- who acted last, what was told.
+use Rattle.std.specs.Prelude.{ℕ, ◌+◌, pos, List, [], ◌∷◌, ◌++◌, Bool, true, false, Option, Some, None, map, slice_get, slice_set}
+use Rattle.pearl_value.specs.declared.cell.Cell.{Cell}
+use Rattle.pearl_value.specs.declared.cell.Cell.TheVariants.{Fixed}
 use Rattle.pearl_rules.specs.declared.row.Mode.{Mode}
 use Rattle.pearl_rules.specs.declared.row.Mode.TheVariants.{Dormant, Active}
 use Rattle.pearl_rules.specs.declared.row.TaskRow.{TaskRow}
@@ -7,6 +10,7 @@ use Rattle.pearl_rules.specs.declared.event.Event.{Event}
 use Rattle.pearl_rules.specs.declared.event.Event.TheVariants.{Start}
 use Rattle.pearl_rules.specs.declared.event.Shown.{Shown}
 use Rattle.pearl_rules.specs.declared.setup.TaskEntry.{TaskEntry}
+use Rattle.pearl_rules.specs.declared.setup.Setup.{Setup}
 
 -- what a run tells: that something happened, or how a task stands
 pub data Said : Type 0 where
@@ -17,8 +21,17 @@ pub data Said : Type 0 where
 pub record Core : Type 0 where
   pub moment : ℕ
   pub tasks : List TaskRow
+  pub slots : List Cell
   pub last : Option ℕ
   pub told : List (ℕ × Said)
+
+abbrev pub cell_or_zero : Option Cell → Cell
+cell_or_zero None = Fixed 31 (pos 0)
+cell_or_zero (Some x) = x
+
+-- the value of a slot; a number that names none has that of a new variable
+abbrev pub value_at : List Cell → ℕ → Cell
+value_at slots slot = cell_or_zero (slice_get slots slot)
 
 -- one more event, at this moment
 abbrev pub note : Core → Event → Core
@@ -61,6 +74,12 @@ abbrev pub first_events : ℕ → List TaskEntry → List (ℕ × Said)
 first_events t [] = []
 first_events t (task ∷ tasks) = first_events_if task.main t task.priority (first_events (t + 1) tasks)
 
--- the core at the start
-abbrev pub opening : List TaskEntry → Core
-opening tasks = record { moment = 0; tasks = map first_row tasks; last = None; told = first_events 0 tasks }
+-- the core at the start: each slot has its first value
+abbrev pub opening : Setup → Core
+opening setup = record {
+  moment = 0;
+  tasks = map first_row setup.tasks;
+  slots = setup.slots;
+  last = None;
+  told = first_events 0 setup.tasks;
+}

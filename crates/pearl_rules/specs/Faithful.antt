@@ -3,38 +3,39 @@ use Rattle.std.specs.Prelude.{◌≡◌, ◌≢◌, ℕ, ◌+◌, ◌*◌, ◌<�
 use Rattle.pearl_rules.specs.declared.action.Action.{Action}
 use Rattle.pearl_rules.specs.declared.action.Answer.{Answer}
 use Rattle.pearl_rules.specs.declared.entry.Entry.{Entry}
-use Rattle.pearl_rules.specs.declared.setup.TaskEntry.{TaskEntry}
-use Rattle.pearl_rules.specs.Core.{Core}
-use Rattle.pearl_rules.specs.Effect.{Hears, effect}
+use Rattle.pearl_rules.specs.declared.setup.Setup.{Setup}
+use Rattle.pearl_rules.specs.Slots.{Suits, Fits}
 use Rattle.pearl_rules.specs.Runs.{Supplier, Engine, Silent, Offers, source_run, source_next, source_offers, machine_run, machine_offers, marked, unsettled}
 
 -- The code runs as the source's rules say: for every list of entries and every number of machine steps, after the same marks.
 -- `rows` bounds the instructions from one action to the next, `count` is the number of tasks.
-pub record IsFaithful (offer : Supplier) {S : Type 0} (engine : Engine S) (tasks : List TaskEntry) (count rows : ℕ) : Type 0 where
+pub record IsFaithful (offer : Supplier) {S : Type 0} (engine : Engine S) (setup : Setup) (count rows : ℕ) : Type 0 where
   -- the core is the same, and so is what remains of the journal
   pub same_core : (es : List Entry) (n : ℕ) →
-      (machine_run engine tasks es n).core ≡ (source_run offer tasks es (marked engine tasks es n)).core
+      (machine_run engine setup es n).core ≡ (source_run offer setup es (marked engine setup es n)).core
   pub same_entries : (es : List Entry) (n : ℕ) →
-      (machine_run engine tasks es n).entries ≡ (source_run offer tasks es (marked engine tasks es n)).entries
+      (machine_run engine setup es n).entries ≡ (source_run offer setup es (marked engine setup es n)).entries
   -- an action that the machine has offered is what the source's task does next
-  pub same_offers : (es : List Entry) (n t : ℕ) (action : Action) → machine_offers (machine_run engine tasks es n) t ≡ Some action →
-      source_offers offer (source_run offer tasks es (marked engine tasks es n)) t ≡ Some action
+  pub same_offers : (es : List Entry) (n t : ℕ) (action : Action) → machine_offers (machine_run engine setup es n) t ≡ Some action →
+      source_offers offer (source_run offer setup es (marked engine setup es n)) t ≡ Some action
   -- where every active task has offered, all offers are the source's
-  pub all_offers : (es : List Entry) (n : ℕ) → unsettled (machine_run engine tasks es n) ≡ None → (t : ℕ) →
-      machine_offers (machine_run engine tasks es n) t ≡ source_offers offer (source_run offer tasks es (marked engine tasks es n)) t
+  pub all_offers : (es : List Entry) (n : ℕ) → unsettled (machine_run engine setup es n) ≡ None → (t : ℕ) →
+      machine_offers (machine_run engine setup es n) t ≡ source_offers offer (source_run offer setup es (marked engine setup es n)) t
   -- the machine goes on: where m marks come, it has made them within this many steps
-  pub goes_on : (es : List Entry) (m : ℕ) → ((k : ℕ) → k < m → source_next offer (source_run offer tasks es k) ≢ None) →
-      (n : ℕ) × (n ≤ (m + 1) * (count * rows + 1)) × (marked engine tasks es n ≡ m)
+  pub goes_on : (es : List Entry) (m : ℕ) → ((k : ℕ) → k < m → source_next offer (source_run offer setup es k) ≢ None) →
+      (n : ℕ) × (n ≤ (m + 1) * (count * rows + 1)) × (marked engine setup es n ≡ m)
 
 -- `Stands t heard stack`: this is where the code of task t is after these answers since its start.
--- Then it offers what the source offers, and an answer leads to where the code is after it.
-pub record Alone (offer : Supplier) {S : Type 0} (engine : Engine S) (Stands : ℕ → List Answer → S → Type 0) : Type 0 where
+-- Then it offers what the source offers, that action fits the tables, and an answer that suits it leads to where the code is after it.
+pub record Alone (setup : Setup) (offer : Supplier) {S : Type 0} (engine : Engine S) (Stands : ℕ → List Answer → S → Type 0) : Type 0 where
   pub begins : (t : ℕ) → Stands t [] (engine.begin t)
   pub goes : (t : ℕ) (heard : List Answer) (stack after : S) → Stands t heard stack → engine.step t stack ≡ Silent after → Stands t heard after
   pub offers : (t : ℕ) (heard : List Answer) (stack : S) (action : Action) → Stands t heard stack → engine.step t stack ≡ Offers action →
       action ≡ offer t heard
-  pub answered : (t : ℕ) (heard : List Answer) (stack : S) (action : Action) (core : Core) (answer : Answer) →
-      Stands t heard stack → engine.step t stack ≡ Offers action → (effect core t action).reply ≡ Hears answer →
+  pub fits : (t : ℕ) (heard : List Answer) (stack : S) (action : Action) → Stands t heard stack → engine.step t stack ≡ Offers action →
+      Fits setup action
+  pub answered : (t : ℕ) (heard : List Answer) (stack : S) (action : Action) (answer : Answer) →
+      Stands t heard stack → engine.step t stack ≡ Offers action → Suits setup action answer →
       Stands t (heard ++ answer ∷ []) (engine.answer t stack answer)
 
 -- From where the code stands it offers an action within `rows` instructions: a weight falls at each silent one.

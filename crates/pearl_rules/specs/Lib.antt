@@ -5,3 +5,4 @@ pub mod Runs
 pub mod Faithful
 pub mod Laws
 pub mod Tables
+pub mod Slots

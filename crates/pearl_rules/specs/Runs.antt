@@ -5,7 +5,7 @@ use Rattle.pearl_rules.specs.declared.action.Answer.{Answer}
 use Rattle.pearl_rules.specs.declared.entry.Entry.{Entry}
 use Rattle.pearl_rules.specs.declared.entry.Entry.TheVariants.{Run}
 use Rattle.pearl_rules.specs.declared.row.TaskRow.{TaskRow}
-use Rattle.pearl_rules.specs.declared.setup.TaskEntry.{TaskEntry}
+use Rattle.pearl_rules.specs.declared.setup.Setup.{Setup}
 use Rattle.pearl_rules.specs.Core.{Core, Said, is_active_row, opening}
 use Rattle.pearl_rules.specs.Pick.{Offered, pick, states}
 use Rattle.pearl_rules.specs.Effect.{Reply, Hears, Ends, effect}
@@ -95,16 +95,16 @@ source_step_by offer s (Some coming) = source_mark offer s coming.mark coming.re
 unfoldable pub source_step : Supplier → Source → Source
 source_step offer s = source_step_by offer s (source_next offer s)
 
-abbrev pub source_start : List TaskEntry → List Entry → Source
-source_start tasks entries = source_settled (opening tasks) [] entries
+abbrev pub source_start : Setup → List Entry → Source
+source_start setup entries = source_settled (opening setup) [] entries
 
 -- the state after so many marks, or the last state where fewer come
 abbrev pub source_after : Supplier → Source → ℕ → Source
 source_after offer s zero = s
 source_after offer s (suc m) = source_step offer (source_after offer s m)
 
-abbrev pub source_run : Supplier → List TaskEntry → List Entry → ℕ → Source
-source_run offer tasks entries m = source_after offer (source_start tasks entries) m
+abbrev pub source_run : Supplier → Setup → List Entry → ℕ → Source
+source_run offer setup entries m = source_after offer (source_start setup entries) m
 
 -- THE MACHINE'S RUN
 
@@ -196,16 +196,16 @@ machine_step_by engine m None = machine_mark_by engine m (machine_next m)
 unfoldable pub machine_step : {S : Type 0} → Engine S → Machine S → Machine S
 machine_step engine m = machine_step_by engine m (unsettled m)
 
-abbrev pub machine_start : {S : Type 0} → Engine S → List TaskEntry → List Entry → Machine S
-machine_start engine tasks entries = machine_settled engine (opening tasks) [] entries
+abbrev pub machine_start : {S : Type 0} → Engine S → Setup → List Entry → Machine S
+machine_start engine setup entries = machine_settled engine (opening setup) [] entries
 
 abbrev pub machine_after : {S : Type 0} → Engine S → Machine S → ℕ → Machine S
 machine_after engine m zero = m
 machine_after engine m (suc n) = machine_step engine (machine_after engine m n)
 
 -- the state after so many machine steps
-abbrev pub machine_run : {S : Type 0} → Engine S → List TaskEntry → List Entry → ℕ → Machine S
-machine_run engine tasks entries n = machine_after engine (machine_start engine tasks entries) n
+abbrev pub machine_run : {S : Type 0} → Engine S → Setup → List Entry → ℕ → Machine S
+machine_run engine setup entries n = machine_after engine (machine_start engine setup entries) n
 
 abbrev pub count_if : {X : Type 0} → Option X → ℕ
 count_if None = 0
@@ -224,8 +224,8 @@ marked_after engine m zero = 0
 marked_after engine m (suc n) = marked_after engine m n + marks_in_step (machine_after engine m n)
 
 -- how many of the first n machine steps are marks
-abbrev pub marked : {S : Type 0} → Engine S → List TaskEntry → List Entry → ℕ → ℕ
-marked engine tasks entries n = marked_after engine (machine_start engine tasks entries) n
+abbrev pub marked : {S : Type 0} → Engine S → Setup → List Entry → ℕ → ℕ
+marked engine setup entries n = marked_after engine (machine_start engine setup entries) n
 
 -- WHAT A RUN TELLS
 

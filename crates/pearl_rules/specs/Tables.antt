@@ -2,6 +2,7 @@
 use Rattle.std.specs.Prelude.{◌≡◌, ◌⊎◌, ℕ, ◌<◌, ◌≤◌, Bool, ◌&&◌, ◌||◌, ◌==◌, nat_le, IsTrue, List, [], ◌∷◌, Option, Some, None, length, slice_index, slice_get}
 use Rattle.std.specs.Char.{is_ascii_alphabetic, is_ascii_digit}
 use Rattle.std.specs.List.{AllByRecursion, list_all}
+use Rattle.pearl_value.specs.WellFormed.{IsWellFormed}
 use Rattle.pearl_format.specs.declared.item.ItemCode.{ItemCode}
 use Rattle.pearl_format.specs.declared.item.ItemCode.TheVariants.{F, Skip}
 use Rattle.pearl_format.specs.declared.item.Item.{Item}
@@ -63,13 +64,15 @@ pub record IsFormat (format : List Item) : Type 0 where
   pub few : data_count format ≤ 64
   pub short : width_sum format ≤ 1024
 
--- at most 200 tasks and 396 devices; a format is lawful also where no PUT uses it
+-- at most 200 tasks, 65,536 slots and 396 devices, each slot with a first value; a format is lawful also where no PUT uses it
 pub record IsSetup (setup : Setup) : Type 0 where
   pub tasks : AllByRecursion IsTaskEntry setup.tasks
+  pub slots : AllByRecursion IsWellFormed setup.slots
   pub devices : AllByRecursion IsDevice setup.devices
   pub rising : AreRising setup.devices
   pub formats : AllByRecursion IsFormat setup.formats
   pub few_tasks : length setup.tasks ≤ 200
+  pub few_slots : length setup.slots ≤ 65536
   pub few_devices : length setup.devices ≤ 396
 
 abbrev pub Writes : Direction → Type 0

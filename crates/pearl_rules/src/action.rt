@@ -4,9 +4,13 @@ use arrayvec::ArrayVec;
 use pearl_value::cell::Cell;
 use pearl_value::trap::Trap;
 
-/// The next action of an active task. Devices are numbered as in the `Setup`.
+/// The next action of an active task. Slots and devices are numbered as in the `Setup`.
 #[derive(Drop)]
 pub enum Action {
+    /// Asks for the value of a slot.
+    Read(u32),
+    /// Puts a value into a slot.
+    Write(u32, Cell),
     /// Writes a text to a terminal.
     Put {
         device: u32,

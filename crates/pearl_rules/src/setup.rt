@@ -2,6 +2,7 @@
 
 use arrayvec::ArrayVec;
 use pearl_format::item::Item;
+use pearl_value::cell::Cell;
 use pearl_value::listing::Listing;
 
 /// A task as it is declared. A smaller number is a more urgent priority, from 1 to 255.
@@ -28,10 +29,12 @@ pub enum Device {
     Terminal { number: u8, direction: Direction },
 }
 
-/// The tables that a run starts from. A device is named by its number in the list of devices, likewise tasks and formats.
+/// The tables that a run starts from. A device is named by its number in the list of devices, likewise tasks, slots and
+/// formats. A slot holds a value of a module variable; its first value stands here.
 #[derive(Drop)]
 pub struct Setup {
     pub tasks: Listing<TaskEntry>,
+    pub slots: Listing<Cell>,
     pub devices: Listing<Device>,
     pub formats: Listing<Listing<Item>>,
 }

@@ -1,0 +1,51 @@
+-- The kinds of the module's variables: which actions fit them, which answers suit an action, and when every slot holds a value of its kind.
+use Rattle.std.specs.Prelude.{◌≡◌, ℕ, ◌<◌, None, length}
+use Rattle.std.specs.List.{AllZip}
+use Rattle.pearl_value.specs.declared.kind.Kind.{Kind}
+use Rattle.pearl_value.specs.declared.cell.Cell.{Cell}
+use Rattle.pearl_value.specs.Cells.{kind_of}
+use Rattle.pearl_value.specs.WellFormed.{IsWellFormed}
+use Rattle.pearl_rules.specs.declared.action.Action.{Action}
+use Rattle.pearl_rules.specs.declared.action.Action.TheVariants.{Read, Write, Put, End, Trap}
+use Rattle.pearl_rules.specs.declared.action.Answer.{Answer}
+use Rattle.pearl_rules.specs.declared.action.Answer.TheVariants.{Nothing, One}
+use Rattle.pearl_rules.specs.declared.setup.Setup.{Setup}
+use Rattle.pearl_rules.specs.Core.{Core, cell_or_zero, value_at}
+
+-- the kind of a slot's values: that of its first value
+abbrev pub slot_kind : Setup → ℕ → Kind
+slot_kind setup slot = kind_of (value_at setup.slots slot)
+
+-- a well-formed value of this kind
+pub record IsValueOf (kind : Kind) (x : Cell) : Type 0 where
+  pub well_formed : IsWellFormed x
+  pub same_kind : kind_of x ≡ kind
+
+-- the answers that an action can have; a task that ends hears nothing more
+abbrev pub Suits : Setup → Action → Answer → Type 0
+Suits setup (Read slot) answer = (x : Cell) × (answer ≡ One x) × IsValueOf (slot_kind setup slot) x
+Suits setup (Write slot value) answer = answer ≡ Nothing
+Suits setup (Put device text) answer = answer ≡ Nothing
+Suits setup End answer = ⊥
+Suits setup (Trap trap) answer = ⊥
+
+-- the value that an answer has; an answer without one counts as that of a new variable
+abbrev pub heard_value : Answer → Cell
+heard_value Nothing = cell_or_zero None
+heard_value (One x) = x
+
+-- an action on a slot names one that is there, and writes a value of its kind
+abbrev pub Fits : Setup → Action → Type 0
+Fits setup (Read slot) = slot < length setup.slots
+Fits setup (Write slot value) = (slot < length setup.slots) × IsValueOf (slot_kind setup slot) value
+Fits setup (Put device text) = Unit {0}
+Fits setup End = Unit {0}
+Fits setup (Trap trap) = Unit {0}
+
+-- a value where this one stood first
+abbrev pub IsLike : Cell → Cell → Type 0
+IsLike first x = IsValueOf (kind_of first) x
+
+-- each slot holds a value of its kind
+abbrev pub HasKinds : Setup → Core → Type 0
+HasKinds setup core = AllZip IsLike setup.slots core.slots
