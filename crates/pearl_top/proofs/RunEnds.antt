@@ -24,17 +24,17 @@ pub record EndsAs (p : Program) (es : List Entry) (m : Machine Stack) : Type 0 w
   pub states_alike : states m.core (machine_offers m) ≡ states (source_run p es marks).core (source_offers (offer p) (source_run p es marks))
 
 -- the tables are the program's
-same_tasks : (p : Program) (o : Object) (es : List Entry) (k : ℕ) → IsFaithfulTo p o → runs.source_run (offer p) o.setup.tasks es k ≡ source_run p es k
-same_tasks p o es k faithful = ap (λ setup. runs.source_run (offer p) setup.tasks es k) faithful.tables
+same_tasks : (p : Program) (o : Object) (es : List Entry) (k : ℕ) → IsFaithfulTo p o → runs.source_run (offer p) o.setup es k ≡ source_run p es k
+same_tasks p o es k faithful = ap (λ setup. runs.source_run (offer p) setup es k) faithful.tables
 
 -- where nothing is unsettled and no entry is left, the source's run has ended alike
 pub ends_as_source : (p : Program) (o : Object) (es : List Entry) (n : ℕ) → IsFaithfulTo p o →
     unsettled (machine_after (engine o) (start_of o es) n) ≡ None → machine_next (machine_after (engine o) (start_of o es) n) ≡ None →
     EndsAs p es (machine_after (engine o) (start_of o es) n)
 ends_as_source p o es n faithful settled no_mark =
-    let k = marked (engine o) o.setup.tasks es n in
-    let e : runs.source_run (offer p) o.setup.tasks es k ≡ source_run p es k = same_tasks p o es k faithful in
-    let alike : EndsAlike (offer p) (engine o) o.setup.tasks es n = ends_alike (offer p) (engine o) o.setup.tasks _ _ faithful.runs es n (record { settled = settled; no_mark = no_mark }) in
+    let k = marked (engine o) o.setup es n in
+    let e : runs.source_run (offer p) o.setup es k ≡ source_run p es k = same_tasks p o es k faithful in
+    let alike : EndsAlike (offer p) (engine o) o.setup es n = ends_alike (offer p) (engine o) o.setup _ _ faithful.runs es n (record { settled = settled; no_mark = no_mark }) in
     let same : (machine_after (engine o) (start_of o es) n).core ≡ (source_run p es k).core = faithful.runs.same_core es n ∙ ap (λ s. s.core) e in record {
       marks = k;
       no_mark = subst (λ s. source_next (offer p) s ≡ None) e alike.ended;
@@ -54,9 +54,9 @@ pub record EndsBehind (p : Program) (es : List Entry) (told : List (ℕ × Said)
 pub ends_behind : (p : Program) (o : Object) (es : List Entry) (told : List (ℕ × Said)) → IsFaithfulTo p o → Tells o es told →
     EndsBehind p es ((start_of o es).core.told ++ told)
 ends_behind p o es told faithful tells =
-    let k = marked (engine o) o.setup.tasks es tells.steps in
-    let ends : EndsTelling (offer p) o.setup.tasks es k = last_tells (offer p) o.setup.tasks es k in
-    let e : runs.source_run (offer p) o.setup.tasks es ends.last ≡ source_run p es ends.last = same_tasks p o es ends.last faithful in record {
+    let k = marked (engine o) o.setup es tells.steps in
+    let ends : EndsTelling (offer p) o.setup es k = last_tells (offer p) o.setup es k in
+    let e : runs.source_run (offer p) o.setup es ends.last ≡ source_run p es ends.last = same_tasks p o es ends.last faithful in record {
       marks = ends.last;
       no_mark = subst (λ s. source_next (offer p) s ≡ None) e ends.no_mark;
       more = ends.more;

@@ -13,7 +13,7 @@ use Rattle.pearl_run.specs.Seen.{Seen, Goes}
 
 -- the state of an object's run before its first step
 abbrev pub start_of : Object → List Entry → Machine Stack
-start_of o es = machine_start (engine o) o.setup.tasks es
+start_of o es = machine_start (engine o) o.setup es
 
 -- over each journal that begins with these entries the run comes to where the machine that is seen stands, with the other
 -- entries left, telling this on the way

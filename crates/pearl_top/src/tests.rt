@@ -7,6 +7,10 @@ use std::test::Fail;
 const FIRST: &[u8] =
     b"MODULE(m); SYSTEM; tty: TERMINAL(1); irq: INTERRUPT(3);\nPROBLEM; SPC tty DATION INOUT ALPHIC, irq INTERRUPT;\nmain: TASK MAIN; PUT 17 TO tty BY F(5), SKIP; END;\nMODEND;\n";
 
+// What stands before the declarations of every module.
+const HEAD: &[u8] =
+    b"MODULE(m); SYSTEM; tty: TERMINAL(1); irq: INTERRUPT(3);\nPROBLEM; SPC tty DATION INOUT ALPHIC, irq INTERRUPT;\n";
+
 // The name after TO is that of the interrupt.
 const TO_IRQ: &[u8] =
     b"MODULE(m); SYSTEM; tty: TERMINAL(1); irq: INTERRUPT(3);\nPROBLEM; SPC tty DATION INOUT ALPHIC, irq INTERRUPT;\nmain: TASK MAIN; PUT 17 TO irq BY F(5), SKIP; END;\nMODEND;\n";
@@ -36,6 +40,112 @@ fn two_files(alloc: Global, source: &[u8], journal: &[u8]) -> Result<Vec<File>, 
         })?;
     }
     Ok(files)
+}
+
+// A module of the first language with this between its head and MODEND.
+fn module(alloc: Global, body: &[u8]) -> Result<Vec<u8>, AllocError> {
+    let mut source = Vec::from_slice(alloc, HEAD)?;
+    source.extend_from_slice(body)?;
+    source.extend_from_slice(b"\nMODEND;\n")?;
+    Ok(source)
+}
+
+#[test]
+fn variables_hold_what_was_put_into_them(rt: HostRuntime) -> Result<(), Fail> {
+    let alloc = rt.alloc();
+    let names = words(alloc, &["run", "s", "j"])?;
+    let cases: [(&[u8], &[u8], &[u8]); 8] = [
+        (
+            b"DCL x FIXED; main: TASK MAIN; x := 2147483647 + 1; END;",
+            b"run 10",
+            b"0 start main 255\n0 trap main Overflow\n0 state main dormant\n0 close\n",
+        ),
+        (
+            b"DCL x FIXED; DCL y FIXED; main: TASK MAIN; x := y; PUT x TO tty BY F(3); END;",
+            b"run 10",
+            b"0 start main 255\n0 out 1 '  0'\n0 end main\n0 state main dormant\n0 close\n",
+        ),
+        (
+            b"DCL x FIXED; main: TASK MAIN; x := 10 - 2 - 3; PUT x + 1 TO tty BY F(3), SKIP; END;",
+            b"run 10",
+            b"0 start main 255\n0 out 1 '  6\\n'\n0 end main\n0 state main dormant\n0 close\n",
+        ),
+        (
+            b"DCL x FIXED; main: TASK MAIN; x := 7; x := 3000000000; END;",
+            b"run 10",
+            b"0 start main 255\n0 trap main Overflow\n0 state main dormant\n0 close\n",
+        ),
+        (
+            b"DCL x FIXED; main: TASK MAIN; PUT x - 3000000000 TO tty BY F(11); END;",
+            b"run 10",
+            b"0 start main 255\n0 out 1 '-3000000000'\n0 end main\n0 state main dormant\n0 close\n",
+        ),
+        (
+            b"DCL x FIXED; main: TASK MAIN; x := x + x; END;",
+            b"run 3",
+            b"0 start main 255\n0 state main running 255\n0 close\n",
+        ),
+        (
+            b"DCL x FIXED; main: TASK MAIN; x := x + x; END;",
+            b"run 3\nrun 1",
+            b"0 start main 255\n0 end main\n0 state main dormant\n0 close\n",
+        ),
+        (
+            b"DCL x FIXED; main: TASK MAIN; x := 5; PUT x TO tty BY F(1); x := 0 - x; PUT x TO tty BY F(1); END;",
+            b"run 100",
+            b"0 start main 255\n0 out 1 '5'\n0 trap main Format\n0 state main dormant\n0 close\n",
+        ),
+    ];
+    for (body, journal, text) in cases {
+        let source = module(alloc, body)?;
+        let mut shelf = SureShelf::new(two_files(alloc, source.as_slice(), journal)?);
+        let mut sink = SureSink::new(alloc, 4096)?;
+        let ended = pearl(alloc, names.as_slice(), &mut shelf, &mut sink);
+        assert_eq!(rt; sink.bytes(), text);
+        assert_eq!(rt; ended, Status::Done);
+    }
+    Ok(())
+}
+
+#[test]
+fn names_are_checked(rt: HostRuntime) -> Result<(), Fail> {
+    let alloc = rt.alloc();
+    let names = words(alloc, &["run", "s", "j"])?;
+    let cases: [(&[u8], &[u8]); 6] = [
+        (
+            b"DCL x FIXED; DCL x FIXED; main: TASK MAIN; END;",
+            b"error source 126 S1\n",
+        ),
+        (
+            b"DCL x FIXED; x: TASK MAIN; END;",
+            b"error source 122 S1\n",
+        ),
+        (
+            b"DCL x FIXED; main: TASK MAIN; x := x + y; END;",
+            b"error source 148 S2\n",
+        ),
+        (
+            b"DCL x FIXED; main: TASK MAIN; x := irq; END;",
+            b"error source 144 S16\n",
+        ),
+        (
+            b"DCL x FIXED; main: TASK MAIN; main := x; END;",
+            b"error source 139 S16\n",
+        ),
+        (
+            b"DCL x FIXED; main: TASK MAIN; x := 1 + ; END;",
+            b"error syntax 148\n",
+        ),
+    ];
+    for (body, text) in cases {
+        let source = module(alloc, body)?;
+        let mut shelf = SureShelf::new(two_files(alloc, source.as_slice(), b"run 10")?);
+        let mut sink = SureSink::new(alloc, 4096)?;
+        let ended = pearl(alloc, names.as_slice(), &mut shelf, &mut sink);
+        assert_eq!(rt; sink.bytes(), text);
+        assert_eq!(rt; ended, Status::Refused);
+    }
+    Ok(())
 }
 
 #[test]
