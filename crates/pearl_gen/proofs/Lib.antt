@@ -1,7 +1,3 @@
 pub mod Zips
-pub mod Fitting
-pub mod Point
-pub mod Standing
-pub mod Valid
-pub mod Alone
-pub mod Whole
+pub mod Depths
+pub mod Values
