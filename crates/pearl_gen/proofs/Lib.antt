@@ -4,3 +4,6 @@ pub mod Values
 pub mod Fitting
 pub mod Straight
 pub mod Steady
+pub mod Moves
+pub mod Standing
+pub mod Alone
