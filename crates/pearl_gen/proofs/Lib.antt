@@ -7,3 +7,5 @@ pub mod Steady
 pub mod Moves
 pub mod Standing
 pub mod Alone
+pub mod Valid
+pub mod Whole

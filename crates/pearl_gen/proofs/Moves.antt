@@ -1,5 +1,5 @@
 -- What one instruction does, beside what the code from it on means.
-use Rattle.std.proofs.Common.{◌≡◌, ℕ, ◌+◌, ◌<◌, List, [], ◌∷◌, ◌++◌, Option, Some, None, Result, Ok, Err, length, map, slice_get, zero, suc, refl, ap, sym, ◌∙◌, subst, arith}
+use Rattle.std.proofs.Common.{◌≡◌, ℕ, ◌+◌, List, [], ◌∷◌, ◌++◌, Option, Some, None, Result, Ok, Err, map, slice_get, zero, suc, refl, ap, sym, ◌∙◌, subst}
 use Rattle.pearl_value.specs.declared.kind.Kind.{Kind}
 use Rattle.pearl_value.specs.declared.cell.Cell.{Cell}
 use Rattle.pearl_value.specs.declared.trap.Trap.{Trap}
@@ -24,7 +24,6 @@ use Rattle.pearl_code.specs.declared.instr.Instr.{Instr}
 use Rattle.pearl_code.specs.declared.instr.Instr.TheVariants as instr
 use Rattle.pearl_code.specs.declared.object.Object.{Object}
 use Rattle.pearl_code.specs.Rows.{Stack, top, below, last, second, put_action, next_with, pushes, row, row_after}
-use Rattle.pearl_code.specs.Valid.{FitsConv, FitsDyadic}
 use Rattle.pearl_gen.specs.Plain.{Plain, Const, Conv, Read, Write, Dyadic, Put, End, plain_of}
 use Rattle.pearl_gen.proofs.Values.{Gives, applied_gives, converted_gives}
 use Rattle.pearl_gen.proofs.Fitting.{suits_count}

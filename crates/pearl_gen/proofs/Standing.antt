@@ -1,5 +1,5 @@
 -- Where a task's code stands after some answers, and that it does there what the program's task rules say.
-use Rattle.std.proofs.Common.{◌≡◌, ℕ, ◌+◌, ◌-◌, ◌<◌, ◌≤◌, List, [], ◌∷◌, ◌++◌, Option, Some, None, length, map, slice_get, refl, ap, sym, ◌∙◌, subst, append_assoc, append-nil, arith, length-append}
+use Rattle.std.proofs.Common.{◌≡◌, ℕ, ◌+◌, ◌-◌, ◌<◌, List, [], ◌∷◌, ◌++◌, Option, Some, None, length, map, slice_get, refl, ap, sym, ◌∙◌, subst, append_assoc, append-nil, arith, length-append}
 use Rattle.std.proofs.lemmas.List.{length-map}
 use Rattle.pearl_value.specs.declared.kind.Kind.{Kind}
 use Rattle.pearl_rules.specs.declared.action.Action.{Action}
@@ -32,7 +32,7 @@ abbrev pub IsLawful : Setup → ℕ → List Kind → List Plain → Type 0
 IsLawful setup depth kinds [] = Unit {0}
 IsLawful setup depth kinds (x ∷ code) = PlainRuns setup depth (Some kinds) (x ∷ code)
 
-lawful : (setup : Setup) (depth : ℕ) (kinds : List Kind) (code : List Plain) → PlainRuns setup depth (Some kinds) code → IsLawful setup depth kinds code
+pub lawful : (setup : Setup) (depth : ℕ) (kinds : List Kind) (code : List Plain) → PlainRuns setup depth (Some kinds) code → IsLawful setup depth kinds code
 lawful setup depth kinds [] runs = tt
 lawful setup depth kinds (x ∷ code) runs = runs
 
@@ -146,7 +146,7 @@ falls_so p o t heard stack after (x ∷ code) b e =
     let some : 0 < length code = some_left o.setup b.depth m.kinds code m.runs in
     let whole : length (map plain_of (code_of o t)) ≡ length (code_of o t) = length-map (code_of o t) plain_of in
     let split : length (map plain_of (code_of o t)) ≡ length (b.done ++ x ∷ code) = ap length b.code in
-    let parts : length (b.done ++ x ∷ code) ≡ length b.done + (length code + 1) = ? in
+    let parts : length (b.done ++ x ∷ code) ≡ length b.done + length (x ∷ code) = length-append b.done (x ∷ code) in
     let here : stack.place ≡ length b.done = b.place in
     let moved : after.place ≡ stack.place + 1 = m.place in
     omega arith

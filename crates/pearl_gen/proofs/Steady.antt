@@ -1,31 +1,19 @@
 -- The kinds of the operands before and after an instruction.
-use Rattle.std.proofs.Common.{◌≡◌, ℕ, ◌+◌, ◌<◌, List, [], ◌∷◌, ◌++◌, Option, Some, None, Result, Ok, Err, length, map, refl, ap, sym, ◌∙◌, subst, arith, append_assoc}
-use Rattle.std.specs.List.{AllByRecursion, AllZip}
+use Rattle.std.proofs.Common.{◌≡◌, ℕ, ◌<◌, List, [], ◌∷◌, ◌++◌, Some, None, length, map, refl, ap, sym, ◌∙◌, subst, arith}
+use Rattle.std.specs.List.{AllZip}
 use Rattle.pearl_value.specs.declared.kind.Kind.{Kind}
 use Rattle.pearl_value.specs.declared.cell.Cell.{Cell}
-use Rattle.pearl_value.specs.declared.trap.Trap.{Trap}
 use Rattle.pearl_value.specs.Cells.{kind_of}
 use Rattle.pearl_value.specs.WellFormed.{IsWellFormed}
-use Rattle.pearl_value.specs.Conversions.{converted}
-use Rattle.pearl_value.specs.Applied.{applied2}
-use Rattle.pearl_format.specs.Items.{data_count}
-use Rattle.pearl_format.specs.Texts.{text_of}
-use Rattle.pearl_rules.specs.declared.action.Action.{Action}
-use Rattle.pearl_rules.specs.declared.action.Action.TheVariants as action
-use Rattle.pearl_rules.specs.declared.action.Answer.{Answer}
 use Rattle.pearl_rules.specs.declared.setup.Setup.{Setup}
-use Rattle.pearl_rules.specs.Tables.{format_of}
-use Rattle.pearl_rules.specs.Slots.{slot_kind, IsValueOf, Suits, Fits, heard_value}
-use Rattle.pearl_rules.specs.Runs.{Stepped, Silent, Offers}
+use Rattle.pearl_rules.specs.Slots.{slot_kind, IsValueOf}
 use Rattle.pearl_code.specs.declared.instr.Instr.{Instr}
 use Rattle.pearl_code.specs.declared.instr.Instr.TheVariants as instr
-use Rattle.pearl_code.specs.Rows.{Stack, top, below, last, second, put_action, next_with, pushes}
+use Rattle.pearl_code.specs.Rows.{below, last, second}
 use Rattle.pearl_code.specs.Valid.{Shape, kinds_of, FitsConv, FitsRead, FitsWrite, FitsDyadic, FitsPut, RunsFrom}
 use Rattle.pearl_gen.specs.Plain.{Plain, Const, Conv, Read, Write, Dyadic, Put, End, plain_of}
 use Rattle.pearl_gen.proofs.Zips.{zip_push}
-use Rattle.pearl_gen.proofs.Values.{Gives, applied_gives, converted_gives}
-use Rattle.pearl_gen.proofs.Fitting.{suits_count}
-use Rattle.pearl_gen.proofs.Straight.{top_append, below_append, last_append, last_two, second_two}
+use Rattle.pearl_gen.proofs.Straight.{below_append, last_append, last_two, second_two}
 
 -- the rule of valid code again, for plain instructions
 abbrev pub PlainRuns : Setup → ℕ → Shape → List Plain → Type 0

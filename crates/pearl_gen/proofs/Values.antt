@@ -1,6 +1,6 @@
 -- What conversions and operators make of well-formed values is well formed, and of the kind that is told beforehand.
-use Rattle.std.proofs.Common.{◌+ℤ◌, ◌-ℤ◌, ◌*ℤ◌, ◌≡◌, ℕ, suc, ◌+◌, ◌-◌, ◌*◌, ◌/◌, ◌%◌, ◌^◌, ◌<◌, ◌≤◌, ℤ, pos, negsuc, List, [], ◌∷◌, ◌++◌, Bool, true, false, Option, Some, None, Result, Ok, Err, length, replicate, max, nat_le, if◌then◌else◌, unsigned_abs, refl, ap, sym, ◌∙◌, subst, arith, length-append}
-use Rattle.std.specs.Prelude.{int_le, int_div, bit_and, bit_or, bit_xor, All}
+use Rattle.std.proofs.Common.{◌+ℤ◌, ◌-ℤ◌, ◌*ℤ◌, ◌≡◌, ℕ, suc, ◌+◌, ◌-◌, ◌*◌, ◌/◌, ◌%◌, ◌^◌, ◌<◌, ◌≤◌, ℤ, pos, negsuc, List, [], ◌++◌, Bool, true, false, Option, Some, None, Result, Ok, Err, length, replicate, max, nat_le, if◌then◌else◌, unsigned_abs, refl, ap, sym, subst, arith, length-append}
+use Rattle.std.specs.Prelude.{int_div, bit_and, bit_or, bit_xor, All}
 use Rattle.std.specs.Int.{int_rem_euclid, int_pow}
 use Rattle.std.specs.Ordering.{int_eq, int_cmp, nat_cmp, is_lt, is_gt, is_le, is_ge, is_eq, is_ne}
 use Rattle.std.specs.declared.cmp.Ordering.{Ordering}
@@ -8,7 +8,6 @@ use Rattle.std.proofs.lemmas.Bool.Decides.{nat_tests}
 use Rattle.std.proofs.lemmas.Int.{ints}
 use Rattle.std.proofs.lemmas.Nat.{pow_pos, mod_below, or_lt, xor_lt, shl_below}
 use Rattle.std.proofs.lemmas.Nat.{and_le_l}
-use Rattle.std.proofs.Math.Pow.{pow_mono}
 use Rattle.std.proofs.lemmas.List.Elements.{All-nil, All-append, All-replicate}
 use Rattle.std.proofs.lemmas.List.{length-replicate}
 use Rattle.std.proofs.lemmas.Bool.{cases_lt}
@@ -24,11 +23,11 @@ use Rattle.pearl_value.specs.declared.operator.Dyad.TheVariants.{Pow, Mul, Div, 
 use Rattle.pearl_value.specs.declared.trap.Trap.{Trap}
 use Rattle.pearl_value.specs.declared.trap.Trap.TheVariants.{Overflow, ZeroDivide, Range}
 use Rattle.pearl_value.specs.Kinds.{IsKind}
-use Rattle.pearl_value.specs.Cells.{kind_of, FitsFixed}
-use Rattle.pearl_value.specs.WellFormed.{IsWellFormed, FitsSpan, IsLetter}
+use Rattle.pearl_value.specs.Cells.{kind_of}
+use Rattle.pearl_value.specs.WellFormed.{IsWellFormed, IsLetter}
 use Rattle.pearl_value.specs.Blanks.{filled_to, widened, blank_of}
 use Rattle.pearl_value.specs.Conversions.{SuitsKind, fits_fixed, fixed_of, converted}
-use Rattle.pearl_value.specs.Arithmetic.{fits_span, span_of, clock_of, power_number_of, power_of, product_of, quotient_of, remainder_of, sum_of, difference_of}
+use Rattle.pearl_value.specs.Arithmetic.{fits_span, span_of, clock_of, power_of, product_of, quotient_of, remainder_of, sum_of, difference_of}
 use Rattle.pearl_value.specs.Rows.{row2, power_row, product_row, quotient_row, remainder_row, joined_row, sum_row, difference_row, moved_row, order_row, equality_row, bitwise_row}
 use Rattle.pearl_value.specs.Strings.{joined_of, turned, turned_of, shifted, shifted_of, bitwise_of}
 use Rattle.pearl_value.specs.Comparisons.{text_cmp, order_between, equality_between, told}

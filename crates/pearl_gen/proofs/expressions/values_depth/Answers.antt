@@ -1,4 +1,4 @@
-use Rattle.std.proofs.Common.{◌≡◌, ◌+◌, max, drop, subst, sym, arith}
+use Rattle.std.proofs.Common.{◌≡◌, ◌+◌, max, drop, subst, arith}
 use Rattle.pearl_prog.specs.Kinds.{held, held_by_all}
 use Rattle.pearl_gen.proofs.Depths.{held_more}
 use Rattle.pearl_gen.proofs.expressions.values_depth.Goals as goal
