@@ -85,9 +85,11 @@ runs_statement setup depth (statement.Assign target value) code tables sound wit
     let to = slot_kind setup slot in
     let is : IsKind to = kind_is (value_at setup.slots slot) (slot_well setup.slots slot tables.slots sound.variable) in
     subst (λ code. PlainRuns setup depth (Some []) code) (sym (append_assoc (expr_code value) (Conv to ∷ Write slot ∷ []) code))
-    (runs_expr setup depth value [] (Conv to ∷ Write slot ∷ code) sound.expr (omega arith)
-    ([], record { from = kind_of_expr setup value; stacked = refl; suits = sound.suits; kind = is },
-    ([], record { named = sound.variable; stacked = refl }, runs)))
+    (runs_expr setup depth value [] (Conv to ∷ Write slot ∷ code) sound.expr (omega arith) (
+      [],
+      record { from = kind_of_expr setup value; stacked = refl; suits = sound.suits; kind = is },
+      ([], record { named = sound.variable; stacked = refl }, runs),
+    ))
 runs_statement setup depth (statement.Put values device format) code tables sound within runs =
     subst (λ code. PlainRuns setup depth (Some []) code) (sym (append_assoc (flat_map expr_code values.items) (Put device format ∷ []) code))
     (runs_values setup depth device format code [] values.items sound.exprs (omega arith) (fits_put setup values.items device format sound) runs)

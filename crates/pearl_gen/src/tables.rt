@@ -4,7 +4,7 @@ ghost use Rattle.std.specs.Prelude.{◌≡◌, IfOk};
 
 use pearl_format::item::Item;
 use pearl_rules::setup::{Setup, TaskEntry};
-use pearl_value::cell::{copy_of, Cell};
+use pearl_value::cell::{Cell, copy_of};
 use pearl_value::listing::Listing;
 use std::alloc::{AllocError as NoMemory, Global};
 
