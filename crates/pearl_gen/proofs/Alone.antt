@@ -1,23 +1,15 @@
 -- Code that stands where its answers lead, and that offers soon, offers by itself what the source's task does next.
 use Rattle.std.proofs.Common.{◌≡◌, ℕ, zero, suc, ◌+◌, ◌≤◌, List, [], ◌∷◌, ◌++◌, Option, Some, None, refl, ap, sym, subst, ◌∙◌, append_assoc, append-nil, arith}
 use Rattle.pearl_rules.specs.declared.action.Action.{Action}
-use Rattle.pearl_rules.specs.declared.action.Action.TheVariants.{Put, End, Trap}
 use Rattle.pearl_rules.specs.declared.action.Answer.{Answer}
-use Rattle.pearl_rules.specs.Core.{Core, opening}
-use Rattle.pearl_rules.specs.Effect.{Hears, effect}
+use Rattle.pearl_rules.specs.declared.setup.Setup.{Setup}
+use Rattle.pearl_rules.specs.Slots.{Suits}
 use Rattle.pearl_rules.specs.Runs.{Supplier, Stepped, Silent, Offers, Engine, mapped}
 use Rattle.pearl_rules.specs.Faithful.{Alone, Soon}
-use Rattle.pearl_gen.specs.Alone.{Suits, HeardAfter, Heard, Settled, on_step, settle, on_settled, given, code_offers}
+use Rattle.pearl_gen.specs.Alone.{HeardAfter, Heard, Settled, on_step, settle, on_settled, given, code_offers}
 
--- a task hears the answer that suits its action
-hears_suiting : (core : Core) (t : ℕ) (action : Action) (answer : Answer) → Suits action answer → (effect core t action).reply ≡ Hears answer
-unfolding effect
-hears_suiting core t (Put device text) answer suits = ap (λ answer. Hears answer) (sym suits)
-hears_suiting core t End answer suits = absurd suits
-hears_suiting core t (Trap trap) answer suits = absurd suits
-
-module _ (offer : Supplier) (S : Type 0) (engine : Engine S) (Stands : ℕ → List Answer → S → Type 0) (weight : ℕ → S → ℕ) (n : ℕ)
-    (alone : Alone offer engine Stands) (soon : Soon engine Stands weight (n + 1)) where
+module _ (setup : Setup) (offer : Supplier) (S : Type 0) (engine : Engine S) (Stands : ℕ → List Answer → S → Type 0) (weight : ℕ → S → ℕ) (n : ℕ)
+    (alone : Alone setup offer engine Stands) (soon : Soon engine Stands weight (n + 1)) where
   -- the code has settled, and stands there as before
   record Settles (t : ℕ) (heard : List Answer) (settled : Option (Settled S)) : Type 0 where
     stack : S
@@ -44,7 +36,7 @@ module _ (offer : Supplier) (S : Type 0) (engine : Engine S) (Stands : ℕ → L
   settles_soon : (t : ℕ) (heard : List Answer) (stack : S) → Stands t heard stack → Settles t heard (settle engine t n stack)
   settles_soon t heard stack s = let bound = soon.bounded t heard stack s in settles n t heard stack s (omega arith)
 
-  offers_after : (t : ℕ) (before answers : List Answer) (stack : S) → Stands t before stack → HeardAfter offer t before answers →
+  offers_after : (t : ℕ) (before answers : List Answer) (stack : S) → Stands t before stack → HeardAfter setup offer t before answers →
       mapped (λ settled. settled.action) (given engine t n stack answers) ≡ Some (offer t (before ++ answers))
   offers_after t before [] stack s heard =
       let r = settles_soon t before stack s in
@@ -52,15 +44,15 @@ module _ (offer : Supplier) (S : Type 0) (engine : Engine S) (Stands : ℕ → L
       ∙ ap (λ answers. Some (offer t answers)) (sym (append-nil before))
   offers_after t before (answer ∷ answers) stack s heard =
       let r = settles_soon t before stack s in
-      let suits = subst (λ action. Suits action answer) (sym (alone.offers t before r.stack r.action r.stands r.offers)) heard.0 in
-      let next = alone.answered t before r.stack r.action (opening []) answer r.stands r.offers (hears_suiting (opening []) t r.action answer suits) in
+      let suits = subst (λ action. Suits setup action answer) (sym (alone.offers t before r.stack r.action r.stands r.offers)) heard.0 in
+      let next = alone.answered t before r.stack r.action answer r.stands r.offers suits in
       ap (λ settled. mapped (λ settled. settled.action) (on_settled settled (λ stack. given engine t n (engine.answer t stack answer) answers))) r.at
       ∙ offers_after t (before ++ answer ∷ []) answers (engine.answer t r.stack answer) next heard.1
       ∙ ap (λ answers. Some (offer t answers)) (append_assoc before (answer ∷ []) answers)
 
 -- Code begun and given the answers that its task can have offers what the task does next.
-pub offers_alone : (offer : Supplier) {S : Type 0} (engine : Engine S) (Stands : ℕ → List Answer → S → Type 0) (weight : ℕ → S → ℕ) (n : ℕ) →
-    Alone offer engine Stands → Soon engine Stands weight (n + 1) → (t : ℕ) (answers : List Answer) → Heard offer t answers →
+pub offers_alone : (setup : Setup) (offer : Supplier) {S : Type 0} (engine : Engine S) (Stands : ℕ → List Answer → S → Type 0) (weight : ℕ → S → ℕ) (n : ℕ) →
+    Alone setup offer engine Stands → Soon engine Stands weight (n + 1) → (t : ℕ) (answers : List Answer) → Heard setup offer t answers →
     code_offers engine n t answers ≡ Some (offer t answers)
-offers_alone offer {S} engine Stands weight n alone soon t answers heard =
-    offers_after offer S engine Stands weight n alone soon t [] answers (engine.begin t) (alone.begins t) heard
+offers_alone setup offer {S} engine Stands weight n alone soon t answers heard =
+    offers_after setup offer S engine Stands weight n alone soon t [] answers (engine.begin t) (alone.begins t) heard

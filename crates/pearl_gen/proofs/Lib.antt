@@ -1,7 +1,11 @@
 pub mod Zips
+pub mod Depths
+pub mod Values
 pub mod Fitting
-pub mod Point
+pub mod Straight
+pub mod Steady
+pub mod Moves
 pub mod Standing
-pub mod Valid
 pub mod Alone
+pub mod Valid
 pub mod Whole

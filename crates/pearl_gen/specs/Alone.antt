@@ -1,9 +1,9 @@
 -- When the code of each task, run by itself, offers what its task rules say next, whatever it is answered.
 use Rattle.std.specs.Prelude.{◌≡◌, ℕ, zero, suc, List, [], ◌∷◌, ◌++◌, Option, Some, None}
 use Rattle.pearl_rules.specs.declared.action.Action.{Action}
-use Rattle.pearl_rules.specs.declared.action.Action.TheVariants.{Put, End, Trap}
 use Rattle.pearl_rules.specs.declared.action.Answer.{Answer}
-use Rattle.pearl_rules.specs.declared.action.Answer.TheVariants.{Nothing}
+use Rattle.pearl_rules.specs.declared.setup.Setup.{Setup}
+use Rattle.pearl_rules.specs.Slots.{Suits}
 use Rattle.pearl_rules.specs.Runs.{Supplier, Stepped, Silent, Offers, Engine, mapped}
 use Rattle.pearl_prog.specs.declared.program.Program.{Program}
 use Rattle.pearl_meaning.specs.Meaning.{offer}
@@ -11,19 +11,14 @@ use Rattle.pearl_code.specs.declared.object.Object.{Object}
 use Rattle.pearl_code.specs.Rows.{engine}
 use Rattle.pearl_code.specs.MachineRun.{total_rows}
 
--- which answers an action can have; a task that ends hears nothing more
-abbrev pub Suits : Action → Answer → Type 0
-Suits (Put device text) answer = answer ≡ Nothing
-Suits End answer = ⊥
-Suits (Trap trap) answer = ⊥
-
-abbrev pub HeardAfter : Supplier → ℕ → List Answer → List Answer → Type 0
-HeardAfter offer t before [] = Unit {0}
-HeardAfter offer t before (answer ∷ answers) = Suits (offer t before) answer × HeardAfter offer t (before ++ answer ∷ []) answers
+abbrev pub HeardAfter : Setup → Supplier → ℕ → List Answer → List Answer → Type 0
+HeardAfter setup offer t before [] = Unit {0}
+HeardAfter setup offer t before (answer ∷ answers) =
+    Suits setup (offer t before) answer × HeardAfter setup offer t (before ++ answer ∷ []) answers
 
 -- task t can have these answers since its start: each suits the action that it does after the ones before
-abbrev pub Heard : Supplier → ℕ → List Answer → Type 0
-Heard offer t answers = HeardAfter offer t [] answers
+abbrev pub Heard : Setup → Supplier → ℕ → List Answer → Type 0
+Heard setup offer t answers = HeardAfter setup offer t [] answers
 
 -- the stack at which code offers an action
 pub record Settled (S : Type 0) : Type 0 where
@@ -55,4 +50,4 @@ code_offers engine n t answers = mapped (λ settled. settled.action) (given engi
 -- After any answers that a task can have, its code offers the action that the task does next,
 -- and before each action it goes through no more silent instructions than the object has instructions.
 pub record MeansAlone (p : Program) (o : Object) : Type 0 where
-  pub offers : (t : ℕ) (answers : List Answer) → Heard (offer p) t answers → code_offers (engine o) (total_rows o.tasks) t answers ≡ Some (offer p t answers)
+  pub offers : (t : ℕ) (answers : List Answer) → Heard p.setup (offer p) t answers → code_offers (engine o) (total_rows o.tasks) t answers ≡ Some (offer p t answers)

@@ -10,4 +10,4 @@ use Rattle.pearl_code.specs.MachineRun.{total_rows}
 -- the object has the program's tables, and its code runs as the program's task rules say
 pub record IsFaithfulTo (p : Program) (o : Object) : Type 0 where
   pub tables : o.setup ≡ p.setup
-  pub runs : IsFaithful (offer p) (engine o) o.setup.tasks (length o.tasks) (total_rows o.tasks)
+  pub runs : IsFaithful (offer p) (engine o) o.setup (length o.tasks) (total_rows o.tasks)

@@ -6,6 +6,7 @@ ghost use Rattle.pearl_code.specs.Valid.{IsValid};
 ghost use Rattle.pearl_gen.specs.Faithful.{IsFaithfulTo};
 ghost use Rattle.pearl_gen.specs.Alone.{MeansAlone};
 
+mod expressions;
 mod routines;
 mod tables;
 #[cfg(test)]
@@ -24,7 +25,7 @@ pub fn generate(alloc: Global, prog: &Prog) -> Result<Object, NoMemory>
 {
     let program = prog.parts();
     let setup = tables::copy_setup(alloc, &program.setup)?;
-    let codes = routines::emit_routines(alloc, program.tasks.as_slice())?;
+    let codes = routines::emit_routines(alloc, &program.setup, program.tasks.as_slice())?;
     Ok(Object {
         setup,
         tasks: Listing::new(codes),

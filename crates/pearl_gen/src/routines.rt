@@ -1,35 +1,44 @@
 // The code of the tasks' bodies.
 
-ghost use Rattle.std.specs.Prelude.{◌≡◌, ◌≤◌, [], ◌∷◌, map, IfOk, OnOk};
+ghost use Rattle.std.specs.Prelude.{◌≡◌, ◌≤◌, ◌<◌, length, IfOk, OnOk};
 ghost use Rattle.std.specs.List.{AllByRecursion, AllZip, flat_map};
-ghost use Rattle.pearl_gen.specs.Plain.{Appends, push_of, statement_code, value_count as count_of, most_values, IsWithin, IsShort, IsCodeOf};
+ghost use Rattle.pearl_rules.specs.Slots.{slot_kind};
+ghost use Rattle.pearl_prog.specs.Sound.{IsStatement, IsRoutine};
+ghost use Rattle.pearl_gen.specs.Plain.{Appends, statement_code, statement_depth as depth_within, most_operands, IsWithin, IsCodeOf};
 
+use crate::expressions::{emit_expr, emit_values, expr_depth, slot, values_depth};
 use pearl_code::instr::Instr;
 use pearl_code::object::Code;
-use pearl_prog::program::{Expr, Routine, Statement};
-use pearl_value::cell::Cell;
+use pearl_prog::program::{Routine, Statement};
+use pearl_rules::setup::Setup;
+use pearl_value::conversion::kind;
+use pearl_value::kind::Kind;
 use pearl_value::listing::Listing;
 use std::alloc::{AllocError as NoMemory, Global};
 
 /// The code of each routine.
-pub fn emit_routines(alloc: Global, routines: &[Routine]) -> Result<Vec<Code>, NoMemory>
-    requires { AllByRecursion IsShort routines.now }
-    ensures { IfOk result (λ codes. AllZip IsCodeOf routines.now codes.items) }
+pub fn emit_routines(
+    alloc: Global,
+    setup: &Setup,
+    routines: &[Routine],
+) -> Result<Vec<Code>, NoMemory>
+    requires { AllByRecursion (IsRoutine setup.now) routines.now }
+    ensures { IfOk result (λ codes. AllZip (IsCodeOf setup.now) routines.now codes.items) }
 {
     let mut codes = Vec::new(alloc);
     for routine in routines {
-        codes.push(emit_routine(alloc, routine)?)?;
+        codes.push(emit_routine(alloc, setup, routine)?)?;
     }
     Ok(codes)
 }
 
-fn emit_routine(alloc: Global, routine: &Routine) -> Result<Code, NoMemory>
-    requires { IsShort routine.now }
-    ensures { IfOk result (λ code. IsCodeOf routine.now code) }
+fn emit_routine(alloc: Global, setup: &Setup, routine: &Routine) -> Result<Code, NoMemory>
+    requires { IsRoutine setup.now routine.now }
+    ensures { IfOk result (λ code. IsCodeOf setup.now routine.now code) }
 {
     let mut code = Vec::new(alloc);
     let statements = routine.body.as_slice();
-    emit_statements(alloc, &mut code, statements)?;
+    emit_statements(alloc, setup, &mut code, statements)?;
     code.push(Instr::End)?;
     Ok(Code {
         depth: depth_of(statements),
@@ -37,48 +46,60 @@ fn emit_routine(alloc: Global, routine: &Routine) -> Result<Code, NoMemory>
     })
 }
 
-// The greatest number of values of one statement.
+// The greatest number of operands of one statement.
 fn depth_of(statements: &[Statement]) -> u32
-    requires { IsWithin 64 statements.now }
-    ensures { result ≡ most_values statements.now }
+    requires { IsWithin 4096 statements.now }
+    ensures { result ≡ most_operands statements.now }
 {
     let mut depth = 0;
     for statement in statements {
-        depth = value_count(statement).max(depth);
+        depth = statement_depth(statement).max(depth);
     }
     depth
 }
 
-fn value_count(statement: &Statement) -> u32
-    requires { count_of statement.now ≤ 64 }
-    ensures { result ≡ count_of statement.now }
+fn statement_depth(statement: &Statement) -> u32
+    requires { depth_within statement.now ≤ 4096 }
+    ensures { result ≡ depth_within statement.now }
 {
     match statement {
-        Statement::Put { values, .. } => values.len() as u32,
+        Statement::Assign { value, .. } => expr_depth(value),
+        Statement::Put { values, .. } => values_depth(values.as_slice()),
     }
 }
 
 fn emit_statements(
     alloc: Global,
+    setup: &Setup,
     code: &mut Vec<Instr>,
     statements: &[Statement],
 ) -> Result<(), NoMemory>
-    ensures { OnOk result (Appends code.old.items code.new.items (flat_map statement_code statements.now)) }
+    requires { AllByRecursion (IsStatement setup.now) statements.now }
+    ensures { OnOk result (Appends code.old.items code.new.items (flat_map (statement_code setup.now) statements.now)) }
 {
     for statement in statements {
-        emit_statement(alloc, code, statement)?;
+        emit_statement(alloc, setup, code, statement)?;
     }
     Ok(())
 }
 
 fn emit_statement(
     alloc: Global,
+    setup: &Setup,
     code: &mut Vec<Instr>,
     statement: &Statement,
 ) -> Result<(), NoMemory>
-    ensures { OnOk result (Appends code.old.items code.new.items (statement_code statement.now)) }
+    requires { IsStatement setup.now statement.now }
+    ensures { OnOk result (Appends code.old.items code.new.items (statement_code setup.now statement.now)) }
 {
     match statement {
+        Statement::Assign { target, value } => {
+            let place = slot(target);
+            emit_expr(alloc, code, value)?;
+            code.push(Instr::Conv(kind_in(setup, place)))?;
+            code.push(Instr::Write(place))?;
+            Ok(())
+        }
         Statement::Put {
             values,
             device,
@@ -94,29 +115,10 @@ fn emit_statement(
     }
 }
 
-fn emit_values(alloc: Global, code: &mut Vec<Instr>, values: &[Expr]) -> Result<(), NoMemory>
-    ensures { OnOk result (Appends code.old.items code.new.items (map push_of values.now)) }
+// The kind of the values of a slot.
+fn kind_in(setup: &Setup, slot: u32) -> Kind
+    requires { slot < length setup.now.slots }
+    ensures { result ≡ slot_kind setup.now slot }
 {
-    for value in values {
-        emit_value(alloc, code, value)?;
-    }
-    Ok(())
-}
-
-fn emit_value(alloc: Global, code: &mut Vec<Instr>, value: &Expr) -> Result<(), NoMemory>
-    ensures { OnOk result (Appends code.old.items code.new.items (push_of value.now ∷ [])) }
-{
-    match value {
-        Expr::Number { len, value } => {
-            let literal = Box::new(
-                alloc,
-                Cell::Fixed {
-                    len: *len,
-                    value: *value,
-                },
-            )?;
-            code.push(Instr::Const(literal))?;
-            Ok(())
-        }
-    }
+    kind(&setup.slots.as_slice()[slot as usize])
 }

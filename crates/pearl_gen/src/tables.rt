@@ -4,6 +4,7 @@ ghost use Rattle.std.specs.Prelude.{◌≡◌, IfOk};
 
 use pearl_format::item::Item;
 use pearl_rules::setup::{Setup, TaskEntry};
+use pearl_value::cell::{Cell, copy_of};
 use pearl_value::listing::Listing;
 use std::alloc::{AllocError as NoMemory, Global};
 
@@ -12,10 +13,12 @@ pub fn copy_setup(alloc: Global, setup: &Setup) -> Result<Setup, NoMemory>
     ensures { IfOk result (λ copy. copy ≡ setup.now) }
 {
     let tasks = copy_tasks(alloc, setup.tasks.as_slice())?;
+    let slots = copy_cells(alloc, setup.slots.as_slice())?;
     let devices = Vec::from_slice(alloc, setup.devices.as_slice())?;
     let formats = copy_formats(alloc, setup.formats.as_slice())?;
     Ok(Setup {
         tasks: Listing::new(tasks),
+        slots: Listing::new(slots),
         devices: Listing::new(devices),
         formats: Listing::new(formats),
     })
@@ -40,6 +43,16 @@ fn copy_task(task: &TaskEntry) -> Result<TaskEntry, NoMemory>
         priority: task.priority,
         main: task.main,
     })
+}
+
+fn copy_cells(alloc: Global, cells: &[Cell]) -> Result<Vec<Cell>, NoMemory>
+    ensures { IfOk result (λ copy. copy.items ≡ cells.now) }
+{
+    let mut copy = Vec::new(alloc);
+    for cell in cells {
+        copy.push(copy_of(cell))?;
+    }
+    Ok(copy)
 }
 
 fn copy_formats(alloc: Global, formats: &[Listing<Item>]) -> Result<Vec<Listing<Item>>, NoMemory>

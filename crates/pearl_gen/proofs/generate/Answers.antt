@@ -5,8 +5,8 @@ use Rattle.pearl_gen.proofs.Valid.{valid}
 use Rattle.pearl_gen.proofs.Whole.{faithful_to, means_alone}
 use Rattle.pearl_gen.proofs.generate.Goals as goal
 
-codes_of : (c : goal.After-new) → AllZip IsCodeOf c.parts-program.result.now.tasks c.in_ok-codes.codes.items
-codes_of c = subst (λ routines. AllZip IsCodeOf routines c.in_ok-codes.codes.items) c.as_slice.ensures c.in_ok-codes.ensures
+codes_of : (c : goal.After-new) → AllZip (IsCodeOf c.parts-program.result.now.setup) c.parts-program.result.now.tasks c.in_ok-codes.codes.items
+codes_of c = subst (λ routines. AllZip (IsCodeOf c.parts-program.result.now.setup) routines c.in_ok-codes.codes.items) c.as_slice.ensures c.in_ok-codes.ensures
 
 pub returns-clause-valid : goal.returns-clause-valid
 returns-clause-valid c =

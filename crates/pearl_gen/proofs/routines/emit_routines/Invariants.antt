@@ -4,4 +4,4 @@ use Rattle.pearl_gen.specs.Plain.{IsCodeOf}
 use Rattle.pearl_gen.proofs.routines.emit_routines.Given as goal
 
 abbrev pub invariant-loop-routine : goal.invariant-loop-routine
-invariant-loop-routine l = AllZip IsCodeOf (take l.routine-index l.routines) l.codes.items
+invariant-loop-routine l = AllZip (IsCodeOf l.setup) (take l.routine-index l.routines) l.codes.items

@@ -4,4 +4,4 @@ use Rattle.pearl_gen.specs.Plain.{statement_code, Appends}
 use Rattle.pearl_gen.proofs.routines.emit_statements.Given as goal
 
 abbrev pub invariant-loop-statement : goal.invariant-loop-statement
-invariant-loop-statement l = Appends l.initial.code.items l.code.items (flat_map statement_code (take l.statement-index l.statements))
+invariant-loop-statement l = Appends l.initial.code.items l.code.items (flat_map (statement_code l.setup) (take l.statement-index l.statements))

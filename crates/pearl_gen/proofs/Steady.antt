@@ -1,0 +1,124 @@
+-- The kinds of the operands before and after an instruction.
+use Rattle.std.proofs.Common.{◌≡◌, ℕ, ◌<◌, List, [], ◌∷◌, ◌++◌, Some, None, length, map, refl, ap, sym, ◌∙◌, subst, arith}
+use Rattle.std.specs.List.{AllZip}
+use Rattle.pearl_value.specs.declared.kind.Kind.{Kind}
+use Rattle.pearl_value.specs.declared.cell.Cell.{Cell}
+use Rattle.pearl_value.specs.Cells.{kind_of}
+use Rattle.pearl_value.specs.WellFormed.{IsWellFormed}
+use Rattle.pearl_rules.specs.declared.setup.Setup.{Setup}
+use Rattle.pearl_rules.specs.Slots.{slot_kind, IsValueOf}
+use Rattle.pearl_code.specs.declared.instr.Instr.{Instr}
+use Rattle.pearl_code.specs.declared.instr.Instr.TheVariants as instr
+use Rattle.pearl_code.specs.Rows.{below, last, second}
+use Rattle.pearl_code.specs.Valid.{Shape, kinds_of, FitsConv, FitsRead, FitsWrite, FitsDyadic, FitsPut, RunsFrom}
+use Rattle.pearl_gen.specs.Plain.{Plain, Const, Conv, Read, Write, Dyadic, Put, End, plain_of}
+use Rattle.pearl_gen.proofs.Zips.{zip_push}
+use Rattle.pearl_gen.proofs.Straight.{below_append, last_append, last_two, second_two}
+
+-- the rule of valid code again, for plain instructions
+abbrev pub PlainRuns : Setup → ℕ → Shape → List Plain → Type 0
+PlainRuns setup depth shape [] = shape ≡ None
+PlainRuns setup depth shape (Const value ∷ rest) =
+    IsWellFormed value × (length (kinds_of shape) < depth) × PlainRuns setup depth (Some (kinds_of shape ++ kind_of value ∷ [])) rest
+PlainRuns setup depth shape (Conv to ∷ rest) =
+    (left : List Kind) × FitsConv to (kinds_of shape) left × PlainRuns setup depth (Some (left ++ to ∷ [])) rest
+PlainRuns setup depth shape (Read slot ∷ rest) =
+    FitsRead setup depth slot (kinds_of shape) × PlainRuns setup depth (Some (kinds_of shape ++ slot_kind setup slot ∷ [])) rest
+PlainRuns setup depth shape (Write slot ∷ rest) =
+    (left : List Kind) × FitsWrite setup slot (kinds_of shape) left × PlainRuns setup depth (Some left) rest
+PlainRuns setup depth shape (Dyadic op ∷ rest) =
+    (left : List Kind) × (result : Kind) × FitsDyadic op (kinds_of shape) left result × PlainRuns setup depth (Some (left ++ result ∷ [])) rest
+PlainRuns setup depth shape (Put device format ∷ rest) =
+    (left : List Kind) × FitsPut setup device format (kinds_of shape) left × PlainRuns setup depth (Some left) rest
+PlainRuns setup depth shape (End ∷ rest) = (kinds_of shape ≡ []) × PlainRuns setup depth None rest
+
+pub runs_plain : (setup : Setup) (depth : ℕ) (shape : Shape) (code : List Instr) → PlainRuns setup depth shape (map plain_of code) → RunsFrom setup depth shape code
+runs_plain setup depth shape [] runs = runs
+runs_plain setup depth shape (instr.Const x ∷ code) runs = (runs.0, runs.1, runs_plain setup depth (Some (kinds_of shape ++ kind_of x.value ∷ [])) code runs.2)
+runs_plain setup depth shape (instr.Conv to ∷ code) runs = (runs.0, runs.1, runs_plain setup depth (Some (runs.0 ++ to ∷ [])) code runs.2)
+runs_plain setup depth shape (instr.Read slot ∷ code) runs = (runs.0, runs_plain setup depth (Some (kinds_of shape ++ slot_kind setup slot ∷ [])) code runs.1)
+runs_plain setup depth shape (instr.Write slot ∷ code) runs = (runs.0, runs.1, runs_plain setup depth (Some runs.0) code runs.2)
+runs_plain setup depth shape (instr.Dyadic op ∷ code) runs = (runs.0, runs.1, runs.2, runs_plain setup depth (Some (runs.0 ++ runs.1 ∷ [])) code runs.3)
+runs_plain setup depth shape (instr.Put device format ∷ code) runs = (runs.0, runs.1, runs_plain setup depth (Some runs.0) code runs.2)
+runs_plain setup depth shape (instr.End ∷ code) runs = (runs.0, runs_plain setup depth None code runs.1)
+
+-- the operands are well-formed values of these kinds
+abbrev pub AreOf : List Kind → List Cell → Type 0
+AreOf kinds operands = AllZip IsValueOf kinds operands
+
+pub pushed_of : (kinds : List Kind) (operands : List Cell) (kind : Kind) (x : Cell) → AreOf kinds operands → IsValueOf kind x → AreOf (kinds ++ kind ∷ []) (operands ++ x ∷ [])
+pushed_of kinds operands kind x all is = zip_push IsValueOf kinds operands kind x all is
+
+-- the operands in two parts, as their kinds are
+pub record Parted (left right : List Kind) (operands : List Cell) : Type 0 where
+  pub under : List Cell
+  pub above : List Cell
+  pub all : operands ≡ under ++ above
+  pub under_of : AreOf left under
+  pub above_of : AreOf right above
+
+pub parted : (left right : List Kind) (operands : List Cell) → AreOf (left ++ right) operands → Parted left right operands
+parted [] right operands all = record { under = []; above = operands; all = refl; under_of = tt; above_of = all }
+parted (kind ∷ left) right [] all = absurd all
+parted (kind ∷ left) right (x ∷ operands) all = let rest = parted left right operands all.1 in record {
+  under = x ∷ rest.under;
+  above = rest.above;
+  all = ap (λ xs. x ∷ xs) rest.all;
+  under_of = (all.0, rest.under_of);
+  above_of = rest.above_of;
+}
+
+-- one operand on top
+pub record HasLast (left : List Kind) (kind : Kind) (operands : List Cell) : Type 0 where
+  pub is : IsValueOf kind (last operands)
+  pub under : AreOf left (below 1 operands)
+
+pub has_last : (left : List Kind) (kind : Kind) (operands : List Cell) → AreOf (left ++ kind ∷ []) operands → HasLast left kind operands
+has_last left kind operands all = by (parted left (kind ∷ []) operands all)
+  where
+    by : Parted left (kind ∷ []) operands → HasLast left kind operands
+    by p = one p.under p.above p.all p.under_of p.above_of
+      where
+        one : (under above : List Cell) → operands ≡ under ++ above → AreOf left under → AreOf (kind ∷ []) above → HasLast left kind operands
+        one under [] e under_of above_of = absurd above_of
+        one under (x ∷ []) e under_of above_of = subst (λ operands. HasLast left kind operands) (sym e) record {
+          is = subst (λ x. IsValueOf kind x) (sym (last_append under x)) above_of.0;
+          under = subst (λ left_over. AreOf left left_over) (sym (below_append under (x ∷ []))) under_of;
+        }
+        one under (x ∷ y ∷ above) e under_of above_of = absurd above_of.1
+
+-- two operands on top
+pub record HasTwo (left : List Kind) (first next : Kind) (operands : List Cell) : Type 0 where
+  pub first_is : IsValueOf first (second operands)
+  pub next_is : IsValueOf next (last operands)
+  pub under : AreOf left (below 2 operands)
+
+pub has_two : (left : List Kind) (first next : Kind) (operands : List Cell) → AreOf (left ++ first ∷ next ∷ []) operands → HasTwo left first next operands
+has_two left first next operands all = by (parted left (first ∷ next ∷ []) operands all)
+  where
+    by : Parted left (first ∷ next ∷ []) operands → HasTwo left first next operands
+    by p = two p.under p.above p.all p.under_of p.above_of
+      where
+        two : (under above : List Cell) → operands ≡ under ++ above → AreOf left under → AreOf (first ∷ next ∷ []) above → HasTwo left first next operands
+        two under [] e under_of above_of = absurd above_of
+        two under (x ∷ []) e under_of above_of = absurd above_of.1
+        two under (x ∷ y ∷ []) e under_of above_of = subst (λ operands. HasTwo left first next operands) (sym e) record {
+          first_is = subst (λ x. IsValueOf first x) (sym (second_two under x y)) above_of.0;
+          next_is = subst (λ x. IsValueOf next x) (sym (last_two under x y)) above_of.1.0;
+          under = subst (λ left_over. AreOf left left_over) (sym (below_append under (x ∷ y ∷ []))) under_of;
+        }
+        two under (x ∷ y ∷ z ∷ above) e under_of above_of = absurd above_of.1.1
+
+-- what is left below the values that PUT takes
+zip_length : (kinds : List Kind) (cells : List Cell) → AreOf kinds cells → length kinds ≡ length cells
+zip_length [] [] all = refl
+zip_length [] (x ∷ cells) all = absurd all
+zip_length (kind ∷ kinds) [] all = absurd all
+zip_length (kind ∷ kinds) (x ∷ cells) all = let rest : length kinds ≡ length cells = zip_length kinds cells all.1 in omega (arith, rest)
+
+pub put_left : (left values : List Kind) (operands : List Cell) (count : ℕ) → AreOf (left ++ values) operands → length values ≡ count → AreOf left (below count operands)
+put_left left values operands count all counted =
+    let p = parted left values operands all in
+    let long : length p.above ≡ count = sym (zip_length values p.above p.above_of) ∙ counted in
+    subst (λ left_over. AreOf left left_over)
+    (sym (ap (λ n. below n operands) (sym long) ∙ ap (λ all. below (length p.above) all) p.all ∙ below_append p.under p.above)) p.under_of
