@@ -38,9 +38,11 @@ seventeen_is = ((lit< tt, lit≤ tt), record { low = search rules; high = search
 -- the literal is pushed above one value
 literal_runs : (instr : Instr) (rest : List Instr) → IsSeventeen instr → RunsFrom hand_setup 2 (Some (kind.Fixed 31 ∷ kind.Fixed 31 ∷ [])) rest →
     RunsFrom hand_setup 2 (Some (kind.Fixed 31 ∷ [])) (instr ∷ rest)
-literal_runs (Const x) rest is runs =
-    (subst (λ v. IsWellFormed v) (sym is) seventeen_is, lit< tt,
-    subst (λ v. RunsFrom hand_setup 2 (Some (kind.Fixed 31 ∷ kind_of v ∷ [])) rest) (sym is) runs)
+literal_runs (Const x) rest is runs = (
+  subst (λ v. IsWellFormed v) (sym is) seventeen_is,
+  lit< tt,
+  subst (λ v. RunsFrom hand_setup 2 (Some (kind.Fixed 31 ∷ kind_of v ∷ [])) rest) (sym is) runs,
+)
 literal_runs (Conv to) rest is runs = absurd is
 literal_runs (Read slot) rest is runs = absurd is
 literal_runs (Write slot) rest is runs = absurd is
@@ -53,19 +55,38 @@ code_is len literal some most is = record {
   bounded = lit≤ tt;
   runs = (
     record { named = lit< tt; room = lit< tt },
-    ([], record { from = kind.Fixed 4; stacked = refl; suits = tt; kind = (lit< tt, lit≤ tt) },
-    literal_runs literal _ is (
+    (
       [],
-      kind.Fixed 31,
-      record { x = kind.Fixed 31; y = kind.Fixed 31; stacked = refl; row = refl },
-      ([], record { named = lit< tt; stacked = refl },
-      (record { named = lit< tt; room = lit< tt },
-      ([], record { takes = tt; named = lit< tt; values = kind.Fixed 31 ∷ []; stacked = refl; suits = (lit< tt, tt); few = lit≤ tt; short = lit≤ tt },
-      (record { named = lit< tt; room = lit< tt },
-      ([], record { from = kind.Fixed 31; stacked = refl; suits = tt; kind = (some, most) },
-      ([], record { takes = tt; named = lit< tt; values = kind.Fixed len ∷ []; stacked = refl; suits = (lit< tt, tt); few = lit≤ tt; short = lit≤ tt },
-      (refl, refl))))))),
-    )),
+      record { from = kind.Fixed 4; stacked = refl; suits = tt; kind = (lit< tt, lit≤ tt) },
+      literal_runs literal _ is (
+        [],
+        kind.Fixed 31,
+        record { x = kind.Fixed 31; y = kind.Fixed 31; stacked = refl; row = refl },
+        (
+          [],
+          record { named = lit< tt; stacked = refl },
+          (
+            record { named = lit< tt; room = lit< tt },
+            (
+              [],
+              record { takes = tt; named = lit< tt; values = kind.Fixed 31 ∷ []; stacked = refl; suits = (lit< tt, tt); few = lit≤ tt; short = lit≤ tt },
+              (
+                record { named = lit< tt; room = lit< tt },
+                (
+                  [],
+                  record { from = kind.Fixed 31; stacked = refl; suits = tt; kind = (some, most) },
+                  (
+                    [],
+                    record { takes = tt; named = lit< tt; values = kind.Fixed len ∷ []; stacked = refl; suits = (lit< tt, tt); few = lit≤ tt; short = lit≤ tt },
+                    (refl, refl),
+                  ),
+                ),
+              ),
+            ),
+          ),
+        ),
+      ),
+    ),
   );
 }
 

@@ -1,7 +1,7 @@
 -- What the operands are like before and after an instruction.
 use Rattle.std.proofs.Common.{◌≡◌, ℕ, zero, suc, ◌+◌, ◌-◌, ◌<◌, ◌≤◌, List, [], ◌∷◌, ◌++◌, Option, Some, None, length, map, take, drop, get_or, slice_get, vec_capacity, refl, sym, ap, ◌∙◌, subst, arith, add-one, append_assoc}
 use Rattle.std.specs.Prelude.{Result, Ok, Err, IfOk, IfSome, All}
-use Rattle.std.proofs.lemmas.List.Elements.{All-nil, All-cons, All-append, All-take, All-get_or}
+use Rattle.std.proofs.lemmas.List.Elements.{All-nil, All-cons, All-append, All-get_or}
 use Rattle.std.proofs.Math.Seq.{drop-cons, drop-append_seam, take-append_seam}
 use Rattle.std.proofs.lemmas.List.{take-map, drop-map, map-append, take_all, take_rest, length-map, length-append}
 use Rattle.std.proofs.lemmas.Option.{same_Some, slice_get_within, slice_get-get_or}
@@ -204,11 +204,13 @@ module _ (o : Object) (stack : Stack) (steady : IsSteady o stack) where
       Fits o.setup (action.Write slot (last stack.operands))
   write_fits slot e all =
       let r = runs (Write slot) e in
-      let some = write_enough slot e in
-      (r.1.named, record {
-        well_formed = well_at stack.operands (length stack.operands - 1) all (omega arith);
-        same_kind = last_kind stack.operands r.0 (slot_kind o.setup slot) r.1.stacked;
-      })
+      let some = write_enough slot e in (
+        r.1.named,
+        record {
+          well_formed = well_at stack.operands (length stack.operands - 1) all (omega arith);
+          same_kind = last_kind stack.operands r.0 (slot_kind o.setup slot) r.1.stacked;
+        },
+      )
 
   pub write_steady : (slot : ℕ) → fetched o 0 stack ≡ Some (Write slot) → IsSteady o (next_with stack (below 1 stack.operands))
   write_steady slot e =

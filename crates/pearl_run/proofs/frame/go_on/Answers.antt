@@ -6,7 +6,7 @@ use Rattle.pearl_format.specs.Items.{data_count as count_of}
 use Rattle.pearl_rules.specs.Slots.{heard_value}
 use Rattle.pearl_rules.specs.Tables.{format_of}
 use Rattle.pearl_code.specs.Rows.{Stack, fetched, next_with, below}
-use Rattle.pearl_code.specs.declared.instr.Instr.TheVariants.{Read, Write, Put}
+use Rattle.pearl_code.specs.declared.instr.Instr.TheVariants.{Read}
 use Rattle.pearl_run.specs.Frame.{stack_of}
 use Rattle.pearl_run.proofs.Operands.{hears_value, ready_at, read_room, read_steady, write_enough, write_steady, put_enough, put_steady}
 use Rattle.pearl_run.proofs.frame.go_on.Goals as goal

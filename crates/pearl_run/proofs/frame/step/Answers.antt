@@ -3,8 +3,8 @@ use Rattle.std.proofs.lemmas.List.Elements.{All-take}
 use Rattle.pearl_value.specs.Cells.{kind_of}
 use Rattle.pearl_value.specs.Rows.{row2}
 use Rattle.pearl_value.specs.WellFormed.{IsWellFormed}
-use Rattle.pearl_code.specs.Rows.{Stack, fetched, next_with, below, last, second}
-use Rattle.pearl_code.specs.declared.instr.Instr.TheVariants.{Const, Conv, Read, Write, Dyadic, Put}
+use Rattle.pearl_code.specs.Rows.{Stack, fetched, next_with, below, second}
+use Rattle.pearl_code.specs.declared.instr.Instr.TheVariants.{Const}
 use Rattle.pearl_run.specs.Frame.{stack_of, IsSteady}
 use Rattle.pearl_run.proofs.Operands.{well_at, const_room, const_well, const_steady, conv_enough, conv_fits, conv_suits, conv_steady, dyadic_enough, dyadic_row, dyadic_steady, read_named, write_enough, write_fits, put_fits, put_lawful, if_ok, pushed_ready}
 use Rattle.pearl_run.proofs.frame.step.Goals as goal
