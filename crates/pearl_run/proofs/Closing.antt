@@ -1,9 +1,13 @@
 -- How a run of one task starts and is closed.
-use Rattle.std.proofs.Common.{◌≡◌, ℕ, suc, ◌≤◌, List, [], ◌∷◌, ◌++◌, Bool, true, false, Option, Some, None, length, slice_get, vec_capacity, sym, ap, ◌∙◌, subst, arith}
+use Rattle.std.proofs.Common.{◌≡◌, ℕ, suc, ◌≤◌, List, [], ◌∷◌, ◌++◌, Bool, true, false, Option, Some, None, length, map, slice_get, vec_capacity, sym, ap, ◌∙◌, subst, arith}
 use Rattle.std.specs.Result.{OnOk, OnErr}
 use Rattle.std.specs.Prelude.{Result, Ok, Err}
-use Rattle.std.specs.List.{AllByRecursion}
+use Rattle.std.specs.Prelude.{All}
+use Rattle.std.specs.List.{AllByRecursion, AllZip}
 use Rattle.std.proofs.lemmas.List.{append-nil}
+use Rattle.std.proofs.lemmas.List.Elements.{All-nil}
+use Rattle.pearl_value.specs.declared.cell.Cell.{Cell}
+use Rattle.pearl_value.specs.WellFormed.{IsWellFormed}
 use Rattle.pearl_rules.specs.declared.action.Action.{Action}
 use Rattle.pearl_rules.specs.declared.entry.Entry.{Entry}
 use Rattle.pearl_rules.specs.declared.event.Event.TheVariants.{Start}
@@ -13,9 +17,12 @@ use Rattle.pearl_rules.specs.declared.row.Mode.TheVariants.{Dormant, Active}
 use Rattle.pearl_rules.specs.declared.row.TaskRow.{TaskRow}
 use Rattle.pearl_rules.specs.declared.setup.Setup.{Setup}
 use Rattle.pearl_rules.specs.declared.setup.TaskEntry.{TaskEntry}
-use Rattle.pearl_rules.specs.Core.{Core, first_mode, first_events, first_events_if}
+use Rattle.pearl_rules.specs.Core.{Core, first_mode, first_row, first_events, first_events_if}
 use Rattle.pearl_rules.specs.Pick.{Offered, shown_of, states_first, states}
-use Rattle.pearl_rules.specs.Runs.{Machine, machine_start, machine_offers, unsettled}
+use Rattle.pearl_rules.specs.Runs.{Machine, machine_start, machine_settled, machine_offers, unsettled}
+use Rattle.pearl_rules.specs.Slots.{IsLike}
+use Rattle.pearl_rules.specs.Tables.{IsSetup}
+use Rattle.pearl_rules.proofs.EffectLaws.{opening-kinds}
 use Rattle.pearl_code.specs.declared.object.Code.{Code}
 use Rattle.pearl_code.specs.declared.object.Object.{Object}
 use Rattle.pearl_code.specs.Rows.{Stack, engine, instructions_or_none}
@@ -51,11 +58,11 @@ closing_at setup core offers row moment name shown tasks time named shows =
     ∙ (ap (λ m. f m (task_name setup 0) (shown_of core offers 0)) time
     ∙ (ap (λ n. f moment n (shown_of core offers 0)) (sym named) ∙ ap (f moment name) (sym shows))))
 
-pub closing : (seen : Seen) (o : Object) (task : Task) (last : Option ℕ) (moment : ℕ) (m : Machine Stack) (name : List ℕ) (shown : Shown) (first second : List ℕ) →
-    seen_of o task last moment ≡ seen → IsAt seen m → name ≡ task_name o.setup 0 → shown ≡ shown_of m.core (machine_offers m) 0 →
+pub closing : (seen : Seen) (o : Object) (slots : List Cell) (task : Task) (last : Option ℕ) (moment : ℕ) (m : Machine Stack) (name : List ℕ) (shown : Shown) (first second : List ℕ) →
+    seen_of o slots task last moment ≡ seen → IsAt seen m → name ≡ task_name o.setup 0 → shown ≡ shown_of m.core (machine_offers m) 0 →
     first ≡ state_line moment name shown → second ≡ close_line moment →
     lines_of seen.object.setup (states m.core (machine_offers m)) ++ close_line m.core.moment ≡ first ++ second
-closing seen o task last moment m name shown first second view is named shows one two =
+closing seen o slots task last moment m name shown first second view is named shows one two =
     closing_at seen.object.setup m.core (machine_offers m) task.row moment name shown (is.tasks ∙ sym (ap (λ (s : Seen). s.tasks) view))
     (is.moment ∙ sym (ap (λ (s : Seen). s.moment) view)) (named ∙ ap (λ (s : Seen). task_name s.object.setup 0) view) shows
     ∙ (ap (λ t. t ++ close_line moment) (sym one) ∙ ap (λ t. first ++ t) (sym two))
@@ -80,31 +87,48 @@ pub start_ready : (o : Object) (frame : Frame) → IsValid o → length o.tasks 
 start_ready o frame valid single first empty room = record {
   steady = subst (IsSteady o) (sym (ap (λ n. let s : Stack = record { place = n; operands = frame.operands.items } in s) first
       ∙ ap (λ xs. let s : Stack = record { place = 0; operands = xs } in s) empty)) (code_runs o.setup o.tasks single valid.codes);
+  well_formed = subst (λ xs. All IsWellFormed xs) (sym empty) (All-nil IsWellFormed);
   room = room;
 }
 
+-- the first values are well formed, so each slot holds one of its kind
+pub first_kinds : (setup : Setup) (slots : List Cell) → IsSetup setup → slots ≡ setup.slots → AllZip IsLike setup.slots slots
+first_kinds setup slots is same = subst (λ xs. AllZip IsLike setup.slots xs) (sym same) (opening-kinds setup.slots is.slots)
+
+-- the start of a run of these tasks, with these first values of the slots
+abbrev started_with : Object → List TaskEntry → List Cell → List Entry → Machine Stack
+started_with o tasks slots entries =
+    let core : Core = record { moment = 0; tasks = map first_row tasks; slots = slots; last = None; told = first_events 0 tasks } in
+    machine_settled (engine o) core [] entries
+
 -- the run of one task starts where the machine stands
-started : (o : Object) (name : _) (priority : ℕ) (main : Bool) (new : Task) (entries : List Entry) →
+started : (o : Object) (slots : List Cell) (name : _) (priority : ℕ) (main : Bool) (new : Task) (entries : List Entry) →
     new.row.mode ≡ first_mode main priority → Begins o (first_mode main priority) (stack_of new.frame) new.offer →
-    Goes (machine_start (engine o) (record { name = name; priority = priority; main = main } ∷ []) entries) entries (seen_of o new None 0) []
-started o name priority false new entries mode begins =
-    let f : Mode → Machine Stack = λ mode. at (seen_of o (record { row = record { mode = mode }; frame = new.frame; offer = new.offer }) None 0) [] entries in
+    Goes (started_with o (record { name = name; priority = priority; main = main } ∷ []) slots entries) entries (seen_of o slots new None 0) []
+started o slots name priority false new entries mode begins =
+    let f : Mode → Machine Stack = λ mode. at (seen_of o slots (record { row = record { mode = mode }; frame = new.frame; offer = new.offer }) None 0) [] entries in
     let same : f Dormant ≡ f new.row.mode = ap f (sym mode) in
-    goes_to _ entries (seen_of o new None 0) [] 0 same (ap unsettled (sym same))
-started o name priority true new entries mode begins =
-    let m : Machine Stack = machine_start (engine o) (record { name = name; priority = priority; main = true } ∷ []) entries in
+    goes_to _ entries (seen_of o slots new None 0) [] 0 same (ap unsettled (sym same))
+started o slots name priority true new entries mode begins =
+    let m : Machine Stack = started_with o (record { name = name; priority = priority; main = true } ∷ []) slots entries in
     let f : Mode → Option Action → Machine Stack =
-    λ mode x. at (seen_of o (record { row = record { mode = mode }; frame = new.frame; offer = x }) None 0) m.core.told entries in
+    λ mode x. at (seen_of o slots (record { row = record { mode = mode }; frame = new.frame; offer = x }) None 0) m.core.told entries in
     let same : f (Active priority false) (Some begins.0) ≡ f new.row.mode new.offer =
     ap (λ mode. f mode (Some begins.0)) (sym mode) ∙ ap (f new.row.mode) (sym begins.2) in
-    goes_to m entries (seen_of o new None 0) [] (suc begins.1.steps)
+    goes_to m entries (seen_of o slots new None 0) [] (suc begins.1.steps)
     (settle_steps o m.core entries (record { place = 0; operands = [] }) (stack_of new.frame) begins.0 begins.1 ∙ same)
     (ap unsettled (sym same))
 
-pub starts : (o : Object) (tasks : List TaskEntry) (new : Task) (entries : List Entry) → length tasks ≡ 1 →
+starts_with : (o : Object) (tasks : List TaskEntry) (slots : List Cell) (new : Task) (entries : List Entry) → length tasks ≡ 1 →
     new.row.mode ≡ starting_mode (slice_get tasks 0) → Begins o new.row.mode (stack_of new.frame) new.offer →
-    Goes (machine_start (engine o) tasks entries) entries (seen_of o new None 0) []
-starts o [] new entries single mode begins = absurd (omega arith)
-starts o (task ∷ []) new entries single mode begins =
-    started o task.name task.priority task.main new entries mode (subst (λ m. Begins o m (stack_of new.frame) new.offer) mode begins)
-starts o (task ∷ other ∷ tasks) new entries single mode begins = absurd (omega arith)
+    Goes (started_with o tasks slots entries) entries (seen_of o slots new None 0) []
+starts_with o [] slots new entries single mode begins = absurd (omega arith)
+starts_with o (task ∷ []) slots new entries single mode begins =
+    started o slots task.name task.priority task.main new entries mode (subst (λ m. Begins o m (stack_of new.frame) new.offer) mode begins)
+starts_with o (task ∷ other ∷ tasks) slots new entries single mode begins = absurd (omega arith)
+
+pub starts : (o : Object) (slots : List Cell) (new : Task) (entries : List Entry) → length o.setup.tasks ≡ 1 → slots ≡ o.setup.slots →
+    new.row.mode ≡ starting_mode (slice_get o.setup.tasks 0) → Begins o new.row.mode (stack_of new.frame) new.offer →
+    Goes (machine_start (engine o) o.setup entries) entries (seen_of o slots new None 0) []
+starts o slots new entries single same mode begins =
+    rw same (starts_with o o.setup.tasks o.setup.slots new entries single mode begins)

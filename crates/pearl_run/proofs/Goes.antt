@@ -11,7 +11,7 @@ use Rattle.pearl_run.proofs.Steps.{after-add}
 -- the state of a run at which the machine stands, with what was told before and what remains
 abbrev pub at : Seen → List (ℕ × Said) → List Entry → Machine Stack
 at seen told entries = record {
-  core = record { moment = seen.moment; tasks = seen.tasks; last = seen.last; told = told };
+  core = record { moment = seen.moment; tasks = seen.tasks; slots = seen.slots; last = seen.last; told = told };
   running = seen.running;
   entries = entries;
 }
@@ -20,8 +20,9 @@ pub stands_at : (seen : Seen) (m : Machine Stack) → IsAt seen m → m ≡ at s
 stands_at seen m is =
     ap (λ x. let n : Machine Stack = record m { core = record m.core { moment = x } } in n) is.moment
     ∙ (ap (λ x. let n : Machine Stack = record m { core = record m.core { moment = seen.moment; tasks = x } } in n) is.tasks
-    ∙ (ap (λ x. let n : Machine Stack = record m { core = record m.core { moment = seen.moment; tasks = seen.tasks; last = x } } in n) is.last
-    ∙ ap (λ x. let n : Machine Stack = record m { core = record m.core { moment = seen.moment; tasks = seen.tasks; last = seen.last }; running = x } in n) is.running))
+    ∙ (ap (λ x. let n : Machine Stack = record m { core = record m.core { moment = seen.moment; tasks = seen.tasks; slots = x } } in n) is.slots
+    ∙ (ap (λ x. let n : Machine Stack = record m { core = record m.core { moment = seen.moment; tasks = seen.tasks; slots = seen.slots; last = x } } in n) is.last
+    ∙ ap (λ x. let n : Machine Stack = record m { core = record m.core { moment = seen.moment; tasks = seen.tasks; slots = seen.slots; last = seen.last }; running = x } in n) is.running)))
 
 -- it is enough to go there
 pub goes_to : (m : Machine Stack) (rest : List Entry) (seen : Seen) (told : List (ℕ × Said)) (steps : ℕ) →
@@ -32,6 +33,7 @@ goes_to m rest seen told steps e settled = record {
   stands = record {
     moment = ap (λ n. n.core.moment) e;
     tasks = ap (λ n. n.core.tasks) e;
+    slots = ap (λ n. n.core.slots) e;
     last = ap (λ n. n.core.last) e;
     running = ap (λ n. n.running) e;
   };

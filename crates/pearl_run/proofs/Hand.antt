@@ -1,14 +1,15 @@
 -- The object by hand is valid.
-use Rattle.std.proofs.Common.{ℕ, List, [], ◌∷◌, Some, length, refl, ap, sym, ◌∙◌, subst, lit<, lit≤, rules}
+use Rattle.std.proofs.Common.{ℕ, ◌<◌, ◌≤◌, List, [], ◌∷◌, Some, length, refl, ap, sym, ◌∙◌, subst, lit<, lit≤, rules}
 use Rattle.std.specs.Prelude.{pos}
 use Rattle.std.specs.List.{AllByRecursion}
-use Rattle.pearl_value.specs.Cells.{kind_of, IsCell}
+use Rattle.pearl_value.specs.Cells.{kind_of}
+use Rattle.pearl_value.specs.WellFormed.{IsWellFormed}
 use Rattle.pearl_value.specs.declared.kind.Kind.TheVariants as kind
 use Rattle.pearl_value.specs.declared.cell.Cell.TheVariants.{Fixed}
 use Rattle.pearl_code.specs.declared.instr.Instr.{Instr}
-use Rattle.pearl_code.specs.declared.instr.Instr.TheVariants.{Const, Put, End}
+use Rattle.pearl_code.specs.declared.instr.Instr.TheVariants.{Const, Conv, Read, Write, Dyadic, Put, End}
 use Rattle.pearl_code.specs.declared.object.Object.{Object}
-use Rattle.pearl_code.specs.Valid.{IsValid, IsCode, FitsPut, RunsFrom}
+use Rattle.pearl_code.specs.Valid.{IsValid, IsCode, RunsFrom}
 use Rattle.pearl_rules.specs.declared.setup.Setup.{Setup}
 use Rattle.pearl_rules.specs.Tables.{IsSetup}
 use Rattle.pearl_run.specs.Hand.{hand_setup, hand_code, IsSeventeen, IsHand}
@@ -16,6 +17,10 @@ use Rattle.pearl_run.specs.Hand.{hand_setup, hand_code, IsSeventeen, IsHand}
 setup_is : IsSetup hand_setup
 setup_is = record {
   tasks = (record { urgent = (lit< tt, lit≤ tt); named = refl }, tt);
+  slots = (
+    ((lit< tt, lit≤ tt), record { low = search rules; high = search rules }),
+    (((lit< tt, lit≤ tt), record { low = search rules; high = search rules }), tt),
+  );
   devices = ((lit< tt, lit≤ tt), tt);
   rising = tt;
   formats = (
@@ -23,34 +28,72 @@ setup_is = record {
     (record { items = ((lit< tt, lit≤ tt), tt); few = lit≤ tt; short = lit≤ tt }, tt),
   );
   few_tasks = lit≤ tt;
+  few_slots = lit≤ tt;
   few_devices = lit≤ tt;
 }
 
-cell_is : IsCell (Fixed 31 (pos 17))
-cell_is = ((lit< tt, lit≤ tt), record { low = search rules; high = search rules })
+seventeen_is : IsWellFormed (Fixed 31 (pos 17))
+seventeen_is = ((lit< tt, lit≤ tt), record { low = search rules; high = search rules })
 
--- a literal, and PUT of it
-one_is : (format : ℕ) (instr : Instr) (rest : List Instr) → IsSeventeen instr → FitsPut hand_setup 0 format (kind.Fixed 31 ∷ []) [] →
-    RunsFrom hand_setup 1 (Some []) rest → RunsFrom hand_setup 1 (Some []) (instr ∷ Put 0 format ∷ rest)
-one_is format (Const x) rest is fits runs =
-    (subst (λ v. IsCell v) (sym is) cell_is, lit< tt, ([], subst (λ v. FitsPut hand_setup 0 format (kind_of v ∷ []) []) (sym is) fits, runs))
-one_is format (Put device other) rest is fits runs = absurd is
-one_is format End rest is fits runs = absurd is
+-- the literal is pushed above one value
+literal_runs : (instr : Instr) (rest : List Instr) → IsSeventeen instr → RunsFrom hand_setup 2 (Some (kind.Fixed 31 ∷ kind.Fixed 31 ∷ [])) rest →
+    RunsFrom hand_setup 2 (Some (kind.Fixed 31 ∷ [])) (instr ∷ rest)
+literal_runs (Const x) rest is runs = (
+  subst (λ v. IsWellFormed v) (sym is) seventeen_is,
+  lit< tt,
+  subst (λ v. RunsFrom hand_setup 2 (Some (kind.Fixed 31 ∷ kind_of v ∷ [])) rest) (sym is) runs,
+)
+literal_runs (Conv to) rest is runs = absurd is
+literal_runs (Read slot) rest is runs = absurd is
+literal_runs (Write slot) rest is runs = absurd is
+literal_runs (Dyadic op) rest is runs = absurd is
+literal_runs (Put device format) rest is runs = absurd is
+literal_runs End rest is runs = absurd is
 
-code_is : (first second : Instr) → IsSeventeen first → IsSeventeen second → IsCode hand_setup (record { depth = 1; instructions = hand_code first second })
-code_is first second a b = record {
+code_is : (len : ℕ) (literal : Instr) → 0 < len → len ≤ 63 → IsSeventeen literal → IsCode hand_setup (record { depth = 2; instructions = hand_code len literal })
+code_is len literal some most is = record {
   bounded = lit≤ tt;
-  runs = one_is 0 first _ a
-      (record { takes = tt; named = lit< tt; values = kind.Fixed 31 ∷ []; stacked = refl; suits = (lit< tt, tt); few = lit≤ tt; short = lit≤ tt })
-      (one_is 1 second _ b
-      (record { takes = tt; named = lit< tt; values = kind.Fixed 31 ∷ []; stacked = refl; suits = (lit< tt, tt); few = lit≤ tt; short = lit≤ tt })
-      (refl, refl));
+  runs = (
+    record { named = lit< tt; room = lit< tt },
+    (
+      [],
+      record { from = kind.Fixed 4; stacked = refl; suits = tt; kind = (lit< tt, lit≤ tt) },
+      literal_runs literal _ is (
+        [],
+        kind.Fixed 31,
+        record { x = kind.Fixed 31; y = kind.Fixed 31; stacked = refl; row = refl },
+        (
+          [],
+          record { named = lit< tt; stacked = refl },
+          (
+            record { named = lit< tt; room = lit< tt },
+            (
+              [],
+              record { takes = tt; named = lit< tt; values = kind.Fixed 31 ∷ []; stacked = refl; suits = (lit< tt, tt); few = lit≤ tt; short = lit≤ tt },
+              (
+                record { named = lit< tt; room = lit< tt },
+                (
+                  [],
+                  record { from = kind.Fixed 31; stacked = refl; suits = tt; kind = (some, most) },
+                  (
+                    [],
+                    record { takes = tt; named = lit< tt; values = kind.Fixed len ∷ []; stacked = refl; suits = (lit< tt, tt); few = lit≤ tt; short = lit≤ tt },
+                    (refl, refl),
+                  ),
+                ),
+              ),
+            ),
+          ),
+        ),
+      ),
+    ),
+  );
 }
 
-pub hand_valid : (o : Object) → IsHand o → IsValid o
-hand_valid o h = record {
+pub hand_valid : (len : ℕ) (o : Object) → 0 < len → len ≤ 63 → IsHand len o → IsValid o
+hand_valid len o some most h = record {
   setup = subst (λ s. IsSetup s) (sym h.setup) setup_is;
   codes = subst (λ codes. AllByRecursion (IsCode o.setup) codes) (sym h.tasks)
-      (subst (λ s. IsCode s (record { depth = 1; instructions = hand_code h.first h.second })) (sym h.setup) (code_is h.first h.second h.first_is h.second_is), tt);
+      (subst (λ s. IsCode s (record { depth = 2; instructions = hand_code len h.literal })) (sym h.setup) (code_is len h.literal some most h.literal_is), tt);
   each = ap length h.tasks ∙ sym (ap (λ (s : Setup). length s.tasks) h.setup);
 }

@@ -1,5 +1,6 @@
 pub mod Scheduling
 pub mod Operands
+pub mod Slots
 pub mod Steps
 pub mod Goes
 pub mod Marking

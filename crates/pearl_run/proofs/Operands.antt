@@ -1,12 +1,19 @@
 -- What the operands are like before and after an instruction.
-use Rattle.std.proofs.Common.{◌≡◌, ℕ, zero, suc, ◌+◌, ◌-◌, ◌<◌, ◌≤◌, List, [], ◌∷◌, ◌++◌, Option, Some, None, length, map, take, drop, get_or, slice_get, refl, sym, ap, ◌∙◌, subst, arith, add-one}
+use Rattle.std.proofs.Common.{◌≡◌, ℕ, zero, suc, ◌+◌, ◌-◌, ◌<◌, ◌≤◌, List, [], ◌∷◌, ◌++◌, Option, Some, None, length, map, take, drop, get_or, slice_get, vec_capacity, refl, sym, ap, ◌∙◌, subst, arith, add-one, append_assoc}
+use Rattle.std.specs.Prelude.{Result, Ok, Err, IfOk, IfSome, All}
+use Rattle.std.proofs.lemmas.List.Elements.{All-nil, All-cons, All-append, All-get_or}
 use Rattle.std.proofs.Math.Seq.{drop-cons, drop-append_seam, take-append_seam}
-use Rattle.std.proofs.lemmas.List.{take-map, drop-map, map-append, take_rest, length-map, length-append}
-use Rattle.std.proofs.lemmas.Option.{same_Some, slice_get_within}
+use Rattle.std.proofs.lemmas.List.{take-map, drop-map, map-append, take_all, take_rest, length-map, length-append}
+use Rattle.std.proofs.lemmas.Option.{same_Some, slice_get_within, slice_get-get_or}
 use Rattle.pearl_value.specs.declared.kind.Kind.{Kind}
 use Rattle.pearl_value.specs.declared.kind.Kind.TheVariants as kind
 use Rattle.pearl_value.specs.declared.cell.Cell.{Cell}
+use Rattle.pearl_value.specs.declared.operator.Dyad.{Dyad}
+use Rattle.pearl_value.specs.declared.trap.Trap.{Trap}
 use Rattle.pearl_value.specs.Cells.{kind_of}
+use Rattle.pearl_value.specs.Conversions.{SuitsKind}
+use Rattle.pearl_value.specs.Rows.{row2}
+use Rattle.pearl_value.specs.WellFormed.{IsWellFormed}
 use Rattle.pearl_format.specs.declared.item.Item.{Item}
 use Rattle.pearl_format.specs.declared.item.ItemCode.{ItemCode}
 use Rattle.pearl_format.specs.declared.item.ItemCode.TheVariants.{F, Skip}
@@ -14,14 +21,19 @@ use Rattle.pearl_format.specs.Items.{Suits, SuitsItem, data_count, data_here}
 use Rattle.pearl_rules.specs.declared.setup.Device.{Device}
 use Rattle.pearl_rules.specs.declared.setup.Setup.{Setup}
 use Rattle.pearl_rules.specs.declared.action.Action.{Action}
+use Rattle.pearl_rules.specs.declared.action.Action.TheVariants as action
+use Rattle.pearl_rules.specs.Core.{cell_or_zero, value_at}
+use Rattle.pearl_rules.specs.declared.action.Answer.{Answer}
+use Rattle.pearl_rules.specs.Slots.{Fits, Suits as SuitsAction, IsValueOf, slot_kind, heard_value}
 use Rattle.pearl_rules.specs.Tables.{format_of, TakesTexts, IsWritable}
 use Rattle.pearl_code.specs.declared.instr.Instr.{Instr}
-use Rattle.pearl_code.specs.declared.instr.Instr.TheVariants.{Const, Put}
+use Rattle.pearl_code.specs.declared.instr.Instr.TheVariants.{Const, Conv, Read, Write, Dyadic, Put}
 use Rattle.pearl_code.specs.declared.object.Object.{Object}
-use Rattle.pearl_rules.specs.Runs.{Silent}
-use Rattle.pearl_code.specs.Rows.{Stack, row, fetched, code_of, put_action, top, below}
-use Rattle.pearl_code.specs.Valid.{FitsPut, RunsFrom}
-use Rattle.pearl_run.specs.Frame.{IsSteady, HasTerminal, depth_of}
+use Rattle.pearl_rules.specs.Runs.{Stepped, Silent, Offers}
+use Rattle.pearl_code.specs.Rows.{Stack, row, fetched, code_of, put_action, pushes, next_with, top, below, last, second}
+use Rattle.pearl_code.specs.Valid.{FitsConv, FitsPut, RunsFrom}
+use Rattle.pearl_run.specs.declared.frame.Frame.{Frame}
+use Rattle.pearl_run.specs.Frame.{stack_of, IsSteady, IsReady, CanHear, Does, IsLawful, depth_of}
 
 -- an instruction and those behind it
 drop_suc : {X : Type 0} (xs : List X) (n : ℕ) (x : X) → slice_get xs n ≡ Some x → drop n xs ≡ x ∷ drop (suc n) xs
@@ -86,18 +98,123 @@ fits_suits setup device format operands left items count fits same counted =
     let above : map kind_of (drop (length operands - count) operands) ≡ fits.values = rw number p.above in
     rw (take_rest, above, same) fits.suits
 
+-- the operands in which these kinds are on top
+pub kind_at : (operands : List Cell) (left : List Kind) (k : Kind) (more : List Kind) → map kind_of operands ≡ left ++ k ∷ more →
+    kind_of (value_at operands (length left)) ≡ k
+kind_at [] [] k more e = cc
+kind_at [] (l ∷ left) k more e = cc
+kind_at (x ∷ operands) [] k more e = cc
+kind_at (x ∷ operands) (l ∷ left) k more e = kind_at operands left k more (cc)
+
+pub last_kind : (operands : List Cell) (left : List Kind) (k : Kind) → map kind_of operands ≡ left ++ k ∷ [] → kind_of (last operands) ≡ k
+last_kind operands left k stacked =
+    let all : length operands ≡ length left + 1 = omega (arith, ap length stacked, length-map operands kind_of, length-append left (k ∷ [])) in
+    let n : length left ≡ length operands - 1 = omega arith in
+    subst (λ n. kind_of (value_at operands n) ≡ k) n (kind_at operands left k [] stacked)
+
+pub second_kind : (operands : List Cell) (left : List Kind) (x y : Kind) → map kind_of operands ≡ left ++ x ∷ y ∷ [] → kind_of (second operands) ≡ x
+second_kind operands left x y stacked =
+    let all : length operands ≡ length left + 2 = omega (arith, ap length stacked, length-map operands kind_of, length-append left (x ∷ y ∷ [])) in
+    let n : length left ≡ length operands - 2 = omega arith in
+    subst (λ n. kind_of (value_at operands n) ≡ x) n (kind_at operands left x (y ∷ []) stacked)
+
+pub first_kind : (operands : List Cell) (left : List Kind) (x y : Kind) → map kind_of operands ≡ left ++ x ∷ y ∷ [] → kind_of (last operands) ≡ y
+first_kind operands left x y stacked = last_kind operands (left ++ x ∷ []) y (stacked ∙ sym (append_assoc left (x ∷ []) (y ∷ [])))
+
+-- a well-formed operand
+pub well_at : (operands : List Cell) (n : ℕ) → All IsWellFormed operands → n < length operands → IsWellFormed (value_at operands n)
+well_at operands n all less =
+    subst (λ x. IsWellFormed (cell_or_zero x)) (sym (slice_get-get_or operands n (cell_or_zero None) less))
+    (All-get_or IsWellFormed operands n (cell_or_zero None) less all)
+
+pub below_none : (operands : List Cell) → below 0 operands ≡ operands
+below_none operands = take_all (length operands - 0) operands (omega arith)
+
 module _ (o : Object) (stack : Stack) (steady : IsSteady o stack) where
   runs : (instr : Instr) → fetched o 0 stack ≡ Some instr →
       RunsFrom o.setup (depth_of o 0) (Some (map kind_of stack.operands)) (instr ∷ drop (stack.place + 1) (code_of o 0))
   runs instr e = subst (λ xs. RunsFrom o.setup (depth_of o 0) (Some (map kind_of stack.operands)) xs) (drop_at (code_of o 0) stack.place instr e) steady
 
-  -- a literal is pushed where there is room
+  -- a literal is well formed and is pushed where there is room
   pub const_room : (x : _) → fetched o 0 stack ≡ Some (Const x) → length stack.operands < depth_of o 0
   const_room x e = omega (arith, (runs (Const x) e).1, length-map stack.operands kind_of)
 
-  pub const_steady : (x : _) → fetched o 0 stack ≡ Some (Const x) →
-      IsSteady o (record { place = stack.place + 1; operands = stack.operands ++ x.value ∷ [] })
-  const_steady x e = rw map-append (runs (Const x) e).2
+  pub const_well : (x : _) → fetched o 0 stack ≡ Some (Const x) → IsWellFormed x.value
+  const_well x e = (runs (Const x) e).0
+
+  pub const_steady : (x : _) → fetched o 0 stack ≡ Some (Const x) → IsSteady o (next_with stack (below 0 stack.operands ++ x.value ∷ []))
+  const_steady x e = rw (below_none stack.operands, map-append) (runs (Const x) e).2
+
+  -- CONV finds a value that suits its kind, and leaves one of that kind
+  pub conv_fits : (to : Kind) → fetched o 0 stack ≡ Some (Conv to) → (left : List Kind) × FitsConv to (map kind_of stack.operands) left
+  conv_fits to e = let r = runs (Conv to) e in (r.0, r.1)
+
+  pub conv_enough : (to : Kind) → fetched o 0 stack ≡ Some (Conv to) → 1 ≤ length stack.operands
+  conv_enough to e =
+      let r = runs (Conv to) e in (parted stack.operands 1 r.0 (r.1.from ∷ []) r.1.stacked refl).enough
+
+  pub conv_suits : (to : Kind) → fetched o 0 stack ≡ Some (Conv to) → SuitsKind (kind_of (last stack.operands)) to
+  conv_suits to e =
+      let r = runs (Conv to) e in rw (last_kind stack.operands r.0 r.1.from r.1.stacked) r.1.suits
+
+  pub conv_steady : (to : Kind) (x : Cell) → fetched o 0 stack ≡ Some (Conv to) → kind_of x ≡ to →
+      IsSteady o (next_with stack (below 1 stack.operands ++ x ∷ []))
+  conv_steady to x e is =
+      let r = runs (Conv to) e in
+      rw (map-append, (parted stack.operands 1 r.0 (r.1.from ∷ []) r.1.stacked refl).under, is) r.2
+
+  -- an operator finds two values of a row, and leaves one of the row's kind
+  pub dyadic_enough : (op : Dyad) → fetched o 0 stack ≡ Some (Dyadic op) → 2 ≤ length stack.operands
+  dyadic_enough op e =
+      let r = runs (Dyadic op) e in (parted stack.operands 2 r.0 (r.2.x ∷ r.2.y ∷ []) r.2.stacked refl).enough
+
+  pub dyadic_row : (op : Dyad) → fetched o 0 stack ≡ Some (Dyadic op) →
+      (result : Kind) × (row2 op (kind_of (second stack.operands)) (kind_of (last stack.operands)) ≡ Some result)
+  dyadic_row op e =
+      let r = runs (Dyadic op) e in
+      (r.1, rw (second_kind stack.operands r.0 r.2.x r.2.y r.2.stacked, first_kind stack.operands r.0 r.2.x r.2.y r.2.stacked) r.2.row)
+
+  pub dyadic_steady : (op : Dyad) (x : Cell) → fetched o 0 stack ≡ Some (Dyadic op) →
+      row2 op (kind_of (second stack.operands)) (kind_of (last stack.operands)) ≡ Some (kind_of x) →
+      IsSteady o (next_with stack (below 2 stack.operands ++ x ∷ []))
+  dyadic_steady op x e is =
+      let r = runs (Dyadic op) e in
+      let a = second_kind stack.operands r.0 r.2.x r.2.y r.2.stacked in
+      let b = first_kind stack.operands r.0 r.2.x r.2.y r.2.stacked in
+      let same : kind_of x ≡ r.1 = same_Some (kind_of x) r.1 (sym is ∙ (ap (λ k. row2 op k (kind_of (last stack.operands))) a ∙ (ap (row2 op r.2.x) b ∙ r.2.row))) in
+      rw (map-append, (parted stack.operands 2 r.0 (r.2.x ∷ r.2.y ∷ []) r.2.stacked refl).under, same) r.3
+
+  -- READ names a slot, and its value is pushed where there is room
+  pub read_named : (slot : ℕ) → fetched o 0 stack ≡ Some (Read slot) → slot < length o.setup.slots
+  read_named slot e = (runs (Read slot) e).0.named
+
+  pub read_room : (slot : ℕ) → fetched o 0 stack ≡ Some (Read slot) → length stack.operands < depth_of o 0
+  read_room slot e = omega (arith, (runs (Read slot) e).0.room, length-map stack.operands kind_of)
+
+  pub read_steady : (slot : ℕ) (x : Cell) → fetched o 0 stack ≡ Some (Read slot) → kind_of x ≡ slot_kind o.setup slot →
+      IsSteady o (next_with stack (stack.operands ++ x ∷ []))
+  read_steady slot x e is = rw (map-append, is) (runs (Read slot) e).1
+
+  -- WRITE names a slot and finds a value of its kind, which it takes
+  pub write_enough : (slot : ℕ) → fetched o 0 stack ≡ Some (Write slot) → 1 ≤ length stack.operands
+  write_enough slot e =
+      let r = runs (Write slot) e in (parted stack.operands 1 r.0 (slot_kind o.setup slot ∷ []) r.1.stacked refl).enough
+
+  pub write_fits : (slot : ℕ) → fetched o 0 stack ≡ Some (Write slot) → All IsWellFormed stack.operands →
+      Fits o.setup (action.Write slot (last stack.operands))
+  write_fits slot e all =
+      let r = runs (Write slot) e in
+      let some = write_enough slot e in (
+        r.1.named,
+        record {
+          well_formed = well_at stack.operands (length stack.operands - 1) all (omega arith);
+          same_kind = last_kind stack.operands r.0 (slot_kind o.setup slot) r.1.stacked;
+        },
+      )
+
+  pub write_steady : (slot : ℕ) → fetched o 0 stack ≡ Some (Write slot) → IsSteady o (next_with stack (below 1 stack.operands))
+  write_steady slot e =
+      let r = runs (Write slot) e in rw (parted stack.operands 1 r.0 (slot_kind o.setup slot ∷ []) r.1.stacked refl).under r.2
 
   -- PUT takes its values
   pub put_fits : (device format : ℕ) → fetched o 0 stack ≡ Some (Put device format) →
@@ -110,20 +227,69 @@ module _ (o : Object) (stack : Stack) (steady : IsSteady o stack) where
       let r = runs (Put device format) e in (fits_parted o.setup device format stack.operands r.0 r.1).enough
 
   pub put_steady : (device format : ℕ) → fetched o 0 stack ≡ Some (Put device format) →
-      IsSteady o (record { place = stack.place + 1; operands = below (data_count (format_of o.setup format)) stack.operands })
+      IsSteady o (next_with stack (below (data_count (format_of o.setup format)) stack.operands))
   put_steady device format e =
       let r = runs (Put device format) e in rw (fits_parted o.setup device format stack.operands r.0 r.1).under r.2
 
--- a stack after a literal, and the step that leads there
-pub const_step : (o : Object) (stack : Stack) (x : _) → fetched o 0 stack ≡ Some (Const x) →
-    row o (fetched o 0 stack) stack ≡ Silent (record { place = stack.place + 1; operands = stack.operands ++ x.value ∷ [] })
-const_step o stack x e = ap (λ i. row o i stack) e
-
 -- PUT's action is for its terminal
-pub put_terminal : (setup : Setup) (device : ℕ) (text : Option (List ℕ)) (action : Action) → TakesTexts setup device → action ≡ put_action device text →
-    HasTerminal setup action
-put_terminal setup device None action takes e = rw e tt
-put_terminal setup device (Some text) action takes e = rw e takes
+pub put_lawful : (setup : Setup) (device : ℕ) (text : Option (List ℕ)) (action : Action) → TakesTexts setup device → action ≡ put_action device text →
+    IsLawful setup action
+put_lawful setup device None action takes e = rw e (record { fits = tt; terminal = tt })
+put_lawful setup device (Some text) action takes e = rw e (record { fits = tt; terminal = takes })
+
+-- AFTER A SILENT INSTRUCTION OR A TRAP
+
+silent_same : {S : Type 0} (a b : S) → Silent a ≡ Silent b → b ≡ a
+silent_same a b e = cc
+
+silent_offers : {S : Type 0} (a : S) (b : Action) → Silent a ≡ Offers b → ⊥
+silent_offers a b e = cc
+
+offers_silent : {S : Type 0} (a : Action) (b : S) → Offers a ≡ Silent b → ⊥
+offers_silent a b e = cc
+
+offers_same : {S : Type 0} (x : Stepped S) (a b : Action) → x ≡ Offers a → x ≡ Offers b → b ≡ a
+offers_same x a b e f = cc
+
+-- a value that is heard after READ is one of its slot
+pub hears_value : (o : Object) (stack : Stack) (slot : ℕ) (answer : Answer) → fetched o 0 stack ≡ Some (Read slot) → CanHear o stack answer →
+    IsValueOf (slot_kind o.setup slot) (heard_value answer)
+hears_value o stack slot answer e hears =
+    let same : hears.0 ≡ action.Read slot = offers_same (row o (fetched o 0 stack) stack) (action.Read slot) hears.0 (ap (λ i. row o i stack) e) hears.1 in
+    let suits : SuitsAction o.setup (action.Read slot) answer = subst (λ a. SuitsAction o.setup a answer) same hears.2 in
+    subst (λ x. IsValueOf (slot_kind o.setup slot) (heard_value x)) (sym suits.1) suits.2
+
+-- the stack is ready at this state
+pub ready_at : (o : Object) (frame : Frame) (stack : Stack) → stack_of frame ≡ stack → IsSteady o stack → All IsWellFormed stack.operands →
+    depth_of o 0 ≤ vec_capacity frame.operands → IsReady o frame
+ready_at o frame stack is steady well room = record {
+  steady = subst (IsSteady o) (sym is) steady;
+  well_formed = subst (λ (s : Stack). All IsWellFormed s.operands) (sym is) well;
+  room = room;
+}
+
+pub if_ok : {T E : Type 0} (P Q : T → Type 0) (r : Result T E) → ((x : T) → P x → Q x) → IfOk r P → IfOk r Q
+if_ok P Q (Ok x) f h = f x h
+if_ok P Q (Err e) f h = tt
+
+-- what was made is pushed
+pub pushed_ready : (o : Object) (frame new : Frame) (left : List Cell) (made : Result Cell Trap) (result : Option Action) → IsReady o frame →
+    Does (pushes (stack_of frame) left made) (stack_of frame) (stack_of new) result →
+    vec_capacity frame.operands ≤ vec_capacity new.operands → All IsWellFormed left → IfOk made IsWellFormed →
+    IfOk made (λ x. IsSteady o (next_with (stack_of frame) (left ++ x ∷ []))) → IsReady o new
+pushed_ready o frame new left (Ok x) None ready does room well made steady =
+    ready_at o new (next_with (stack_of frame) (left ++ x ∷ [])) (silent_same _ _ does) steady
+    (All-append IsWellFormed left (x ∷ []) well (All-cons IsWellFormed x [] made (All-nil IsWellFormed))) (omega (arith, room, ready.room))
+pushed_ready o frame new left (Ok x) (Some action) ready does room well made steady = absurd (silent_offers _ _ does.0)
+pushed_ready o frame new left (Err trap) None ready does room well made steady = absurd (offers_silent _ _ does)
+pushed_ready o frame new left (Err trap) (Some action) ready does room well made steady =
+    ready_at o new (stack_of frame) does.1 ready.steady ready.well_formed (omega (arith, room, ready.room))
+
+pub pushed_lawful : (setup : Setup) (before after : Stack) (left : List Cell) (made : Result Cell Trap) (result : Option Action) →
+    Does (pushes before left made) before after result → IfSome result (IsLawful setup)
+pushed_lawful setup before after left made None does = tt
+pushed_lawful setup before after left (Ok x) (Some action) does = absurd (silent_offers _ _ does.0)
+pushed_lawful setup before after left (Err trap) (Some a) does = rw (offers_same (pushes before left (Err trap)) (action.Trap trap) a refl does.0) (record { fits = tt; terminal = tt })
 
 -- a terminal is one of the devices
 pub takes_device : (setup : Setup) (device : ℕ) → TakesTexts setup device → device < length setup.devices

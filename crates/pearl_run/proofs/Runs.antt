@@ -1,5 +1,5 @@
 -- What a whole entry does.
-use Rattle.std.proofs.Common.{◌≡◌, ℕ, suc, ◌+◌, ◌-◌, ◌<◌, List, [], ◌∷◌, ◌++◌, Option, Some, None, length, refl, sym, ap, ◌∙◌, subst, arith}
+use Rattle.std.proofs.Common.{◌≡◌, ℕ, suc, ◌+◌, ◌-◌, ◌<◌, List, [], ◌∷◌, ◌++◌, Option, Some, None, length, take, refl, sym, ap, ◌∙◌, subst, arith}
 use Rattle.std.proofs.lemmas.List.{append-nil, length-append}
 use Rattle.std.proofs.Math.Seq.{take-append-add}
 use Rattle.pearl_rules.specs.declared.entry.Entry.{Entry}
@@ -13,8 +13,8 @@ use Rattle.pearl_code.specs.Rows.{Stack, engine}
 use Rattle.pearl_io.specs.Outside.{Takes, TakesFront}
 use Rattle.pearl_io.proofs.Pieces.{takes_more}
 use Rattle.pearl_script.specs.Lines.{said_line, lines_of}
-use Rattle.pearl_script.proofs.LineLemmas.{lines_of-next}
-use Rattle.pearl_run.specs.Seen.{Seen, IsAt, Handles, Picks, Marks}
+use Rattle.pearl_script.proofs.LineLemmas.{lines_of-append, lines_of-next}
+use Rattle.pearl_run.specs.Seen.{Seen, IsAt, Handles, Picks, Marks, told_by}
 use Rattle.pearl_run.specs.Told.{IsCutOff}
 use Rattle.pearl_run.proofs.Goes.{goes_on}
 
@@ -60,9 +60,9 @@ run_ends old new count left told e handles =
     dropped (Some t) rest = refl
 
 -- one mark more
-pub run_more : (old mid new : Seen) (count left : ℕ) (told : List (ℕ × Said)) (event : Event) → 0 < left → new.object ≡ mid.object →
+pub run_more : (old mid new : Seen) (count left : ℕ) (told : List (ℕ × Said)) (event : Option Event) → 0 < left → new.object ≡ mid.object →
     Handles old (Run count) (Run left ∷ []) mid told → Marks mid new event →
-    Handles old (Run count) (Run (left - 1) ∷ []) new (told ++ (mid.moment, Happened event) ∷ [])
+    Handles old (Run count) (Run (left - 1) ∷ []) new (told ++ told_by mid.moment event)
 run_more old mid new count left told event some same handles marks m rest is leads =
     let g = handles m rest is leads in
     let a : Machine Stack = machine_after (engine mid.object) m g.steps in
@@ -72,21 +72,24 @@ run_more old mid new count left told event some same handles marks m rest is lea
     ∙ ap (λ p. next_mark p (Run (suc (left - 1)) ∷ rest)) (marks.picks a g.stands)) in
     goes_on m (Run left ∷ rest) (Run (left - 1) ∷ rest) mid new told _ same g (marks.goes a (Run (left - 1) ∷ rest) g.stands next)
 
--- what was taken with one line more
-pub takes_line : (setup : Setup) (old mid new : Option (List ℕ)) (told : List (ℕ × Said)) (said : ℕ × Said) →
-    Takes old mid (lines_of setup told) → Takes mid new (said_line setup said) → Takes old new (lines_of setup (told ++ said ∷ []))
-takes_line setup old mid new told said before after = rw lines_of-next (takes_more old mid new _ _ before after)
+-- what was taken with what a mark tells
+pub takes_mark : (setup : Setup) (old mid new : Option (List ℕ)) (told more : List (ℕ × Said)) →
+    Takes old mid (lines_of setup told) → Takes mid new (lines_of setup more) → Takes old new (lines_of setup (told ++ more))
+takes_mark setup old mid new told more before after = rw lines_of-append (takes_more old mid new _ _ before after)
 
-pub cuts_line : (setup : Setup) (old mid new : Option (List ℕ)) (told : List (ℕ × Said)) (said : ℕ × Said) →
-    Takes old mid (lines_of setup told) → TakesFront mid new (said_line setup said) → IsCutOff setup old new (told ++ said ∷ [])
-cuts_line setup old mid new told said before after = record {
-  before = told;
-  last = said;
-  all = refl;
-  count = after.0;
-  short = after.1;
-  taken = takes_more old mid new _ _ before after.2;
-}
+pub cuts_mark : (setup : Setup) (old mid new : Option (List ℕ)) (told : List (ℕ × Said)) (moment : ℕ) (event : Option Event) →
+    Takes old mid (lines_of setup told) → TakesFront mid new (lines_of setup (told_by moment event)) → IsCutOff setup old new (told ++ told_by moment event)
+cuts_mark setup old mid new told moment None before after = absurd (omega (arith, after.1))
+cuts_mark setup old mid new told moment (Some event) before after =
+    let line : lines_of setup ((moment, Happened event) ∷ []) ≡ said_line setup (moment, Happened event) = append-nil _ in
+    record {
+      before = told;
+      last = (moment, Happened event);
+      all = refl;
+      count = after.0;
+      short = subst (λ bytes. after.0 < length bytes) line after.1;
+      taken = takes_more old mid new _ _ before (subst (λ bytes. Takes mid new (take after.0 bytes)) line after.2);
+    }
 
 -- of lines that are cut off a front was taken
 pub cut_front : (setup : Setup) (old new : Option (List ℕ)) (told : List (ℕ × Said)) → IsCutOff setup old new told → TakesFront old new (lines_of setup told)

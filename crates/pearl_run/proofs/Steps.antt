@@ -1,13 +1,16 @@
 -- Steps of a machine of one task.
-use Rattle.std.proofs.Common.{◌≡◌, ℕ, zero, suc, ◌+◌, List, [], ◌∷◌, ◌++◌, Bool, Option, Some, None, refl, sym, ap, ◌∙◌, add-zero, add-suc}
+use Rattle.std.proofs.Common.{◌≡◌, ℕ, zero, suc, ◌+◌, List, [], ◌∷◌, ◌++◌, Bool, Option, Some, None, slice_set, refl, sym, ap, ◌∙◌, add-zero, add-suc}
 use Rattle.pearl_rules.specs.declared.action.Action.{Action}
 use Rattle.pearl_rules.specs.declared.action.Action.TheVariants as action
-use Rattle.pearl_rules.specs.declared.action.Answer.TheVariants.{Nothing}
+use Rattle.pearl_rules.specs.declared.action.Answer.{Answer}
+use Rattle.pearl_rules.specs.declared.action.Answer.TheVariants.{Nothing, One}
 use Rattle.pearl_rules.specs.declared.event.Event.TheVariants as event
 use Rattle.pearl_rules.specs.declared.entry.Entry.{Entry}
+use Rattle.pearl_rules.specs.declared.row.Mode.{Mode}
 use Rattle.pearl_rules.specs.declared.row.Mode.TheVariants.{Dormant, Active}
+use Rattle.pearl_value.specs.declared.cell.Cell.{Cell}
 use Rattle.pearl_value.specs.declared.trap.Trap.{Trap}
-use Rattle.pearl_rules.specs.Core.{Core, Said, Happened}
+use Rattle.pearl_rules.specs.Core.{Core, Said, Happened, value_at}
 use Rattle.pearl_rules.specs.Effect.{effect}
 use Rattle.pearl_rules.specs.Runs.{Engine, Running, Machine, Silent, Offers, Acts, stepped, machine_next, machine_step, machine_mark_by, machine_after}
 use Rattle.pearl_code.specs.declared.object.Object.{Object}
@@ -18,6 +21,11 @@ use Rattle.pearl_run.specs.Frame.{Silently, Settles}
 pub after-add : {S : Type 0} (e : Engine S) (m : Machine S) (a b : ℕ) → machine_after e (machine_after e m a) b ≡ machine_after e m (a + b)
 after-add e m a zero = rw add-zero refl
 after-add e m a (suc b) = rw add-suc (ap (machine_step e) (after-add e m a b))
+
+-- a core of one task
+abbrev pub core_at : ℕ → Mode → List Cell → Option ℕ → List (ℕ × Said) → Core
+core_at moment mode slots last told =
+    record { moment = moment; tasks = record { mode = mode } ∷ []; slots = slots; last = last; told = told }
 
 -- a machine of one task
 abbrev pub one : Core → Option (Running Stack) → List Entry → Machine Stack
@@ -62,56 +70,59 @@ module _ (o : Object) where
   unfolding machine_step
   mark_step core entries rest stack action e = ap (machine_mark_by (engine o) (one core (offering stack action) entries)) e
 
-  put_mark : (moment priority : ℕ) (suspended : Bool) (last : Option ℕ) (told : List (ℕ × Said)) (entries rest : List Entry) (stack : Stack) (device : ℕ) (text : _) →
-      machine_mark_by (engine o) (one (record { moment = moment; tasks = record { mode = Active priority suspended } ∷ []; last = last; told = told }) (offering stack (action.Put device text)) entries)
-      (Some (record { mark = Acts 0; rest = rest }))
-      ≡ one (record { moment = moment; tasks = record { mode = Active priority suspended } ∷ []; last = Some 0; told = told ++ (moment, Happened (event.Out device text)) ∷ [] })
-      (going (row_after o (fetched o 0 stack) stack Nothing)) rest
+  -- what each action does
+  pub read_mark : (moment priority : ℕ) (suspended : Bool) (slots : List Cell) (last : Option ℕ) (told : List (ℕ × Said)) (entries rest : List Entry) (stack : Stack) (slot : ℕ) →
+      machine_mark_by (engine o) (one (core_at moment (Active priority suspended) slots last told) (offering stack (action.Read slot)) entries) (Some (record { mark = Acts 0; rest = rest }))
+      ≡ one (core_at moment (Active priority suspended) slots (Some 0) told) (going (row_after o (fetched o 0 stack) stack (One (value_at slots slot)))) rest
   unfolding effect
-  put_mark moment priority suspended last told entries rest stack device text = refl
+  read_mark moment priority suspended slots last told entries rest stack slot = refl
 
-  end_mark : (moment priority : ℕ) (suspended : Bool) (last : Option ℕ) (told : List (ℕ × Said)) (entries rest : List Entry) (stack : Stack) →
-      machine_mark_by (engine o) (one (record { moment = moment; tasks = record { mode = Active priority suspended } ∷ []; last = last; told = told }) (offering stack action.End) entries)
-      (Some (record { mark = Acts 0; rest = rest }))
-      ≡ one (record { moment = moment; tasks = record { mode = Dormant } ∷ []; last = Some 0; told = told ++ (moment, Happened (event.End 0)) ∷ [] }) None rest
+  pub write_mark : (moment priority : ℕ) (suspended : Bool) (slots : List Cell) (last : Option ℕ) (told : List (ℕ × Said)) (entries rest : List Entry) (stack : Stack) (slot : ℕ) (value : Cell) →
+      machine_mark_by (engine o) (one (core_at moment (Active priority suspended) slots last told) (offering stack (action.Write slot value)) entries) (Some (record { mark = Acts 0; rest = rest }))
+      ≡ one (core_at moment (Active priority suspended) (slice_set slots slot value) (Some 0) told) (going (row_after o (fetched o 0 stack) stack Nothing)) rest
   unfolding effect
-  end_mark moment priority suspended last told entries rest stack = refl
+  write_mark moment priority suspended slots last told entries rest stack slot value = refl
 
-  trap_mark : (moment priority : ℕ) (suspended : Bool) (last : Option ℕ) (told : List (ℕ × Said)) (entries rest : List Entry) (stack : Stack) (trap : Trap) →
-      machine_mark_by (engine o) (one (record { moment = moment; tasks = record { mode = Active priority suspended } ∷ []; last = last; told = told }) (offering stack (action.Trap trap)) entries)
-      (Some (record { mark = Acts 0; rest = rest }))
-      ≡ one (record { moment = moment; tasks = record { mode = Dormant } ∷ []; last = Some 0; told = told ++ (moment, Happened (event.Trap 0 trap)) ∷ [] }) None rest
+  pub put_mark : (moment priority : ℕ) (suspended : Bool) (slots : List Cell) (last : Option ℕ) (told : List (ℕ × Said)) (entries rest : List Entry) (stack : Stack) (device : ℕ) (text : _) →
+      machine_mark_by (engine o) (one (core_at moment (Active priority suspended) slots last told) (offering stack (action.Put device text)) entries) (Some (record { mark = Acts 0; rest = rest }))
+      ≡ one (core_at moment (Active priority suspended) slots (Some 0) (told ++ (moment, Happened (event.Out device text)) ∷ [])) (going (row_after o (fetched o 0 stack) stack Nothing)) rest
   unfolding effect
-  trap_mark moment priority suspended last told entries rest stack trap = refl
+  put_mark moment priority suspended slots last told entries rest stack device text = refl
 
-  -- a text for a terminal, and on to the next action
-  pub put_steps : (moment priority : ℕ) (suspended : Bool) (last : Option ℕ) (told : List (ℕ × Said)) (entries rest : List Entry) (stack after : Stack) (device : ℕ) (text : _) (next : Action) →
-      machine_next (one (record { moment = moment; tasks = record { mode = Active priority suspended } ∷ []; last = last; told = told }) (offering stack (action.Put device text)) entries)
-      ≡ Some (record { mark = Acts 0; rest = rest }) →
-      (s : Settles o (row_after o (fetched o 0 stack) stack Nothing) after next) →
-      machine_after (engine o) (one (record { moment = moment; tasks = record { mode = Active priority suspended } ∷ []; last = last; told = told }) (offering stack (action.Put device text)) entries) (1 + suc s.steps)
-      ≡ one (record { moment = moment; tasks = record { mode = Active priority suspended } ∷ []; last = Some 0; told = told ++ (moment, Happened (event.Out device text)) ∷ [] }) (offering after next) rest
-  put_steps moment priority suspended last told entries rest stack after device text next e s =
-      let from : Core = record { moment = moment; tasks = record { mode = Active priority suspended } ∷ []; last = last; told = told } in
-      let to : Core = record { moment = moment; tasks = record { mode = Active priority suspended } ∷ []; last = Some 0; told = told ++ (moment, Happened (event.Out device text)) ∷ [] } in
-      sym (after-add (engine o) (one from (offering stack (action.Put device text)) entries) 1 (suc s.steps))
-      ∙ (ap (λ m. machine_after (engine o) m (suc s.steps))
-      (mark_step from entries rest stack (action.Put device text) e ∙ put_mark moment priority suspended last told entries rest stack device text)
-      ∙ settle_steps to rest (row_after o (fetched o 0 stack) stack Nothing) after next s)
+  end_mark : (moment priority : ℕ) (suspended : Bool) (slots : List Cell) (last : Option ℕ) (told : List (ℕ × Said)) (entries rest : List Entry) (stack : Stack) →
+      machine_mark_by (engine o) (one (core_at moment (Active priority suspended) slots last told) (offering stack action.End) entries) (Some (record { mark = Acts 0; rest = rest }))
+      ≡ one (core_at moment Dormant slots (Some 0) (told ++ (moment, Happened (event.End 0)) ∷ [])) None rest
+  unfolding effect
+  end_mark moment priority suspended slots last told entries rest stack = refl
+
+  trap_mark : (moment priority : ℕ) (suspended : Bool) (slots : List Cell) (last : Option ℕ) (told : List (ℕ × Said)) (entries rest : List Entry) (stack : Stack) (trap : Trap) →
+      machine_mark_by (engine o) (one (core_at moment (Active priority suspended) slots last told) (offering stack (action.Trap trap)) entries) (Some (record { mark = Acts 0; rest = rest }))
+      ≡ one (core_at moment Dormant slots (Some 0) (told ++ (moment, Happened (event.Trap 0 trap)) ∷ [])) None rest
+  unfolding effect
+  trap_mark moment priority suspended slots last told entries rest stack trap = refl
+
+  -- an action that the task hears an answer to, and on to the next action
+  pub heard_steps : (from to : Core) (entries rest : List Entry) (stack after : Stack) (action next : Action) (answer : Answer) →
+      machine_next (one from (offering stack action) entries) ≡ Some (record { mark = Acts 0; rest = rest }) →
+      machine_mark_by (engine o) (one from (offering stack action) entries) (Some (record { mark = Acts 0; rest = rest })) ≡ one to (going (row_after o (fetched o 0 stack) stack answer)) rest →
+      (s : Settles o (row_after o (fetched o 0 stack) stack answer) after next) →
+      machine_after (engine o) (one from (offering stack action) entries) (1 + suc s.steps) ≡ one to (offering after next) rest
+  heard_steps from to entries rest stack after action next answer e mark s =
+      sym (after-add (engine o) (one from (offering stack action) entries) 1 (suc s.steps))
+      ∙ (ap (λ m. machine_after (engine o) m (suc s.steps)) (mark_step from entries rest stack action e ∙ mark)
+      ∙ settle_steps to rest (row_after o (fetched o 0 stack) stack answer) after next s)
 
   -- the end, and a trap
-  pub end_steps : (moment priority : ℕ) (suspended : Bool) (last : Option ℕ) (told : List (ℕ × Said)) (entries rest : List Entry) (stack : Stack) →
-      machine_next (one (record { moment = moment; tasks = record { mode = Active priority suspended } ∷ []; last = last; told = told }) (offering stack action.End) entries)
-      ≡ Some (record { mark = Acts 0; rest = rest }) →
-      machine_after (engine o) (one (record { moment = moment; tasks = record { mode = Active priority suspended } ∷ []; last = last; told = told }) (offering stack action.End) entries) 1
-      ≡ one (record { moment = moment; tasks = record { mode = Dormant } ∷ []; last = Some 0; told = told ++ (moment, Happened (event.End 0)) ∷ [] }) None rest
-  end_steps moment priority suspended last told entries rest stack e =
-      mark_step _ entries rest stack action.End e ∙ end_mark moment priority suspended last told entries rest stack
+  pub end_steps : (moment priority : ℕ) (suspended : Bool) (slots : List Cell) (last : Option ℕ) (told : List (ℕ × Said)) (entries rest : List Entry) (stack : Stack) →
+      machine_next (one (core_at moment (Active priority suspended) slots last told) (offering stack action.End) entries) ≡ Some (record { mark = Acts 0; rest = rest }) →
+      machine_after (engine o) (one (core_at moment (Active priority suspended) slots last told) (offering stack action.End) entries) 1
+      ≡ one (core_at moment Dormant slots (Some 0) (told ++ (moment, Happened (event.End 0)) ∷ [])) None rest
+  end_steps moment priority suspended slots last told entries rest stack e =
+      mark_step _ entries rest stack action.End e ∙ end_mark moment priority suspended slots last told entries rest stack
 
-  pub trap_steps : (moment priority : ℕ) (suspended : Bool) (last : Option ℕ) (told : List (ℕ × Said)) (entries rest : List Entry) (stack : Stack) (trap : Trap) →
-      machine_next (one (record { moment = moment; tasks = record { mode = Active priority suspended } ∷ []; last = last; told = told }) (offering stack (action.Trap trap)) entries)
-      ≡ Some (record { mark = Acts 0; rest = rest }) →
-      machine_after (engine o) (one (record { moment = moment; tasks = record { mode = Active priority suspended } ∷ []; last = last; told = told }) (offering stack (action.Trap trap)) entries) 1
-      ≡ one (record { moment = moment; tasks = record { mode = Dormant } ∷ []; last = Some 0; told = told ++ (moment, Happened (event.Trap 0 trap)) ∷ [] }) None rest
-  trap_steps moment priority suspended last told entries rest stack trap e =
-      mark_step _ entries rest stack (action.Trap trap) e ∙ trap_mark moment priority suspended last told entries rest stack trap
+  pub trap_steps : (moment priority : ℕ) (suspended : Bool) (slots : List Cell) (last : Option ℕ) (told : List (ℕ × Said)) (entries rest : List Entry) (stack : Stack) (trap : Trap) →
+      machine_next (one (core_at moment (Active priority suspended) slots last told) (offering stack (action.Trap trap)) entries) ≡ Some (record { mark = Acts 0; rest = rest }) →
+      machine_after (engine o) (one (core_at moment (Active priority suspended) slots last told) (offering stack (action.Trap trap)) entries) 1
+      ≡ one (core_at moment Dormant slots (Some 0) (told ++ (moment, Happened (event.Trap 0 trap)) ∷ [])) None rest
+  trap_steps moment priority suspended slots last told entries rest stack trap e =
+      mark_step _ entries rest stack (action.Trap trap) e ∙ trap_mark moment priority suspended slots last told entries rest stack trap

@@ -1,11 +1,14 @@
 -- What holds of a task's stack wherever its code stands, and where its code goes up to the next action.
-use Rattle.std.specs.Prelude.{◌≡◌, ℕ, zero, suc, ◌≤◌, Option, Some, None, map, drop, vec_capacity, slice_get}
+use Rattle.std.specs.Prelude.{◌≡◌, ℕ, zero, suc, ◌≤◌, Option, Some, None, map, drop, vec_capacity, slice_get, All}
 use Rattle.pearl_value.specs.Cells.{kind_of}
+use Rattle.pearl_value.specs.WellFormed.{IsWellFormed}
 use Rattle.pearl_rules.specs.declared.action.Action.{Action}
-use Rattle.pearl_rules.specs.declared.action.Action.TheVariants.{Put, End, Trap}
+use Rattle.pearl_rules.specs.declared.action.Action.TheVariants.{Read, Write, Put, End, Trap}
+use Rattle.pearl_rules.specs.declared.action.Answer.{Answer}
 use Rattle.pearl_rules.specs.declared.setup.Setup.{Setup}
 use Rattle.pearl_rules.specs.Tables.{TakesTexts}
-use Rattle.pearl_rules.specs.Runs.{Silent, Offers}
+use Rattle.pearl_rules.specs.Slots.{Fits, Suits}
+use Rattle.pearl_rules.specs.Runs.{Stepped, Silent, Offers}
 use Rattle.pearl_code.specs.declared.object.Code.{Code}
 use Rattle.pearl_code.specs.declared.object.Object.{Object}
 use Rattle.pearl_code.specs.Rows.{Stack, row, fetched, code_of}
@@ -27,10 +30,16 @@ depth_of o t = depth_or_none (slice_get o.tasks t)
 abbrev pub IsSteady : Object → Stack → Type 0
 IsSteady o stack = RunsFrom o.setup (depth_of o 0) (Some (map kind_of stack.operands)) (drop stack.place (code_of o 0))
 
--- and there is memory for all operands
+-- all operands are well formed, and there is memory for as many as there ever are
 pub record IsReady (o : Object) (frame : Frame) : Type 0 where
   pub steady : IsSteady o (stack_of frame)
+  pub well_formed : All IsWellFormed frame.operands.items
   pub room : depth_of o 0 ≤ vec_capacity frame.operands
+
+-- an instruction was silent and left this stack, or it offers an action and changed nothing
+abbrev pub Does : Stepped Stack → Stack → Stack → Option Action → Type 0
+Does stepped before after None = stepped ≡ Silent after
+Does stepped before after (Some action) = (stepped ≡ Offers action) × (after ≡ before)
 
 -- in this many silent instructions of the object's one task the stack becomes that one
 abbrev pub Silently : Object → Stack → ℕ → Stack → Type 0
@@ -46,6 +55,22 @@ pub record Settles (o : Object) (stack after : Stack) (action : Action) : Type 0
 
 -- a text is for a terminal that takes texts
 abbrev pub HasTerminal : Setup → Action → Type 0
+HasTerminal setup (Read slot) = Unit {0}
+HasTerminal setup (Write slot value) = Unit {0}
 HasTerminal setup (Put device text) = TakesTexts setup device
 HasTerminal setup End = Unit {0}
 HasTerminal setup (Trap trap) = Unit {0}
+
+-- an action names what is there
+pub record IsLawful (setup : Setup) (action : Action) : Type 0 where
+  pub fits : Fits setup action
+  pub terminal : HasTerminal setup action
+
+-- the action at which the stack stands
+pub record IsOffer (o : Object) (stack : Stack) (action : Action) : Type 0 where
+  pub offers : row o (fetched o 0 stack) stack ≡ Offers action
+  pub lawful : IsLawful o.setup action
+
+-- an answer that this action can have
+abbrev pub CanHear : Object → Stack → Answer → Type 0
+CanHear o stack answer = (action : Action) × (row o (fetched o 0 stack) stack ≡ Offers action) × Suits o.setup action answer

@@ -1,5 +1,6 @@
 -- What contracts see of a machine, when it stands at a state of a run, and where a run goes on from there.
 use Rattle.std.specs.Prelude.{◌≡◌, ℕ, List, [], ◌∷◌, ◌++◌, Option, Some, None}
+use Rattle.pearl_value.specs.declared.cell.Cell.{Cell}
 use Rattle.pearl_rules.specs.declared.entry.Entry.{Entry}
 use Rattle.pearl_rules.specs.declared.event.Event.{Event}
 use Rattle.pearl_rules.specs.declared.row.TaskRow.{TaskRow}
@@ -9,12 +10,13 @@ use Rattle.pearl_rules.specs.Runs.{Running, Machine, Acts, machine_offers, machi
 use Rattle.pearl_code.specs.declared.object.Object.{Object}
 use Rattle.pearl_code.specs.Rows.{Stack, engine}
 
--- what is executed, the time in milliseconds since the start, how each task stands, who acted last, and for each active
--- task its stack and the action that it has offered
+-- what is executed, the time in milliseconds since the start, how each task stands, what the slots hold, who acted last, and
+-- for each active task its stack and the action that it has offered
 pub record Seen : Type 0 where
   pub object : Object
   pub moment : ℕ
   pub tasks : List TaskRow
+  pub slots : List Cell
   pub last : Option ℕ
   pub running : List (Option (Running Stack))
 
@@ -23,6 +25,7 @@ pub record Seen : Type 0 where
 pub record IsAt (seen : Seen) (m : Machine Stack) : Type 0 where
   pub moment : m.core.moment ≡ seen.moment
   pub tasks : m.core.tasks ≡ seen.tasks
+  pub slots : m.core.slots ≡ seen.slots
   pub last : m.core.last ≡ seen.last
   pub running : m.running ≡ seen.running
 
@@ -48,8 +51,13 @@ Handles old entry left new told = (m : Machine Stack) (rest : List Entry) → Is
 abbrev pub Picks : Seen → Option ℕ → Type 0
 Picks seen task = (m : Machine Stack) → IsAt seen m → pick m.core (machine_offers m) ≡ task
 
--- one mark leads from where the one machine stands to where the other one does, and tells this event
-pub record Marks (old new : Seen) (event : Event) : Type 0 where
+-- what a mark tells at this moment: an event, or nothing
+abbrev pub told_by : ℕ → Option Event → List (ℕ × Said)
+told_by moment None = []
+told_by moment (Some event) = (moment, Happened event) ∷ []
+
+-- one mark leads from where the one machine stands to where the other one does, and tells this event, or nothing
+pub record Marks (old new : Seen) (event : Option Event) : Type 0 where
   pub picks : Picks old (Some 0)
   pub goes : (m : Machine Stack) (rest : List Entry) → IsAt old m → machine_next m ≡ Some (record { mark = Acts 0; rest = rest }) →
-      Goes m rest new ((old.moment, Happened event) ∷ [])
+      Goes m rest new (told_by old.moment event)

@@ -1,24 +1,28 @@
 //! A task's stack, and what its code does between two actions.
 
-ghost use Rattle.std.specs.Prelude.{◌≡◌, ◌+◌, ◌≤◌, ◌<◌, ◌^◌, [], ◌∷◌, ◌++◌, List, IfSome, MatchOption, length, map, slice_get, vec_len, vec_capacity};
+ghost use Rattle.std.specs.Prelude.{◌≡◌, ◌+◌, ◌-◌, ◌≤◌, ◌<◌, ◌^◌, [], ◌∷◌, ◌++◌, List, Some, None, IfSome, MatchOption, length, map, slice_get, vec_len, vec_capacity};
 ghost use Rattle.pearl_value.specs.declared.kind.Kind.{Kind};
 ghost use Rattle.pearl_value.specs.Cells.{kind_of};
 ghost use Rattle.pearl_format.specs.Items.{data_count as count_of};
 ghost use Rattle.pearl_format.specs.Texts.{text_of};
 ghost use Rattle.pearl_rules.specs.Tables.{format_of};
-ghost use Rattle.pearl_rules.specs.declared.action.Answer.TheVariants.{Nothing};
-ghost use Rattle.pearl_code.specs.Rows.{code_of, fetched, row_after, put_action as put_action_of, top, below};
+ghost use Rattle.pearl_rules.specs.Core.{value_at};
+ghost use Rattle.pearl_rules.specs.Slots.{heard_value};
+ghost use Rattle.pearl_code.specs.Rows.{code_of, fetched, row, row_after, pushes, next_with, put_action as put_action_of, top, below};
 ghost use Rattle.pearl_code.specs.Valid.{FitsPut};
-ghost use Rattle.pearl_run.specs.Frame.{stack_of, depth_of, IsReady, Settles, HasTerminal};
+ghost use Rattle.pearl_run.specs.Frame.{stack_of, depth_of, IsReady, CanHear, Does, Settles, IsOffer, IsLawful};
 
 use arrayvec::ArrayVec;
 use pearl_code::instr::Instr;
 use pearl_code::object::Object;
 use pearl_format::item::{Item, ItemCode};
 use pearl_format::put::put_text;
-use pearl_rules::action::Action;
+use pearl_rules::action::{Action, Answer};
 use pearl_rules::setup::Setup;
+use pearl_value::apply::apply2;
 use pearl_value::cell::{Cell, copy_of};
+use pearl_value::conversion::convert;
+use pearl_value::trap::Trap;
 
 // The number of the next instruction, and the operands, the top one last.
 #[derive(Drop)]
@@ -94,18 +98,75 @@ fn put_action(setup: &Setup, device: u32, format: u32, operands: &[Cell]) -> Act
     }
 }
 
-// Pushes a copy of the literal, and goes on to the next instruction.
-fn push(frame: &mut Frame, value: &Cell)
-    requires room { vec_len frame.old.operands < vec_capacity frame.old.operands }
+// The operand that is the n-th from the top.
+fn operand(frame: &Frame, n: usize) -> &Cell
+    requires some { 0 < n }
+    requires there { n ≤ length frame.now.operands.items }
+    ensures { result.now ≡ value_at frame.now.operands.items (length frame.now.operands.items - n) }
+{
+    &frame.operands[frame.operands.len() - n]
+}
+
+// Pushes a value, and goes on to the next instruction.
+fn push(frame: &mut Frame, value: Cell)
+    requires room { length frame.old.operands.items < vec_capacity frame.old.operands }
     requires next { frame.old.place + 1 < 2 ^ 64 }
-    ensures stack { stack_of frame.new ≡ record {
-      place = frame.old.place + 1;
-      operands = frame.old.operands.items ++ value.now ∷ [];
-    } }
+    ensures stack { stack_of frame.new ≡ next_with (stack_of frame.old) (frame.old.operands.items ++ value ∷ []) }
     ensures room { vec_capacity frame.old.operands ≤ vec_capacity frame.new.operands }
 {
-    frame.operands.push(copy_of(value)).unwrap();
+    frame.operands.push(value).unwrap();
     frame.place += 1;
+}
+
+// Takes so many operands away, pushes what was made of them, and goes on to the next instruction. A trap is offered, and
+// nothing changes.
+fn replace(frame: &mut Frame, taken: usize, made: Result<Cell, Trap>) -> Option<Action>
+    requires room { length frame.old.operands.items < vec_capacity frame.old.operands + taken }
+    requires enough { taken ≤ length frame.old.operands.items }
+    requires next { frame.old.place + 1 < 2 ^ 64 }
+    ensures does { Does (pushes (stack_of frame.old) (below taken frame.old.operands.items) made)
+        (stack_of frame.old) (stack_of frame.new) result }
+    ensures next { result ≡ None → frame.new.place ≡ frame.old.place + 1 }
+    ensures room { vec_capacity frame.old.operands ≤ vec_capacity frame.new.operands }
+{
+    match made {
+        Ok(value) => {
+            frame.operands.truncate(frame.operands.len() - taken);
+            push(frame, value);
+            None
+        }
+        Err(trap) => Some(Action::Trap(trap)),
+    }
+}
+
+// Executes an instruction that offers no action, or answers the action.
+fn step(object: &Object, instr: &Instr, frame: &mut Frame) -> Option<Action>
+    requires here { fetched object.now 0 (stack_of frame.old) ≡ Some instr.now }
+    requires next { frame.old.place + 1 < 2 ^ 64 }
+    requires ready { IsReady object.now frame.old }
+    ensures does { Does (row object.now (Some instr.now) (stack_of frame.old)) (stack_of frame.old) (stack_of frame.new) result }
+    ensures next { result ≡ None → frame.new.place ≡ frame.old.place + 1 }
+    ensures ready { IsReady object.now frame.new }
+    ensures lawful { IfSome result (IsLawful object.now.setup) }
+{
+    match instr {
+        Instr::Const(value) => replace(frame, 0, Ok(copy_of(value))),
+        Instr::Conv(to) => {
+            let made = convert(operand(frame, 1), *to);
+            replace(frame, 1, made)
+        }
+        Instr::Dyadic(op) => {
+            let made = apply2(*op, operand(frame, 2), operand(frame, 1));
+            replace(frame, 2, made)
+        }
+        Instr::Read(slot) => Some(Action::Read(*slot)),
+        Instr::Write(slot) => Some(Action::Write(*slot, copy_of(operand(frame, 1)))),
+        Instr::Put { device, format } => {
+            let operands = frame.operands.as_slice();
+            Some(put_action(&object.setup, *device, *format, operands))
+        }
+        Instr::End => Some(Action::End),
+    }
 }
 
 /// Executes the instructions up to the next action, and answers that action.
@@ -113,36 +174,55 @@ pub fn settle(object: &Object, frame: &mut Frame) -> Action
     requires { IsReady object.now frame.old }
     ensures settles { Settles object.now (stack_of frame.old) (stack_of frame.new) result }
     ensures ready { IsReady object.now frame.new }
-    ensures terminal { HasTerminal object.now.setup result }
+    ensures offer { IsOffer object.now (stack_of frame.new) result }
 {
     while let Some(instr) = instruction_at(object, frame.place) {
-        match instr {
-            Instr::Const(value) => push(frame, value),
-            Instr::Put { device, format } => {
-                return put_action(&object.setup, *device, *format, frame.operands.as_slice());
-            }
-            Instr::End => return Action::End,
+        if let Some(action) = step(object, instr, frame) {
+            return action;
         }
     }
     Action::End
 }
 
-/// Goes on after the answer to an action that was a text for a terminal.
-pub fn go_on(object: &Object, frame: &mut Frame)
-    requires { IsReady object.now frame.old }
+// The value that an answer has.
+fn value_of(answer: Answer) -> Cell
+    ensures { result ≡ heard_value answer }
+{
+    match answer {
+        Answer::Nothing => Cell::Fixed { len: 31, value: 0 },
+        Answer::One(value) => value,
+    }
+}
+
+/// Goes on after the answer to the action at which the stack stands.
+pub fn go_on(object: &Object, frame: &mut Frame, answer: Answer)
+    requires ready { IsReady object.now frame.old }
+    requires suits { CanHear object.now (stack_of frame.old) answer }
     ensures stack { stack_of frame.new
-        ≡ row_after object.now (fetched object.now 0 (stack_of frame.old)) (stack_of frame.old) Nothing }
+        ≡ row_after object.now (fetched object.now 0 (stack_of frame.old)) (stack_of frame.old) answer }
     ensures ready { IsReady object.now frame.new }
 {
     let Some(instr) = instruction_at(object, frame.place) else {
         return;
     };
     match instr {
+        Instr::Read(_) => push(frame, value_of(answer)),
+        Instr::Write(_) => drop_top(frame, 1),
         Instr::Put { device: _, format } => {
             let count = data_count(items_of(&object.setup, *format));
-            frame.operands.truncate(frame.operands.len() - count);
-            frame.place += 1;
+            drop_top(frame, count);
         }
-        Instr::Const(_) | Instr::End => {}
+        Instr::Const(_) | Instr::Conv(_) | Instr::Dyadic(_) | Instr::End => {}
     }
+}
+
+// Takes so many operands away, and goes on to the next instruction.
+fn drop_top(frame: &mut Frame, count: usize)
+    requires enough { count ≤ length frame.old.operands.items }
+    requires next { frame.old.place + 1 < 2 ^ 64 }
+    ensures stack { stack_of frame.new ≡ next_with (stack_of frame.old) (below count frame.old.operands.items) }
+    ensures room { vec_capacity frame.new.operands ≡ vec_capacity frame.old.operands }
+{
+    frame.operands.truncate(frame.operands.len() - count);
+    frame.place += 1;
 }

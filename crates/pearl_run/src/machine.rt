@@ -11,7 +11,7 @@ ghost use Rattle.pearl_code.specs.Valid.{IsValid};
 ghost use Rattle.pearl_io.specs.Outside.{Rose, Takes, TakesFront};
 ghost use Rattle.pearl_script.specs.Lines.{IsEventOf, event_line as line_of_event, close_line as line_of_close, lines_of};
 ghost use Rattle.pearl_script.specs.Words.{task_name};
-ghost use Rattle.pearl_run.specs.Seen.{Seen, IsAt, Goes, Handles, Picks, Marks};
+ghost use Rattle.pearl_run.specs.Seen.{Seen, IsAt, Goes, Handles, Picks, Marks, told_by};
 ghost use Rattle.pearl_run.specs.Told.{IsCutOff};
 
 use crate::frame::depth;
@@ -24,13 +24,21 @@ use pearl_rules::entry::Entry;
 use pearl_rules::event::{Event, Shown};
 use pearl_rules::setup::Setup;
 use pearl_script::transcript::{close_line, event_line, state_line};
+use pearl_value::cell::{Cell, copy_of};
 use std::alloc::{AllocError, Global};
 use std::marker::Model;
+
+// What a mark tells, if it tells something.
+#[derive(Drop)]
+struct Mark {
+    event: Option<Event>,
+}
 
 /// Executes an object of one task. Contracts see the object and the state of its run.
 #[derive(Drop)]
 pub struct Machine {
     object: Object,
+    slots: Vec<Cell>,
     task: Task,
     last: Option<u32>,
     moment: u64,
@@ -47,11 +55,12 @@ impl Model for Machine {
       object = m.object;
       moment = m.moment;
       tasks = m.task.row ∷ [];
+      slots = m.slots.items;
       last = m.last;
       running = kept_of m.task ∷ [];
     } };
 
-    ghost invariant = { λ m. IsRunnable m.object m.task };
+    ghost invariant = { λ m. IsRunnable m.object m.slots.items m.task };
 }
 
 impl Machine {
@@ -61,12 +70,14 @@ impl Machine {
         requires single { length object.tasks ≡ 1 }
         ensures object { IfOk result (λ machine. machine.object ≡ object) }
         ensures start { IfOk result (λ machine. (entries : List Entry) →
-            Goes (machine_start (engine object) object.setup.tasks entries) entries machine []) }
+            Goes (machine_start (engine object) object.setup entries) entries machine []) }
     {
         let operands = Vec::with_capacity(alloc, depth(&object) as usize)?;
+        let slots = first_values(alloc, &object.setup)?;
         let task = start(&object, operands);
         Ok(Machine {
             object,
+            slots,
             task,
             last: None,
             moment: 0,
@@ -145,17 +156,19 @@ impl Machine {
         put_all(sink, line.as_slice())
     }
 
-    // One mark, and what happened; nothing where no task can act.
-    fn mark(&mut self) -> Option<Event>
+    // One mark; nothing where no task can act.
+    fn mark(&mut self) -> Option<Mark>
         ensures object { self.new.object ≡ self.old.object }
         ensures moment { self.new.moment ≡ self.old.moment }
-        ensures mark { MatchOption result (Picks self.old None × (self.new ≡ self.old)) (λ event. Marks self.old self.new event) }
-        ensures event { IfSome result (IsEventOf self.new.object.setup) }
+        ensures mark { MatchOption result (Picks self.old None × (self.new ≡ self.old)) (λ mark. Marks self.old self.new mark.event) }
+        ensures event { IfSome result (λ mark. IfSome mark.event (IsEventOf self.new.object.setup)) }
     {
         let task = pick(&[self.task.row], &[self.task.offer.is_some()], self.last)?;
         let action = self.task.offer.take()?;
         self.last = Some(task);
-        Some(perform(&self.object, &mut self.task, action))
+        let slots = self.slots.as_mut_slice();
+        let event = perform(&self.object, slots, &mut self.task, action);
+        Some(Mark { event })
     }
 
     // Up to so many marks, with the line of each.
@@ -171,11 +184,11 @@ impl Machine {
         let moment = self.moment;
         let mut left = count;
         while left > 0 {
-            let Some(event) = self.mark() else {
+            let Some(mark) = self.mark() else {
                 return Ok(());
             };
             left -= 1;
-            self.tell(moment, &event, sink)?;
+            self.tell_mark(moment, &mark, sink)?;
         }
         Ok(())
     }
@@ -187,6 +200,20 @@ impl Machine {
         let possible = self.task.offer.is_some();
         let picked = pick(&[self.task.row], &[possible], self.last);
         shown_as(self.task.row.mode, possible, is_task(picked, 0))
+    }
+
+    // Hands the sink the line of what a mark tells, if it tells something.
+    fn tell_mark<K: Sink>(&self, moment: u64, mark: &Mark, sink: &mut K) -> Result<(), WriteFault>
+        requires { IfSome mark.now.event (IsEventOf self.now.object.setup) }
+        ensures ok { OnOk result (Takes (K.taken sink.old) (K.taken sink.new) (lines_of self.now.object.setup (told_by moment mark.now.event))) }
+        ensures err { OnErr result (TakesFront (K.taken sink.old) (K.taken sink.new) (lines_of self.now.object.setup (told_by moment mark.now.event))) }
+        ensures cause { OnErr result (Rose (K.faults sink.old) (K.faults sink.new) ⊎ K.full sink.new) }
+        ensures later { K.faults sink.old ≤ K.faults sink.new }
+    {
+        match &mark.event {
+            None => Ok(()),
+            Some(event) => self.tell(moment, event, sink),
+        }
     }
 
     // Hands the sink the line of an event.
@@ -201,6 +228,18 @@ impl Machine {
         event_line(moment, event, &self.object.setup, &mut line);
         put_all(sink, line.as_slice())
     }
+}
+
+// Memory for the slots, each with its first value.
+fn first_values(alloc: Global, setup: &Setup) -> Result<Vec<Cell>, AllocError>
+    ensures { IfOk result (λ slots. slots.items ≡ setup.now.slots) }
+{
+    let first = setup.slots.as_slice();
+    let mut slots = Vec::with_capacity(alloc, first.len())?;
+    for value in first {
+        slots.push(copy_of(value))?;
+    }
+    Ok(slots)
 }
 
 // The name of the first task.

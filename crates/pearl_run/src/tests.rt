@@ -1,6 +1,6 @@
-// A run of an object by hand.
+// Runs of an object by hand.
 
-ghost use Rattle.std.specs.Prelude.{◌≡◌, IfOk};
+ghost use Rattle.std.specs.Prelude.{◌≡◌, ◌<◌, ◌≤◌, IfOk};
 ghost use Rattle.pearl_run.specs.Hand.{hand_setup, IsHand, IsSeventeen};
 
 use crate::machine::Machine;
@@ -12,11 +12,13 @@ use pearl_io::MemorySink;
 use pearl_rules::entry::Entry;
 use pearl_rules::setup::{Device, Direction, Setup, TaskEntry};
 use pearl_value::cell::Cell;
+use pearl_value::kind::Kind;
 use pearl_value::listing::Listing;
+use pearl_value::operator::Dyad;
 use std::alloc::{AllocError, Global};
 use std::test::Fail;
 
-// F(5) with a line end, and F(1), which 17 doesn't fit.
+// F(5) with a line end, and F(1), which 20 doesn't fit.
 fn formats(alloc: Global) -> Result<Listing<Listing<Item>>, AllocError>
     ensures { IfOk result (λ formats. formats ≡ hand_setup.formats) }
 {
@@ -37,6 +39,15 @@ fn formats(alloc: Global) -> Result<Listing<Listing<Item>>, AllocError>
     Ok(Listing::new(vec![in alloc; fitting, failing]?))
 }
 
+// A sum of 31 binary digits, which is 0, and a number of 4, which is 3.
+fn slots(alloc: Global) -> Result<Listing<Cell>, AllocError>
+    ensures { IfOk result (λ slots. slots ≡ hand_setup.slots) }
+{
+    let total = Cell::Fixed { len: 31, value: 0 };
+    let small = Cell::Fixed { len: 4, value: 3 };
+    Ok(Listing::new(vec![in alloc; total, small]?))
+}
+
 fn setup(alloc: Global) -> Result<Setup, AllocError>
     ensures { IfOk result (λ setup. setup ≡ hand_setup) }
 {
@@ -53,6 +64,7 @@ fn setup(alloc: Global) -> Result<Setup, AllocError>
     };
     Ok(Setup {
         tasks: Listing::new(vec![in alloc; task]?),
+        slots: slots(alloc)?,
         devices: Listing::new(vec![in alloc; terminal]?),
         formats: formats(alloc)?,
     })
@@ -65,23 +77,32 @@ fn seventeen(alloc: Global) -> Result<Instr, AllocError>
     Ok(Instr::Const(Box::new(alloc, value)?))
 }
 
-// 17 is written by each of the formats.
-fn object(alloc: Global) -> Result<Object, AllocError>
-    ensures { IfOk result IsHand }
+// The sum becomes the number and 17, and is written; then it is put into so many binary digits and written in one column.
+fn object(alloc: Global, len: u8) -> Result<Object, AllocError>
+    ensures { IfOk result (IsHand len) }
 {
-    let first = seventeen(alloc)?;
-    let fitting = Instr::Put {
-        device: 0,
-        format: 0,
-    };
-    let second = seventeen(alloc)?;
-    let failing = Instr::Put {
-        device: 0,
-        format: 1,
-    };
+    let instructions = vec![in alloc;
+        Instr::Read(1),
+        Instr::Conv(Kind::Fixed(31)),
+        seventeen(alloc)?,
+        Instr::Dyadic(Dyad::Add),
+        Instr::Write(0),
+        Instr::Read(0),
+        Instr::Put {
+            device: 0,
+            format: 0
+        },
+        Instr::Read(0),
+        Instr::Conv(Kind::Fixed(len)),
+        Instr::Put {
+            device: 0,
+            format: 1
+        },
+        Instr::End,
+    ]?;
     let code = Code {
-        depth: 1,
-        instructions: Listing::new(vec![in alloc; first, fitting, second, failing, Instr::End]?),
+        depth: 2,
+        instructions: Listing::new(instructions),
     };
     Ok(Object {
         setup: setup(alloc)?,
@@ -89,19 +110,40 @@ fn object(alloc: Global) -> Result<Object, AllocError>
     })
 }
 
-#[test]
-fn a_text_and_a_trap(rt: HostRuntime) -> Result<(), Fail> {
-    let alloc = rt.alloc();
-    let mut machine = Machine::load(alloc, object(alloc)?)?;
+// What is written of its run: the start, nothing at the first three marks, the sum, and how the task ends.
+fn transcript(alloc: Global, len: u8) -> Result<MemorySink, Fail>
+    requires some { 0 < len }
+    requires most { len ≤ 63 }
+{
+    let mut machine = Machine::load(alloc, object(alloc, len)?)?;
     let mut sink = MemorySink::new(alloc, Vec::new(alloc), usize::MAX);
     machine.begin(&mut sink)?;
     machine.entry(&Entry::Run(0), &mut sink)?;
+    machine.entry(&Entry::Run(3), &mut sink)?;
+    machine.close(&mut sink)?;
     machine.entry(&Entry::Run(1), &mut sink)?;
     machine.close(&mut sink)?;
     machine.entry(&Entry::Run(u64::MAX), &mut sink)?;
     machine.close(&mut sink)?;
+    Ok(sink)
+}
+
+#[test]
+fn a_text_and_an_overflow(rt: HostRuntime) -> Result<(), Fail> {
+    let sink = transcript(rt.alloc(), 4)?;
     let want =
-        b"0 start main 255\n0 out 1 '   17\\n'\n0 state main running 255\n0 close\n0 trap main Format\n0 state main dormant\n0 close\n";
+        b"0 start main 255\n0 state main running 255\n0 close\n0 out 1 '   20\\n'\n0 state main running 255\n0 close\n\
+        0 trap main Overflow\n0 state main dormant\n0 close\n";
+    assert_eq!(rt; sink.bytes(), want.as_slice());
+    Ok(())
+}
+
+#[test]
+fn a_text_that_does_not_fit(rt: HostRuntime) -> Result<(), Fail> {
+    let sink = transcript(rt.alloc(), 5)?;
+    let want =
+        b"0 start main 255\n0 state main running 255\n0 close\n0 out 1 '   20\\n'\n0 state main running 255\n0 close\n\
+        0 trap main Format\n0 state main dormant\n0 close\n";
     assert_eq!(rt; sink.bytes(), want.as_slice());
     Ok(())
 }

@@ -37,6 +37,7 @@ fn two_of_each(alloc: Global) -> Result<Setup, AllocError>
     ]?;
     Ok(Setup {
         tasks: Listing::new(tasks),
+        slots: Listing::new(Vec::new(alloc)),
         devices: Listing::new(devices),
         formats: Listing::new(Vec::new(alloc)),
     })

@@ -10,7 +10,7 @@ use Rattle.pearl_run.proofs.machine.Machine.close.Goals as goal
 pub returns-clause-ok : goal.returns-clause-ok
 returns-clause-ok g c = λ m is.
     let lines : lines_of c.args.self.now.object.setup (states m.core (machine_offers m)) ++ close_line m.core.moment ≡ c.as_slice.result.now ++ c.as_slice-2.result.now =
-    closing c.args.self.now c.self.inside.object c.self.inside.task c.self.inside.last c.self.inside.moment m _ _ _ _ c.self.view_is is c.name_of_task.ensures.name (c.shown-shown.ensures m is)
+    closing c.args.self.now c.self.inside.object c.self.inside.slots.items c.self.inside.task c.self.inside.last c.self.inside.moment m _ _ _ _ c.self.view_is is c.name_of_task.ensures.name (c.shown-shown.ensures m is)
     (c.as_slice.ensures.value ∙ c.state_line.ensures) (c.as_slice-2.ensures.value ∙ c.close_line.ensures) in
     subst (λ bytes. OnOk c.put_all-2.result (Takes (g.K.Sink.taken c.args.sink.now) (g.K.Sink.taken c.put_all-2.new.sink) bytes)) (sym lines)
     (on_ok (takes_more _ (g.K.Sink.taken c.put_all.new.sink) _ _ _ c.in_ok-put_all.ensures.ok) c.put_all-2.result c.put_all-2.ensures.ok)
@@ -18,7 +18,7 @@ returns-clause-ok g c = λ m is.
 pub returns-clause-err : goal.returns-clause-err
 returns-clause-err g c = λ m is.
     let lines : lines_of c.args.self.now.object.setup (states m.core (machine_offers m)) ++ close_line m.core.moment ≡ c.as_slice.result.now ++ c.as_slice-2.result.now =
-    closing c.args.self.now c.self.inside.object c.self.inside.task c.self.inside.last c.self.inside.moment m _ _ _ _ c.self.view_is is c.name_of_task.ensures.name (c.shown-shown.ensures m is)
+    closing c.args.self.now c.self.inside.object c.self.inside.slots.items c.self.inside.task c.self.inside.last c.self.inside.moment m _ _ _ _ c.self.view_is is c.name_of_task.ensures.name (c.shown-shown.ensures m is)
     (c.as_slice.ensures.value ∙ c.state_line.ensures) (c.as_slice-2.ensures.value ∙ c.close_line.ensures) in
     subst (λ bytes. OnErr c.put_all-2.result (TakesFront (g.K.Sink.taken c.args.sink.now) (g.K.Sink.taken c.put_all-2.new.sink) bytes)) (sym lines)
     (on_err (takes_front_more _ (g.K.Sink.taken c.put_all.new.sink) _ _ _ c.in_ok-put_all.ensures.ok) c.put_all-2.result c.put_all-2.ensures.err)
