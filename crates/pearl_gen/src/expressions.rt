@@ -38,8 +38,8 @@ pub fn values_depth(values: &[Expr]) -> u32
 {
     let mut depth = 0;
     let mut below = 0;
-    for value in values {
-        depth = (below + expr_depth(value)).max(depth);
+    for operand in values {
+        depth = (below + expr_depth(operand)).max(depth);
         below += 1;
     }
     depth
