@@ -1,5 +1,5 @@
 -- The kinds of the operands before and after an instruction.
-use Rattle.std.proofs.Common.{◌≡◌, ℕ, ◌<◌, List, [], ◌∷◌, ◌++◌, Some, None, length, map, refl, ap, sym, ◌∙◌, subst, arith}
+use Rattle.std.proofs.Common.{◌≡◌, ℕ, ◌<◌, List, [], ◌∷◌, ◌++◌, Some, None, length, map, refl, ap, sym, ◌∙◌, subst}
 use Rattle.std.specs.List.{AllZip}
 use Rattle.pearl_value.specs.declared.kind.Kind.{Kind}
 use Rattle.pearl_value.specs.declared.cell.Cell.{Cell}
@@ -12,7 +12,7 @@ use Rattle.pearl_code.specs.declared.instr.Instr.TheVariants as instr
 use Rattle.pearl_code.specs.Rows.{below, last, second}
 use Rattle.pearl_code.specs.Valid.{Shape, kinds_of, FitsConv, FitsRead, FitsWrite, FitsDyadic, FitsPut, RunsFrom}
 use Rattle.pearl_gen.specs.Plain.{Plain, Const, Conv, Read, Write, Dyadic, Put, End, plain_of}
-use Rattle.pearl_gen.proofs.Zips.{zip_push}
+use Rattle.pearl_gen.proofs.Zips.{zip_push, zip_length}
 use Rattle.pearl_gen.proofs.Straight.{below_append, last_append, last_two, second_two}
 
 -- the rule of valid code again, for plain instructions
@@ -110,15 +110,9 @@ has_two left first next operands all = by (parted left (first ∷ next ∷ []) o
         two under (x ∷ y ∷ z ∷ above) e under_of above_of = absurd above_of.1.1
 
 -- what is left below the values that PUT takes
-zip_length : (kinds : List Kind) (cells : List Cell) → AreOf kinds cells → length kinds ≡ length cells
-zip_length [] [] all = refl
-zip_length [] (x ∷ cells) all = absurd all
-zip_length (kind ∷ kinds) [] all = absurd all
-zip_length (kind ∷ kinds) (x ∷ cells) all = let rest : length kinds ≡ length cells = zip_length kinds cells all.1 in omega (arith, rest)
-
 pub put_left : (left values : List Kind) (operands : List Cell) (count : ℕ) → AreOf (left ++ values) operands → length values ≡ count → AreOf left (below count operands)
 put_left left values operands count all counted =
     let p = parted left values operands all in
-    let long : length p.above ≡ count = sym (zip_length values p.above p.above_of) ∙ counted in
+    let long : length p.above ≡ count = sym (zip_length IsValueOf values p.above p.above_of) ∙ counted in
     subst (λ left_over. AreOf left left_over)
     (sym (ap (λ n. below n operands) (sym long) ∙ ap (λ all. below (length p.above) all) p.all ∙ below_append p.under p.above)) p.under_of

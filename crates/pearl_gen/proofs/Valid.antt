@@ -22,6 +22,7 @@ use Rattle.pearl_prog.specs.Sound.{IsExpr, IsPut, IsStatement, IsRoutine, IsSoun
 use Rattle.pearl_code.specs.declared.object.Code.{Code}
 use Rattle.pearl_code.specs.Valid.{FitsPut, IsCode, IsValid}
 use Rattle.pearl_gen.specs.Plain.{Plain, Conv, Write, Dyadic, Put, End, expr_code, statement_code, statement_depth, most_operands, body_code, IsWithin, IsCodeOf}
+use Rattle.pearl_gen.proofs.Zips.{zip_length}
 use Rattle.pearl_gen.proofs.Values.{kind_is}
 use Rattle.pearl_gen.proofs.Fitting.{fits_some}
 use Rattle.pearl_gen.proofs.Steady.{PlainRuns, runs_plain}
@@ -138,16 +139,10 @@ codes_valid setup (routine ∷ routines) [] tables sound all = absurd all
 codes_valid setup (routine ∷ routines) (code ∷ codes) tables sound all =
     (code_valid setup routine code tables sound.0 all.0, codes_valid setup routines codes tables sound.1 all.1)
 
-pub zip_length : (setup : Setup) (routines : List Routine) (codes : List Code) → AllZip (IsCodeOf setup) routines codes → length routines ≡ length codes
-zip_length setup [] [] all = refl
-zip_length setup [] (code ∷ codes) all = absurd all
-zip_length setup (routine ∷ routines) [] all = absurd all
-zip_length setup (routine ∷ routines) (code ∷ codes) all = ap suc (zip_length setup routines codes all.1)
-
 pub valid : (p : Program) (setup : Setup) (codes : List Code) → IsSound p → setup ≡ p.setup → AllZip (IsCodeOf p.setup) p.tasks codes →
     IsValid (record { setup = setup; tasks = codes })
 valid p setup codes sound same all = subst (λ setup. IsValid (record { setup = setup; tasks = codes })) (sym same) record {
   setup = sound.setup;
   codes = codes_valid p.setup p.tasks codes sound.setup sound.routines all;
-  each = sym (zip_length p.setup p.tasks codes all) ∙ sound.each;
+  each = sym (zip_length (IsCodeOf p.setup) p.tasks codes all) ∙ sound.each;
 }

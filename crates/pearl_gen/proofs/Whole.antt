@@ -22,11 +22,12 @@ use Rattle.pearl_code.specs.MachineRun.{total_rows}
 use Rattle.pearl_gen.specs.Plain.{Plain, End, plain_of, statement_code, body_code, most_operands, IsCodeOf}
 use Rattle.pearl_gen.specs.Faithful.{IsFaithfulTo}
 use Rattle.pearl_gen.specs.Alone.{MeansAlone}
+use Rattle.pearl_gen.proofs.Zips.{zip_length}
 use Rattle.pearl_gen.proofs.Alone.{offers_alone}
 use Rattle.pearl_gen.proofs.Straight.{run_plain, runs_body}
 use Rattle.pearl_gen.proofs.Standing.{IsLawful, lawful, Stands, alone, weight, falls}
 use Rattle.pearl_gen.proofs.Valid as valid
-use Rattle.pearl_gen.proofs.Valid.{within_most, zip_length}
+use Rattle.pearl_gen.proofs.Valid.{within_most}
 
 -- THE START
 
@@ -133,7 +134,7 @@ pub faithful_to : (p : Program) (setup : Setup) (codes : List Code) → IsSound 
     IsFaithfulTo p (record { setup = setup; tasks = codes })
 faithful_to p setup codes sound same all = subst (λ setup. IsFaithfulTo p (record { setup = setup; tasks = codes })) (sym same) record {
   tables = refl;
-  runs = runs_all p codes sound all (sym sound.each ∙ zip_length p.setup p.tasks codes all);
+  runs = runs_all p codes sound all (sym sound.each ∙ zip_length (IsCodeOf p.setup) p.tasks codes all);
 }
 
 pub means_alone : (p : Program) (setup : Setup) (codes : List Code) → IsSound p → setup ≡ p.setup → AllZip (IsCodeOf p.setup) p.tasks codes →

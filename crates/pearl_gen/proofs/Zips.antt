@@ -1,5 +1,5 @@
 -- Two lists whose elements belong together.
-use Rattle.std.proofs.Common.{◌≡◌, ℕ, ◌+◌, ◌<◌, List, [], ◌∷◌, ◌++◌, length, get_or, take, ap, sym, ◌∙◌, subst}
+use Rattle.std.proofs.Common.{◌≡◌, ℕ, suc, ◌+◌, ◌<◌, List, [], ◌∷◌, ◌++◌, length, get_or, take, refl, ap, sym, ◌∙◌, subst}
 use Rattle.std.proofs.lemmas.List.{take_more}
 use Rattle.std.specs.List.{AllZip}
 
@@ -14,3 +14,9 @@ pub zip_more : {X Y : Type 0} (R : X → Y → Type 0) (xs : List X) (ys : List 
     AllZip R (take i xs) ys → R x y → AllZip R (take (i + 1) xs) (ys ++ y ∷ [])
 zip_more R xs ys i x y within is h r =
     subst (λ l. AllZip R l (ys ++ y ∷ [])) (ap (λ z. take i xs ++ z ∷ []) is ∙ sym (take_more xs i x within)) (zip_push R (take i xs) ys x y h r)
+
+pub zip_length : {X Y : Type 0} (R : X → Y → Type 0) (xs : List X) (ys : List Y) → AllZip R xs ys → length xs ≡ length ys
+zip_length R [] [] h = refl
+zip_length R [] (b ∷ ys) h = absurd h
+zip_length R (a ∷ xs) [] h = absurd h
+zip_length R (a ∷ xs) (b ∷ ys) h = ap suc (zip_length R xs ys h.1)
