@@ -61,7 +61,7 @@ HasTerminal setup (Put device text) = TakesTexts setup device
 HasTerminal setup End = Unit {0}
 HasTerminal setup (Trap trap) = Unit {0}
 
--- an action names what is there
+-- an action names what is there, and writes a value of its slot's kind
 pub record IsLawful (setup : Setup) (action : Action) : Type 0 where
   pub fits : Fits setup action
   pub terminal : HasTerminal setup action

@@ -171,7 +171,7 @@ impl Machine {
         Some(Mark { event })
     }
 
-    // Up to so many marks, with the line of each.
+    // Up to so many marks, with the line of each that tells something.
     fn run<K: Sink>(&mut self, count: u64, sink: &mut K) -> Result<(), WriteFault>
         ensures object { self.new.object ≡ self.old.object }
         ensures ok { OnOk result ((told : List (ℕ × Said)) × Handles self.old (Run count) [] self.new told
