@@ -1,302 +1,251 @@
 -- What a program begins with can be completed.
-use Rattle.std.proofs.Common.{◌≡◌, ◌≤◌, ◌<◌, ◌+◌, ◌⊎◌, inl, inr, ℕ, zero, suc, Bool, true, false, List, [], ◌∷◌, ◌++◌, length, map, slice_get, Option, Some, codes, append_assoc, append-nil, length-append, lit≤, refl, sym, ap, subst, ◌∙◌, arith}
-use Rattle.pearl_first.specs.declared.word.Word.TheVariants.{Put, To, By}
-use Rattle.pearl_first.specs.declared.token.Symbol.TheVariants.{Open, Close}
+use Rattle.std.proofs.Common.{◌≡◌, ◌≤◌, ◌<◌, ◌+◌, ◌⊎◌, inl, inr, ℕ, zero, suc, Bool, true, false, List, [], ◌∷◌, ◌++◌, length, map, Option, Some, codes, append_assoc, append-nil, length-append, lit<, lit≤, refl, sym, ap, subst, ◌∙◌, arith}
+use Rattle.std.specs.List.{AllByRecursion}
+use Rattle.arrayvec.specs.declared.array_vec.ArrayVec.{ArrayVec}
+use Rattle.pearl_first.specs.declared.word.Word.TheVariants as said
+use Rattle.pearl_first.specs.declared.token.Symbol.TheVariants.{Semicolon, Becomes}
 use Rattle.pearl_first.specs.declared.token.Token.{Token}
 use Rattle.pearl_first.specs.declared.token.What.{What}
 use Rattle.pearl_first.specs.declared.form.Form.{Form}
 use Rattle.pearl_first.specs.declared.form.Form.TheVariants.{AnyName, AnyNumber}
-use Rattle.pearl_first.specs.declared.form.TheConstants.{OPENING, STEP}
+use Rattle.pearl_first.specs.declared.form.TheConstants.{HEAD, DECLARATION, TASK_HEAD, TARGET}
+use Rattle.pearl_first.specs.declared.tree.Name.{Name}
+use Rattle.pearl_first.specs.declared.tree.Part.{Part}
+use Rattle.pearl_first.specs.declared.tree.Part.TheVariants as part
+use Rattle.pearl_first.specs.declared.tree.Sign.{Sign}
+use Rattle.pearl_first.specs.declared.tree.Term.{Term}
+use Rattle.pearl_first.specs.declared.tree.Sum.{Sum}
+use Rattle.pearl_first.specs.declared.tree.Assign.{Assign}
+use Rattle.pearl_first.specs.declared.tree.Put.{Put}
 use Rattle.pearl_first.specs.declared.tree.Step.{Step}
+use Rattle.pearl_first.specs.declared.tree.Step.TheVariants as step
 use Rattle.pearl_first.specs.declared.tree.Tree.{Tree}
-use Rattle.pearl_first.specs.Grammar.{word, sign, id, number, what_at, place_at, opening, closing, step_end, step_words, Stand, IsStep, AreSteps, Spells, SomeBegins}
-use Rattle.pearl_first.specs.Forms.{Fits, FitsAt, FitFront}
-use Rattle.pearl_first.specs.Stops.{Begun, EndBegun, StepBegun}
+use Rattle.pearl_first.specs.Forms.{Fits, FitFront, IsSign}
+use Rattle.pearl_first.specs.Grammar.{Mark, MarkAt, bare, word, sign, id, number, what_at, Stand, head, name_mark, declaration_marks, declarations_marks, task_marks, symbol_of, part_mark, terms_marks, sum_marks, step_end, assign_marks, target_marks, put_marks, step_marks, steps_marks, closing, tree_marks, HasFewSigns, IsWithinLimits, Spells, SomeBegins}
+use Rattle.pearl_first.specs.Stops.{Begun, EndBegun, IsOpened}
+use Rattle.pearl_first.proofs.Marks.{both, extend, either, join_begun, then_begun, cons_begun, none_begun, one_begun, fit_begun, tokens_of, made, made_length, made_said}
 
-get_left : (xs ys : List What) (j : ℕ) → j < length xs → slice_get (xs ++ ys) j ≡ slice_get xs j
-get_left [] ys j below = absurd (omega arith)
-get_left (x ∷ xs) ys zero below = refl
-get_left (x ∷ xs) ys (suc j) below = get_left xs ys j (omega arith)
-
-get_right : (xs ys : List What) (j : ℕ) → slice_get (xs ++ ys) (length xs + j) ≡ slice_get ys j
-get_right [] ys j = let e : 0 + j ≡ j = omega arith in ap (slice_get ys) e
-get_right (x ∷ xs) ys j = let e : suc (length xs) + j ≡ suc (length xs + j) = omega arith in ap (slice_get (x ∷ (xs ++ ys))) e ∙ get_right xs ys j
-
-pub extend : (tokens : List Token) (from k : ℕ) (xs ys : List What) → Begun tokens from k xs → Begun tokens from k (xs ++ ys)
-extend tokens from k xs ys begun = record {
-  short = omega (arith, begun.short, length-append xs ys);
-  same = λ j below. begun.same j below ∙ sym (get_left xs ys j (omega (arith, begun.short)));
-}
-
-either : (j n : ℕ) → (j < n) ⊎ ((i : ℕ) × (j ≡ n + i))
-either j zero = inr (j, omega arith)
-either zero (suc n) = inl (omega arith)
-either (suc j) (suc n) = by (either j n)
-  where
-    by : (j < n) ⊎ ((i : ℕ) × (j ≡ n + i)) → (suc j < suc n) ⊎ ((i : ℕ) × (suc j ≡ suc n + i))
-    by (inl h) = inl (omega arith)
-    by (inr h) = let e = h.1 in inr (h.0, omega (arith, e))
-
-pub join : (tokens : List Token) (from k : ℕ) (xs ys : List What) → Begun tokens from (from + length xs) xs → Begun tokens (from + length xs) k ys → Begun tokens from k (xs ++ ys)
-join tokens from k xs ys front back = record {
-  short = omega (arith, back.short, length-append xs ys);
-  same = λ j below. by j below (either j (length xs));
-}
-  where
-    by : (j : ℕ) → from + j < k → (j < length xs) ⊎ ((i : ℕ) × (j ≡ length xs + i)) → what_at tokens (from + j) ≡ slice_get (xs ++ ys) j
-    by j below (inl h) = front.same j (omega arith) ∙ sym (get_left xs ys j h)
-    by j below (inr h) =
-        let i = h.0 in
-        let e = h.1 in
-        let at : from + j ≡ (from + length xs) + i = omega (arith, e) in
-        ap (what_at tokens) at ∙ back.same i (omega (arith, at, below)) ∙ sym (get_right xs ys i) ∙ ap (slice_get (xs ++ ys)) (sym e)
-
--- words that stand are begun as far as they go
-stand_get : (tokens : List Token) (from k : ℕ) (ws : List What) → Stand tokens from k ws → (j : ℕ) → j < length ws → what_at tokens (from + (k + j)) ≡ slice_get ws j
-stand_get tokens from k [] stand j below = absurd (omega arith)
-stand_get tokens from k (w ∷ ws) stand zero below = let e : from + (k + 0) ≡ from + k = omega arith in ap (what_at tokens) e ∙ stand.0
-stand_get tokens from k (w ∷ ws) stand (suc j) below = let e : from + (k + suc j) ≡ from + (suc k + j) = omega arith in ap (what_at tokens) e ∙ stand_get tokens from (suc k) ws stand.1 j (omega arith)
-
-pub stand_begun : (tokens : List Token) (from : ℕ) (ws : List What) → Stand tokens from 0 ws → Begun tokens from (from + length ws) ws
-stand_begun tokens from ws stand = record {
-  short = omega arith;
-  same = λ j below. let e : from + j ≡ from + (0 + j) = omega arith in ap (what_at tokens) e ∙ stand_get tokens from 0 ws stand j (omega arith);
-}
-
-get_stand : (tokens : List Token) (from k : ℕ) (ws : List What) → ((j : ℕ) → j < length ws → what_at tokens (from + (k + j)) ≡ slice_get ws j) → Stand tokens from k ws
-get_stand tokens from k [] same = tt
-get_stand tokens from k (w ∷ ws) same =
-    let e : from + k ≡ from + (k + 0) = omega arith in (
-      ap (what_at tokens) e ∙ same 0 (omega arith),
-      get_stand tokens from (suc k) ws (λ j below. let f : from + (suc k + j) ≡ from + (k + suc j) = omega arith in ap (what_at tokens) f ∙ same (suc j) (omega arith)),
-    )
-
-pub begun_stand : (tokens : List Token) (from : ℕ) (ws : List What) → Begun tokens from (from + length ws) ws → Stand tokens from 0 ws
-begun_stand tokens from ws begun = get_stand tokens from 0 ws (λ j below. let e : from + (0 + j) ≡ from + j = omega arith in ap (what_at tokens) e ∙ begun.same j (omega arith))
-
-begun_left : (tokens : List Token) (from k : ℕ) (xs ys : List What) → from + length xs ≤ k → Begun tokens from k (xs ++ ys) → Begun tokens from (from + length xs) xs
-begun_left tokens from k xs ys within begun = record {
-  short = omega arith;
-  same = λ j below. begun.same j (omega arith) ∙ get_left xs ys j (omega arith);
-}
-
-begun_right : (tokens : List Token) (from k : ℕ) (xs ys : List What) → Begun tokens from k (xs ++ ys) → Begun tokens (from + length xs) k ys
-begun_right tokens from k xs ys begun = record {
-  short = omega (arith, begun.short, length-append xs ys);
-  same = λ j below.
-      let e : (from + length xs) + j ≡ from + (length xs + j) = omega arith in
-      ap (what_at tokens) e ∙ begun.same (length xs + j) (omega (arith, e, below)) ∙ get_right xs ys j;
-}
-
--- the words of statements
-abbrev pub steps_words : List Step → List What
-steps_words [] = []
-steps_words (step ∷ steps) = step_words step ++ steps_words steps
-
-abbrev program_words : List ℕ → List Step → List What
-program_words name steps = opening name ++ (steps_words steps ++ closing)
-
-more_words : (steps : List Step) (step : Step) (after : List What) → steps_words (steps ++ step ∷ []) ++ after ≡ steps_words steps ++ (step_words step ++ after)
-more_words [] step after = ap (λ ws. ws ++ after) (append-nil (step_words step))
-more_words (x ∷ steps) step after =
-    append_assoc (step_words x) (steps_words (steps ++ step ∷ [])) after ∙ ap (λ ws. step_words x ++ ws) (more_words steps step after)
-    ∙ sym (append_assoc (step_words x) (steps_words steps) (step_words step ++ after))
-
--- what statements spell
-pub steps_begun : (tokens : List Token) (from : ℕ) (steps : List Step) (to : ℕ) → AreSteps tokens from steps to
-    → (to ≡ from + length (steps_words steps)) × Begun tokens from (from + length (steps_words steps)) (steps_words steps)
-steps_begun tokens from [] to are = (omega (arith, are), record { short = omega arith; same = λ j below. absurd (omega arith) })
-steps_begun tokens from (step ∷ steps) to are =
-    let rest = steps_begun tokens are.0 steps to are.2 in
-    let next : are.0 ≡ from + length (step_words step) = are.1.end in
-    let size = length-append (step_words step) (steps_words steps) in
-    let end : to ≡ from + length (steps_words (step ∷ steps)) = omega (arith, rest.0, next, size) in
-    let back : Begun tokens (from + length (step_words step)) to (steps_words steps) =
-    subst (λ at. Begun tokens at to (steps_words steps)) next (subst (λ k. Begun tokens are.0 k (steps_words steps)) (sym rest.0) rest.1) in (
-      end,
-      subst (λ k. Begun tokens from k (steps_words (step ∷ steps))) end
-          (join tokens from to (step_words step) (steps_words steps) (stand_begun tokens from (step_words step) are.1.words) back),
-    )
-
--- tokens and statements whose places are all 0
-abbrev plain : List What → List Token
-plain [] = []
-plain (w ∷ ws) = record { place = 0; what = w } ∷ plain ws
-
-abbrev plain_step : Step → Step
-plain_step step = record { place = 0; value = step.value; target = record { text = step.target.text; place = 0 }; item = 0; width = step.width; skip = step.skip }
-
-what_plain : (ws : List What) (j : ℕ) → what_at (plain ws) j ≡ slice_get ws j
-what_plain [] j = refl
-what_plain (w ∷ ws) zero = refl
-what_plain (w ∷ ws) (suc j) = what_plain ws j
-
-place_plain : (ws : List What) (j : ℕ) → j < length ws → place_at (plain ws) j ≡ Some 0
-place_plain [] j below = absurd (omega arith)
-place_plain (w ∷ ws) zero below = refl
-place_plain (w ∷ ws) (suc j) below = place_plain ws j (omega arith)
-
-length_plain : (ws : List What) → length (plain ws) ≡ length ws
-length_plain [] = refl
-length_plain (w ∷ ws) = ap suc (length_plain ws)
-
-ten : (step : Step) → 10 ≤ length (step_words step)
-ten step = omega (arith, by step.skip)
-  where
-    by : (skip : Bool) → 1 ≤ length (step_end skip)
-    by true = omega arith
-    by false = omega arith
-
-steps_spelled : (tokens : List Token) (from : ℕ) (steps : List Step) → ((j : ℕ) → j < from + length (steps_words steps) → place_at tokens j ≡ Some 0)
-    → Begun tokens from (from + length (steps_words steps)) (steps_words steps) → AreSteps tokens from (map plain_step steps) (from + length (steps_words steps))
-steps_spelled tokens from [] places begun = omega arith
-steps_spelled tokens from (step ∷ steps) places begun =
-    let size = length-append (step_words step) (steps_words steps) in
-    let long = ten step in
-    let next = from + length (step_words step) in
-    let end : from + length (steps_words (step ∷ steps)) ≡ next + length (steps_words steps) = omega (arith, size) in
-    let is : IsStep tokens from (plain_step step) next = record {
-      words = begun_stand tokens from (step_words step) (begun_left tokens from (from + length (steps_words (step ∷ steps))) (step_words step) (steps_words steps) (omega (arith, size)) begun);
-      place = places from (omega (arith, size, long));
-      target = places (from + 3) (omega (arith, size, long));
-      item = places (from + 5) (omega (arith, size, long));
-      end = refl;
-    } in
-    let rest : Begun tokens next (next + length (steps_words steps)) (steps_words steps) =
-    subst (λ k. Begun tokens next k (steps_words steps)) end (begun_right tokens from (from + length (steps_words (step ∷ steps))) (step_words step) (steps_words steps) begun) in
-    (next, is, subst (λ k. AreSteps tokens next (map plain_step steps) k) (sym end) (steps_spelled tokens next steps (λ j below. places j (omega (arith, end, below))) rest))
-
-abbrev plain_tree : List ℕ → List Step → Tree
-plain_tree name steps = record { task = record { text = record { items = name }; place = 0 }; steps = map plain_step steps }
-
--- every name and every statements are those of a program
-spelled : (name : List ℕ) (steps : List Step) → Spells (plain_tree name steps) (plain (program_words name steps))
-spelled name steps =
-    let ws = program_words name steps in
-    let tokens = plain ws in
-    let rest = steps_words steps ++ closing in
-    let tail : length rest ≡ length (steps_words steps) + 4 = length-append (steps_words steps) closing in
-    let whole : length ws ≡ 37 + length rest = length-append (opening name) rest in
-    let all : Begun tokens 0 (0 + length ws) ws = record { short = omega arith; same = λ j below. let e : 0 + j ≡ j = omega arith in ap (what_at tokens) e ∙ what_plain ws j } in
-    let after : Begun tokens 37 (0 + length ws) rest = begun_right tokens 0 (0 + length ws) (opening name) rest all in
-    let end = 37 + length (steps_words steps) in
-    let final : 0 + length ws ≡ end + 4 = omega (arith, whole, tail) in
-    record {
-      opens = begun_stand tokens 0 (opening name) (begun_left tokens 0 (0 + length ws) (opening name) rest (omega (arith, whole)) all);
-      task = place_plain ws 32 (omega (arith, whole));
-      end = end;
-      steps = steps_spelled tokens 37 steps (λ j below. place_plain ws j (omega (arith, whole, tail, below)))
-          (begun_left tokens 37 (0 + length ws) (steps_words steps) closing (omega (arith, final)) after);
-      closes = begun_stand tokens end closing (subst (λ k. Begun tokens end k closing) final (begun_right tokens 37 (0 + length ws) (steps_words steps) closing after));
-      whole = length_plain ws ∙ omega (arith, final);
-    }
-
--- what the words of a program begin with, some program begins with
-begins : (tokens : List Token) (name : List ℕ) (steps : List Step) (k : ℕ) → Begun tokens 0 k (program_words name steps) → SomeBegins tokens k
-begins tokens name steps k begun = (
-  plain_tree name steps,
-  plain (program_words name steps),
-  λ j below. let e : j ≡ 0 + j = omega arith in ap (what_at tokens) e ∙ begun.same j (omega arith) ∙ sym (what_plain (program_words name steps) j),
-  spelled name steps,
+-- what the marks of a program begin with, some program begins with
+pub begins : (tokens : List Token) (tree : Tree) (k : ℕ) → IsWithinLimits tree → Begun tokens 0 k (tree_marks tree) → SomeBegins tokens k
+begins tokens tree k limits begun = (
+  tree,
+  tokens_of (tree_marks tree),
+  λ j below. let e : j ≡ 0 + j = omega arith in ap (what_at tokens) e ∙ begun.same j (omega arith) ∙ sym (made_said (tree_marks tree) j),
+  record { marks = made (tree_marks tree); whole = made_length (tree_marks tree); limits = limits },
 )
 
-after_steps : (tokens : List Token) (name : List ℕ) (steps : List Step) (at k : ℕ) (after : List What) → Stand tokens 0 0 (opening name) → AreSteps tokens 37 steps at → Begun tokens at k after
-    → Begun tokens 0 k (opening name ++ (steps_words steps ++ after))
-after_steps tokens name steps at k after opens are begun =
-    let done = steps_begun tokens 37 steps at are in
-    let here : Begun tokens (37 + length (steps_words steps)) k after = subst (λ x. Begun tokens x k after) done.0 begun in
-    join tokens 0 k (opening name) (steps_words steps ++ after) (stand_begun tokens 0 (opening name) opens) (join tokens 37 k (steps_words steps) after done.1 here)
+-- a name and a part, if any is wanted
+abbrev pub some_name : Name
+some_name = record { text = record { items = codes "x" }; place = 0 }
 
-pub closing_begins : (tokens : List Token) (name : List ℕ) (steps : List Step) (at k : ℕ) → Stand tokens 0 0 (opening name) → AreSteps tokens 37 steps at → Begun tokens at k closing → SomeBegins tokens k
-closing_begins tokens name steps at k opens are begun = begins tokens name steps k (after_steps tokens name steps at k closing opens are begun)
+-- ---- one more at the end
 
-pub step_begins : (tokens : List Token) (name : List ℕ) (steps : List Step) (at k : ℕ) → Stand tokens 0 0 (opening name) → AreSteps tokens 37 steps at → StepBegun tokens at k → SomeBegins tokens k
-step_begins tokens name steps at k opens are begun =
-    let step = begun.0 in
-    begins tokens name (steps ++ step ∷ []) k
-    (subst (λ ws. Begun tokens 0 k (opening name ++ ws)) (sym (more_words steps step closing))
-    (after_steps tokens name steps at k (step_words step ++ closing) opens are (extend tokens at k (step_words step) closing begun.1)))
+pub more_terms : (terms : List Term) (term : Term) → terms_marks (terms ++ term ∷ []) ≡ terms_marks terms ++ terms_marks (term ∷ [])
+more_terms [] term = refl
+more_terms (t ∷ terms) term = ap (λ marks. bare (sign (symbol_of t.sign)) ∷ part_mark t.part ∷ marks) (more_terms terms term)
 
--- each form that fits before number n tells the word that stands there
-abbrev AllTell : (ℕ → Option What) → ℕ → ℕ → List Form → List What → Type 0
-AllTell at n k [] [] = Unit {0}
-AllTell at n k [] (w ∷ ws) = ⊥
-AllTell at n k (f ∷ forms) [] = ⊥
-AllTell at n k (f ∷ forms) (w ∷ ws) = (k < n → Fits f (at k) → at k ≡ Some w) × AllTell at n (suc k) forms ws
+pub more_steps : (steps : List Step) (one : Step) → steps_marks (steps ++ one ∷ []) ≡ steps_marks steps ++ step_marks one
+more_steps [] one = append-nil (step_marks one)
+more_steps (s ∷ steps) one = ap (λ marks. step_marks s ++ marks) (more_steps steps one) ∙ sym (append_assoc (step_marks s) (steps_marks steps) (step_marks one))
 
-told : (at : ℕ → Option What) (n k : ℕ) (forms : List Form) (ws : List What) → AllTell at n k forms ws → (j : ℕ) → k + j < n → FitsAt forms j (at (k + j)) → at (k + j) ≡ slice_get ws j
-told at n k [] ws tell j below fit = absurd fit
-told at n k (f ∷ forms) [] tell j below fit = absurd tell
-told at n k (f ∷ forms) (w ∷ ws) tell zero below fit =
-    let e : k + 0 ≡ k = omega arith in
-    ap at e ∙ tell.0 (omega arith) (subst (λ i. Fits f (at i)) e fit)
-told at n k (f ∷ forms) (w ∷ ws) tell (suc j) below fit =
-    let e : k + suc j ≡ suc k + j = omega arith in
-    ap at e ∙ told at n (suc k) forms ws tell.1 j (omega arith) (subst (λ i. FitsAt forms j (at i)) e fit)
+pub more_names : (names : List Name) (name : Name) → declarations_marks (names ++ name ∷ []) ≡ declarations_marks names ++ declaration_marks name
+more_names [] name = refl
+more_names (n ∷ names) name = ap (λ marks. declaration_marks n ++ marks) (more_names names name)
 
-fit_begun : (tokens : List Token) (from n : ℕ) (forms : List Form) (ws : List What) → n ≤ length ws → FitFront forms tokens from n
-    → AllTell (λ k. what_at tokens (from + k)) n 0 forms ws → Begun tokens from (from + n) ws
-fit_begun tokens from n forms ws within fit tell = record {
-  short = omega arith;
-  same = λ j below.
-      let e : 0 + j ≡ j = omega arith in
-      ap (λ i. what_at tokens (from + i)) (sym e) ∙ told (λ k. what_at tokens (from + k)) n 0 forms ws tell j (omega arith) (subst (λ i. FitsAt forms j (what_at tokens (from + i))) (sym e) (fit j (omega arith)));
-}
+pub few_more : (steps : List Step) (one : Step) → AllByRecursion HasFewSigns steps → HasFewSigns one → AllByRecursion HasFewSigns (steps ++ one ∷ [])
+few_more [] one few here = (here, tt)
+few_more (s ∷ steps) one few here = (few.0, few_more steps one few.1 here)
+
+-- ---- sums
+
+-- the sum with one more term
+abbrev pub longer : Sum → Term → Sum
+longer sum term = record { first = sum.first; rest = sum.rest ++ term ∷ [] }
+
+pub longer_marks : (sum : Sum) (term : Term) → sum_marks (longer sum term) ≡ sum_marks sum ++ terms_marks (term ∷ [])
+longer_marks sum term = ap (λ marks. part_mark sum.first ∷ marks) (more_terms sum.rest term)
+
+pub sum_stands : (tokens : List Token) (from at : ℕ) (sum : Sum) (term : Term) → Stand tokens from 0 (sum_marks sum) → at ≡ from + length (sum_marks sum)
+    → MarkAt tokens at (bare (sign (symbol_of term.sign))) → MarkAt tokens (at + 1) (part_mark term.part) → Stand tokens from 0 (sum_marks (longer sum term))
+sum_stands tokens from at sum term stand at_is signed here =
+    let e : from + length (sum_marks sum) ≡ at = omega (arith, at_is) in
+    let zeroth : at ≡ at + 0 = omega arith in
+    let after : Stand tokens at 0 (terms_marks (term ∷ [])) = (subst (λ n. MarkAt tokens n (bare (sign (symbol_of term.sign)))) zeroth signed, (here, tt)) in
+    subst (λ marks. Stand tokens from 0 marks) (sym (longer_marks sum term))
+    (both tokens from (sum_marks sum) (terms_marks (term ∷ [])) stand (subst (λ n. Stand tokens n 0 (terms_marks (term ∷ []))) (sym e) after))
+
+-- after a sign there may be a number
+pub sum_begun : (tokens : List Token) (from at : ℕ) (sum : Sum) (found : Sign) → Stand tokens from 0 (sum_marks sum) → at ≡ from + length (sum_marks sum)
+    → what_at tokens at ≡ Some (sign (symbol_of found)) → Begun tokens from (at + 1) (sum_marks (longer sum (record { sign = found; part = part.Number 0 })))
+sum_begun tokens from at sum found stand at_is here =
+    let term : Term = record { sign = found; part = part.Number 0 } in
+    subst (λ marks. Begun tokens from (at + 1) marks) (sym (longer_marks sum term))
+    (then_begun tokens from (at + 1) (sum_marks sum) (terms_marks (term ∷ [])) stand
+    (subst (λ n. Begun tokens n (at + 1) (terms_marks (term ∷ []))) at_is (one_begun tokens at (bare (sign (symbol_of found))) (part_mark term.part ∷ []) here)))
+
+-- the sum stands, and nothing more is asked
+pub sum_whole : (tokens : List Token) (from at : ℕ) (sum : Sum) (more : List Mark) → Stand tokens from 0 (sum_marks sum) → at ≡ from + length (sum_marks sum) → Begun tokens from at (sum_marks sum ++ more)
+sum_whole tokens from at sum more stand at_is =
+    then_begun tokens from at (sum_marks sum) more stand (subst (λ n. Begun tokens n at more) at_is (none_begun tokens at more))
+
+-- ---- statements
+
+pub assign_begun : (tokens : List Token) (from k : ℕ) (assign : Assign) → what_at tokens from ≡ Some (id assign.target.text.items) → what_at tokens (from + 1) ≡ Some (sign Becomes)
+    → Begun tokens (from + 2) k (sum_marks assign.value ++ bare (sign Semicolon) ∷ []) → Begun tokens from k (assign_marks assign)
+assign_begun tokens from k assign named becomes begun =
+    let rest = sum_marks assign.value ++ bare (sign Semicolon) ∷ [] in
+    cons_begun tokens from (from + 1) k (name_mark assign.target) (bare (sign Becomes) ∷ rest) refl named
+    (cons_begun tokens (from + 1) (from + 2) k (bare (sign Becomes)) rest (omega arith) becomes begun)
+
+pub put_begun : (tokens : List Token) (from k : ℕ) (put : Put) → what_at tokens from ≡ Some (word said.Put)
+    → Begun tokens (from + 1) k (sum_marks put.value ++ (target_marks put ++ step_end put.skip)) → Begun tokens from k (put_marks put)
+put_begun tokens from k put here begun =
+    cons_begun tokens from (from + 1) k (word said.Put, Some put.place) (sum_marks put.value ++ (target_marks put ++ step_end put.skip)) refl here begun
 
 -- the number at a place that is reached, and else any
-some_number : (here : Option What) (k n : ℕ) → (k < n → Fits AnyNumber here) → (value : ℕ) × (k < n → here ≡ Some (number value))
-some_number here k n fit = by (either k n)
+number_there : (here : Option What) (k n : ℕ) → (k < n → Fits AnyNumber here) → (value : ℕ) × (k < n → here ≡ Some (number value))
+number_there here k n fit = by (either k n)
   where
     by : (k < n) ⊎ ((i : ℕ) × (k ≡ n + i)) → (value : ℕ) × (k < n → here ≡ Some (number value))
     by (inl below) = ((fit below).0, λ _. (fit below).1)
     by (inr past) = let e = past.1 in (0, λ below. absurd (omega (arith, e, below)))
 
-some_name : (here : Option What) (k n : ℕ) → (k < n → Fits AnyName here) → (text : List ℕ) × (k < n → here ≡ Some (id text))
-some_name here k n fit = by (either k n)
+name_there : (here : Option What) (k n : ℕ) → (k < n → Fits AnyName here) → (text : List ℕ) × (k < n → here ≡ Some (id text))
+name_there here k n fit = by (either k n)
   where
     by : (k < n) ⊎ ((i : ℕ) × (k ≡ n + i)) → (text : List ℕ) × (k < n → here ≡ Some (id text))
     by (inl below) = ((fit below).0, λ _. (fit below).1)
     by (inr past) = let e = past.1 in (codes "tty", λ below. absurd (omega (arith, e, below)))
 
--- a statement that begins with what fits, and ends its line or does not
-front_step : (tokens : List Token) (from n : ℕ) → FitFront STEP tokens from n → Bool → Step
-front_step tokens from n fit skip =
+-- a PUT with this value and what fits after it
+put_with : (tokens : List Token) (at n : ℕ) → FitFront TARGET tokens at n → Sum → Bool → Put
+put_with tokens at n fit value skip =
     record {
       place = 0;
-      value = (some_number (what_at tokens (from + 1)) 1 n (fit 1)).0;
-      target = record { text = record { items = (some_name (what_at tokens (from + 3)) 3 n (fit 3)).0 }; place = 0 };
+      value = value;
+      target = record { text = record { items = (name_there (what_at tokens (at + 1)) 1 n (fit 1)).0 }; place = 0 };
       item = 0;
-      width = (some_number (what_at tokens (from + 7)) 7 n (fit 7)).0;
+      width = (number_there (what_at tokens (at + 5)) 5 n (fit 5)).0;
       skip = skip;
     }
 
-abbrev step_front : Step → List What
-step_front step =
-    word Put ∷ number step.value ∷ word To ∷ id step.target.text.items ∷ word By ∷
-    id (codes "F") ∷ sign Open ∷ number step.width ∷ sign Close ∷ []
+target_begun : (tokens : List Token) (at n : ℕ) → n ≤ 7 → (fit : FitFront TARGET tokens at n) (value : Sum) (skip : Bool) → Begun tokens at (at + n) (target_marks (put_with tokens at n fit value skip))
+unfolding put_with
+target_begun tokens at n within fit value skip =
+    fit_begun tokens at n TARGET (target_marks (put_with tokens at n fit value skip)) within fit
+    ((λ below fit. fit), ((λ below _. (name_there (what_at tokens (at + 1)) 1 n (fit 1)).1 below), ((λ below fit. fit), ((λ below fit. fit), ((λ below fit. fit), ((λ below _. (number_there (what_at tokens (at + 5)) 5 n (fit 5)).1 below), ((λ below fit. fit), tt)))))))
 
-front_begun : (tokens : List Token) (from n : ℕ) → n ≤ 9 → (fit : FitFront STEP tokens from n) (skip : Bool) → Begun tokens from (from + n) (step_front (front_step tokens from n fit skip))
-unfolding front_step
-front_begun tokens from n within fit skip =
-    fit_begun tokens from n STEP (step_front (front_step tokens from n fit skip)) within fit
-    ((λ below fit. fit), ((λ below _. (some_number (what_at tokens (from + 1)) 1 n (fit 1)).1 below), ((λ below fit. fit), ((λ below _. (some_name (what_at tokens (from + 3)) 3 n (fit 3)).1 below), ((λ below fit. fit), ((λ below fit. fit), ((λ below fit. fit), ((λ below _. (some_number (what_at tokens (from + 7)) 7 n (fit 7)).1 below), ((λ below fit. fit), tt)))))))))
+-- a PUT stands up to the end of its value, and then come some of the tokens after it
+pub front_begun : (tokens : List Token) (from at n : ℕ) (value : Sum) → what_at tokens from ≡ Some (word said.Put) → Stand tokens (from + 1) 0 (sum_marks value) → at ≡ (from + 1) + length (sum_marks value)
+    → n ≤ 7 → FitFront TARGET tokens at n → (put : Put) × (put.value ≡ value) × Begun tokens from (at + n) (put_marks put)
+unfolding put_with
+front_begun tokens from at n value here stand at_is within fit =
+    let put = put_with tokens at n fit value false in
+    let after = extend tokens at (at + n) (target_marks put) (step_end false) (target_begun tokens at n within fit value false) in (
+      put,
+      refl,
+      put_begun tokens from (at + n) put here (then_begun tokens (from + 1) (at + n) (sum_marks value) (target_marks put ++ step_end false) stand
+          (subst (λ m. Begun tokens m (at + n) (target_marks put ++ step_end false)) at_is after)),
+    )
 
-pub step_front_begun : (tokens : List Token) (from n : ℕ) → n ≤ 9 → FitFront STEP tokens from n → StepBegun tokens from (from + n)
-step_front_begun tokens from n within fit =
-    let step = front_step tokens from n fit false in
-    (step, extend tokens from (from + n) (step_front step) (step_end step.skip) (front_begun tokens from n within fit false))
+pub end_begun : (tokens : List Token) (from at n k : ℕ) (value : Sum) → what_at tokens from ≡ Some (word said.Put) → Stand tokens (from + 1) 0 (sum_marks value) → at ≡ (from + 1) + length (sum_marks value)
+    → 7 ≤ n → FitFront TARGET tokens at n → EndBegun tokens (at + 7) k → (put : Put) × (put.value ≡ value) × Begun tokens from k (put_marks put)
+unfolding put_with
+end_begun tokens from at n k value here stand at_is within fit end =
+    let seven : FitFront TARGET tokens at 7 = λ j below. fit j (omega arith) in
+    let put = put_with tokens at 7 seven value end.0 in
+    let after = join_begun tokens at k (target_marks put) (step_end end.0) (target_begun tokens at 7 (lit≤ tt) seven value end.0) end.1 in (
+      put,
+      refl,
+      put_begun tokens from k put here (then_begun tokens (from + 1) k (sum_marks value) (target_marks put ++ step_end end.0) stand
+          (subst (λ m. Begun tokens m k (target_marks put ++ step_end end.0)) at_is after)),
+    )
 
-pub step_end_begun : (tokens : List Token) (from n k : ℕ) → 9 ≤ n → FitFront STEP tokens from n → EndBegun tokens (from + 9) k → StepBegun tokens from k
-unfolding front_step
-step_end_begun tokens from n k within fit end =
-    let nine : FitFront STEP tokens from 9 = λ j below. fit j (omega arith) in
-    let step = front_step tokens from 9 nine end.0 in
-    (step, join tokens from k (step_front step) (step_end end.0) (front_begun tokens from 9 (lit≤ tt) nine end.0) end.1)
+-- ---- programs
 
-pub opening_begins : (tokens : List Token) (n : ℕ) → n ≤ 37 → FitFront OPENING tokens 0 n → SomeBegins tokens n
-opening_begins tokens n within fit =
-    let name = some_name (what_at tokens (0 + 32)) 32 n (fit 32) in
-    let begun : Begun tokens 0 (0 + n) (opening name.0) = fit_begun tokens 0 n OPENING (opening name.0) within fit
-    ((λ below fit. fit), ((λ below fit. fit), ((λ below fit. fit), ((λ below fit. fit), ((λ below fit. fit), ((λ below fit. fit), ((λ below fit. fit), ((λ below fit. fit), ((λ below fit. fit), ((λ below fit. fit), ((λ below fit. fit), ((λ below fit. fit), ((λ below fit. fit), ((λ below fit. fit), ((λ below fit. fit), ((λ below fit. fit), ((λ below fit. fit), ((λ below fit. fit), ((λ below fit. fit), ((λ below fit. fit), ((λ below fit. fit), ((λ below fit. fit), ((λ below fit. fit), ((λ below fit. fit), ((λ below fit. fit), ((λ below fit. fit), ((λ below fit. fit), ((λ below fit. fit), ((λ below fit. fit), ((λ below fit. fit), ((λ below fit. fit), ((λ below fit. fit), ((λ below _. name.1 below), ((λ below fit. fit), ((λ below fit. fit), ((λ below fit. fit), ((λ below fit. fit), tt))))))))))))))))))))))))))))))))))))) in
+after_head : (tokens : List Token) (names : List Name) (at k : ℕ) (more : List Mark) → Stand tokens 0 0 head → Stand tokens 32 0 (declarations_marks names) → at ≡ 32 + length (declarations_marks names)
+    → Begun tokens at k more → Begun tokens 0 k (head ++ (declarations_marks names ++ more))
+after_head tokens names at k more opens stand at_is begun =
+    then_begun tokens 0 k head (declarations_marks names ++ more) opens
+    (then_begun tokens 32 k (declarations_marks names) more stand (subst (λ n. Begun tokens n k more) at_is begun))
+
+pub head_stands : (tokens : List Token) → FitFront HEAD tokens 0 32 → Stand tokens 0 0 head
+head_stands tokens fit = ((fit 0 (lit< tt), tt), ((fit 1 (lit< tt), tt), ((fit 2 (lit< tt), tt), ((fit 3 (lit< tt), tt), ((fit 4 (lit< tt), tt), ((fit 5 (lit< tt), tt), ((fit 6 (lit< tt), tt), ((fit 7 (lit< tt), tt), ((fit 8 (lit< tt), tt), ((fit 9 (lit< tt), tt), ((fit 10 (lit< tt), tt), ((fit 11 (lit< tt), tt), ((fit 12 (lit< tt), tt), ((fit 13 (lit< tt), tt), ((fit 14 (lit< tt), tt), ((fit 15 (lit< tt), tt), ((fit 16 (lit< tt), tt), ((fit 17 (lit< tt), tt), ((fit 18 (lit< tt), tt), ((fit 19 (lit< tt), tt), ((fit 20 (lit< tt), tt), ((fit 21 (lit< tt), tt), ((fit 22 (lit< tt), tt), ((fit 23 (lit< tt), tt), ((fit 24 (lit< tt), tt), ((fit 25 (lit< tt), tt), ((fit 26 (lit< tt), tt), ((fit 27 (lit< tt), tt), ((fit 28 (lit< tt), tt), ((fit 29 (lit< tt), tt), ((fit 30 (lit< tt), tt), ((fit 31 (lit< tt), tt), tt))))))))))))))))))))))))))))))))
+
+-- a tree with these parts
+abbrev tree_with : List Name → Name → List Step → Tree
+tree_with names task steps = record { variables = names; task = task; steps = steps }
+
+pub head_begins : (tokens : List Token) (n : ℕ) → n ≤ 32 → FitFront HEAD tokens 0 n → SomeBegins tokens n
+head_begins tokens n within fit =
+    let begun : Begun tokens 0 (0 + n) head = fit_begun tokens 0 n HEAD head within fit
+    ((λ below fit. fit), ((λ below fit. fit), ((λ below fit. fit), ((λ below fit. fit), ((λ below fit. fit), ((λ below fit. fit), ((λ below fit. fit), ((λ below fit. fit), ((λ below fit. fit), ((λ below fit. fit), ((λ below fit. fit), ((λ below fit. fit), ((λ below fit. fit), ((λ below fit. fit), ((λ below fit. fit), ((λ below fit. fit), ((λ below fit. fit), ((λ below fit. fit), ((λ below fit. fit), ((λ below fit. fit), ((λ below fit. fit), ((λ below fit. fit), ((λ below fit. fit), ((λ below fit. fit), ((λ below fit. fit), ((λ below fit. fit), ((λ below fit. fit), ((λ below fit. fit), ((λ below fit. fit), ((λ below fit. fit), ((λ below fit. fit), ((λ below fit. fit), tt)))))))))))))))))))))))))))))))) in
+    let tree = tree_with [] some_name [] in
     let e : 0 + n ≡ n = omega arith in
-    begins tokens name.0 [] n (subst (λ k. Begun tokens 0 k (program_words name.0 [])) e (extend tokens 0 (0 + n) (opening name.0) (steps_words [] ++ closing) begun))
+    begins tokens tree n (record { variables = lit≤ tt; signs = tt })
+    (subst (λ k. Begun tokens 0 k (tree_marks tree)) e (extend tokens 0 (0 + n) head (task_marks some_name ++ closing) begun))
+
+-- one more declaration is begun
+pub name_begins : (tokens : List Token) (names : List Name) (name : Name) (at k : ℕ) → Stand tokens 0 0 head → Stand tokens 32 0 (declarations_marks names) → at ≡ 32 + length (declarations_marks names)
+    → length names < 1000 → Begun tokens at k (declaration_marks name) → SomeBegins tokens k
+name_begins tokens names name at k opens stand at_is few begun =
+    let rest = task_marks some_name ++ closing in
+    let all : declarations_marks (names ++ name ∷ []) ++ rest ≡ declarations_marks names ++ (declaration_marks name ++ rest) =
+    ap (λ marks. marks ++ rest) (more_names names name) ∙ append_assoc (declarations_marks names) (declaration_marks name) rest in
+    let many = length-append names (name ∷ []) in
+    begins tokens (tree_with (names ++ name ∷ []) some_name []) k (record { variables = omega (arith, few, many); signs = tt })
+    (subst (λ marks. Begun tokens 0 k (head ++ marks)) (sym all)
+    (after_head tokens names at k (declaration_marks name ++ rest) opens stand at_is (extend tokens at k (declaration_marks name) rest begun)))
+
+-- the declarations may end here
+pub names_begin : (tokens : List Token) (names : List Name) (at : ℕ) → Stand tokens 0 0 head → Stand tokens 32 0 (declarations_marks names) → at ≡ 32 + length (declarations_marks names)
+    → length names ≤ 1000 → SomeBegins tokens at
+names_begin tokens names at opens stand at_is few =
+    let rest = task_marks some_name ++ closing in
+    begins tokens (tree_with names some_name []) at (record { variables = few; signs = tt })
+    (after_head tokens names at at rest opens stand at_is (none_begun tokens at rest))
+
+-- the head of the task is begun
+pub task_begins : (tokens : List Token) (names : List Name) (name : Name) (at k : ℕ) → Stand tokens 0 0 head → Stand tokens 32 0 (declarations_marks names) → at ≡ 32 + length (declarations_marks names)
+    → length names ≤ 1000 → Begun tokens at k (task_marks name) → SomeBegins tokens k
+task_begins tokens names name at k opens stand at_is few begun =
+    begins tokens (tree_with names name []) k (record { variables = few; signs = tt })
+    (after_head tokens names at k (task_marks name ++ closing) opens stand at_is (extend tokens at k (task_marks name) closing begun))
+
+after_steps : (tokens : List Token) (start : ℕ) (opened : IsOpened tokens start) (steps : List Step) (at k : ℕ) (more : List Mark) → Stand tokens start 0 (steps_marks steps) → at ≡ start + length (steps_marks steps)
+    → Begun tokens at k more → Begun tokens 0 k (head ++ (declarations_marks opened.variables ++ (task_marks opened.task ++ (steps_marks steps ++ more))))
+after_steps tokens start opened steps at k more stand at_is begun =
+    let task = 32 + length (declarations_marks opened.variables) in
+    let start_is : start ≡ task + 5 = opened.end_is in
+    let from_steps : Begun tokens start k (steps_marks steps ++ more) = then_begun tokens start k (steps_marks steps) more stand (subst (λ n. Begun tokens n k more) at_is begun) in
+    let from_task : Begun tokens task k (task_marks opened.task ++ (steps_marks steps ++ more)) =
+    then_begun tokens task k (task_marks opened.task) (steps_marks steps ++ more) opened.task_stands (subst (λ n. Begun tokens n k (steps_marks steps ++ more)) start_is from_steps) in
+    after_head tokens opened.variables task k (task_marks opened.task ++ (steps_marks steps ++ more)) opened.head_stands opened.variables_stand refl from_task
+
+pub step_begins : (tokens : List Token) (start : ℕ) (opened : IsOpened tokens start) (steps : List Step) (one : Step) (at k : ℕ) → Stand tokens start 0 (steps_marks steps) → at ≡ start + length (steps_marks steps)
+    → AllByRecursion HasFewSigns steps → HasFewSigns one → Begun tokens at k (step_marks one) → SomeBegins tokens k
+step_begins tokens start opened steps one at k stand at_is few here begun =
+    let all : steps_marks (steps ++ one ∷ []) ++ closing ≡ steps_marks steps ++ (step_marks one ++ closing) =
+    ap (λ marks. marks ++ closing) (more_steps steps one) ∙ append_assoc (steps_marks steps) (step_marks one) closing in
+    begins tokens (tree_with opened.variables opened.task (steps ++ one ∷ [])) k (record { variables = opened.few; signs = few_more steps one few here })
+    (subst (λ marks. Begun tokens 0 k (head ++ (declarations_marks opened.variables ++ (task_marks opened.task ++ marks)))) (sym all)
+    (after_steps tokens start opened steps at k (step_marks one ++ closing) stand at_is (extend tokens at k (step_marks one) closing begun)))
+
+pub closing_begins : (tokens : List Token) (start : ℕ) (opened : IsOpened tokens start) (steps : List Step) (at k : ℕ) → Stand tokens start 0 (steps_marks steps) → at ≡ start + length (steps_marks steps)
+    → AllByRecursion HasFewSigns steps → Begun tokens at k closing → SomeBegins tokens k
+closing_begins tokens start opened steps at k stand at_is few begun =
+    begins tokens (tree_with opened.variables opened.task steps) k (record { variables = opened.few; signs = few })
+    (after_steps tokens start opened steps at k closing stand at_is begun)
+
+-- what fits a declaration or the head of a task begins one
+pub declaration_begun : (tokens : List Token) (at n : ℕ) → n ≤ 4 → FitFront DECLARATION tokens at n → (name : Name) × Begun tokens at (at + n) (declaration_marks name)
+declaration_begun tokens at n within fit =
+    let text = name_there (what_at tokens (at + 1)) 1 n (fit 1) in
+    let name : Name = record { text = record { items = text.0 }; place = 0 } in
+    (name, fit_begun tokens at n DECLARATION (declaration_marks name) within fit ((λ below fit. fit), ((λ below _. text.1 below), ((λ below fit. fit), ((λ below fit. fit), tt)))))
+
+pub task_begun : (tokens : List Token) (at n : ℕ) → n ≤ 5 → FitFront TASK_HEAD tokens at n → (name : Name) × Begun tokens at (at + n) (task_marks name)
+task_begun tokens at n within fit =
+    let text = name_there (what_at tokens (at + 0)) 0 n (fit 0) in
+    let name : Name = record { text = record { items = text.0 }; place = 0 } in
+    (name, fit_begun tokens at n TASK_HEAD (task_marks name) within fit ((λ below _. text.1 below), ((λ below fit. fit), ((λ below fit. fit), ((λ below fit. fit), ((λ below fit. fit), tt))))))

@@ -1,9 +1,11 @@
 mod Values
 mod Lexing
 mod Standing
+mod Marks
 mod Parsing
-mod First
-mod Resolution
-mod Ranges
 mod Completion
+mod Statements
+mod First
+mod Ranges
+mod Resolution
 pub mod Unique

@@ -1,5 +1,5 @@
 -- What a source's tokens hold is in range, and so is what its tree holds.
-use Rattle.std.proofs.Common.{◌≡◌, ◌≤◌, ◌<◌, ◌+◌, ◌-◌, ◌^◌, ◌||◌, ◌&&◌, ◌==◌, ℕ, zero, suc, Bool, true, false, IsTrue, cond, nat_le, List, [], ◌∷◌, length, take, drop, slice_index, All, Option, Some, None, option_map, true≢false, refl, sym, ap, subst, ◌∙◌, arith}
+use Rattle.std.proofs.Common.{◌≡◌, ◌≤◌, ◌<◌, ◌+◌, ◌-◌, ◌^◌, ◌||◌, ◌&&◌, ◌==◌, ℕ, zero, suc, Bool, true, false, IsTrue, cond, nat_le, List, [], ◌∷◌, ◌++◌, length, take, drop, slice_index, All, Option, Some, None, option_map, true≢false, refl, sym, ap, subst, ◌∙◌, arith}
 use Rattle.std.specs.Char.{is_ascii_alphabetic, is_ascii_digit}
 use Rattle.std.specs.List.{prefix_len, list_all}
 use Rattle.std.proofs.lemmas.Bool.{and_from}
@@ -12,13 +12,20 @@ use Rattle.pearl_first.specs.declared.token.Symbol.{Symbol}
 use Rattle.pearl_first.specs.declared.token.Symbol.TheVariants as symbol
 use Rattle.pearl_first.specs.declared.token.Token.{Token}
 use Rattle.pearl_first.specs.declared.token.Front.{Front}
+use Rattle.pearl_first.specs.declared.tree.Part.{Part}
+use Rattle.pearl_first.specs.declared.tree.Part.TheVariants as part
+use Rattle.pearl_first.specs.declared.tree.Term.{Term}
+use Rattle.pearl_first.specs.declared.tree.Sum.{Sum}
 use Rattle.pearl_first.specs.declared.tree.Step.{Step}
+use Rattle.pearl_first.specs.declared.tree.Step.TheVariants as step
 use Rattle.pearl_first.specs.declared.tree.Tree.{Tree}
 use Rattle.pearl_first.specs.Words.{words}
-use Rattle.pearl_first.specs.Spelling.{meaning, id_of, word_or_id, value_of, number_of, clock_of, milliseconds, symbol_of, sized, digit_count, begins_part, numeral, word_front, front}
+use Rattle.pearl_first.specs.Spelling.{meaning, id_of, word_or_id, value_of, number_of, clock_of, milliseconds, double_symbol, single_symbol, longer_symbol, symbol_front, sized, digit_count, begins_part, numeral, word_front, front}
 use Rattle.pearl_first.specs.Lexes.{IsToken, AreTokens, Lexes}
-use Rattle.pearl_first.specs.Grammar.{what_at, AreSteps, Spells}
-use Rattle.pearl_first.specs.Lawful.{IsLawful}
+use Rattle.pearl_first.specs.Grammar.{what_at, MarkAt, Stand, head, declarations_marks, task_marks, part_mark, terms_marks, sum_marks, step_marks, steps_marks, closing, Spells}
+use Rattle.pearl_first.specs.Lawful.{IsSmall, HasSmallPart, HasSmallParts, IsLawfulStep, IsLawful}
+use Rattle.pearl_first.proofs.Marks.{left, right}
+use Rattle.pearl_first.proofs.Parsing.{assign_sum, put_sum}
 
 -- a name is an id, and a number is below 2^63
 abbrev pub IsInRange : What → Type 0
@@ -84,12 +91,13 @@ numeral_range bytes =
     either true x y h k = h
     either false x y h k = k
 
-symbol_range : (b : ℕ) → IfRange (symbol_of b)
-symbol_range b = either (b == 40) symbol.Open _ (either (b == 41) symbol.Close _ (either (b == 58) symbol.Colon _ (either (b == 59) symbol.Semicolon _ (either (b == 44) symbol.Comma None tt))))
+symbol_range : (a b : ℕ) → IfFront (symbol_front a b)
+symbol_range a b = by (double_symbol a b) (single_symbol a)
   where
-    either : (c : Bool) (s : Symbol) (other : Option What) → IfRange other → IfRange (cond c (Some (what.Symbol s)) other)
-    either true s other h = tt
-    either false s other h = h
+    by : (double single : Option Symbol) → IfFront (longer_symbol double single)
+    by (Some double) single = tt
+    by None (Some single) = tt
+    by None None = tt
 
 prefix_passes : (p : ℕ → Bool) (xs : List ℕ) → IsTrue (list_all p (take (prefix_len p xs) xs))
 prefix_passes p [] = refl
@@ -111,10 +119,10 @@ front_range : (bytes : List ℕ) → IfFront (front bytes)
 unfolding front
 front_range bytes = by (is_ascii_alphabetic (slice_index bytes 0)) refl (is_ascii_digit (slice_index bytes 0))
   where
-    by : (a : Bool) → is_ascii_alphabetic (slice_index bytes 0) ≡ a → (d : Bool) → IfFront (cond a (word_front bytes (prefix_len is_name_byte bytes)) (cond d (numeral bytes) (sized (symbol_of (slice_index bytes 0)) 1)))
+    by : (a : Bool) → is_ascii_alphabetic (slice_index bytes 0) ≡ a → (d : Bool) → IfFront (cond a (word_front bytes (prefix_len is_name_byte bytes)) (cond d (numeral bytes) (symbol_front (slice_index bytes 0) (slice_index bytes 1))))
     by true e d = sized_range _ _ (word_range (meaning words (take (prefix_len is_name_byte bytes) bytes)) (take (prefix_len is_name_byte bytes) bytes) (run_is_name bytes e))
     by false e true = numeral_range bytes
-    by false e false = sized_range (symbol_of (slice_index bytes 0)) 1 (symbol_range (slice_index bytes 0))
+    by false e false = symbol_range (slice_index bytes 0) (slice_index bytes 1)
 
 token_range : (bytes : List ℕ) (from : ℕ) (token : Token) (to : ℕ) → IsToken bytes from token to → IsInRange token.what
 token_range bytes from token to is = subst IfFront is.begins (front_range (drop token.place bytes))
@@ -124,17 +132,33 @@ tokens_range bytes from [] to are k w e = absurd (cc e)
 tokens_range bytes from (token ∷ tokens) to are zero w e = subst IfRange e (token_range bytes from token are.0 are.1)
 tokens_range bytes from (token ∷ tokens) to are (suc k) w e = tokens_range bytes are.0 tokens to are.2 k w e
 
-steps_small : (tokens : List Token) (from : ℕ) (steps : List Step) (to : ℕ) → ((k : ℕ) (w : What) → what_at tokens k ≡ Some w → IsInRange w) → AreSteps tokens from steps to
-    → All (λ step. step.value < 2 ^ 63) steps
-steps_small tokens from [] to range are k d below = absurd (omega arith)
-steps_small tokens from (step ∷ steps) to range are zero d below = range (from + 1) (what.Number step.value) are.1.words.1.0
-steps_small tokens from (step ∷ steps) to range are (suc k) d below = steps_small tokens are.0 steps to range are.2 k d (omega arith)
+part_small : (tokens : List Token) (at : ℕ) (p : Part) → ((k : ℕ) (w : What) → what_at tokens k ≡ Some w → IsInRange w) → MarkAt tokens at (part_mark p) → IsSmall p
+part_small tokens at (part.Number value) range here = range at (what.Number value) here.0
+part_small tokens at (part.Name name) range here = tt
 
--- the opening's name is its token number 32
-named_at : (tokens : List Token) (tree : Tree) → Spells tree tokens → what_at tokens 32 ≡ Some (what.Id tree.task.text)
-named_at tokens tree spells = spells.opens.1.1.1.1.1.1.1.1.1.1.1.1.1.1.1.1.1.1.1.1.1.1.1.1.1.1.1.1.1.1.1.1.0
+terms_small : (tokens : List Token) (from k : ℕ) (terms : List Term) → ((k : ℕ) (w : What) → what_at tokens k ≡ Some w → IsInRange w) → Stand tokens from k (terms_marks terms) → All HasSmallPart terms
+terms_small tokens from k [] range stand i d below = absurd (omega arith)
+terms_small tokens from k (t ∷ terms) range stand zero d below = part_small tokens (from + suc k) t.part range stand.1.0
+terms_small tokens from k (t ∷ terms) range stand (suc i) d below = terms_small tokens from (suc (suc k)) terms range stand.1.1 i d (omega arith)
+
+sum_small : (tokens : List Token) (from : ℕ) (sum : Sum) → ((k : ℕ) (w : What) → what_at tokens k ≡ Some w → IsInRange w) → Stand tokens from 0 (sum_marks sum) → HasSmallParts sum
+sum_small tokens from sum range stand = record { first = part_small tokens (from + 0) sum.first range stand.0; rest = terms_small tokens from 1 sum.rest range stand.1 }
+
+step_small : (tokens : List Token) (from : ℕ) (one : Step) → ((k : ℕ) (w : What) → what_at tokens k ≡ Some w → IsInRange w) → Stand tokens from 0 (step_marks one) → IsLawfulStep one
+step_small tokens from (step.Assign a) range stand = sum_small tokens (from + 2) a.value range (assign_sum tokens from a stand)
+step_small tokens from (step.Put p) range stand = sum_small tokens (from + 1) p.value range (put_sum tokens from p stand)
+
+steps_small : (tokens : List Token) (from : ℕ) (steps : List Step) → ((k : ℕ) (w : What) → what_at tokens k ≡ Some w → IsInRange w) → Stand tokens from 0 (steps_marks steps) → All IsLawfulStep steps
+steps_small tokens from [] range stand k d below = absurd (omega arith)
+steps_small tokens from (s ∷ steps) range stand zero d below = step_small tokens from s range (left tokens from (step_marks s) (steps_marks steps) stand)
+steps_small tokens from (s ∷ steps) range stand (suc k) d below =
+    steps_small tokens (from + length (step_marks s)) steps range (right tokens from (step_marks s) (steps_marks steps) stand) k d (omega arith)
 
 pub lawful : (bytes : List ℕ) (tokens : List Token) (tree : Tree) → Lexes bytes tokens → Spells tree tokens → IsLawful tree
 lawful bytes tokens tree lexes spells =
     let range = tokens_range bytes 0 tokens lexes.end lexes.tokens_are in
-    record { named = range 32 (what.Id tree.task.text) (named_at tokens tree spells); small = steps_small tokens 37 tree.steps spells.end range spells.steps }
+    let after_names = task_marks tree.task ++ (steps_marks tree.steps ++ closing) in
+    let at = 32 + length (declarations_marks tree.variables) in
+    let task = right tokens 32 (declarations_marks tree.variables) after_names (right tokens 0 head (declarations_marks tree.variables ++ after_names) spells.marks) in
+    let steps = left tokens (at + 5) (steps_marks tree.steps) closing (right tokens at (task_marks tree.task) (steps_marks tree.steps ++ closing) task) in
+    record { named = range (at + 0) (what.Id tree.task.text) task.0.0; small = steps_small tokens (at + 5) tree.steps range steps; few = spells.limits.variables }

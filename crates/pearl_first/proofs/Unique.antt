@@ -1,21 +1,32 @@
 -- The tokens, the tree and the outcome of a source are determined.
-use Rattle.std.proofs.Common.{◌≡◌, ◌⊎◌, inl, inr, ◌<◌, ℕ, zero, suc, Bool, true, false, List, [], ◌∷◌, length, drop, Contains, Option, Some, None, refl, sym, ap, subst, ◌∙◌, arith}
+use Rattle.std.proofs.Common.{◌≡◌, ◌⊎◌, inl, inr, ◌<◌, ◌+◌, ◌++◌, append_assoc, ℕ, zero, suc, Bool, true, false, List, [], ◌∷◌, length, drop, Contains, Option, Some, None, refl, sym, ap, subst, ◌∙◌, arith}
 use Rattle.std.proofs.Math.ListN.{drop_of_length-le}
 use Rattle.pearl_first.specs.declared.fault.FrontFault.TheVariants.{Syntax, Source, NoMemory}
 use Rattle.pearl_first.specs.declared.token.Token.{Token}
-use Rattle.pearl_first.specs.declared.token.What.TheVariants as what
 use Rattle.pearl_first.specs.declared.token.Front.{Front}
 use Rattle.pearl_first.specs.declared.rules.Fault.{Fault}
+use Rattle.pearl_first.specs.declared.token.What.{What}
+use Rattle.pearl_first.specs.declared.tree.Name.{Name}
+use Rattle.pearl_first.specs.declared.tree.Part.{Part}
+use Rattle.pearl_first.specs.declared.tree.Part.TheVariants as part
+use Rattle.pearl_first.specs.declared.tree.Sign.{Sign}
+use Rattle.pearl_first.specs.declared.tree.Sign.TheVariants.{Plus, Minus}
+use Rattle.pearl_first.specs.declared.tree.Term.{Term}
+use Rattle.pearl_first.specs.declared.tree.Sum.{Sum}
 use Rattle.pearl_first.specs.declared.tree.Step.{Step}
+use Rattle.pearl_first.specs.declared.tree.Step.TheVariants as step
 use Rattle.pearl_first.specs.declared.tree.Tree.{Tree}
 use Rattle.pearl_first.specs.Spelling.{front}
 use Rattle.pearl_first.specs.Lexes.{past_blanks, AreTokens, Lexes, IsStuck}
-use Rattle.pearl_first.specs.Grammar.{what_at, closing, step_end, Stand, IsStep, AreSteps, Spells, NoneBegins, SomeBegins}
+use Rattle.pearl_first.specs.Forms.{IsSign}
+use Rattle.pearl_first.specs.Grammar.{Mark, MarkAt, what_at, Stand, sign, head, name_mark, declarations_marks, task_marks, part_mark, symbol_of, terms_marks, sum_marks, step_end, target_marks, step_marks, steps_marks, closing, Spells, NoneBegins, SomeBegins}
+use Rattle.pearl_first.specs.Stops.{FollowsSum}
 use Rattle.pearl_first.specs.Rules.{IsEarlier, IsFirstOf, faults}
 use Rattle.pearl_first.specs.Resolved.{Resolves}
 use Rattle.pearl_first.specs.Outcome.{place_of, IsRefusedBy}
 use Rattle.pearl_first.specs.Laws.{HasOneReading, HasOneTree, HasOneProgram, HasOneOutcome, HasOneFault}
-use Rattle.pearl_first.proofs.Parsing.{ending, same_next}
+use Rattle.pearl_first.proofs.Marks.{shift, left, right, at_zero}
+use Rattle.pearl_first.proofs.Parsing.{follows_stops, assign_sum, assign_follows, put_sum, put_after, put_follows, starts, end_starts}
 
 -- no token begins where no byte is left
 none_at_end : front [] ≡ None
@@ -77,45 +88,115 @@ not_both bytes place tokens stuck lexes =
 
 -- ---- trees
 
-same_step : (tokens : List Token) (from : ℕ) (a b : Step) (to next : ℕ) → IsStep tokens from a to → IsStep tokens from b next → (a ≡ b) × (to ≡ next)
-same_step tokens from a b to next is its =
-    let end : to ≡ next = same_next tokens tokens from a b to next is its refl in
-    let value : a.value ≡ b.value = let e = sym is.words.1.0 ∙ its.words.1.0 in cc e in
-    let text : a.target.text ≡ b.target.text = let e = sym is.words.1.1.1.0 ∙ its.words.1.1.1.0 in cc e in
-    let width : a.width ≡ b.width = let e = sym is.words.1.1.1.1.1.1.1.0 ∙ its.words.1.1.1.1.1.1.1.0 in cc e in
-    let skip : a.skip ≡ b.skip = same_skip tokens from a.skip b.skip (ending tokens from a is.words) (ending tokens from b its.words) in
-    let place : a.place ≡ b.place = let e = sym is.place ∙ its.place in cc e in
-    let target : a.target.place ≡ b.target.place = let e = sym is.target ∙ its.target in cc e in
-    let item : a.item ≡ b.item = let e = sym is.item ∙ its.item in cc e in
-    (λ i. record { place = place i; value = value i; target = record { text = text i; place = target i }; item = item i; width = width i; skip = skip i }, end)
-  where
-    same_skip : (tokens : List Token) (from : ℕ) (skip other : Bool) → Stand tokens from 9 (step_end skip) → Stand tokens from 9 (step_end other) → skip ≡ other
-    same_skip tokens from true true s t = refl
-    same_skip tokens from false false s t = refl
-    same_skip tokens from true false s t = let e = sym s.0 ∙ t.0 in cc e
-    same_skip tokens from false true s t = let e = sym s.0 ∙ t.0 in cc e
+same_name : (tokens : List Token) (at : ℕ) (a b : Name) → MarkAt tokens at (name_mark a) → MarkAt tokens at (name_mark b) → a ≡ b
+same_name tokens at a b x y =
+    let text : a.text ≡ b.text = let e = sym x.0 ∙ y.0 in cc e in
+    let place : a.place ≡ b.place = let e = sym x.1 ∙ y.1 in cc e in
+    λ i. record { text = text i; place = place i }
 
-same_steps : (tokens : List Token) (from : ℕ) (steps : List Step) (to : ℕ) (others : List Step) (end : ℕ) → AreSteps tokens from steps to → Stand tokens to 0 closing
-    → AreSteps tokens from others end → Stand tokens end 0 closing → steps ≡ others
-same_steps tokens from [] to [] end are closes alike also = refl
-same_steps tokens from [] to (other ∷ others) end are closes alike also =
-    cc
-same_steps tokens from (step ∷ steps) to [] end are closes alike also =
-    cc
-same_steps tokens from (step ∷ steps) to (other ∷ others) end are closes alike also =
-    let same = same_step tokens from step other are.0 alike.0 are.1 alike.1 in
-    let rest = same_steps tokens are.0 steps to others end are.2 closes (subst (λ at. AreSteps tokens at others end) (sym same.1) alike.2) also in
-    λ i. same.0 i ∷ rest i
+same_part : (tokens : List Token) (at : ℕ) (a b : Part) → MarkAt tokens at (part_mark a) → MarkAt tokens at (part_mark b) → a ≡ b
+same_part tokens at (part.Number a) (part.Number b) x y = let value : a ≡ b = let e = sym x.0 ∙ y.0 in cc e in ap part.Number value
+same_part tokens at (part.Name a) (part.Name b) x y = ap part.Name (same_name tokens at a b x y)
+same_part tokens at (part.Number a) (part.Name b) x y = let e = sym x.0 ∙ y.0 in cc e
+same_part tokens at (part.Name a) (part.Number b) x y = let e = sym x.0 ∙ y.0 in cc e
 
-named : (tokens : List Token) (tree : Tree) → Spells tree tokens → what_at tokens 32 ≡ Some (what.Id tree.task.text)
-named tokens tree spells = spells.opens.1.1.1.1.1.1.1.1.1.1.1.1.1.1.1.1.1.1.1.1.1.1.1.1.1.1.1.1.1.1.1.1.0
+same_sign : (here : Option What) (a b : Sign) → here ≡ Some (sign (symbol_of a)) → here ≡ Some (sign (symbol_of b)) → a ≡ b
+same_sign here Plus Plus x y = refl
+same_sign here Minus Minus x y = refl
+same_sign here Plus Minus x y = let e = sym x ∙ y in cc e
+same_sign here Minus Plus x y = let e = sym x ∙ y in cc e
+
+same_terms : (tokens : List Token) (from : ℕ) (xs ys : List Term) → Stand tokens from 0 (terms_marks xs) → (IsSign (what_at tokens (from + length (terms_marks xs))) → ⊥)
+    → Stand tokens from 0 (terms_marks ys) → (IsSign (what_at tokens (from + length (terms_marks ys))) → ⊥) → xs ≡ ys
+same_terms tokens from [] [] stand stops alike halts = refl
+same_terms tokens from [] (y ∷ ys) stand stops alike halts = absurd (stops (y.sign, alike.0.0))
+same_terms tokens from (x ∷ xs) [] stand stops alike halts = absurd (halts (x.sign, stand.0.0))
+same_terms tokens from (x ∷ xs) (y ∷ ys) stand stops alike halts =
+    let signs : x.sign ≡ y.sign = same_sign (what_at tokens (from + 0)) x.sign y.sign stand.0.0 alike.0.0 in
+    let parts : x.part ≡ y.part = same_part tokens (from + 1) x.part y.part stand.1.0 alike.1.0 in
+    let here : (from + 2) + length (terms_marks xs) ≡ from + length (terms_marks (x ∷ xs)) = omega arith in
+    let there : (from + 2) + length (terms_marks ys) ≡ from + length (terms_marks (y ∷ ys)) = omega arith in
+    let rest : xs ≡ ys = same_terms tokens (from + 2) xs ys
+    (shift tokens from 2 0 2 (terms_marks xs) refl stand.1.1) (λ found. stops (subst (λ n. IsSign (what_at tokens n)) here found))
+    (shift tokens from 2 0 2 (terms_marks ys) refl alike.1.1) (λ found. halts (subst (λ n. IsSign (what_at tokens n)) there found)) in
+    λ i. record { sign = signs i; part = parts i } ∷ rest i
+
+same_sum : (tokens : List Token) (from : ℕ) (a b : Sum) → Stand tokens from 0 (sum_marks a) → FollowsSum (what_at tokens (from + length (sum_marks a)))
+    → Stand tokens from 0 (sum_marks b) → FollowsSum (what_at tokens (from + length (sum_marks b))) → a ≡ b
+same_sum tokens from a b stand follows alike also =
+    let first : a.first ≡ b.first = same_part tokens (from + 0) a.first b.first stand.0 alike.0 in
+    let here : (from + 1) + length (terms_marks a.rest) ≡ from + length (sum_marks a) = omega arith in
+    let there : (from + 1) + length (terms_marks b.rest) ≡ from + length (sum_marks b) = omega arith in
+    let rest : a.rest ≡ b.rest = same_terms tokens (from + 1) a.rest b.rest
+    (shift tokens from 1 0 1 (terms_marks a.rest) refl stand.1) (λ found. follows_stops (what_at tokens (from + length (sum_marks a))) follows (subst (λ n. IsSign (what_at tokens n)) here found))
+    (shift tokens from 1 0 1 (terms_marks b.rest) refl alike.1) (λ found. follows_stops (what_at tokens (from + length (sum_marks b))) also (subst (λ n. IsSign (what_at tokens n)) there found)) in
+    λ i. record { first = first i; rest = rest i }
+
+same_skip : (tokens : List Token) (at : ℕ) (skip other : Bool) → Stand tokens at 0 (step_end skip) → Stand tokens at 0 (step_end other) → skip ≡ other
+same_skip tokens at true true s t = refl
+same_skip tokens at false false s t = refl
+same_skip tokens at true false s t = let e = sym s.0.0 ∙ t.0.0 in cc e
+same_skip tokens at false true s t = let e = sym s.0.0 ∙ t.0.0 in cc e
+
+same_step : (tokens : List Token) (from : ℕ) (a b : Step) → Stand tokens from 0 (step_marks a) → Stand tokens from 0 (step_marks b) → a ≡ b
+same_step tokens from (step.Assign a) (step.Assign b) stand alike =
+    let target : a.target ≡ b.target = same_name tokens (from + 0) a.target b.target stand.0 alike.0 in
+    let value : a.value ≡ b.value = same_sum tokens (from + 2) a.value b.value (assign_sum tokens from a stand) (assign_follows tokens from a stand) (assign_sum tokens from b alike) (assign_follows tokens from b alike) in
+    λ i. step.Assign (record { target = target i; value = value i })
+same_step tokens from (step.Put p) (step.Put q) stand alike =
+    let place : p.place ≡ q.place = let e = sym stand.0.1 ∙ alike.0.1 in cc e in
+    let value : p.value ≡ q.value = same_sum tokens (from + 1) p.value q.value (put_sum tokens from p stand) (put_follows tokens from p stand) (put_sum tokens from q alike) (put_follows tokens from q alike) in
+    let at = (from + 1) + length (sum_marks p.value) in
+    let ours : Stand tokens at 0 (target_marks p ++ step_end p.skip) = put_after tokens from p stand in
+    let theirs : Stand tokens at 0 (target_marks q ++ step_end q.skip) =
+    subst (λ (s : Sum). Stand tokens ((from + 1) + length (sum_marks s)) 0 (target_marks q ++ step_end q.skip)) (sym value) (put_after tokens from q alike) in
+    let target : p.target ≡ q.target = same_name tokens (at + 1) p.target q.target ours.1.0 theirs.1.0 in
+    let item : p.item ≡ q.item = let e = sym ours.1.1.1.0.1 ∙ theirs.1.1.1.0.1 in cc e in
+    let width : p.width ≡ q.width = let e = sym ours.1.1.1.1.1.0.0 ∙ theirs.1.1.1.1.1.0.0 in cc e in
+    let skip : p.skip ≡ q.skip = same_skip tokens (at + 7) p.skip q.skip (right tokens at (target_marks p) (step_end p.skip) ours) (right tokens at (target_marks q) (step_end q.skip) theirs) in
+    λ i. step.Put (record { place = place i; value = value i; target = target i; item = item i; width = width i; skip = skip i })
+same_step tokens from (step.Assign a) (step.Put q) stand alike = let e = sym stand.0.0 ∙ alike.0.0 in cc e
+same_step tokens from (step.Put p) (step.Assign b) stand alike = let e = sym stand.0.0 ∙ alike.0.0 in cc e
+
+same_steps : (tokens : List Token) (from : ℕ) (xs ys : List Step) → Stand tokens from 0 (steps_marks xs ++ closing) → Stand tokens from 0 (steps_marks ys ++ closing) → xs ≡ ys
+same_steps tokens from [] [] stand alike = refl
+same_steps tokens from [] (y ∷ ys) stand alike =
+    absurd (end_starts (what_at tokens from) (at_zero tokens from stand.0.0) (starts tokens from y (left tokens from (step_marks y) (steps_marks ys) (left tokens from (steps_marks (y ∷ ys)) closing alike))))
+same_steps tokens from (x ∷ xs) [] stand alike =
+    absurd (end_starts (what_at tokens from) (at_zero tokens from alike.0.0) (starts tokens from x (left tokens from (step_marks x) (steps_marks xs) (left tokens from (steps_marks (x ∷ xs)) closing stand))))
+same_steps tokens from (x ∷ xs) (y ∷ ys) stand alike =
+    let ours = subst (λ marks. Stand tokens from 0 marks) (append_assoc (step_marks x) (steps_marks xs) closing) stand in
+    let theirs = subst (λ marks. Stand tokens from 0 marks) (append_assoc (step_marks y) (steps_marks ys) closing) alike in
+    let first : x ≡ y = same_step tokens from x y (left tokens from (step_marks x) (steps_marks xs ++ closing) ours) (left tokens from (step_marks y) (steps_marks ys ++ closing) theirs) in
+    let rest : xs ≡ ys = same_steps tokens (from + length (step_marks x)) xs ys (right tokens from (step_marks x) (steps_marks xs ++ closing) ours)
+    (subst (λ (s : Step). Stand tokens (from + length (step_marks s)) 0 (steps_marks ys ++ closing)) (sym first) (right tokens from (step_marks y) (steps_marks ys ++ closing) theirs)) in
+    λ i. first i ∷ rest i
+
+same_names : (tokens : List Token) (from : ℕ) (xs ys : List Name) (task other : Name) (more others : List Mark) → Stand tokens from 0 (declarations_marks xs ++ (task_marks task ++ more))
+    → Stand tokens from 0 (declarations_marks ys ++ (task_marks other ++ others)) → xs ≡ ys
+same_names tokens from [] [] task other more others stand alike = refl
+same_names tokens from [] (y ∷ ys) task other more others stand alike = let e = sym stand.0.0 ∙ alike.0.0 in cc e
+same_names tokens from (x ∷ xs) [] task other more others stand alike = let e = sym stand.0.0 ∙ alike.0.0 in cc e
+same_names tokens from (x ∷ xs) (y ∷ ys) task other more others stand alike =
+    let first : x ≡ y = same_name tokens (from + 1) x y stand.1.0 alike.1.0 in
+    let rest : xs ≡ ys = same_names tokens (from + 4) xs ys task other more others (shift tokens from 4 0 4 (declarations_marks xs ++ (task_marks task ++ more)) refl stand.1.1.1.1)
+    (shift tokens from 4 0 4 (declarations_marks ys ++ (task_marks other ++ others)) refl alike.1.1.1.1) in
+    λ i. first i ∷ rest i
 
 pub one_tree : HasOneTree
 one_tree tokens tree other spells also =
-    let text : tree.task.text ≡ other.task.text = let e = sym (named tokens tree spells) ∙ named tokens other also in cc e in
-    let place : tree.task.place ≡ other.task.place = let e = sym spells.task ∙ also.task in cc e in
-    let steps : tree.steps ≡ other.steps = same_steps tokens 37 tree.steps spells.end other.steps also.end spells.steps spells.closes also.steps also.closes in
-    λ i. record { task = record { text = text i; place = place i }; steps = steps i }
+    let our_steps = steps_marks tree.steps ++ closing in
+    let their_steps = steps_marks other.steps ++ closing in
+    let ours : Stand tokens 32 0 (declarations_marks tree.variables ++ (task_marks tree.task ++ our_steps)) = right tokens 0 head (declarations_marks tree.variables ++ (task_marks tree.task ++ our_steps)) spells.marks in
+    let theirs : Stand tokens 32 0 (declarations_marks other.variables ++ (task_marks other.task ++ their_steps)) = right tokens 0 head (declarations_marks other.variables ++ (task_marks other.task ++ their_steps)) also.marks in
+    let names : tree.variables ≡ other.variables = same_names tokens 32 tree.variables other.variables tree.task other.task our_steps their_steps ours theirs in
+    let at = 32 + length (declarations_marks tree.variables) in
+    let our_task : Stand tokens at 0 (task_marks tree.task ++ our_steps) = right tokens 32 (declarations_marks tree.variables) (task_marks tree.task ++ our_steps) ours in
+    let their_task : Stand tokens at 0 (task_marks other.task ++ their_steps) =
+    subst (λ (ns : List Name). Stand tokens (32 + length (declarations_marks ns)) 0 (task_marks other.task ++ their_steps)) (sym names) (right tokens 32 (declarations_marks other.variables) (task_marks other.task ++ their_steps) theirs) in
+    let task : tree.task ≡ other.task = same_name tokens (at + 0) tree.task other.task our_task.0 their_task.0 in
+    let steps : tree.steps ≡ other.steps = same_steps tokens (at + 5) tree.steps other.steps (right tokens at (task_marks tree.task) our_steps our_task) (right tokens at (task_marks other.task) their_steps their_task) in
+    λ i. record { variables = names i; task = task i; steps = steps i }
 
 -- ---- outcomes
 

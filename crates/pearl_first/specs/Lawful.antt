@@ -1,9 +1,31 @@
 -- What is in range in each token and tree of a source.
-use Rattle.std.specs.Prelude.{◌<◌, ◌^◌, IsTrue, All}
+use Rattle.std.specs.Prelude.{◌<◌, ◌≤◌, ◌^◌, IsTrue, All, length}
+use Rattle.std.specs.List.{AllByRecursion}
 use Rattle.pearl_rules.specs.Tables.{is_id}
+use Rattle.pearl_first.specs.declared.tree.Part.{Part}
+use Rattle.pearl_first.specs.declared.tree.Part.TheVariants.{Number, Name}
+use Rattle.pearl_first.specs.declared.tree.Term.{Term}
+use Rattle.pearl_first.specs.declared.tree.Sum.{Sum}
+use Rattle.pearl_first.specs.declared.tree.Step.{Step}
 use Rattle.pearl_first.specs.declared.tree.Tree.{Tree}
+use Rattle.pearl_first.specs.Grammar.{value_of}
 
--- the task's name is an id, and the numbers are below 2^63
+abbrev pub IsSmall : Part → Type 0
+IsSmall (Number value) = value < 2 ^ 63
+IsSmall (Name name) = Unit {0}
+
+abbrev pub HasSmallPart : Term → Type 0
+HasSmallPart term = IsSmall term.part
+
+pub record HasSmallParts (sum : Sum) : Type 0 where
+  pub first : IsSmall sum.first
+  pub rest : All HasSmallPart sum.rest
+
+abbrev pub IsLawfulStep : Step → Type 0
+IsLawfulStep step = HasSmallParts (value_of step)
+
+-- the task's name is an id, the numbers are below 2^63, and there are at most 1,000 variables
 pub record IsLawful (tree : Tree) : Type 0 where
   pub named : IsTrue (is_id tree.task.text.items)
-  pub small : All (λ step. step.value < 2 ^ 63) tree.steps
+  pub small : All IsLawfulStep tree.steps
+  pub few : length tree.variables ≤ 1000

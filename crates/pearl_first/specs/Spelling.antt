@@ -6,6 +6,7 @@ use Rattle.std.specs.List.{prefix_len}
 use Rattle.std.specs.Str.{bytes_eq}
 pub use Rattle.pearl_rules.specs.Tables.{is_name_byte}
 use Rattle.pearl_first.specs.declared.word.Word.{Word}
+use Rattle.pearl_first.specs.declared.token.Symbol.{Symbol}
 use Rattle.pearl_first.specs.declared.token.Symbol.TheVariants as symbol
 use Rattle.pearl_first.specs.declared.token.What.{What}
 use Rattle.pearl_first.specs.declared.token.What.TheVariants as what
@@ -50,13 +51,32 @@ milliseconds hours minutes seconds = None
 abbrev pub clock_of : List ℕ → List ℕ → List ℕ → Option What
 clock_of hours minutes seconds = milliseconds (value_within hours 23) (value_within minutes 59) (value_within seconds 59)
 
-abbrev pub symbol_of : ℕ → Option What
-symbol_of b =
-    if b == 40 then Some (what.Symbol symbol.Open) else (
-    if b == 41 then Some (what.Symbol symbol.Close) else (
-    if b == 58 then Some (what.Symbol symbol.Colon) else (
-    if b == 59 then Some (what.Symbol symbol.Semicolon) else (
-    if b == 44 then Some (what.Symbol symbol.Comma) else None))))
+-- the symbol of these two bytes
+abbrev pub double_symbol : ℕ → ℕ → Option Symbol
+double_symbol a b =
+    if a == 58 && b == 61 then Some symbol.Becomes else (
+    if a == 61 && b == 61 then Some symbol.Same else None)
+
+-- the symbol of this one byte; `=` means `:=`
+abbrev pub single_symbol : ℕ → Option Symbol
+single_symbol a =
+    if a == 40 then Some symbol.Open else (
+    if a == 41 then Some symbol.Close else (
+    if a == 58 then Some symbol.Colon else (
+    if a == 59 then Some symbol.Semicolon else (
+    if a == 44 then Some symbol.Comma else (
+    if a == 61 then Some symbol.Becomes else (
+    if a == 43 then Some symbol.Plus else (
+    if a == 45 then Some symbol.Minus else None)))))))
+
+abbrev pub longer_symbol : Option Symbol → Option Symbol → Option Front
+longer_symbol (Some double) single = Some (record { what = what.Symbol double; size = 2 })
+longer_symbol None (Some single) = Some (record { what = what.Symbol single; size = 1 })
+longer_symbol None None = None
+
+-- the longest symbol that these two bytes begin with
+abbrev pub symbol_front : ℕ → ℕ → Option Front
+symbol_front a b = longer_symbol (double_symbol a b) (single_symbol a)
 
 -- a token of this size, if there is one
 abbrev pub sized : Option What → ℕ → Option Front
@@ -89,4 +109,4 @@ word_front bytes size = sized (word_or_id (meaning words (take size bytes)) (tak
 unfoldable pub front : List ℕ → Option Front
 front bytes =
     if is_ascii_alphabetic (slice_index bytes 0) then word_front bytes (prefix_len is_name_byte bytes) else
-    (if is_ascii_digit (slice_index bytes 0) then numeral bytes else sized (symbol_of (slice_index bytes 0)) 1)
+    (if is_ascii_digit (slice_index bytes 0) then numeral bytes else symbol_front (slice_index bytes 0) (slice_index bytes 1))

@@ -1,14 +1,14 @@
 -- The words of the whole language, each with its meaning. Two words with the same meaning are one.
 use Rattle.std.specs.Prelude.{ℕ, List, [], ◌∷◌, codes}
 use Rattle.pearl_first.specs.declared.word.Word.{Word}
-use Rattle.pearl_first.specs.declared.word.Word.TheVariants.{Module, ModEnd, System, Problem, Specify, Dation, InOut, Alphic, Interrupt, Task, Main, Put, To, By, End, Other}
+use Rattle.pearl_first.specs.declared.word.Word.TheVariants.{Module, ModEnd, System, Problem, Declare, Fixed, Specify, Dation, InOut, Alphic, Interrupt, Task, Main, Put, To, By, End, Other}
 
 unfoldable pub words : List (List ℕ × Word)
 words =
     (codes "MODULE", Module) ∷ (codes "MODEND", ModEnd) ∷ (codes "SYSTEM", System) ∷ (codes "PROBLEM", Problem) ∷
-    (codes "DECLARE", Other) ∷ (codes "DCL", Other) ∷ (codes "SPECIFY", Specify) ∷ (codes "SPC", Specify) ∷
+    (codes "DECLARE", Declare) ∷ (codes "DCL", Declare) ∷ (codes "SPECIFY", Specify) ∷ (codes "SPC", Specify) ∷
     (codes "INV", Other) ∷ (codes "INIT", Other) ∷ (codes "PRESET", Other) ∷ (codes "STRUCT", Other) ∷
-    (codes "TYPE", Other) ∷ (codes "LENGTH", Other) ∷ (codes "FIXED", Other) ∷ (codes "BIT", Other) ∷
+    (codes "TYPE", Other) ∷ (codes "LENGTH", Other) ∷ (codes "FIXED", Fixed) ∷ (codes "BIT", Other) ∷
     (codes "CHARACTER", Other) ∷ (codes "CHAR", Other) ∷ (codes "CLOCK", Other) ∷ (codes "DURATION", Other) ∷
     (codes "DUR", Other) ∷ (codes "SEMA", Other) ∷ (codes "INTERRUPT", Interrupt) ∷ (codes "IRPT", Interrupt) ∷
     (codes "DATION", Dation) ∷ (codes "IN", Other) ∷ (codes "OUT", Other) ∷ (codes "INOUT", InOut) ∷

@@ -29,8 +29,8 @@ pub enum Form {
     AnyNumber,
 }
 
-/// The head of a module, and the head of its task.
-pub const OPENING: [Form; 37] = [
+/// The head of a module.
+pub const HEAD: [Form; 32] = [
     Form::Word(Word::Module),
     Form::Symbol(Symbol::Open),
     Form::Name(Spelled::M),
@@ -63,6 +63,18 @@ pub const OPENING: [Form; 37] = [
     Form::Name(Spelled::Irq),
     Form::Word(Word::Interrupt),
     Form::Symbol(Symbol::Semicolon),
+];
+
+/// The declaration of a variable.
+pub const DECLARATION: [Form; 4] = [
+    Form::Word(Word::Declare),
+    Form::AnyName,
+    Form::Word(Word::Fixed),
+    Form::Symbol(Symbol::Semicolon),
+];
+
+/// The head of the task.
+pub const TASK_HEAD: [Form; 5] = [
     Form::AnyName,
     Form::Symbol(Symbol::Colon),
     Form::Word(Word::Task),
@@ -70,10 +82,8 @@ pub const OPENING: [Form; 37] = [
     Form::Symbol(Symbol::Semicolon),
 ];
 
-/// A statement up to its item's closing bracket.
-pub const STEP: [Form; 9] = [
-    Form::Word(Word::Put),
-    Form::AnyNumber,
+/// PUT after its value, up to its item's closing bracket.
+pub const TARGET: [Form; 7] = [
     Form::Word(Word::To),
     Form::AnyName,
     Form::Word(Word::By),

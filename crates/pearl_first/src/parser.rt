@@ -1,13 +1,14 @@
 // The tree of a source's tokens.
 
-ghost use Rattle.std.specs.Prelude.{◌≡◌, ℕ, ◌+◌, ◌-◌, ◌<◌, ◌≤◌, ◌↔◌, ◌^◌, length, IfOk, IfErr, OnOk, IsTrue, Some, List, [], ◌∷◌, ◌++◌};
-ghost use Rattle.pearl_first.specs.Forms.{Fits, FitsAt, FitFront};
-ghost use Rattle.pearl_first.specs.Grammar.{what_at, place_at, id, number, opening, closing, step_end, step_words, Stand, IsStep, AreSteps, Spells};
-ghost use Rattle.pearl_first.specs.Stops.{Begun, EndBegun, StepBegun, NoEnd, NoStep, NoClosing, IsParseFault};
+ghost use Rattle.std.specs.Prelude.{◌≡◌, ◌≢◌, ℕ, ◌+◌, ◌-◌, ◌<◌, ◌≤◌, ◌↔◌, ◌^◌, length, IfOk, IfErr, IfSome, OnOk, IsTrue, Some, None, List, [], ◌∷◌, ◌++◌};
+ghost use Rattle.std.specs.List.{AllByRecursion};
+ghost use Rattle.pearl_first.specs.Forms.{Fits, FitsAt, FitFront, IsPart, IsSign, StartsStep};
+ghost use Rattle.pearl_first.specs.Grammar.{what_at, place_at, word, sign, id, number, symbol_of, part_mark, MarkAt, Stand, closing, step_end, declarations_marks, steps_marks, HasFewSigns, Spells};
+ghost use Rattle.pearl_first.specs.Stops.{Begun, EndBegun, NoEnd, NoClosing, IsSumAt, IsSumFault, IsStepAt, IsStepFault, IsOpened, IsParseFault};
 
-use crate::form::{CLOSING, Form, OPENING, SKIP_END, STEP, spelling};
+use crate::form::{CLOSING, DECLARATION, Form, HEAD, SKIP_END, TARGET, TASK_HEAD, spelling};
 use crate::token::{Symbol, Token, What};
-use crate::tree::{Name, Step, Tree};
+use crate::tree::{Assign, Name, Part, Put, Sign, Step, Sum, Term, Tree};
 use crate::word::Word;
 use pearl_value::listing::Listing;
 use std::alloc::Global;
@@ -20,17 +21,37 @@ pub enum ParseFault {
     NoMemory,
 }
 
+/// The names of the variables, and the number of the token after their declarations.
+#[derive(Drop)]
+struct FoundNames {
+    names: Vec<Name>,
+    end: usize,
+}
+
+/// A sum, and the number of the token after it.
+#[derive(Drop)]
+struct FoundSum {
+    sum: Sum,
+    end: usize,
+}
+
+/// A statement, and the number of the token after it.
+#[derive(Drop)]
+struct FoundStep {
+    step: Step,
+    end: usize,
+}
+
 /// The statements of a task, and the number of the token after them.
 #[derive(Drop)]
-struct Steps {
+struct FoundSteps {
     steps: Vec<Step>,
     end: usize,
 }
 
-// The number of the token that names the task.
-const TASK_NAME: usize = 32;
+const VARIABLES_MAX: usize = 1000;
 
-const FIRST_STEP: usize = OPENING.len();
+const SIGNS_MAX: usize = 100;
 
 fn has_word(tokens: &[Token], at: usize, word: Word) -> bool
     ensures value { IsTrue result ↔ (what_at tokens.now at ≡ Some (What.Word word)) }
@@ -196,37 +217,162 @@ fn end_at(tokens: &[Token], at: usize) -> Result<bool, usize>
     Err(at)
 }
 
-fn step_at(tokens: &[Token], from: usize) -> Result<Step, usize>
-    requires { from ≤ length tokens.now }
-    ensures step { IfOk result (λ step. IsStep tokens.now from step (from + length (step_words step))) }
-    ensures inside { IfOk result (λ step. from + length (step_words step) ≤ length tokens.now) }
-    ensures refused { IfErr result (λ k. NoStep tokens.now from k) }
-    ensures begun { IfErr result (λ k. StepBegun tokens.now from k) }
-    ensures within { IfErr result (λ k. (from ≤ k) × (k ≤ length tokens.now)) }
+fn part_at(tokens: &[Token], at: usize) -> Option<Part>
+    ensures part { IfSome result (λ part. MarkAt tokens.now at (part_mark part)) }
+    ensures within { IfSome result (λ part. at < length tokens.now) }
+    ensures none { result ≡ None → IsPart (what_at tokens.now at) → ⊥ }
 {
-    let count = fit_count(tokens, from, &STEP);
-    if count < STEP.len() {
-        return Err(from + count);
+    if has_any_number(tokens, at) {
+        return Some(Part::Number(number_at(tokens, at)));
     }
-    let skip = match end_at(tokens, from + 9) {
-        Ok(skip) => skip,
-        Err(k) => return Err(k),
+    if has_any_name(tokens, at) {
+        return Some(Part::Name(name_at(tokens, at)));
+    }
+    None
+}
+
+fn sign_at(tokens: &[Token], at: usize) -> Option<Sign>
+    ensures sign { IfSome result (λ found. what_at tokens.now at ≡ Some (sign (symbol_of found))) }
+    ensures within { IfSome result (λ found. at < length tokens.now) }
+    ensures none { result ≡ None → IsSign (what_at tokens.now at) → ⊥ }
+{
+    if has_symbol(tokens, at, Symbol::Plus) {
+        return Some(Sign::Plus);
+    }
+    if has_symbol(tokens, at, Symbol::Minus) {
+        return Some(Sign::Minus);
+    }
+    None
+}
+
+fn append_term(terms: &mut Vec<Term>, term: Term) -> Result<(), ParseFault>
+    ensures more { OnOk result (terms.new.items ≡ terms.old.items ++ term ∷ []) }
+    ensures fault { IfErr result (λ fault. fault ≡ ParseFault.NoMemory) }
+{
+    match terms.push(term) {
+        Ok(()) => Ok(()),
+        Err(_) => Err(ParseFault::NoMemory),
+    }
+}
+
+fn sum_at(alloc: Global, tokens: &[Token], from: usize) -> Result<FoundSum, ParseFault>
+    requires { from ≤ length tokens.now }
+    ensures sum { IfOk result (λ found. IsSumAt tokens.now from found.sum found.end) }
+    ensures inside { IfOk result (λ found. found.end ≤ length tokens.now) }
+    ensures refused { IfErr result (λ fault. IsSumFault tokens.now from fault) }
+{
+    let first = match part_at(tokens, from) {
+        Some(part) => part,
+        None => return Err(ParseFault::Stuck(from)),
     };
-    Ok(Step {
-        place: place_at(tokens, from),
-        value: number_at(tokens, from + 1),
-        target: name_at(tokens, from + 3),
-        item: place_at(tokens, from + 5),
-        width: number_at(tokens, from + 7),
-        skip,
+    let mut rest = Vec::new(alloc);
+    let mut end = from + 1;
+    while let Some(sign) = sign_at(tokens, end) {
+        if rest.len() == SIGNS_MAX {
+            return Err(ParseFault::Stuck(end));
+        }
+        match part_at(tokens, end + 1) {
+            Some(part) => {
+                end += 2;
+                append_term(&mut rest, Term { sign, part })?;
+            }
+            None => return Err(ParseFault::Stuck(end + 1)),
+        }
+    }
+    Ok(FoundSum {
+        sum: Sum {
+            first,
+            rest: Listing::new(rest),
+        },
+        end,
     })
 }
 
-fn step_size(step: &Step) -> usize
-    ensures size { result ≡ length (step_words step.now) }
-    ensures some { (10 ≤ result) × (result ≤ 12) }
+fn assign_at(alloc: Global, tokens: &[Token], from: usize) -> Result<FoundStep, ParseFault>
+    requires named { Fits Form.AnyName (what_at tokens.now from) }
+    requires inside { from < length tokens.now }
+    ensures step { IfOk result (λ found. IsStepAt tokens.now from found.step found.end) }
+    ensures inside { IfOk result (λ found. found.end ≤ length tokens.now) }
+    ensures refused { IfErr result (λ fault. IsStepFault tokens.now from fault) }
 {
-    if step.skip { 12 } else { 10 }
+    let target = name_at(tokens, from);
+    if !has_symbol(tokens, from + 1, Symbol::Becomes) {
+        return Err(ParseFault::Stuck(from + 1));
+    }
+    let found = match sum_at(alloc, tokens, from + 2) {
+        Ok(found) => found,
+        Err(fault) => return Err(fault),
+    };
+    if !has_symbol(tokens, found.end, Symbol::Semicolon) {
+        return Err(ParseFault::Stuck(found.end));
+    }
+    Ok(FoundStep {
+        step: Step::Assign(Assign {
+            target,
+            value: found.sum,
+        }),
+        end: found.end + 1,
+    })
+}
+
+fn put_at(alloc: Global, tokens: &[Token], from: usize) -> Result<FoundStep, ParseFault>
+    requires put { what_at tokens.now from ≡ Some (word Word.Put) }
+    requires inside { from < length tokens.now }
+    ensures step { IfOk result (λ found. IsStepAt tokens.now from found.step found.end) }
+    ensures inside { IfOk result (λ found. found.end ≤ length tokens.now) }
+    ensures refused { IfErr result (λ fault. IsStepFault tokens.now from fault) }
+{
+    let found = match sum_at(alloc, tokens, from + 1) {
+        Ok(found) => found,
+        Err(fault) => return Err(fault),
+    };
+    let after = found.end;
+    let count = fit_count(tokens, after, &TARGET);
+    if count < TARGET.len() {
+        return Err(ParseFault::Stuck(after + count));
+    }
+    let skip = match end_at(tokens, after + 7) {
+        Ok(skip) => skip,
+        Err(k) => return Err(ParseFault::Stuck(k)),
+    };
+    Ok(FoundStep {
+        step: Step::Put(Put {
+            place: place_at(tokens, from),
+            value: found.sum,
+            target: name_at(tokens, after + 1),
+            item: place_at(tokens, after + 3),
+            width: number_at(tokens, after + 5),
+            skip,
+        }),
+        end: after + 7 + end_size(skip),
+    })
+}
+
+fn end_size(skip: bool) -> usize
+    ensures size { result ≡ length (step_end skip) }
+{
+    if skip { 3 } else { 1 }
+}
+
+fn starts_step(tokens: &[Token], at: usize) -> bool
+    ensures value { IsTrue result ↔ StartsStep (what_at tokens.now at) }
+    ensures within { IsTrue result → at < length tokens.now }
+{
+    has_word(tokens, at, Word::Put) || has_any_name(tokens, at)
+}
+
+fn step_at(alloc: Global, tokens: &[Token], from: usize) -> Result<FoundStep, ParseFault>
+    requires starts { StartsStep (what_at tokens.now from) }
+    requires inside { from < length tokens.now }
+    ensures step { IfOk result (λ found. IsStepAt tokens.now from found.step found.end) }
+    ensures inside { IfOk result (λ found. found.end ≤ length tokens.now) }
+    ensures refused { IfErr result (λ fault. IsStepFault tokens.now from fault) }
+{
+    if has_word(tokens, from, Word::Put) {
+        put_at(alloc, tokens, from)
+    } else {
+        assign_at(alloc, tokens, from)
+    }
 }
 
 fn append(steps: &mut Vec<Step>, step: Step) -> Result<(), ParseFault>
@@ -239,27 +385,67 @@ fn append(steps: &mut Vec<Step>, step: Step) -> Result<(), ParseFault>
     }
 }
 
-fn steps_of(alloc: Global, tokens: &[Token]) -> Result<Steps, ParseFault>
-    requires opens { FitFront OPENING tokens.now 0 37 }
-    requires long { 37 ≤ length tokens.now }
-    ensures steps { IfOk result (λ found. AreSteps tokens.now 37 found.steps.items found.end) }
+fn steps_of(alloc: Global, tokens: &[Token], from: usize) -> Result<FoundSteps, ParseFault>
+    requires opened { IsOpened tokens.now from }
+    requires inside { from ≤ length tokens.now }
+    ensures steps { IfOk result (λ found. Stand tokens.now from 0 (steps_marks found.steps.items)) }
+    ensures end { IfOk result (λ found. found.end ≡ from + length (steps_marks found.steps.items)) }
+    ensures short { IfOk result (λ found. AllByRecursion HasFewSigns found.steps.items) }
     ensures inside { IfOk result (λ found. found.end ≤ length tokens.now) }
     ensures few { IfOk result (λ found. length found.steps.items ≤ found.end) }
-    ensures stops { IfOk result (λ found. what_at tokens.now found.end ≡ Some (What.Word Word.Put) → ⊥) }
+    ensures stops { IfOk result (λ found. StartsStep (what_at tokens.now found.end) → ⊥) }
     ensures refused { IfErr result (λ fault. IsParseFault tokens.now fault) }
 {
     let mut steps = Vec::new(alloc);
-    let mut end = FIRST_STEP;
-    while has_word(tokens, end, Word::Put) {
-        match step_at(tokens, end) {
-            Ok(step) => {
-                end += step_size(&step);
-                append(&mut steps, step)?;
+    let mut end = from;
+    while starts_step(tokens, end) {
+        match step_at(alloc, tokens, end) {
+            Ok(found) => {
+                end = found.end;
+                append(&mut steps, found.step)?;
             }
-            Err(k) => return Err(ParseFault::Stuck(k)),
+            Err(fault) => return Err(fault),
         }
     }
-    Ok(Steps { steps, end })
+    Ok(FoundSteps { steps, end })
+}
+
+fn append_name(names: &mut Vec<Name>, name: Name) -> Result<(), ParseFault>
+    ensures more { OnOk result (names.new.items ≡ names.old.items ++ name ∷ []) }
+    ensures fault { IfErr result (λ fault. fault ≡ ParseFault.NoMemory) }
+{
+    match names.push(name) {
+        Ok(()) => Ok(()),
+        Err(_) => Err(ParseFault::NoMemory),
+    }
+}
+
+fn variables_of(alloc: Global, tokens: &[Token], from: usize) -> Result<FoundNames, ParseFault>
+    requires head { FitFront HEAD tokens.now 0 32 }
+    requires from { from ≡ 32 }
+    requires inside { from ≤ length tokens.now }
+    ensures names { IfOk result (λ found. Stand tokens.now 32 0 (declarations_marks found.names.items)) }
+    ensures end { IfOk result (λ found. found.end ≡ 32 + length (declarations_marks found.names.items)) }
+    ensures few { IfOk result (λ found. length found.names.items ≤ 1000) }
+    ensures inside { IfOk result (λ found. found.end ≤ length tokens.now) }
+    ensures stops { IfOk result (λ found. what_at tokens.now found.end ≡ Some (word Word.Declare) → ⊥) }
+    ensures refused { IfErr result (λ fault. IsParseFault tokens.now fault) }
+{
+    let mut names = Vec::new(alloc);
+    let mut end = from;
+    while has_word(tokens, end, Word::Declare) {
+        if names.len() == VARIABLES_MAX {
+            return Err(ParseFault::Stuck(end));
+        }
+        let count = fit_count(tokens, end, &DECLARATION);
+        if count < DECLARATION.len() {
+            return Err(ParseFault::Stuck(end + count));
+        }
+        let name = name_at(tokens, end + 1);
+        end += 4;
+        append_name(&mut names, name)?;
+    }
+    Ok(FoundNames { names, end })
 }
 
 fn close_at(tokens: &[Token], at: usize) -> Result<(), usize>
@@ -286,14 +472,21 @@ pub fn tree_of(alloc: Global, tokens: &[Token]) -> Result<Tree, ParseFault>
     ensures few { IfOk result (λ tree. length tree.steps ≤ length tokens.now) }
     ensures refused { IfErr result (λ fault. IsParseFault tokens.now fault) }
 {
-    let count = fit_count(tokens, 0, &OPENING);
-    if count < OPENING.len() {
-        return Err(ParseFault::Stuck(count));
+    let head = fit_count(tokens, 0, &HEAD);
+    if head < HEAD.len() {
+        return Err(ParseFault::Stuck(head));
     }
-    let task = name_at(tokens, TASK_NAME);
-    let found = steps_of(alloc, tokens)?;
+    let declared = variables_of(alloc, tokens, HEAD.len())?;
+    let start = declared.end;
+    let count = fit_count(tokens, start, &TASK_HEAD);
+    if count < TASK_HEAD.len() {
+        return Err(ParseFault::Stuck(start + count));
+    }
+    let task = name_at(tokens, start);
+    let found = steps_of(alloc, tokens, start + 5)?;
     match close_at(tokens, found.end) {
         Ok(()) => Ok(Tree {
+            variables: Listing::new(declared.names),
             task,
             steps: Listing::new(found.steps),
         }),

@@ -1,11 +1,11 @@
 // The static rules.
 
-ghost use Rattle.std.specs.Prelude.{◌≡◌, ◌+◌, List, ◌++◌, true, false, not, ◌||◌, nat_lt};
+ghost use Rattle.std.specs.Prelude.{◌≡◌, ◌+◌, List, ◌++◌, map, true, false, ◌||◌, nat_lt};
 ghost use Rattle.pearl_first.specs.declared.rules.Fault.{Fault};
 ghost use Rattle.pearl_first.specs.Rules as spec;
 
 use crate::form::{Spelled, spelling};
-use crate::tree::{Step, Tree};
+use crate::tree::{Assign, Name, Part, Put, Step, Sum, Tree};
 
 /// A static rule that is broken, and where.
 #[derive(Clone, Copy, PartialEq, Eq, Debug)]
@@ -19,6 +19,7 @@ pub struct Fault {
 pub enum Sort {
     Dation,
     Interrupt,
+    Variable,
     Task,
 }
 
@@ -26,14 +27,26 @@ const WIDTH_MAX: u64 = 255;
 
 const SUM_MAX: u64 = 1024;
 
-fn is_specified(name: &[u8]) -> bool
-    ensures { result ≡ not (spec.is_none (spec.first_of spec.specified name.now)) }
+fn is_among(mut names: &[Name], name: &[u8]) -> bool
+    ensures { result ≡ spec.is_among (map spec.text_of names.entry.now) name.now }
 {
-    spelling(Spelled::Tty) == name || spelling(Spelled::Irq) == name
+    while let [declared, rest @ ..] = names {
+        if declared.text.as_slice() == name {
+            return true;
+        }
+        names = rest;
+    }
+    false
 }
 
-fn sort_of(task: &[u8], name: &[u8]) -> Option<Sort>
-    ensures { result ≡ spec.first_of (spec.declarations task.now) name.now }
+fn is_declared(names: &[Name], name: &[u8]) -> bool
+    ensures { result ≡ spec.is_among (spec.specified ++ map spec.text_of names.now) name.now }
+{
+    spelling(Spelled::Tty) == name || spelling(Spelled::Irq) == name || is_among(names, name)
+}
+
+fn sort_of(tree: &Tree, name: &[u8]) -> Option<Sort>
+    ensures { result ≡ spec.first_of (spec.declarations tree.now) name.now }
 {
     if spelling(Spelled::Tty) == name {
         return Some(Sort::Dation);
@@ -41,7 +54,14 @@ fn sort_of(task: &[u8], name: &[u8]) -> Option<Sort>
     if spelling(Spelled::Irq) == name {
         return Some(Sort::Interrupt);
     }
-    if task == name { Some(Sort::Task) } else { None }
+    if is_among(tree.variables.as_slice(), name) {
+        return Some(Sort::Variable);
+    }
+    if tree.task.text.as_slice() == name {
+        Some(Sort::Task)
+    } else {
+        None
+    }
 }
 
 fn is_none(sort: Option<Sort>) -> bool
@@ -53,13 +73,23 @@ fn is_none(sort: Option<Sort>) -> bool
     }
 }
 
-fn is_other(sort: Option<Sort>) -> bool
-    ensures { result ≡ spec.is_other sort }
+fn is_same(a: Sort, b: Sort) -> bool
+    ensures { result ≡ spec.is_same a b }
+{
+    match (a, b) {
+        (Sort::Dation, Sort::Dation) => true,
+        (Sort::Interrupt, Sort::Interrupt) => true,
+        (Sort::Variable, Sort::Variable) => true,
+        (Sort::Task, Sort::Task) => true,
+        _ => false,
+    }
+}
+
+fn is_other(needed: Sort, sort: Option<Sort>) -> bool
+    ensures { result ≡ spec.is_other needed sort }
 {
     match sort {
-        Some(Sort::Dation) => false,
-        Some(Sort::Interrupt) => true,
-        Some(Sort::Task) => true,
+        Some(found) => !is_same(needed, found),
         None => false,
     }
 }
@@ -103,43 +133,108 @@ fn earlier(a: Option<Fault>, b: Option<Fault>) -> Option<Fault>
     }
 }
 
-fn has_wide_sum(step: &Step) -> bool
-    ensures { result ≡ nat_lt 1024 (step.now.width + spec.skip_width step.now.skip) }
+fn has_wide_sum(put: &Put) -> bool
+    ensures { result ≡ nat_lt 1024 (put.now.width + spec.skip_width put.now.skip) }
 {
-    if step.skip {
-        step.width >= SUM_MAX
+    if put.skip {
+        put.width >= SUM_MAX
     } else {
-        step.width > SUM_MAX
+        put.width > SUM_MAX
     }
 }
 
-fn has_bad_width(step: &Step) -> bool
-    ensures { result ≡ (nat_lt step.now.width 1 || nat_lt 255 step.now.width) }
+fn has_bad_width(put: &Put) -> bool
+    ensures { result ≡ (nat_lt put.now.width 1 || nat_lt 255 put.now.width) }
 {
-    step.width < 1 || step.width > WIDTH_MAX
+    put.width < 1 || put.width > WIDTH_MAX
 }
 
-fn step_fault(task: &[u8], step: &Step) -> Option<Fault>
-    ensures { spec.IsFirstOf (spec.step_faults task.now step.now) result }
+fn use_fault(tree: &Tree, needed: Sort, name: &Name) -> Option<Fault>
+    ensures { spec.IsFirstOf (spec.use_faults tree.now needed name.now) result }
 {
-    let sort = sort_of(task, step.target.text.as_slice());
-    let undeclared = fault_if(is_none(sort), step.target.place, 2);
-    let other_sort = fault_if(is_other(sort), step.target.place, 16);
-    let width = fault_if(has_bad_width(step), step.item, 33);
-    let sum = fault_if(has_wide_sum(step), step.place, 33);
-    let name = earlier(undeclared, other_sort);
-    let upto_width = earlier(name, width);
+    let sort = sort_of(tree, name.text.as_slice());
+    let undeclared = fault_if(is_none(sort), name.place, 2);
+    let other_sort = fault_if(is_other(needed, sort), name.place, 16);
+    earlier(undeclared, other_sort)
+}
+
+fn part_fault(tree: &Tree, part: &Part) -> Option<Fault>
+    ensures { spec.IsFirstOf (spec.part_faults tree.now part.now) result }
+{
+    match part {
+        Part::Number(_) => None,
+        Part::Name(name) => use_fault(tree, Sort::Variable, name),
+    }
+}
+
+fn sum_fault(tree: &Tree, sum: &Sum) -> Option<Fault>
+    ensures { spec.IsFirstOf (spec.sum_faults tree.now sum.now) result }
+{
+    let mut first = part_fault(tree, &sum.first);
+    for term in sum.rest.as_slice() {
+        let next = part_fault(tree, &term.part);
+        first = earlier(first, next);
+    }
+    first
+}
+
+fn assign_fault(tree: &Tree, assign: &Assign) -> Option<Fault>
+    ensures { spec.IsFirstOf (spec.step_faults tree.now (Step.Assign assign.now)) result }
+{
+    let target = use_fault(tree, Sort::Variable, &assign.target);
+    let value = sum_fault(tree, &assign.value);
+    earlier(target, value)
+}
+
+fn put_fault(tree: &Tree, put: &Put) -> Option<Fault>
+    ensures { spec.IsFirstOf (spec.step_faults tree.now (Step.Put put.now)) result }
+{
+    let value = sum_fault(tree, &put.value);
+    let target = use_fault(tree, Sort::Dation, &put.target);
+    let width = fault_if(has_bad_width(put), put.item, 33);
+    let sum = fault_if(has_wide_sum(put), put.place, 33);
+    let upto_target = earlier(value, target);
+    let upto_width = earlier(upto_target, width);
     earlier(upto_width, sum)
+}
+
+fn step_fault(tree: &Tree, step: &Step) -> Option<Fault>
+    ensures { spec.IsFirstOf (spec.step_faults tree.now step.now) result }
+{
+    match step {
+        Step::Assign(assign) => assign_fault(tree, assign),
+        Step::Put(put) => put_fault(tree, put),
+    }
+}
+
+fn variables_fault(names: &[Name]) -> Option<Fault>
+    ensures { spec.IsFirstOf (spec.s1_of_variables spec.specified names.now) result }
+{
+    let mut first = None;
+    for number in 0..names.len() {
+        let name = &names[number];
+        let repeated = is_declared(&names[..number], name.text.as_slice());
+        let next = fault_if(repeated, name.place, 1);
+        first = earlier(first, next);
+    }
+    first
+}
+
+fn task_fault(tree: &Tree) -> Option<Fault>
+    ensures { spec.IsFirstOf (spec.s1_of_task tree.now) result }
+{
+    let repeated = is_declared(tree.variables.as_slice(), tree.task.text.as_slice());
+    fault_if(repeated, tree.task.place, 1)
 }
 
 /// The first fault of a tree, by place and then by rule.
 pub fn first_fault(tree: &Tree) -> Option<Fault>
     ensures { spec.IsFirstOf (spec.faults tree.now) result }
 {
-    let task = tree.task.text.as_slice();
-    let mut first = fault_if(is_specified(task), tree.task.place, 1);
+    let variables = variables_fault(tree.variables.as_slice());
+    let mut first = earlier(variables, task_fault(tree));
     for step in tree.steps.as_slice() {
-        let next = step_fault(task, step);
+        let next = step_fault(tree, step);
         first = earlier(first, next);
     }
     first

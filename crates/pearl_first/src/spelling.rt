@@ -119,19 +119,54 @@ fn name_of(text: &[u8]) -> Option<What>
     }
 }
 
-fn symbol_of(byte: u8) -> Option<What>
-    ensures value { result ≡ spec.symbol_of byte }
-    ensures some { result ≢ None → byte ≢ 0 }
+fn double_symbol(first: u8, second: u8) -> Option<Symbol>
+    ensures value { result ≡ spec.double_symbol first second }
+    ensures some { result ≢ None → second ≢ 0 }
 {
-    let symbol = match byte {
-        b'(' => Symbol::Open,
-        b')' => Symbol::Close,
-        b':' => Symbol::Colon,
-        b';' => Symbol::Semicolon,
-        b',' => Symbol::Comma,
-        _ => return None,
-    };
-    Some(What::Symbol(symbol))
+    match (first, second) {
+        (b':', b'=') => Some(Symbol::Becomes),
+        (b'=', b'=') => Some(Symbol::Same),
+        _ => None,
+    }
+}
+
+fn single_symbol(first: u8) -> Option<Symbol>
+    ensures value { result ≡ spec.single_symbol first }
+    ensures some { result ≢ None → first ≢ 0 }
+{
+    match first {
+        b'(' => Some(Symbol::Open),
+        b')' => Some(Symbol::Close),
+        b':' => Some(Symbol::Colon),
+        b';' => Some(Symbol::Semicolon),
+        b',' => Some(Symbol::Comma),
+        b'=' => Some(Symbol::Becomes),
+        b'+' => Some(Symbol::Plus),
+        b'-' => Some(Symbol::Minus),
+        _ => None,
+    }
+}
+
+// The longest symbol that begins the bytes.
+fn symbol_front(bytes: &[u8]) -> Option<Front>
+    ensures value { result ≡ spec.symbol_front (slice_index bytes.now 0) (slice_index bytes.now 1) }
+    ensures some { IfSome result (λ front. 0 < front.size) }
+    ensures within { IfSome result (λ front. front.size ≤ length bytes.now) }
+{
+    let first = byte_at(bytes, 0);
+    if let Some(double) = double_symbol(first, byte_at(bytes, 1)) {
+        return Some(Front {
+            what: What::Symbol(double),
+            size: 2,
+        });
+    }
+    match single_symbol(first) {
+        Some(single) => Some(Front {
+            what: What::Symbol(single),
+            size: 1,
+        }),
+        None => None,
+    }
 }
 
 fn with_size(what: Option<What>, size: usize) -> Option<Front>
@@ -264,5 +299,5 @@ pub fn front(bytes: &[u8]) -> Option<Front>
     if first.is_ascii_digit() {
         return numeral(bytes);
     }
-    with_size(symbol_of(first), 1)
+    symbol_front(bytes)
 }

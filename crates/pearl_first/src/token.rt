@@ -10,6 +10,12 @@ pub enum Symbol {
     Colon,
     Semicolon,
     Comma,
+    /// `:=` and `=`.
+    Becomes,
+    /// `==`, which no form takes yet.
+    Same,
+    Plus,
+    Minus,
 }
 
 /// What a token is, apart from its place.

@@ -10,11 +10,46 @@ pub struct Name {
     pub place: u32,
 }
 
-/// `PUT value TO target BY F(width)`, perhaps with `, SKIP`.
+/// A sign between two parts of a sum.
+#[derive(Clone, Copy, PartialEq, Eq, Debug)]
+pub enum Sign {
+    Plus,
+    Minus,
+}
+
+/// A part of a sum.
 #[derive(Drop)]
-pub struct Step {
+pub enum Part {
+    Number(u64),
+    Name(Name),
+}
+
+/// A sign and the part after it.
+#[derive(Drop)]
+pub struct Term {
+    pub sign: Sign,
+    pub part: Part,
+}
+
+/// A sum of one or more parts.
+#[derive(Drop)]
+pub struct Sum {
+    pub first: Part,
+    pub rest: Listing<Term>,
+}
+
+/// `target := value;`
+#[derive(Drop)]
+pub struct Assign {
+    pub target: Name,
+    pub value: Sum,
+}
+
+/// `PUT value TO target BY F(width)`, perhaps with `, SKIP`, and `;`
+#[derive(Drop)]
+pub struct Put {
     pub place: u32,
-    pub value: u64,
+    pub value: Sum,
     pub target: Name,
     /// The place of `F`.
     pub item: u32,
@@ -22,9 +57,17 @@ pub struct Step {
     pub skip: bool,
 }
 
-/// A module with one task.
+/// A statement.
+#[derive(Drop)]
+pub enum Step {
+    Assign(Assign),
+    Put(Put),
+}
+
+/// A module with variables and one task.
 #[derive(Drop)]
 pub struct Tree {
+    pub variables: Listing<Name>,
     pub task: Name,
     pub steps: Listing<Step>,
 }
