@@ -1,12 +1,17 @@
 // Texts by hand.
 
-ghost use Rattle.std.specs.Prelude.{◌≤◌, ◌≡◌, length};
+ghost use Rattle.pearl_value.specs.WellFormed.{IsWellFormed};
 
 use crate::item::{Item, ItemCode};
 use crate::put::put_text;
 use arrayvec::ArrayVec;
+use pearl_value::apply::apply2;
 use pearl_value::cell::Cell;
+use pearl_value::conversion::{convert, kind};
+use pearl_value::kind::Kind;
+use pearl_value::operator::{Dyad, result2};
 use pearl_value::trap::Trap;
+use std::process::Abort;
 
 const END: Item = Item {
     code: ItemCode::Skip,
@@ -276,4 +281,160 @@ fn nothing_is_left_after_a_trap(rt: HostRuntime) {
     let mut text = ArrayVec::new();
     assert_eq!(rt; put_text(&items, &values, &mut text), Err(Trap::Format));
     assert!(rt; text.is_empty());
+}
+
+/// A FIXED or BIT of this length, a CLOCK or a DURATION, as far as it is one.
+fn operand_of(rt: &impl Abort, len: u8, given: Given) -> Cell
+    ensures { IsWellFormed result }
+{
+    match given {
+        Given::Fixed(value) => {
+            assert!(rt; 1 <= len && len <= 63);
+            match convert(&Cell::Fixed { len: 63, value }, Kind::Fixed(len)) {
+                Ok(cell) => cell,
+                Err(_) => panic!(rt; "no number of this length"),
+            }
+        }
+        Given::Bits(len, value) => {
+            assert!(rt; 1 <= len && len <= 63);
+            assert!(rt; value < 1u64 << len);
+            Cell::Bits { len, value }
+        }
+        Given::Clock(time) => {
+            assert!(rt; time < 86_400_000);
+            Cell::Clock(time)
+        }
+        Given::Span(time) => {
+            assert!(rt; -1_099_511_627_776 <= time && time <= 1_099_511_627_776);
+            Cell::Span(time)
+        }
+        Given::Chars(_) => panic!(rt; "no operand of the table"),
+    }
+}
+
+/// What the item makes of what the operator makes of the values; none where there is no row or it doesn't suit.
+fn put_result(
+    op: Dyad,
+    x: &Cell,
+    y: &Cell,
+    code: ItemCode,
+    width: u8,
+) -> Option<(Result<(), Trap>, ArrayVec<u8, 1024>)>
+    requires left { IsWellFormed x.now }
+    requires right { IsWellFormed y.now }
+{
+    match result2(op, kind(x), kind(y)) {
+        Some(_) => match apply2(op, x, y) {
+            Ok(cell) => put_one(code, width, cell),
+            Err(trap) => Some((Err(trap), ArrayVec::new())),
+        },
+        None => None,
+    }
+}
+
+#[test]
+fn operators_and_their_texts(rt: HostRuntime) {
+    let overflow = Err(Trap::Overflow);
+    let rows: [(
+        u8,
+        Given,
+        Dyad,
+        Given,
+        ItemCode,
+        u8,
+        Result<(), Trap>,
+        &[u8],
+    ); 8] = [
+        (
+            3,
+            Given::Fixed(2),
+            Dyad::Pow,
+            Given::Fixed(3),
+            ItemCode::F,
+            2,
+            overflow,
+            b"",
+        ),
+        (
+            3,
+            Given::Fixed(-2),
+            Dyad::Pow,
+            Given::Fixed(3),
+            ItemCode::F,
+            2,
+            Ok(()),
+            b"-8",
+        ),
+        (
+            63,
+            Given::Fixed(i64::MIN),
+            Dyad::Div,
+            Given::Fixed(-1),
+            ItemCode::F,
+            20,
+            overflow,
+            b"",
+        ),
+        (
+            31,
+            Given::Bits(4, 0b1011),
+            Dyad::Cshift,
+            Given::Fixed(-1),
+            ItemCode::B1,
+            0,
+            Ok(()),
+            b"1101",
+        ),
+        (
+            31,
+            Given::Bits(4, 0b1011),
+            Dyad::Shift,
+            Given::Fixed(-2),
+            ItemCode::B1,
+            0,
+            Ok(()),
+            b"0010",
+        ),
+        (
+            0,
+            Given::Clock(86_399_000),
+            Dyad::Add,
+            Given::Span(2_000),
+            ItemCode::T,
+            8,
+            Ok(()),
+            b"00:00:01",
+        ),
+        (
+            0,
+            Given::Clock(45_000_000),
+            Dyad::Add,
+            Given::Span(7_503_500),
+            ItemCode::T,
+            12,
+            Ok(()),
+            b"14:35:03.500",
+        ),
+        (
+            0,
+            Given::Clock(3_600_000),
+            Dyad::Sub,
+            Given::Clock(7_200_000),
+            ItemCode::D,
+            24,
+            Ok(()),
+            b"-1 HRS 00 MIN 00.000 SEC",
+        ),
+    ];
+    for (len, left, op, right, code, width, told, want) in rows {
+        let x = operand_of(&rt, len, left);
+        let y = operand_of(&rt, len, right);
+        match put_result(op, &x, &y, code, width) {
+            Some((got, text)) => {
+                assert_eq!(rt; got, told, "{left:?} {op:?} {right:?}");
+                assert_eq!(rt; text.as_slice(), want, "{left:?} {op:?} {right:?}");
+            }
+            None => assert!(rt; false, "{left:?} {op:?} {right:?} has no row"),
+        }
+    }
 }

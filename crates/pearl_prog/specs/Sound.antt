@@ -6,7 +6,7 @@ use Rattle.pearl_value.specs.declared.kind.Kind.TheVariants.{Fixed}
 use Rattle.pearl_value.specs.Kinds.{IsKind}
 use Rattle.pearl_value.specs.Cells.{FitsFixed}
 use Rattle.pearl_format.specs.declared.item.Item.{Item}
-use Rattle.pearl_format.specs.Items.{Suits, width_sum}
+use Rattle.pearl_format.specs.Items.{Suits, text_width}
 use Rattle.pearl_rules.specs.declared.setup.Setup.{Setup}
 use Rattle.pearl_rules.specs.Tables.{IsSetup, TakesTexts}
 use Rattle.pearl_prog.specs.declared.program.Expr.{Expr}
@@ -27,7 +27,7 @@ IsExpr (Number len value) = IsKind (Fixed len) × FitsFixed len value
 -- the items suit the values' kinds, and their widths are at most 1,024 together
 pub record FitsFormat (items : List Item) (values : List Expr) : Type 0 where
   pub suits : Suits items (map kind_of_expr values)
-  pub short : width_sum items ≤ 1024
+  pub short : text_width items (map kind_of_expr values) ≤ 1024
 
 abbrev pub FitsSome : Option (List Item) → List Expr → Type 0
 FitsSome None values = ⊥
