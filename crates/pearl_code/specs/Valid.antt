@@ -8,7 +8,7 @@ use Rattle.pearl_value.specs.Cells.{kind_of}
 use Rattle.pearl_value.specs.WellFormed.{IsWellFormed}
 use Rattle.pearl_value.specs.Conversions.{SuitsKind}
 use Rattle.pearl_value.specs.Rows.{row2}
-use Rattle.pearl_format.specs.Items.{Suits, width_sum}
+use Rattle.pearl_format.specs.Items.{Suits, text_width}
 use Rattle.pearl_rules.specs.declared.setup.Setup.{Setup}
 use Rattle.pearl_rules.specs.Tables.{IsSetup, TakesTexts, format_of}
 use Rattle.pearl_rules.specs.Slots.{slot_kind}
@@ -58,7 +58,7 @@ pub record FitsPut (setup : Setup) (device format : ℕ) (kinds left : List Kind
   pub stacked : kinds ≡ left ++ values
   pub suits : Suits (format_of setup format) values
   pub few : length values ≤ 64
-  pub short : width_sum (format_of setup format) ≤ 1024
+  pub short : text_width (format_of setup format) values ≤ 1024
 
 -- The instructions, from the first one on that has this shape before it, keep the rules: each takes from the stack what is there,
 -- the stack stays within the depth, END comes with an empty stack, and the last instruction doesn't go on.

@@ -1,39 +1,84 @@
 -- Which format items suit which kinds, and how much they count.
-use Rattle.std.specs.Prelude.{ℕ, zero, suc, ◌+◌, ◌<◌, List, [], ◌∷◌}
+use Rattle.std.specs.Prelude.{ℕ, ◌+◌, ◌<◌, ◌≤◌, List, [], ◌∷◌, drop}
 use Rattle.pearl_value.specs.declared.kind.Kind.{Kind}
-use Rattle.pearl_value.specs.declared.kind.Kind.TheVariants.{Fixed}
+use Rattle.pearl_value.specs.declared.kind.Kind.TheVariants.{Fixed, Bits, Chars, Clock, Span}
 use Rattle.pearl_format.specs.declared.item.ItemCode.{ItemCode}
-use Rattle.pearl_format.specs.declared.item.ItemCode.TheVariants.{F, Skip}
+use Rattle.pearl_format.specs.declared.item.ItemCode.TheVariants.{A, B1, B2, B3, B4, F, T, D, X, Skip}
 use Rattle.pearl_format.specs.declared.item.Item.{Item}
+use Rattle.pearl_format.specs.Fields.{width_or, digit_count}
 
--- how often SKIP ends a line: as often as it says, and once where it has no width
+-- how many bytes X and SKIP write: as many as they say, and one where they have no width
 abbrev pub skip_count : ℕ → ℕ
-skip_count zero = 1
-skip_count (suc n) = suc n
+skip_count width = width_or width 1
 
+-- the width that an item says; A and B without one say none
 abbrev pub width_of : ItemCode → ℕ → ℕ
-width_of F width = width
+width_of X width = skip_count width
 width_of Skip width = skip_count width
+width_of code width = width
 
--- the sum of the items' widths
+-- the sum of the widths that the items say
 abbrev pub width_sum : List Item → ℕ
 width_sum [] = 0
 width_sum (item ∷ items) = width_of item.code item.width + width_sum items
 
 abbrev pub data_here : ItemCode → ℕ
-data_here F = 1
+data_here X = 0
 data_here Skip = 0
+data_here code = 1
 
 -- how many of the items take a value
 abbrev pub data_count : List Item → ℕ
 data_count [] = 0
 data_count (item ∷ items) = data_here item.code + data_count items
 
+-- the width of A over these kinds: without one, the length of the text
+abbrev pub letters_width : ℕ → List Kind → ℕ
+letters_width width (Chars len ∷ kinds) = width_or width len
+letters_width width kinds = width
+
+-- the width of B over these kinds: without one, the number of the digits
+abbrev pub bits_width : ℕ → ℕ → List Kind → ℕ
+bits_width group width (Bits len ∷ kinds) = width_or width (digit_count group len)
+bits_width group width kinds = width
+
+-- the width of an item over the kinds that are left
+abbrev pub width_over : ItemCode → ℕ → List Kind → ℕ
+width_over A width kinds = letters_width width kinds
+width_over B1 width kinds = bits_width 1 width kinds
+width_over B2 width kinds = bits_width 2 width kinds
+width_over B3 width kinds = bits_width 3 width kinds
+width_over B4 width kinds = bits_width 4 width kinds
+width_over F width kinds = width
+width_over T width kinds = width
+width_over D width kinds = width
+width_over X width kinds = skip_count width
+width_over Skip width kinds = skip_count width
+
+-- the sum of the items' widths over these kinds
+abbrev pub text_width : List Item → List Kind → ℕ
+text_width [] kinds = 0
+text_width (item ∷ items) kinds =
+    width_over item.code item.width kinds + text_width items (drop (data_here item.code) kinds)
+
+-- a data item takes a value of its kind; F and D have a width, and T has at least room for hours, minutes and seconds
+abbrev pub TakesKind : ItemCode → ℕ → Kind → Type 0
+TakesKind A width (Chars len) = Unit {0}
+TakesKind B1 width (Bits len) = Unit {0}
+TakesKind B2 width (Bits len) = Unit {0}
+TakesKind B3 width (Bits len) = Unit {0}
+TakesKind B4 width (Bits len) = Unit {0}
+TakesKind F width (Fixed len) = 0 < width
+TakesKind T width Clock = 8 ≤ width
+TakesKind D width Span = 0 < width
+TakesKind _ _ _ = ⊥
+
 -- one item takes the kinds that it suits from the front; `rest` is asked of the others
 abbrev pub SuitsItem : ItemCode → ℕ → List Kind → (List Kind → Type 0) → Type 0
-SuitsItem F width (Fixed len ∷ kinds) rest = (0 < width) × rest kinds
-SuitsItem F width kinds rest = ⊥
+SuitsItem X width kinds rest = rest kinds
 SuitsItem Skip width kinds rest = rest kinds
+SuitsItem code width [] rest = ⊥
+SuitsItem code width (kind ∷ kinds) rest = TakesKind code width kind × rest kinds
 
 abbrev pub IsNoKind : List Kind → Type 0
 IsNoKind [] = Unit {0}

@@ -1,4 +1,6 @@
+pub mod Fields
 pub mod Items
-pub mod Texts
 pub mod Parts
+pub mod Texts
+pub mod Longer
 pub mod Bytes

@@ -1,6 +1,7 @@
 // Format items, and the texts that they make.
 #![tactic(auto)]
 
+pub(crate) mod field;
 pub mod item;
 pub mod put;
 #[cfg(test)]

@@ -26,7 +26,7 @@ use Rattle.pearl_code.specs.declared.object.Object.{Object}
 use Rattle.pearl_code.specs.Rows.{Stack, top, below, last, second, put_action, next_with, pushes, row, row_after}
 use Rattle.pearl_gen.specs.Plain.{Plain, Const, Conv, Read, Write, Dyadic, Put, End, plain_of}
 use Rattle.pearl_gen.proofs.Values.{Gives, applied_gives, converted_gives}
-use Rattle.pearl_gen.proofs.Fitting.{suits_count}
+use Rattle.pearl_format.proofs.Counts.{suits-length}
 use Rattle.pearl_gen.proofs.Straight.{run_plain}
 use Rattle.pearl_gen.proofs.Steady.{PlainRuns, AreOf, pushed_of, has_last, has_two, put_left}
 
@@ -231,7 +231,7 @@ module _ (setup : Setup) (depth : ℕ) (code : List Plain) (stack : Stack) where
       record {
         place = refl;
         kinds = left;
-        are = put_left left takes.values stack.operands (data_count items) (subst (λ kinds. AreOf kinds stack.operands) takes.stacked are) (suits_count items takes.values takes.suits);
+        are = put_left left takes.values stack.operands (data_count items) (subst (λ kinds. AreOf kinds stack.operands) takes.stacked are) (suits-length items takes.values takes.suits);
         runs = runs.2;
         meant = λ store rest. text_done device text answer store rest (λ store rest. run_plain setup code (below (data_count items) stack.operands) store rest) s;
       }

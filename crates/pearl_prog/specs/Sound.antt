@@ -7,7 +7,7 @@ use Rattle.pearl_value.specs.Cells.{FitsFixed}
 use Rattle.pearl_value.specs.Conversions.{SuitsKind}
 use Rattle.pearl_value.specs.Rows.{row2}
 use Rattle.pearl_format.specs.declared.item.Item.{Item}
-use Rattle.pearl_format.specs.Items.{Suits, width_sum}
+use Rattle.pearl_format.specs.Items.{Suits, text_width}
 use Rattle.pearl_rules.specs.declared.setup.Setup.{Setup}
 use Rattle.pearl_rules.specs.Tables.{IsSetup, TakesTexts}
 use Rattle.pearl_rules.specs.Slots.{slot_kind}
@@ -40,7 +40,7 @@ pub record IsAssign (setup : Setup) (target : Variable) (value : Expr) : Type 0 
 -- the items suit the values' kinds, and their widths are at most 1,024 together
 pub record FitsFormat (setup : Setup) (items : List Item) (values : List Expr) : Type 0 where
   pub suits : Suits items (map (kind_of_expr setup) values)
-  pub short : width_sum items ≤ 1024
+  pub short : text_width items (map (kind_of_expr setup) values) ≤ 1024
 
 abbrev pub FitsSome : Setup → Option (List Item) → List Expr → Type 0
 FitsSome setup None values = ⊥

@@ -4,7 +4,7 @@ use Rattle.std.specs.Char.{is_ascii_alphabetic, is_ascii_digit}
 use Rattle.std.specs.List.{AllByRecursion, list_all}
 use Rattle.pearl_value.specs.WellFormed.{IsWellFormed}
 use Rattle.pearl_format.specs.declared.item.ItemCode.{ItemCode}
-use Rattle.pearl_format.specs.declared.item.ItemCode.TheVariants.{F, Skip}
+use Rattle.pearl_format.specs.declared.item.ItemCode.TheVariants.{F, T, D}
 use Rattle.pearl_format.specs.declared.item.Item.{Item}
 use Rattle.pearl_format.specs.Items.{width_sum, data_count}
 use Rattle.pearl_rules.specs.declared.setup.TaskEntry.{TaskEntry}
@@ -52,9 +52,11 @@ AreRising (device ∷ next ∷ devices) = IsBefore device next × AreRising (nex
 
 abbrev pub HasWidth : ItemCode → ℕ → Type 0
 HasWidth F width = (0 < width) × (width ≤ 255)
-HasWidth Skip width = Unit {0}
+HasWidth T width = (8 ≤ width) × (width ≤ 255)
+HasWidth D width = (0 < width) × (width ≤ 255)
+HasWidth code width = Unit {0}
 
--- F has a width from 1 to 255
+-- F and D have a width from 1 to 255, and T one from 8 on
 abbrev pub IsItem : Item → Type 0
 IsItem item = HasWidth item.code item.width
 

@@ -6,7 +6,6 @@ use Rattle.std.proofs.Math.Seq.{drop-cons, drop-append_seam, take-append_seam}
 use Rattle.std.proofs.lemmas.List.{take-map, drop-map, map-append, take_all, take_rest, length-map, length-append}
 use Rattle.std.proofs.lemmas.Option.{same_Some, slice_get_within, slice_get-get_or}
 use Rattle.pearl_value.specs.declared.kind.Kind.{Kind}
-use Rattle.pearl_value.specs.declared.kind.Kind.TheVariants as kind
 use Rattle.pearl_value.specs.declared.cell.Cell.{Cell}
 use Rattle.pearl_value.specs.declared.operator.Dyad.{Dyad}
 use Rattle.pearl_value.specs.declared.trap.Trap.{Trap}
@@ -15,9 +14,8 @@ use Rattle.pearl_value.specs.Conversions.{SuitsKind}
 use Rattle.pearl_value.specs.Rows.{row2}
 use Rattle.pearl_value.specs.WellFormed.{IsWellFormed}
 use Rattle.pearl_format.specs.declared.item.Item.{Item}
-use Rattle.pearl_format.specs.declared.item.ItemCode.{ItemCode}
-use Rattle.pearl_format.specs.declared.item.ItemCode.TheVariants.{F, Skip}
-use Rattle.pearl_format.specs.Items.{Suits, SuitsItem, data_count, data_here}
+use Rattle.pearl_format.specs.Items.{Suits, text_width, data_count, data_here}
+use Rattle.pearl_format.proofs.Counts.{suits-length}
 use Rattle.pearl_rules.specs.declared.setup.Device.{Device}
 use Rattle.pearl_rules.specs.declared.setup.Setup.{Setup}
 use Rattle.pearl_rules.specs.declared.action.Action.{Action}
@@ -48,22 +46,6 @@ drop_at xs n x e = rw add-one (drop_suc xs n x e)
 pub count_drop : (items : List Item) (n : ℕ) (item : Item) → n < length items →
     data_count (drop n items) ≡ data_here (get_or items n item).code + data_count (drop (n + 1) items)
 count_drop items n item h = rw add-one (ap data_count (drop-cons items n item h))
-
--- items take as many values as they count
-pub suits-length : (items : List Item) (kinds : List Kind) → Suits items kinds → length kinds ≡ data_count items
-suits-length [] [] h = refl
-suits-length [] (kind ∷ kinds) h = absurd h
-suits-length (item ∷ items) kinds h = here (λ rest. suits-length items rest) item.code item.width kinds h
-  where
-    here : ((rest : List Kind) → Suits items rest → length rest ≡ data_count items) → (code : ItemCode) (width : ℕ) (kinds : List Kind) →
-        SuitsItem code width kinds (λ rest. Suits items rest) → length kinds ≡ data_here code + data_count items
-    here later Skip width kinds h = omega (arith, later kinds h)
-    here later F width (kind.Fixed len ∷ kinds) h = omega (arith, later kinds h.1)
-    here later F width [] h = absurd h
-    here later F width (kind.Bits len ∷ kinds) h = absurd h
-    here later F width (kind.Chars len ∷ kinds) h = absurd h
-    here later F width (kind.Clock ∷ kinds) h = absurd h
-    here later F width (kind.Span ∷ kinds) h = absurd h
 
 -- the operands that PUT takes, and those below them
 pub record Parted (operands : List Cell) (count : ℕ) (left values : List Kind) : Type 0 where
@@ -98,6 +80,15 @@ fits_suits setup device format operands left items count fits same counted =
     let above : map kind_of (drop (length operands - count) operands) ≡ fits.values = rw number p.above in
     rw (take_rest, above, same) fits.suits
 
+-- and room for their texts
+pub fits_short : (setup : Setup) (device format : ℕ) (operands : List Cell) (left : List Kind) (items : List Item) (count : ℕ) →
+    FitsPut setup device format (map kind_of operands) left → items ≡ format_of setup format → count ≡ data_count items →
+    text_width items (map kind_of (take (length operands - (length operands - count)) (drop (length operands - count) operands))) ≤ 1024
+fits_short setup device format operands left items count fits same counted =
+    let p = fits_parted setup device format operands left fits in
+    let number : count ≡ data_count (format_of setup format) = counted ∙ ap data_count same in
+    let above : map kind_of (drop (length operands - count) operands) ≡ fits.values = rw number p.above in
+    rw (take_rest, above, same) fits.short
 -- the operands in which these kinds are on top
 pub kind_at : (operands : List Cell) (left : List Kind) (k : Kind) (more : List Kind) → map kind_of operands ≡ left ++ k ∷ more →
     kind_of (value_at operands (length left)) ≡ k

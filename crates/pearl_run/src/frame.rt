@@ -3,7 +3,7 @@
 ghost use Rattle.std.specs.Prelude.{◌≡◌, ◌+◌, ◌-◌, ◌≤◌, ◌<◌, ◌^◌, [], ◌∷◌, ◌++◌, List, Some, None, IfSome, MatchOption, length, map, slice_get, vec_len, vec_capacity};
 ghost use Rattle.pearl_value.specs.declared.kind.Kind.{Kind};
 ghost use Rattle.pearl_value.specs.Cells.{kind_of};
-ghost use Rattle.pearl_format.specs.Items.{data_count as count_of};
+ghost use Rattle.pearl_format.specs.Items.{data_here, data_count as count_of};
 ghost use Rattle.pearl_format.specs.Texts.{text_of};
 ghost use Rattle.pearl_rules.specs.Tables.{format_of};
 ghost use Rattle.pearl_rules.specs.Core.{value_at};
@@ -70,15 +70,30 @@ fn items_of(setup: &Setup, format: u32) -> &[Item]
     }
 }
 
+// How many values an item takes.
+fn taken(code: ItemCode) -> usize
+    ensures { result ≡ data_here code }
+{
+    match code {
+        ItemCode::A
+        | ItemCode::B1
+        | ItemCode::B2
+        | ItemCode::B3
+        | ItemCode::B4
+        | ItemCode::F
+        | ItemCode::T
+        | ItemCode::D => 1,
+        ItemCode::X | ItemCode::Skip => 0,
+    }
+}
+
 // How many of the items take a value.
 fn data_count(items: &[Item]) -> usize
     ensures { result ≡ count_of items.now }
 {
     let mut count = 0;
     for item in items {
-        if item.code == ItemCode::F {
-            count += 1;
-        }
+        count += taken(item.code);
     }
     count
 }

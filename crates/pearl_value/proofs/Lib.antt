@@ -1,2 +1,5 @@
 pub mod Places
 pub mod Powers
+pub mod Held
+pub mod Turns
+pub mod Filled

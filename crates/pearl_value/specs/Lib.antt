@@ -8,3 +8,4 @@ pub mod Arithmetic
 pub mod Strings
 pub mod Comparisons
 pub mod Applied
+pub mod Laws

@@ -1,6 +1,6 @@
 // One value with its kind.
 
-ghost use Rattle.std.specs.Prelude.{◌≡◌};
+ghost use Rattle.std.specs.Prelude.{◌≡◌, pos};
 
 use crate::kind::Kind;
 use arrayvec::ArrayVec;
@@ -27,6 +27,16 @@ pub enum Cell {
     Span(i64),
     /// A reference to a variable of this kind.
     Ref { kind: Kind, place: Place },
+}
+
+impl Default for Cell {
+    ghost use Rattle.pearl_value.specs.declared.cell.Cell.{Cell};
+
+    ghost is_default = { λ cell. cell ≡ Cell.Fixed 31 (pos 0) };
+
+    fn default() -> Self {
+        Cell::Fixed { len: 31, value: 0 }
+    }
 }
 
 /// The same value once more.

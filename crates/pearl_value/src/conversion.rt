@@ -119,15 +119,15 @@ pub(crate) fn filled_bits(value: u64, len: u8, room: u8) -> u64
 
 /// The value in a kind that it suits. FIXED traps Overflow exactly where the value is outside the range; BIT is
 /// filled with zeros and CHAR with blanks on the right.
-pub fn convert(cell: &Cell, to: Kind) -> Result<Cell, Trap>
-    requires well_formed { IsWellFormed cell.now }
+pub fn convert(x: &Cell, to: Kind) -> Result<Cell, Trap>
+    requires well_formed { IsWellFormed x.now }
     requires to_kind { IsKind to }
-    requires suit { SuitsKind (kind_of cell.now) to }
-    ensures value { result ≡ converted cell.now to }
+    requires suit { SuitsKind (kind_of x.now) to }
+    ensures value { result ≡ converted x.now to }
     ensures same_kind { IfOk result (λ cell. kind_of cell ≡ to) }
     ensures well_formed { IfOk result IsWellFormed }
 {
-    match (cell, to) {
+    match (x, to) {
         (Cell::Fixed { value, .. }, Kind::Fixed(room)) => fixed(room, *value as i128),
         (Cell::Bits { len, value }, Kind::Bits(room)) => Ok(Cell::Bits {
             len: room,

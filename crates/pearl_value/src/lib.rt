@@ -7,6 +7,7 @@ pub mod cell;
 pub(crate) mod comparison;
 pub mod conversion;
 pub mod kind;
+pub mod laws;
 pub mod listing;
 pub mod operator;
 pub(crate) mod strings;

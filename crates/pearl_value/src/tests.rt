@@ -443,3 +443,9 @@ fn texts_are_filled_on_the_right(rt: HostRuntime) {
         &b"  "[..]
     );
 }
+
+#[test]
+fn what_is_there_by_default(rt: HostRuntime) {
+    assert_eq!(rt; Kind::default(), Kind::Fixed(31));
+    assert_eq!(rt; seen(Ok(Cell::default())), Wanted::Fixed(31, 0));
+}

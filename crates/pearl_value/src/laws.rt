@@ -1,0 +1,28 @@
+// What the operators keep.
+
+ghost use Rattle.pearl_value.specs.Laws.{GivesBack, LeavesRest, TurnsRound, TakesBack, ComparesFilled};
+
+/// `a // b * b + a REM b` is a, where nothing traps.
+pub fn a_quotient_and_its_rest_give_the_value_back()
+    ensures { GivesBack }
+{}
+
+/// REM is what the quotient that is cut towards zero leaves: smaller than the divisor, and of the value's own sign.
+pub fn a_rest_is_what_the_cut_quotient_leaves()
+    ensures { LeavesRest }
+{}
+
+/// A BIT(n) that is turned n times by one place to the left is as it was.
+pub fn a_full_turn_changes_nothing()
+    ensures { TurnsRound }
+{}
+
+/// A CLOCK, plus a DURATION and minus it again, is the same CLOCK.
+pub fn a_duration_is_taken_back()
+    ensures { TakesBack }
+{}
+
+/// Two CHAR compare as they do when both are filled with blanks up to one length.
+pub fn texts_compare_as_filled()
+    ensures { ComparesFilled }
+{}
