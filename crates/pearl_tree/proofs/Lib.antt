@@ -4,3 +4,8 @@ pub mod StatementLists
 mod Examples
 pub mod SpelledLists
 pub mod SpelledLawful
+pub mod LiteralEnds
+pub mod ListEnds
+pub mod ExpressionsForward
+pub mod OperandEnds
+pub mod Chains

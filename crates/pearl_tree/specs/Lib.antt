@@ -2,6 +2,8 @@ pub mod WordCodes
 pub mod Symbols
 pub mod Standing
 pub mod Expressions
+pub mod Following
+pub mod Chains
 pub mod Types
 pub mod Formats
 pub mod Declarations
