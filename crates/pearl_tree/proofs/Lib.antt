@@ -9,3 +9,4 @@ pub mod ListEnds
 pub mod ExpressionsForward
 pub mod OperandEnds
 pub mod Chains
+pub mod Operands

@@ -20,9 +20,9 @@ use Rattle.pearl_tree.specs.declared.token.What.{What}
 use Rattle.pearl_tree.specs.declared.token.What.TheVariants as what
 use Rattle.pearl_tree.specs.declared.token.Token.{Token}
 use Rattle.pearl_tree.specs.Standing.{HasWord, HasSymbol, IsName, SpellsEach, SpellsList, SpellsMaybe, SpellsNumber, what_at}
-use Rattle.pearl_tree.specs.Expressions.{SpellsLiteral, SpellsMonadic, SpellsTerms, SpellsExpr, SpellsPrimary, SpellsSelector, SpellsRef, monad_what, dyad_of, HasDyad, side_word}
+use Rattle.pearl_tree.specs.Expressions.{SpellsLiteral, SpellsMonadic, SpellsTerms, SpellsExpr, SpellsPrimary, SpellsSelector, SpellsRef, monad_what, dyad_count, dyad_of, HasDyad, side_word}
 use Rattle.pearl_tree.specs.Chains.{SpellsOperand}
-use Rattle.pearl_tree.specs.Following.{lengthens_literal, lengthens_ref, lengthens_operand, lengthens_expr, HasOneOf, Meet}
+use Rattle.pearl_tree.specs.Following.{is_monadic, lengthens_literal, lengthens_ref, lengthens_operand, lengthens_expr, HasOneOf, Meet}
 use Rattle.pearl_tree.specs.Symbols as s
 use Rattle.pearl_tree.specs.WordCodes as w
 use Rattle.pearl_tree.proofs.ExpressionLists.{selectors, subscripts}
@@ -60,13 +60,13 @@ module _ (tokens : List Token) where
     -- ---- selectors
 
     -- "(" expr { "," expr } ")", or "." id
-    abbrev Selects : ℕ → ℕ → Type 0
+    abbrev pub Selects : ℕ → ℕ → Type 0
     Selects from to =
         ((xs : List Expr) × (m : ℕ) × (0 < depth) × HasSymbol tokens from s.left_round ×
         SpellsList tokens (SpellsExpr tokens (depth - 1)) (from + 1) xs m × HasSymbol tokens m s.right_round × (to ≡ m + 1))
         ⊎ (HasSymbol tokens from s.period × (to ≡ from + 2))
 
-    selects : (from : ℕ) (selector : Selector) (to : ℕ) → SpellsSelector tokens depth from selector to → Selects from to
+    pub selects : (from : ℕ) (selector : Selector) (to : ℕ) → SpellsSelector tokens depth from selector to → Selects from to
     selects from (Subscripts' _ row _) to h =
         inl (items-the_row-Expr _ row, h.0, h.3, h.2, subst (λ X. X) (subscripts tokens (depth - 1) (from + 1) _ row h.0) h.4, h.5, h.6)
     selects from (Component _ _) to h = inr (h.1, h.3)
@@ -103,20 +103,21 @@ module _ (tokens : List Token) where
 
     -- ---- primaries
 
-    abbrev Selected : ℕ → ℕ → Type 0
+    abbrev pub Selected : ℕ → ℕ → Type 0
     Selected from to = (xs : List Selector) × SpellsEach (SpellsSelector tokens depth) from xs to
 
-    abbrev Sided : ℕ → ℕ → Type 0
+    abbrev pub Sided : ℕ → ℕ → Type 0
     Sided from to = (side : Side) × HasWord tokens from (side_word side) × Selected (from + 1 + 1) to
 
-    abbrev Literally : ℕ → ℕ → Type 0
+    abbrev pub Literally : ℕ → ℕ → Type 0
     Literally from to = (part : Literal) × SpellsLiteral tokens from part to
 
     -- what a primary that begins with a token of this kind reads
-    abbrev Reads : What → ℕ → ℕ → Type 0
+    abbrev pub Reads : What → ℕ → ℕ → Type 0
     Reads (what.Id _) from to = Selected (from + 1) to
-    Reads (what.Symbol _) from to =
-        (part : Expr) × (m : ℕ) × (0 < depth) × SpellsTerms tokens (depth - 1) (from + 1) part m × HasSymbol tokens m s.right_round × (to ≡ m + 1)
+    Reads (what.Symbol symbol) from to =
+        (part : Expr) × (m : ℕ) × (0 < depth) × (SpellsTerms tokens (depth - 1) (from + 1) part m × (dyad_count part ≤ 100)) ×
+        HasSymbol tokens m s.right_round × (to ≡ m + 1) × (symbol ≡ s.left_round)
     Reads (what.Word code) from to =
         ((code ≡ w.NOW) × (to ≡ from + 1)) ⊎ (((code ≡ w.TRY) × (to ≡ from + 2)) ⊎ Sided from to)
     Reads (what.Number _) from to = Literally from to ⊎ Sided (from + 1) to
@@ -132,7 +133,7 @@ module _ (tokens : List Token) where
     reads_literal (what.Bits _ _) from to e h = h
     reads_literal (what.Text _) from to e h = h
 
-    abbrev Read : ℕ → ℕ → Type 0
+    abbrev pub Read : ℕ → ℕ → Type 0
     Read from to = (first : What) × (what_at tokens from ≡ Some first) × Reads first from to
 
     literally : (from to : ℕ) → (o : Option What) → what_at tokens from ≡ o → option_map begins_literal o ≡ Some true → Literally from to → Read from to
@@ -147,11 +148,11 @@ module _ (tokens : List Token) where
     limit from (Some number) side m to h g i =
         (what.Number number.value, h.0.0, inr (side, subst (λ k. HasWord tokens k (side_word side)) h.1 g, subst (λ k. Selected (k + 1 + 1) to) h.1 i))
 
-    read : (from : ℕ) (part : Primary) (to : ℕ) → SpellsPrimary tokens depth from part to → Read from to
+    pub read : (from : ℕ) (part : Primary) (to : ℕ) → SpellsPrimary tokens depth from part to → Read from to
     read from (primary.Literal part) to h = literally from to (what_at tokens from) refl (literal_begins tokens from part to h) (part, h)
     read from (primary.Ref' name _ row place) to h =
         (what.Id name.text, h.1.0, (items-the_row-Selector _ row, subst (λ X. X) (selectors tokens depth (from + 1) _ row to) h.2))
-    read from (primary.Group' _ part place) to h = (what.Symbol s.left_round, h.2, (part, h.0, h.3, h.4.0, h.5, h.6))
+    read from (primary.Group' _ part place) to h = (what.Symbol s.left_round, h.2, (part, h.0, h.3, h.4, h.5, h.6, refl))
     read from (primary.Now place) to h = (what.Word w.NOW, h.1, inl (refl, h.2))
     read from (primary.Try name place) to h = (what.Word w.TRY, h.1, inr (inl (refl, h.3)))
     read from (primary.Limit' dimension side name _ row ref_place place) to h =
@@ -199,7 +200,7 @@ module _ (tokens : List Token) where
     sided_meets : (from to end : ℕ) → Sided from to → Sided from end → Meet Longer to end
     sided_meets from to end h g = selected_meets (from + 1 + 1) to end h.2 g.2
 
-    side_lengthens : (from : ℕ) (side : Side) → HasWord tokens from (side_word side) → Longer from × (HasOneOf lengthens_literal tokens from → ⊥)
+    pub side_lengthens : (from : ℕ) (side : Side) → HasWord tokens from (side_word side) → Longer from × (HasOneOf lengthens_literal tokens from → ⊥)
     side_lengthens from Lower h =
         (has_one tokens lengthens_operand from (what.Word w.LWB) h refl, has_none tokens lengthens_literal from (what.Word w.LWB) h refl)
     side_lengthens from Upper h =
@@ -244,7 +245,7 @@ module _ (tokens : List Token) where
     reads_meet : (first : What) (from to end : ℕ) → what_at tokens from ≡ Some first → Reads first from to → Reads first from end → Meet Longer to end
     reads_meet (what.Id _) from to end here h g = selected_meets (from + 1) to end h g
     reads_meet (what.Symbol _) from to end here h g =
-        let same = meets_once (HasOneOf lengthens_expr tokens) (no_close h.1 h.4) (no_close g.1 g.4) (inner h.2 (from + 1) h.0 g.0 h.1 g.1 h.3 g.3) in
+        let same = meets_once (HasOneOf lengthens_expr tokens) (no_close h.1 h.4) (no_close g.1 g.4) (inner h.2 (from + 1) h.0 g.0 h.1 g.1 h.3.0 g.3.0) in
         inl (omega (arith, h.5, g.5, same))
     reads_meet (what.Word code) from to end here h g = word_meets code from to end here h g
     reads_meet (what.Number value) from to end here h g = number_meets value from to end h g
@@ -264,12 +265,7 @@ module _ (tokens : List Token) where
 
     -- ---- operands
 
-    abbrev is_monadic : What → Bool
-    is_monadic (what.Symbol symbol) = (symbol == s.plus) || (symbol == s.minus)
-    is_monadic (what.Word code) = (code == w.ABS) || ((code == w.SIGN) || (code == w.NOT))
-    is_monadic _ = false
-
-    monad_is : (operator : Monad) → is_monadic (monad_what operator) ≡ true
+    pub monad_is : (operator : Monad) → is_monadic (monad_what operator) ≡ true
     monad_is monad.Plus = refl
     monad_is monad.Minus = refl
     monad_is monad.Abs = refl
@@ -298,7 +294,7 @@ module _ (tokens : List Token) where
     limit_no_monadic from None Upper m h g d =
         has_none tokens is_monadic from (what.Word w.UPB) (subst (λ k. HasWord tokens k w.UPB) h g) refl d
 
-    primary_no_monadic : (from : ℕ) (part : Primary) (to : ℕ) → SpellsPrimary tokens depth from part to → HasOneOf is_monadic tokens from → ⊥
+    pub primary_no_monadic : (from : ℕ) (part : Primary) (to : ℕ) → SpellsPrimary tokens depth from part to → HasOneOf is_monadic tokens from → ⊥
     primary_no_monadic from (primary.Literal part) to h d = literal_no_monadic from (literal_begins tokens from part to h) d
     primary_no_monadic from (primary.Ref' name _ row place) to h d = has_none tokens is_monadic from (what.Id name.text) h.1.0 refl d
     primary_no_monadic from (primary.Group' _ part place) to h d = has_none tokens is_monadic from (what.Symbol s.left_round) h.2 refl d
@@ -306,7 +302,7 @@ module _ (tokens : List Token) where
     primary_no_monadic from (primary.Try name place) to h d = has_none tokens is_monadic from (what.Word w.TRY) h.1 refl d
     primary_no_monadic from (primary.Limit' dimension side name _ row ref_place place) to h d = limit_no_monadic from dimension side h.0 h.2 h.3 d
 
-    monadics_meet : (from : ℕ) (xs ys : List Monadic) (to end : ℕ) → SpellsEach (SpellsMonadic tokens) from xs to →
+    pub monadics_meet : (from : ℕ) (xs ys : List Monadic) (to end : ℕ) → SpellsEach (SpellsMonadic tokens) from xs to →
         SpellsEach (SpellsMonadic tokens) from ys end → Meet (HasOneOf is_monadic tokens) to end
     monadics_meet from xs ys to end h g =
         each_meets (SpellsMonadic tokens) (HasOneOf is_monadic tokens) (λ k x m i. omega (arith, i.2))

@@ -3,6 +3,7 @@ use Rattle.std.specs.Prelude.{◌≡◌, ℕ, ◌+◌, ◌<◌, ◌≤◌, List,
 use Rattle.pearl_tree.specs.declared.expression.Dyadic.{Dyadic}
 use Rattle.pearl_tree.specs.declared.expression.Expr.{Expr, Operand', Dyadic'}
 use Rattle.pearl_tree.specs.declared.expression.Operand.{Operand}
+use Rattle.pearl_tree.specs.declared.expression.Primary.{Primary}
 use Rattle.pearl_tree.specs.declared.token.Token.{Token}
 use Rattle.pearl_tree.specs.Standing.{Spelling, IsAt, SpellsEach}
 use Rattle.pearl_tree.specs.Expressions.{SpellsMonadic, SpellsPrimary, SpellsTerms, HasDyad, dyad_count}
@@ -47,6 +48,13 @@ abbrev pub HasLongestOperands : List Token → ℕ → Spelling Expr
 HasLongestOperands tokens depth from expr to =
     (m : ℕ) × SpellsOperand tokens depth from (first_operand expr) m × IsLongestOperand tokens depth from m ×
     SpellsEach (SpellsLongestLink tokens depth) m (links expr) to
+
+abbrev pub IsLongestPrimary : List Token → ℕ → ℕ → ℕ → Type 0
+IsLongestPrimary tokens depth from to =
+    (other : Primary) (end : ℕ) → SpellsPrimary tokens depth from other end → end ≤ to
+
+abbrev pub HasNoPrimary : List Token → ℕ → ℕ → Type 0
+HasNoPrimary tokens depth from = (part : Primary) (end : ℕ) → SpellsPrimary tokens depth from part end → ⊥
 
 -- no dyadic operator with an operand behind it stands there
 abbrev pub HasNoLink : List Token → ℕ → ℕ → Type 0

@@ -34,6 +34,12 @@ lengthens_operand _ = false
 abbrev pub lengthens_expr : What → Bool
 lengthens_expr what = lengthens_operand what || is_some (dyad_of what)
 
+-- a token that is a monadic operator
+abbrev pub is_monadic : What → Bool
+is_monadic (what.Symbol symbol) = (symbol == s.plus) || (symbol == s.minus)
+is_monadic (what.Word code) = (code == w.ABS) || ((code == w.SIGN) || (code == w.NOT))
+is_monadic _ = false
+
 abbrev pub HasOneOf : (What → Bool) → List Token → ℕ → Type 0
 HasOneOf kind tokens k = option_map kind (what_at tokens k) ≡ Some true
 
