@@ -5,6 +5,7 @@ mod Examples
 pub mod SpelledLists
 pub mod SpelledLawful
 pub mod LiteralEnds
+pub mod LongestLiterals
 pub mod ListEnds
 pub mod ExpressionsForward
 pub mod OperandEnds

@@ -74,7 +74,7 @@ module _ (tokens : List Token) where
   secs_end from (secs.Number number) to h = (h.1, has_one lengthens_literal from (what.Number number.value) h.0.0 refl)
   secs_end from (secs.Decimal whole thousandths place) to h = (h.2, has_one lengthens_literal from (what.Decimal whole thousandths) h.0 refl)
 
-  seconds_end : (from : ℕ) (part : Secs) (to : ℕ) → SpellsSeconds tokens from part to →
+  pub seconds_end : (from : ℕ) (part : Secs) (to : ℕ) → SpellsSeconds tokens from part to →
       (to ≡ from + 2) × HasWord tokens (from + 1) w.SEC × Longer from
   seconds_end from part to h =
       let one = secs_end from part h.0 h.1 in
@@ -120,12 +120,12 @@ module _ (tokens : List Token) where
       absurd (omega (arith, same_word (from + 1) w.MIN w.SEC h.1 that.1))
 
   -- the unit behind the first number, and where the duration ends at the earliest
-  abbrev unit_of : Duration → ℕ
+  abbrev pub unit_of : Duration → ℕ
   unit_of (Hours _ _ _ _) = w.HRS
   unit_of (Minutes _ _ _) = w.MIN
   unit_of (Seconds _ _) = w.SEC
 
-  unit_stands : (from : ℕ) (part : Duration) (to : ℕ) → SpellsDuration tokens from part to →
+  pub unit_stands : (from : ℕ) (part : Duration) (to : ℕ) → SpellsDuration tokens from part to →
       HasWord tokens (from + 1) (unit_of part) × (from + 2 ≤ to)
   unit_stands from (Hours hours minutes seconds place) to h =
       (h.3, le_trans (maybe_minutes_after (from + 2) minutes h.0 h.4) (maybe_seconds_after h.0 seconds to h.5))
@@ -160,7 +160,7 @@ module _ (tokens : List Token) where
   -- ---- literals
 
   -- a literal of one token, or a duration
-  literal_ends_or : (from : ℕ) (part : Literal) (to : ℕ) → SpellsLiteral tokens from part to →
+  pub literal_ends_or : (from : ℕ) (part : Literal) (to : ℕ) → SpellsLiteral tokens from part to →
       (to ≡ from + 1) ⊎ ((duration : Duration) × SpellsDuration tokens from duration to)
   literal_ends_or from (literal.Number number) to h = inl h.1
   literal_ends_or from (literal.Bits len value place) to h = inl h.2
@@ -168,7 +168,7 @@ module _ (tokens : List Token) where
   literal_ends_or from (literal.Clock milliseconds place) to h = inl h.2
   literal_ends_or from (literal.Duration duration) to h = inr (duration, h)
 
-  unit_lengthens : (from : ℕ) (part : Duration) (to : ℕ) → SpellsDuration tokens from part to → Longer (from + 1)
+  pub unit_lengthens : (from : ℕ) (part : Duration) (to : ℕ) → SpellsDuration tokens from part to → Longer (from + 1)
   unit_lengthens from (Hours a b c d) to h = has_one lengthens_literal (from + 1) (what.Word w.HRS) h.3 refl
   unit_lengthens from (Minutes a b c) to h = has_one lengthens_literal (from + 1) (what.Word w.MIN) h.2 refl
   unit_lengthens from (Seconds a b) to h =
