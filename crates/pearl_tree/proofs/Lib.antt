@@ -11,3 +11,4 @@ pub mod ExpressionsForward
 pub mod OperandEnds
 pub mod Chains
 pub mod Operands
+pub mod OneGrouping

@@ -4,6 +4,7 @@ pub mod Standing
 pub mod Expressions
 pub mod Following
 pub mod Chains
+pub mod ShownExpressions
 pub mod Types
 pub mod Formats
 pub mod Declarations
