@@ -107,7 +107,7 @@ module _ (tokens : List Token) (depth : ℕ) where
       by (Some what) e = ap Some (ap (λ o. lengthens_operand what || is_some o) e ∙ or_true (lengthens_operand what))
 
   -- behind an operand that could go on, no operator stands
-  no_links : (from : ℕ) (xs : List Link) (to : ℕ) → SpellsEach (SpellsLink tokens depth) from xs to → HasOneOf lengthens_operand tokens from → to ≡ from
+  pub no_links : (from : ℕ) (xs : List Link) (to : ℕ) → SpellsEach (SpellsLink tokens depth) from xs to → HasOneOf lengthens_operand tokens from → to ≡ from
   no_links from [] to h g = h
   no_links from (x ∷ xs) to h g = absurd (no_dyad from x.dyadic.operator g h.1.0)
 

@@ -12,3 +12,5 @@ pub mod OperandEnds
 pub mod Chains
 pub mod Operands
 pub mod OneGrouping
+pub mod OneLiteral
+pub mod OneExpression

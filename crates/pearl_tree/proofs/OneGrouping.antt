@@ -26,24 +26,24 @@ abbrev pub shown_links : List Link → List ShownLink
 shown_links [] = []
 shown_links (link ∷ rest) = record { dyadic = link.dyadic; operand = shown_operand link.operand } ∷ shown_links rest
 
-abbrev first_shown : ShownExpr → ShownOperand
+abbrev pub first_shown : ShownExpr → ShownOperand
 first_shown (OfOperand monadics part place) = record { monadics = monadics; part = part; place = place }
 first_shown (OfDyadic left _ _ _) = first_shown left
 
-abbrev behind : ShownExpr → List ShownLink
+abbrev pub behind : ShownExpr → List ShownLink
 behind (OfOperand _ _ _) = []
 behind (OfDyadic left dyadic right _) = behind left ++ (record { dyadic = dyadic; operand = first_shown right } ∷ behind right)
 
-abbrev rank_shown : ShownExpr → ℕ
+abbrev pub rank_shown : ShownExpr → ℕ
 rank_shown (OfOperand _ _ _) = 0
 rank_shown (OfDyadic _ dyadic _ _) = rank dyadic.operator
 
-abbrev place_shown : ShownExpr → ℕ
+abbrev pub place_shown : ShownExpr → ℕ
 place_shown (OfOperand _ _ place) = place
 place_shown (OfDyadic _ _ _ place) = place
 
 -- the operators are applied by their ranks, and each place is that of the first operand
-abbrev IsGrouped : ShownExpr → Type 0
+abbrev pub IsGrouped : ShownExpr → Type 0
 IsGrouped (OfOperand _ _ _) = Unit {0}
 IsGrouped (OfDyadic left dyadic right place) =
     (rank_shown left ≤ rank dyadic.operator) × (rank_shown right < rank dyadic.operator) × (place ≡ place_shown left) ×
