@@ -11,6 +11,7 @@ pub mod ExpressionsForward
 pub mod OperandEnds
 pub mod Chains
 pub mod Operands
+pub mod OneList
 pub mod OneGrouping
 pub mod OneLiteral
 pub mod OneExpression

@@ -5,6 +5,7 @@ pub mod Expressions
 pub mod Following
 pub mod Chains
 pub mod ShownExpressions
+pub mod ShownDeclarations
 pub mod Types
 pub mod Formats
 pub mod Declarations
