@@ -15,3 +15,4 @@ pub mod OneList
 pub mod OneGrouping
 pub mod OneLiteral
 pub mod OneExpression
+pub mod OneType
