@@ -6,6 +6,7 @@ pub mod Following
 pub mod Chains
 pub mod ShownExpressions
 pub mod ShownDeclarations
+pub mod ShownStatements
 pub mod Types
 pub mod Formats
 pub mod Declarations
