@@ -16,3 +16,4 @@ pub mod OneGrouping
 pub mod OneLiteral
 pub mod OneExpression
 pub mod OneType
+pub mod OneSchedule
