@@ -17,3 +17,4 @@ pub mod OneLiteral
 pub mod OneExpression
 pub mod OneType
 pub mod OneSchedule
+pub mod OneStatement

@@ -228,24 +228,24 @@ module _ (tokens : List Token) where
   before_no k code (inl h) g all act = all (same_word tokens k code w.ALL g h)
   before_no k code (inr h) g all act = act (same_word tokens k code w.ACTIVATE g h)
 
-  abbrev start_word : Start → ℕ
+  abbrev pub start_word : Start → ℕ
   start_word (start.At _ _ _) = w.AT
   start_word (start.After _ _ _) = w.AFTER
   start_word (start.When _ _ _ _) = w.WHEN
   start_word (start.All _) = w.ALL
 
-  start_begins : (from : ℕ) (a : Start) (to : ℕ) → SpellsStart tokens from a to → HasWord tokens from (start_word a)
+  pub start_begins : (from : ℕ) (a : Start) (to : ℕ) → SpellsStart tokens from a to → HasWord tokens from (start_word a)
   start_begins from (start.At x y p) to h = h.2.0
   start_begins from (start.After x y p) to h = h.2.0
   start_begins from (start.When n x y p) to h = h.2
   start_begins from (start.All x) to h = h.2.0
 
-  abbrev once_word : Once → ℕ
+  abbrev pub once_word : Once → ℕ
   once_word (once.At _ _) = w.AT
   once_word (once.After _ _) = w.AFTER
   once_word (once.When _ _) = w.WHEN
 
-  once_begins : (from : ℕ) (a : Once) (to : ℕ) → SpellsOnce tokens from a to → HasWord tokens from (once_word a)
+  pub once_begins : (from : ℕ) (a : Once) (to : ℕ) → SpellsOnce tokens from a to → HasWord tokens from (once_word a)
   once_begins from (once.At x p) to h = h.1.0
   once_begins from (once.After x p) to h = h.1.0
   once_begins from (once.When n p) to h = h.1
