@@ -18,3 +18,4 @@ pub mod OneExpression
 pub mod OneType
 pub mod OneSchedule
 pub mod OneStatement
+pub mod OneModule

@@ -146,7 +146,7 @@ module _ (tokens : List Token) where
   stmt_leads depth from (Send x d p) to h = leads from (what.Word w.SEND) 15 h.2.0 refl
   stmt_leads depth from (Take x d p) to h = leads from (what.Word w.TAKE) 16 h.2 refl
 
-  stmt_begins : (depth from : ℕ) (a : Stmt) (to : ℕ) → SpellsStmt tokens depth from a to → Begins from
+  pub stmt_begins : (depth from : ℕ) (a : Stmt) (to : ℕ) → SpellsStmt tokens depth from a to → Begins from
   stmt_begins depth from a to h = (group a, stmt_leads depth from a to h)
 
   -- ---- parts of statements
@@ -168,7 +168,7 @@ module _ (tokens : List Token) where
   becomes_no_end k (inl h) g = absurd (omega (arith, same_symbol tokens k s.becomes s.semicolon h g))
   becomes_no_end k (inr h) g = absurd (omega (arith, same_symbol tokens k s.equals s.semicolon h g))
 
-  no_bracket : (k symbol : ℕ) → HasSymbol tokens k symbol → symbol ≢ s.left_round → NoBracket tokens k
+  pub no_bracket : (k symbol : ℕ) → HasSymbol tokens k symbol → symbol ≢ s.left_round → NoBracket tokens k
   no_bracket k symbol h other g = other (same_symbol tokens k symbol s.left_round h g)
 
   one_arguments : (from : ℕ) (xs ys : List Expr) (to end : ℕ) → SpellsMaybeBracketed tokens (SpellsWhole tokens) from xs to → HasSymbol tokens to s.semicolon →
@@ -225,7 +225,7 @@ module _ (tokens : List Token) where
       (λ k x y m n h _ g _. one_name tokens k x y m n h g) a b from to end h (λ e. absurd (let e = sym i ∙ e.1.0 in cc e)) tt g (λ e. absurd (let e = sym j ∙ e.1.0 in cc e)) tt in
       (option_as_it_is a b same.0, same.1)
 
-  ends_no_comma : (k : ℕ) → HasSymbol tokens k s.comma → HasSymbol tokens k s.semicolon → ⊥
+  pub ends_no_comma : (k : ℕ) → HasSymbol tokens k s.comma → HasSymbol tokens k s.semicolon → ⊥
   ends_no_comma k h g = absurd (omega (arith, same_symbol tokens k s.comma s.semicolon h g))
 
   one_name_list : (from : ℕ) (xs ys : List Name) (to end : ℕ) → SpellsList tokens (SpellsName tokens) from xs to → HasSymbol tokens to s.semicolon →
@@ -270,7 +270,7 @@ module _ (tokens : List Token) where
       (λ k h g. has_none tokens lengthens_ref k (what.Symbol s.comma) h refl g) (λ k h g. has_none tokens lengthens_ref k (what.Word w.FROM) h refl g)
       (λ k h g. symbol_no_word tokens k s.comma w.FROM h g) (one_own_ref tokens) (x ∷ xs) (y ∷ ys) from to end h i g j
 
-  one_body_decl : (from : ℕ) (a b : BodyDecl) (to end : ℕ) → SpellsBodyDecl tokens from a to → SpellsBodyDecl tokens from b end →
+  pub one_body_decl : (from : ℕ) (a b : BodyDecl) (to end : ℕ) → SpellsBodyDecl tokens from a to → SpellsBodyDecl tokens from b end →
       (shown_body_decl a ≡ shown_body_decl b) × (to ≡ end)
   one_body_decl from a b to end h g =
       let all = list_one tokens (SpellsItem tokens) shown_item (ItemStops tokens) (λ k. HasSymbol tokens k s.semicolon)

@@ -136,18 +136,18 @@ module _ (tokens : List Token) where
   one_basic from (basic.Clock q) (basic.Sized x m p) to end h i g j = absurd (no_sort from x w.CLOCK g.1 h.1 (omega arith))
   one_basic from (basic.Duration q) (basic.Sized x m p) to end h i g j = absurd (no_sort from x w.DURATION g.1 h.1 (omega arith))
 
-  basic_word : (from : ℕ) (a : Basic) (to : ℕ) → SpellsBasic tokens from a to → (code : ℕ) × HasWord tokens from code × (w.STRUCT < code)
-  basic_word from (basic.Sized Fixed m p) to h = (w.FIXED, h.1, omega arith)
-  basic_word from (basic.Sized Bit m p) to h = (w.BIT, h.1, omega arith)
-  basic_word from (basic.Sized Char m p) to h = (w.CHAR, h.1, omega arith)
-  basic_word from (basic.Clock p) to h = (w.CLOCK, h.1, omega arith)
-  basic_word from (basic.Duration p) to h = (w.DURATION, h.1, omega arith)
+  pub basic_word : (from : ℕ) (a : Basic) (to : ℕ) → SpellsBasic tokens from a to → (code : ℕ) × HasWord tokens from code × ((w.STRUCT < code) × (code < w.SEMA))
+  basic_word from (basic.Sized Fixed m p) to h = (w.FIXED, h.1, (omega arith, omega arith))
+  basic_word from (basic.Sized Bit m p) to h = (w.BIT, h.1, (omega arith, omega arith))
+  basic_word from (basic.Sized Char m p) to h = (w.CHAR, h.1, (omega arith, omega arith))
+  basic_word from (basic.Clock p) to h = (w.CLOCK, h.1, (omega arith, omega arith))
+  basic_word from (basic.Duration p) to h = (w.DURATION, h.1, (omega arith, omega arith))
 
   no_struct : (from : ℕ) (a : Basic) (to : ℕ) → SpellsBasic tokens from a to → HasWord tokens from w.STRUCT → ⊥
   no_struct from a to h g = by (basic_word from a to h)
     where
-      by : (code : ℕ) × HasWord tokens from code × (w.STRUCT < code) → ⊥
-      by (code, i, low) = absurd (omega (arith, low, same_word tokens from code w.STRUCT i g))
+      by : (code : ℕ) × HasWord tokens from code × ((w.STRUCT < code) × (code < w.SEMA)) → ⊥
+      by (code, i, low) = absurd (omega (arith, low.0, same_word tokens from code w.STRUCT i g))
 
   no_basic : (from : ℕ) (a : Basic) (to : ℕ) (b : Name) → SpellsBasic tokens from a to → IsName tokens from b → ⊥
   no_basic from a to b h g = let word = basic_word from a to h in absurd (let e = sym word.1 ∙ g.0 in cc e)
@@ -269,8 +269,8 @@ module _ (tokens : List Token) where
   typing_no_inv : (c : ℕ) (part : Typing) (to : ℕ) → SpellsTyping tokens 8 c part to → HasWord tokens c w.INV → ⊥
   typing_no_inv c (typing.Basic a) to h e = by (basic_word c a to h)
     where
-      by : (code : ℕ) × HasWord tokens c code × (w.STRUCT < code) → ⊥
-      by (code, i, less) = absurd (omega (arith, less, same_word tokens c code w.INV i e))
+      by : (code : ℕ) × HasWord tokens c code × ((w.STRUCT < code) × (code < w.SEMA)) → ⊥
+      by (code, i, less) = absurd (omega (arith, less.0, same_word tokens c code w.INV i e))
   typing_no_inv c (typing.Struct' _ fields place) to h e = absurd (omega (arith, same_word tokens c w.STRUCT w.INV h.2 e))
   typing_no_inv c (typing.Named name) to h e = absurd (let e = sym h.0.0 ∙ e in cc e)
 

@@ -7,6 +7,7 @@ pub mod Chains
 pub mod ShownExpressions
 pub mod ShownDeclarations
 pub mod ShownStatements
+pub mod ShownModules
 pub mod Types
 pub mod Formats
 pub mod Declarations
