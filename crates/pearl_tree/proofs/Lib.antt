@@ -19,3 +19,4 @@ pub mod OneType
 pub mod OneSchedule
 pub mod OneStatement
 pub mod OneModule
+pub mod FirstStop

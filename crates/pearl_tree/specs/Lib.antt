@@ -8,6 +8,8 @@ pub mod ShownExpressions
 pub mod ShownDeclarations
 pub mod ShownStatements
 pub mod ShownModules
+pub mod Stops
+pub mod Laws
 pub mod Types
 pub mod Formats
 pub mod Declarations
