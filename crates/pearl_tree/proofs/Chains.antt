@@ -1,7 +1,7 @@
 -- An expression is a chain of operands and operators; two chains from the same token end at the same, or the shorter one
 -- before a token that lengthens it; a chain whose operands are the longest, with no operator behind it, is the longest.
 use Rattle.std.proofs.lemmas.Bool.{or_cases, eqb-true}
-use Rattle.std.proofs.Common.{Box, Global, ◌≡◌, ◌⊎◌, inl, inr, ⊎_elim, ℕ, zero, suc, ◌+◌, ◌-◌, ◌<◌, ◌≤◌, ◌==◌, ◌||◌, Bool, true, false, List, [], ◌∷◌, ◌++◌, length, length-append, Option, Some, None, option_map, option_and_then, is_some, refl, sym, ap, subst, ◌∙◌, arith, le_trans}
+use Rattle.std.proofs.Common.{Box, Global, ◌≡◌, inl, inr, ⊎_elim, ℕ, zero, suc, ◌+◌, ◌-◌, ◌<◌, ◌≤◌, ◌==◌, ◌||◌, Bool, true, false, List, [], ◌∷◌, length, length-append, Option, Some, None, option_map, option_and_then, is_some, refl, sym, ap, subst, ◌∙◌, arith}
 use Rattle.pearl_tree.specs.declared.expression.Dyad.{Dyad}
 use Rattle.pearl_tree.specs.declared.expression.Dyadic.{Dyadic}
 use Rattle.pearl_tree.specs.declared.expression.Expr.{Expr, Operand', Dyadic'}
@@ -12,7 +12,7 @@ use Rattle.pearl_tree.specs.declared.expression.Operand.{Operand}
 use Rattle.pearl_tree.specs.declared.token.What.{What}
 use Rattle.pearl_tree.specs.declared.token.What.TheVariants as what
 use Rattle.pearl_tree.specs.declared.token.Token.{Token}
-use Rattle.pearl_tree.specs.Standing.{HasSymbol, IsAt, SpellsEach, what_at}
+use Rattle.pearl_tree.specs.Standing.{IsAt, SpellsEach, what_at}
 use Rattle.pearl_tree.specs.Expressions.{SpellsTerms, SpellsPrimary, SpellsRef, dyad_of, dyad_count, HasDyad}
 use Rattle.pearl_tree.specs.Chains.{SpellsOperand, Link, SpellsLink, first_operand, links, IsLongestOperand, SpellsLongestLink, HasLongestOperands, HasNoLink, HasNoOperand, HasNoTerms, IsLongestExpr}
 use Rattle.pearl_tree.specs.Following.{lengthens_ref, lengthens_operand, lengthens_expr, HasOneOf, Meet}

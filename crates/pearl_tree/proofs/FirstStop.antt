@@ -1,7 +1,7 @@
 -- Tokens have one first stop at most.
-use Rattle.std.proofs.Common.{◌≡◌, ◌⊎◌, inl, inr, ⊎_elim, ℕ, zero, suc, ◌<◌, ◌≤◌, List, refl, arith}
+use Rattle.std.proofs.Common.{◌≡◌, ◌⊎◌, inl, inr, ℕ, zero, suc, ◌<◌, List, refl, arith}
 use Rattle.pearl_tree.specs.declared.token.Token.{Token}
-use Rattle.pearl_tree.specs.Stops.{NoneBegins, SomeBegins, IsFirstStop}
+use Rattle.pearl_tree.specs.Stops.{NoneBegins, SomeBegins}
 use Rattle.pearl_tree.specs.Laws.{HasOneStop, StopsHaveNoTree}
 
 -- of two such numbers none is less

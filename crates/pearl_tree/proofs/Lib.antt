@@ -4,6 +4,7 @@ pub mod StatementLists
 mod Examples
 pub mod SpelledLists
 pub mod SpelledLawful
+pub mod Meeting
 pub mod LiteralEnds
 pub mod LongestLiterals
 pub mod ListEnds

@@ -1,10 +1,10 @@
 -- Where lists of parts end, from where their parts end.
-use Rattle.std.proofs.Common.{◌≡◌, ◌⊎◌, inl, inr, ℕ, ◌+◌, ◌<◌, ◌≤◌, List, [], ◌∷◌, ◌++◌, Option, Some, None, refl, sym, subst, ◌∙◌, arith}
+use Rattle.std.proofs.Common.{◌≡◌, inl, inr, ℕ, ◌+◌, ◌<◌, ◌≤◌, List, [], ◌∷◌, ◌++◌, sym, subst, ◌∙◌, arith}
 use Rattle.pearl_tree.specs.declared.token.Token.{Token}
-use Rattle.pearl_tree.specs.Standing.{Spelling, HasSymbol, SpellsEach, SpellsMore, SpellsList, SpellsBracketed, SpellsMaybe}
+use Rattle.pearl_tree.specs.Standing.{Spelling, HasSymbol, SpellsEach, SpellsMore, SpellsList}
 use Rattle.pearl_tree.specs.Following.{Meet}
 use Rattle.pearl_tree.specs.Symbols as s
-use Rattle.pearl_tree.proofs.LiteralEnds.{meets_once, same_symbol}
+use Rattle.pearl_tree.proofs.Meeting.{meets_once}
 
 -- parts of which all that begin at a token end at the same one
 module _ {X : Type 0} (spells : Spelling X) (goes : ℕ → Type 0)

@@ -1,5 +1,5 @@
 -- Two literals that begin at the same token end at the same, or the shorter one before a token that lengthens it.
-use Rattle.std.proofs.Common.{le_trans, ◌≡◌, ◌⊎◌, inl, inr, ⊎_elim, ℕ, ◌+◌, ◌<◌, ◌≤◌, Bool, true, false, List, Option, Some, None, option_map, refl, sym, ap, subst, ◌∙◌, arith}
+use Rattle.std.proofs.Common.{le_trans, ◌≡◌, ◌⊎◌, inl, inr, ⊎_elim, ℕ, ◌+◌, ◌<◌, ◌≤◌, Bool, true, false, List, Option, Some, None, refl, sym, subst, ◌∙◌, arith}
 use Rattle.pearl_tree.specs.declared.name.Number.{Number}
 use Rattle.pearl_tree.specs.declared.literal.Secs.{Secs}
 use Rattle.pearl_tree.specs.declared.literal.Secs.TheVariants as secs
@@ -13,35 +13,11 @@ use Rattle.pearl_tree.specs.declared.literal.Const.{Const}
 use Rattle.pearl_tree.specs.declared.token.What.{What}
 use Rattle.pearl_tree.specs.declared.token.What.TheVariants as what
 use Rattle.pearl_tree.specs.declared.token.Token.{Token}
-use Rattle.pearl_tree.specs.Standing.{HasWord, HasSymbol, IsNumber, SpellsMaybe, what_at}
+use Rattle.pearl_tree.specs.Standing.{HasWord, HasSymbol, SpellsMaybe, what_at}
 use Rattle.pearl_tree.specs.Expressions.{SpellsSecs, SpellsSeconds, SpellsMinutes, SpellsDuration, SpellsLiteral, SpellsSign, SpellsConst}
 use Rattle.pearl_tree.specs.Following.{lengthens_literal, HasOneOf, Meet}
 use Rattle.pearl_tree.specs.WordCodes as w
-
--- ---- meeting
-
-module _ (goes : ℕ → Type 0) where
-  pub meets_sym : {to end : ℕ} → Meet goes to end → Meet goes end to
-  meets_sym (inl e) = inl (sym e)
-  meets_sym (inr (inl h)) = inr (inr h)
-  meets_sym (inr (inr h)) = inr (inl h)
-
-  pub meets_as : (also : ℕ → Type 0) {to end : ℕ} → ((k : ℕ) → goes k → also k) → Meet goes to end → Meet also to end
-  meets_as also f (inl e) = inl e
-  meets_as also {to = to} f (inr (inl h)) = inr (inl (h.0, f to h.1))
-  meets_as also {end = end} f (inr (inr h)) = inr (inr (h.0, f end h.1))
-
-  -- where each ends before a token that lengthens neither, they end at the same
-  pub meets_once : {to end : ℕ} → (goes to → ⊥) → (goes end → ⊥) → Meet goes to end → to ≡ end
-  meets_once f g (inl e) = e
-  meets_once f g (inr (inl h)) = absurd (f h.1)
-  meets_once f g (inr (inr h)) = absurd (g h.1)
-
-  -- where one ends before no token that lengthens it, no other one ends behind it
-  pub meets_after : {to end : ℕ} → (goes to → ⊥) → Meet goes to end → end ≤ to
-  meets_after f (inl e) = omega (arith, e)
-  meets_after f (inr (inl h)) = absurd (f h.1)
-  meets_after f (inr (inr h)) = omega (arith, h.0)
+use Rattle.pearl_tree.proofs.Meeting.{has_one, has_none, same_word}
 
 -- what a literal begins with
 abbrev pub begins_literal : What → Bool
@@ -53,26 +29,14 @@ begins_literal (what.Clock _) = true
 begins_literal _ = false
 
 module _ (tokens : List Token) where
-  pub has_one : (kind : What → Bool) (k : ℕ) (what : What) → what_at tokens k ≡ Some what → kind what ≡ true → HasOneOf kind tokens k
-  has_one kind k what here is = ap (option_map kind) here ∙ ap Some is
-
-  pub has_none : (kind : What → Bool) (k : ℕ) (what : What) → what_at tokens k ≡ Some what → kind what ≡ false → HasOneOf kind tokens k → ⊥
-  has_none kind k what here is has = absurd (let e = sym (ap Some is) ∙ (sym (ap (option_map kind) here) ∙ has) in cc e)
-
-  pub same_word : (k a b : ℕ) → HasWord tokens k a → HasWord tokens k b → a ≡ b
-  same_word k a b h g = let e = sym h ∙ g in cc e
-
-  pub same_symbol : (k a b : ℕ) → HasSymbol tokens k a → HasSymbol tokens k b → a ≡ b
-  same_symbol k a b h g = let e = sym h ∙ g in cc e
-
   abbrev Longer : ℕ → Type 0
   Longer = HasOneOf lengthens_literal tokens
 
   -- ---- durations
 
   secs_end : (from : ℕ) (part : Secs) (to : ℕ) → SpellsSecs tokens from part to → (to ≡ from + 1) × Longer from
-  secs_end from (secs.Number number) to h = (h.1, has_one lengthens_literal from (what.Number number.value) h.0.0 refl)
-  secs_end from (secs.Decimal whole thousandths place) to h = (h.2, has_one lengthens_literal from (what.Decimal whole thousandths) h.0 refl)
+  secs_end from (secs.Number number) to h = (h.1, has_one tokens lengthens_literal from (what.Number number.value) h.0.0 refl)
+  secs_end from (secs.Decimal whole thousandths place) to h = (h.2, has_one tokens lengthens_literal from (what.Decimal whole thousandths) h.0 refl)
 
   pub seconds_end : (from : ℕ) (part : Secs) (to : ℕ) → SpellsSeconds tokens from part to →
       (to ≡ from + 2) × HasWord tokens (from + 1) w.SEC × Longer from
@@ -108,16 +72,16 @@ module _ (tokens : List Token) where
       maybe_seconds_end m seconds other to end g (subst (λ k. SpellsMaybe (SpellsSeconds tokens) k other end) (i.2 ∙ sym h.2) j)
   rest_end from None (Some b) m n None other to end h g i j =
       let at : to ≡ from = g ∙ h in
-      inr (inl (omega (arith, at, i.2, maybe_seconds_after n other end j), subst Longer (sym at) (has_one lengthens_literal from (what.Number b.value) i.0.0 refl)))
+      inr (inl (omega (arith, at, i.2, maybe_seconds_after n other end j), subst Longer (sym at) (has_one tokens lengthens_literal from (what.Number b.value) i.0.0 refl)))
   rest_end from None (Some b) m n (Some x) other to end h g i j =
       let this = seconds_end from x to (subst (λ k. SpellsSeconds tokens k x to) h g) in
-      absurd (omega (arith, same_word (from + 1) w.SEC w.MIN this.1 i.1))
+      absurd (omega (arith, same_word tokens (from + 1) w.SEC w.MIN this.1 i.1))
   rest_end from (Some a) None m n seconds None to end h g i j =
       let at : end ≡ from = j ∙ i in
-      inr (inr (omega (arith, at, h.2, maybe_seconds_after m seconds to g), subst Longer (sym at) (has_one lengthens_literal from (what.Number a.value) h.0.0 refl)))
+      inr (inr (omega (arith, at, h.2, maybe_seconds_after m seconds to g), subst Longer (sym at) (has_one tokens lengthens_literal from (what.Number a.value) h.0.0 refl)))
   rest_end from (Some a) None m n seconds (Some x) to end h g i j =
       let that = seconds_end from x end (subst (λ k. SpellsSeconds tokens k x end) i j) in
-      absurd (omega (arith, same_word (from + 1) w.MIN w.SEC h.1 that.1))
+      absurd (omega (arith, same_word tokens (from + 1) w.MIN w.SEC h.1 that.1))
 
   -- the unit behind the first number, and where the duration ends at the earliest
   abbrev pub unit_of : Duration → ℕ
@@ -136,7 +100,7 @@ module _ (tokens : List Token) where
   same_unit : (from : ℕ) (part other : Duration) (to end : ℕ) → SpellsDuration tokens from part to → SpellsDuration tokens from other end →
       unit_of part ≡ unit_of other
   same_unit from part other to end h g =
-      same_word (from + 1) (unit_of part) (unit_of other) (unit_stands from part to h).0 (unit_stands from other end g).0
+      same_word tokens (from + 1) (unit_of part) (unit_of other) (unit_stands from part to h).0 (unit_stands from other end g).0
 
   pub duration_ends : (from : ℕ) (part other : Duration) (to end : ℕ) → SpellsDuration tokens from part to →
       SpellsDuration tokens from other end → Meet Longer to end
@@ -169,10 +133,10 @@ module _ (tokens : List Token) where
   literal_ends_or from (literal.Duration duration) to h = inr (duration, h)
 
   pub unit_lengthens : (from : ℕ) (part : Duration) (to : ℕ) → SpellsDuration tokens from part to → Longer (from + 1)
-  unit_lengthens from (Hours a b c d) to h = has_one lengthens_literal (from + 1) (what.Word w.HRS) h.3 refl
-  unit_lengthens from (Minutes a b c) to h = has_one lengthens_literal (from + 1) (what.Word w.MIN) h.2 refl
+  unit_lengthens from (Hours a b c d) to h = has_one tokens lengthens_literal (from + 1) (what.Word w.HRS) h.3 refl
+  unit_lengthens from (Minutes a b c) to h = has_one tokens lengthens_literal (from + 1) (what.Word w.MIN) h.2 refl
   unit_lengthens from (Seconds a b) to h =
-      has_one lengthens_literal (from + 1) (what.Word w.SEC) (seconds_end from a to h.1).1 refl
+      has_one tokens lengthens_literal (from + 1) (what.Word w.SEC) (seconds_end from a to h.1).1 refl
 
   pub literal_ends : (from : ℕ) (part other : Literal) (to end : ℕ) → SpellsLiteral tokens from part to →
       SpellsLiteral tokens from other end → Meet Longer to end
@@ -193,24 +157,24 @@ module _ (tokens : List Token) where
   -- ---- constants
 
   pub literal_begins : (from : ℕ) (part : Literal) (to : ℕ) → SpellsLiteral tokens from part to → HasOneOf begins_literal tokens from
-  literal_begins from (literal.Number number) to h = has_one begins_literal from (what.Number number.value) h.0.0 refl
-  literal_begins from (literal.Bits len value place) to h = has_one begins_literal from (what.Bits len value) h.0 refl
-  literal_begins from (literal.Text text place) to h = has_one begins_literal from (what.Text text) h.0 refl
-  literal_begins from (literal.Clock milliseconds place) to h = has_one begins_literal from (what.Clock milliseconds) h.0 refl
+  literal_begins from (literal.Number number) to h = has_one tokens begins_literal from (what.Number number.value) h.0.0 refl
+  literal_begins from (literal.Bits len value place) to h = has_one tokens begins_literal from (what.Bits len value) h.0 refl
+  literal_begins from (literal.Text text place) to h = has_one tokens begins_literal from (what.Text text) h.0 refl
+  literal_begins from (literal.Clock milliseconds place) to h = has_one tokens begins_literal from (what.Clock milliseconds) h.0 refl
   literal_begins from (literal.Duration duration) to h = by from duration to h
     where
       by_secs : (from : ℕ) (part : Secs) (to : ℕ) → SpellsSecs tokens from part to → HasOneOf begins_literal tokens from
-      by_secs from (secs.Number number) to h = has_one begins_literal from (what.Number number.value) h.0.0 refl
-      by_secs from (secs.Decimal whole thousandths place) to h = has_one begins_literal from (what.Decimal whole thousandths) h.0 refl
+      by_secs from (secs.Number number) to h = has_one tokens begins_literal from (what.Number number.value) h.0.0 refl
+      by_secs from (secs.Decimal whole thousandths place) to h = has_one tokens begins_literal from (what.Decimal whole thousandths) h.0 refl
 
       by : (from : ℕ) (part : Duration) (to : ℕ) → SpellsDuration tokens from part to → HasOneOf begins_literal tokens from
-      by from (Hours hours _ _ _) to h = has_one begins_literal from (what.Number hours.value) h.2.0 refl
-      by from (Minutes minutes _ _) to h = has_one begins_literal from (what.Number minutes.value) h.1.0 refl
+      by from (Hours hours _ _ _) to h = has_one tokens begins_literal from (what.Number hours.value) h.2.0 refl
+      by from (Minutes minutes _ _) to h = has_one tokens begins_literal from (what.Number minutes.value) h.1.0 refl
       by from (Seconds seconds _) to h = by_secs from seconds h.1.0 h.1.1
 
   pub no_literal : (from : ℕ) (part : Literal) (to : ℕ) (what : What) → what_at tokens from ≡ Some what → begins_literal what ≡ false →
       SpellsLiteral tokens from part to → ⊥
-  no_literal from part to what here not h = has_none begins_literal from what here not (literal_begins from part to h)
+  no_literal from part to what here not h = has_none tokens begins_literal from what here not (literal_begins from part to h)
 
   sign_what : (from : ℕ) (part : Sign) (to : ℕ) → SpellsSign tokens from part to →
       (to ≡ from + 1) × ((symbol : ℕ) × HasSymbol tokens from symbol)

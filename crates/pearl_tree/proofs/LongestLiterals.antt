@@ -1,5 +1,5 @@
 -- The longest literal that begins at a token, by the numbers and units that stand there.
-use Rattle.std.proofs.Common.{◌≡◌, ◌⊎◌, inl, inr, ⊎_elim, ℕ, ◌+◌, ◌<◌, ◌≤◌, List, Option, Some, None, refl, sym, ap, subst, ◌∙◌, arith}
+use Rattle.std.proofs.Common.{◌≡◌, ⊎_elim, ℕ, ◌+◌, ◌≤◌, List, Option, Some, None, sym, subst, ◌∙◌, arith}
 use Rattle.pearl_tree.specs.declared.name.Number.{Number}
 use Rattle.pearl_tree.specs.declared.literal.Secs.{Secs}
 use Rattle.pearl_tree.specs.declared.literal.Duration.{Duration}
@@ -8,10 +8,11 @@ use Rattle.pearl_tree.specs.declared.literal.Literal.{Literal}
 use Rattle.pearl_tree.specs.declared.literal.Literal.TheVariants as literal
 use Rattle.pearl_tree.specs.declared.token.What.TheVariants as what
 use Rattle.pearl_tree.specs.declared.token.Token.{Token}
-use Rattle.pearl_tree.specs.Standing.{HasWord, IsNumber, SpellsMaybe, what_at}
+use Rattle.pearl_tree.specs.Standing.{HasWord, SpellsMaybe, what_at}
 use Rattle.pearl_tree.specs.Expressions.{SpellsSeconds, SpellsMinutes, SpellsDuration, SpellsLiteral}
 use Rattle.pearl_tree.specs.WordCodes as w
-use Rattle.pearl_tree.proofs.LiteralEnds.{same_word, seconds_end, literal_ends_or, unit_of, unit_stands}
+use Rattle.pearl_tree.proofs.Meeting.{same_word}
+use Rattle.pearl_tree.proofs.LiteralEnds.{seconds_end, literal_ends_or, unit_of, unit_stands}
 
 module _ (tokens : List Token) where
   -- no literal that begins there ends behind `to`

@@ -1,12 +1,10 @@
 -- What tokens spell from one token up to another is one expression: with its operands and its grouping, wherever the parts
 -- lie in memory.
-use Rattle.std.proofs.Common.{◌≡◌, ◌⊎◌, inl, inr, ⊎_elim, ℕ, zero, suc, ◌+◌, ◌-◌, ◌<◌, ◌≤◌, Bool, true, false, List, [], ◌∷◌, ◌++◌, length, Option, Some, None, option_map, option_and_then, refl, sym, ap, subst, ◌∙◌, arith, if◌then◌else◌, ◌==◌}
-use Rattle.pearl_tree.specs.declared.name.Name.{Name}
+use Rattle.std.proofs.Common.{◌≡◌, inl, inr, ℕ, zero, suc, ◌+◌, ◌-◌, ◌<◌, ◌≤◌, List, [], ◌∷◌, ◌++◌, Option, Some, None, option_map, refl, sym, ap, subst, ◌∙◌, arith, if◌then◌else◌, ◌==◌}
 use Rattle.pearl_tree.specs.declared.name.Number.{Number}
 use Rattle.pearl_tree.specs.declared.expression.Monad.{Monad}
 use Rattle.pearl_tree.specs.declared.expression.Monad.TheVariants as monad
 use Rattle.pearl_tree.specs.declared.expression.Monadic.{Monadic}
-use Rattle.pearl_tree.specs.declared.expression.Dyad.{Dyad}
 use Rattle.pearl_tree.specs.declared.expression.Dyadic.{Dyadic}
 use Rattle.pearl_tree.specs.declared.expression.Side.{Side}
 use Rattle.pearl_tree.specs.declared.expression.Side.TheVariants.{Lower, Upper}
@@ -20,18 +18,19 @@ use Rattle.pearl_tree.specs.declared.token.What.{What}
 use Rattle.pearl_tree.specs.declared.token.What.TheVariants as what
 use Rattle.pearl_tree.specs.declared.token.Token.{Token}
 use Rattle.pearl_tree.specs.Standing.{IsAt, HasWord, HasSymbol, IsName, SpellsEach, SpellsMaybe, SpellsNumber, what_at}
-use Rattle.pearl_tree.specs.Expressions.{SpellsLiteral, SpellsMonadic, SpellsTerms, SpellsPrimary, SpellsSelectors, SpellsSelector, SpellsSubscripts, SpellsMoreSubscripts, SpellsRef, monad_what, HasDyad, dyad_of, rank, rank_of, side_word}
+use Rattle.pearl_tree.specs.Expressions.{SpellsLiteral, SpellsMonadic, SpellsTerms, SpellsPrimary, SpellsSelectors, SpellsSelector, SpellsSubscripts, SpellsMoreSubscripts, SpellsRef, monad_what, HasDyad, rank, rank_of, side_word}
 use Rattle.pearl_tree.specs.Chains.{SpellsOperand, Link, SpellsLink, first_operand, links}
 use Rattle.pearl_tree.specs.Following.{lengthens_operand, lengthens_expr, HasOneOf, Meet}
-use Rattle.pearl_tree.specs.ShownExpressions.{ShownExpr, OfOperand, OfDyadic, ShownPrimary, OfLiteral, OfRef, OfGroup, OfNow, OfTry, OfLimit, ShownSelectors, NoSelectors, MoreSelectors, ShownSelector, OfSubscripts, OfComponent, ShownExprs, NoExprs, MoreExprs, shown_expr, shown_primary, shown_selectors, shown_selector, shown_exprs, shown_selector_list, shown_ref}
+use Rattle.pearl_tree.specs.ShownExpressions.{OfLiteral, OfRef, OfGroup, OfNow, OfTry, OfLimit, MoreSelectors, OfSubscripts, OfComponent, MoreExprs, shown_expr, shown_primary, shown_selectors, shown_selector, shown_exprs, shown_selector_list, shown_ref}
 use Rattle.pearl_tree.specs.Symbols as s
 use Rattle.pearl_tree.specs.WordCodes as w
-use Rattle.pearl_tree.proofs.LiteralEnds.{meets_once, has_one, has_none, same_word, same_symbol, literal_begins, begins_literal, literal_single}
-use Rattle.pearl_tree.proofs.ExpressionsForward.{terms_after, primary_after, selector_after, monadics_after}
+use Rattle.pearl_tree.proofs.Meeting.{meets_once, has_none, same_word, same_symbol}
+use Rattle.pearl_tree.proofs.LiteralEnds.{literal_begins, begins_literal, literal_single}
+use Rattle.pearl_tree.proofs.ExpressionsForward.{selector_after, monadics_after}
 use Rattle.pearl_tree.proofs.OperandEnds as ends
 use Rattle.pearl_tree.proofs.Chains.{exprs_meet, operands_meet, flat, operand_after, no_links}
 use Rattle.pearl_tree.proofs.OneLiteral.{same_place, same_name, same_number, same_literal}
-use Rattle.pearl_tree.proofs.OneGrouping.{ShownOperand, ShownLink, shown_operand, shown_links, first_shown, behind, rank_shown, place_shown, IsGrouped, one_grouping}
+use Rattle.pearl_tree.proofs.OneGrouping.{shown_operand, shown_links, first_shown, behind, rank_shown, place_shown, IsGrouped, one_grouping}
 
 -- ---- what is shown of a chain
 

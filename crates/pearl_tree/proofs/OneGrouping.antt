@@ -1,14 +1,11 @@
 -- A chain of operands and operators is grouped by the ranks of the operators in one way.
-use Rattle.std.proofs.Common.{◌≡◌, ◌⊎◌, inl, inr, ⊎_elim, ℕ, ◌+◌, ◌<◌, ◌≤◌, List, [], ◌∷◌, ◌++◌, length, length-append, refl, sym, ap, subst, ◌∙◌, arith, le_trans}
+use Rattle.std.proofs.Common.{◌≡◌, ◌⊎◌, inl, inr, ℕ, ◌<◌, ◌≤◌, List, [], ◌∷◌, ◌++◌, length, length-append, refl, sym, ap, subst, ◌∙◌, arith, le_trans}
 use Rattle.pearl_tree.specs.declared.expression.Dyadic.{Dyadic}
 use Rattle.pearl_tree.specs.declared.expression.Monadic.{Monadic}
-use Rattle.pearl_tree.specs.declared.expression.Expr.{Expr, Operand', Dyadic'}
 use Rattle.pearl_tree.specs.declared.expression.Operand.{Operand}
-use Rattle.pearl_tree.specs.declared.token.Token.{Token}
-use Rattle.pearl_tree.specs.Standing.{IsAt}
-use Rattle.pearl_tree.specs.Expressions.{SpellsTerms, rank, rank_of}
-use Rattle.pearl_tree.specs.Chains.{Link, first_operand, links}
-use Rattle.pearl_tree.specs.ShownExpressions.{ShownExpr, OfOperand, OfDyadic, ShownPrimary, shown_expr, shown_primary}
+use Rattle.pearl_tree.specs.Expressions.{rank}
+use Rattle.pearl_tree.specs.Chains.{Link}
+use Rattle.pearl_tree.specs.ShownExpressions.{ShownExpr, OfOperand, OfDyadic, ShownPrimary, shown_primary}
 
 pub record ShownOperand : Type 0 where
   pub monadics : List Monadic

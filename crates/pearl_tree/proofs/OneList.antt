@@ -1,12 +1,10 @@
 -- Lists of parts that are one for the tokens that spell them: the lists are one, too.
-use Rattle.std.proofs.Common.{◌≡◌, ◌⊎◌, inl, inr, ℕ, ◌+◌, List, [], ◌∷◌, Bool, true, false, Option, Some, None, map, option_map, refl, sym, ap, subst, ◌∙◌, arith}
+use Rattle.std.proofs.Common.{◌≡◌, ℕ, ◌+◌, List, [], ◌∷◌, Bool, true, false, Option, Some, None, map, option_map, refl, sym, ap, subst, ◌∙◌, arith}
 use mathlib.Core.List.{map-id}
-use Rattle.pearl_tree.specs.declared.token.What.{What}
-use Rattle.pearl_tree.specs.declared.token.What.TheVariants as what
 use Rattle.pearl_tree.specs.declared.token.Token.{Token}
-use Rattle.pearl_tree.specs.Standing.{Spelling, HasSymbol, HasWord, SpellsEach, SpellsMore, SpellsList, SpellsBracketed, SpellsMaybeBracketed, SpellsMaybeHeaded, SpellsMaybe, SpellsFlag, what_at}
+use Rattle.pearl_tree.specs.Standing.{Spelling, HasSymbol, HasWord, SpellsEach, SpellsMore, SpellsList, SpellsBracketed, SpellsMaybeBracketed, SpellsMaybeHeaded, SpellsMaybe, SpellsFlag}
 use Rattle.pearl_tree.specs.Symbols as s
-use Rattle.pearl_tree.proofs.LiteralEnds.{same_symbol, same_word}
+use Rattle.pearl_tree.proofs.Meeting.{same_symbol}
 
 module _ (tokens : List Token) where
   pub symbol_no_word : (k a b : ℕ) → HasSymbol tokens k a → HasWord tokens k b → ⊥

@@ -1,5 +1,5 @@
 -- What tokens spell from one token up to another is one literal.
-use Rattle.std.proofs.Common.{◌≡◌, ◌⊎◌, inl, inr, ⊎_elim, ℕ, ◌+◌, ◌<◌, ◌≤◌, Bool, true, false, List, [], ◌∷◌, Option, Some, None, refl, sym, ap, subst, ◌∙◌, arith}
+use Rattle.std.proofs.Common.{◌≡◌, ℕ, ◌+◌, ◌≤◌, Bool, true, false, List, Option, Some, None, refl, sym, ap, subst, ◌∙◌, arith}
 use Rattle.pearl_tree.specs.declared.name.Name.{Name}
 use Rattle.pearl_tree.specs.declared.name.Number.{Number}
 use Rattle.pearl_tree.specs.declared.literal.Secs.{Secs}
@@ -14,12 +14,13 @@ use Rattle.pearl_tree.specs.declared.literal.Const.{Const}
 use Rattle.pearl_tree.specs.declared.token.What.{What}
 use Rattle.pearl_tree.specs.declared.token.What.TheVariants as what
 use Rattle.pearl_tree.specs.declared.token.Token.{Token}
-use Rattle.pearl_tree.specs.Standing.{IsAt, HasWord, HasSymbol, IsName, IsNumber, SpellsMaybe, what_at}
+use Rattle.pearl_tree.specs.Standing.{IsAt, HasSymbol, IsName, IsNumber, SpellsMaybe}
 use Rattle.pearl_tree.specs.Expressions.{SpellsSecs, SpellsSeconds, SpellsMinutes, SpellsDuration, SpellsLiteral, SpellsSign, SpellsConst}
 use Rattle.pearl_tree.specs.Following.{HasOneOf}
 use Rattle.pearl_tree.specs.Symbols as s
 use Rattle.pearl_tree.specs.WordCodes as w
-use Rattle.pearl_tree.proofs.LiteralEnds.{has_one, has_none, same_word, same_symbol, seconds_end, unit_of, unit_stands, no_literal}
+use Rattle.pearl_tree.proofs.Meeting.{has_one, has_none, same_word, same_symbol}
+use Rattle.pearl_tree.proofs.LiteralEnds.{seconds_end, unit_of, unit_stands, no_literal}
 
 abbrev begins_duration : What → Bool
 begins_duration (what.Number _) = true

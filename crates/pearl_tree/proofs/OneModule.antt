@@ -1,10 +1,9 @@
 -- What tokens spell is one declaration, and one module.
-use Rattle.std.proofs.Common.{◌≡◌, ◌≢◌, ◌⊎◌, inl, inr, ⊎_elim, ℕ, ◌+◌, ◌-◌, ◌<◌, ◌≤◌, ◌==◌, if◌then◌else◌, Bool, true, false, List, [], ◌∷◌, length, Option, Some, None, map, option_map, option_and_then, codes, T, eqb, refl, sym, ap, subst, ◌∙◌, arith}
+use Rattle.std.proofs.Common.{◌≡◌, ℕ, ◌+◌, ◌<◌, ◌==◌, if◌then◌else◌, Bool, true, false, List, [], ◌∷◌, length, Option, Some, None, option_and_then, codes, T, eqb, refl, sym, ap, subst, ◌∙◌, arith}
 use Rattle.std.proofs.Math.Facts.{yes_eqb}
 use Rattle.pearl_tree.specs.declared.parts.Parts.{Parts}
 use Rattle.pearl_tree.specs.declared.name.Name.{Name}
 use Rattle.pearl_tree.specs.declared.name.Number.{Number}
-use Rattle.pearl_tree.specs.declared.name.Names.{Names}
 use Rattle.pearl_tree.specs.declared.typing.Basic.{Basic}
 use Rattle.pearl_tree.specs.declared.typing.Bound.{Bound}
 use Rattle.pearl_tree.specs.declared.typing.Typing.{Typing}
@@ -35,17 +34,17 @@ use Rattle.pearl_tree.specs.declared.tree.Tree.{Tree}
 use Rattle.pearl_tree.specs.declared.token.What.{What}
 use Rattle.pearl_tree.specs.declared.token.What.TheVariants as what
 use Rattle.pearl_tree.specs.declared.token.Token.{Token}
-use Rattle.pearl_tree.specs.Standing.{IsAt, HasWord, HasSymbol, HasId, IsName, IsNumber, SpellsEach, SpellsList, SpellsNumber, SpellsMaybe, SpellsMaybeBracketed, SpellsMaybeHeaded, SpellsFlag, SpellsSymbolFlag, what_at}
-use Rattle.pearl_tree.specs.Types.{SpellsNames, SpellsBound, SpellsBounds, SpellsBasic, SpellsTyping, SpellsWholeTyping, sort_word}
+use Rattle.pearl_tree.specs.Standing.{HasWord, HasSymbol, HasId, IsName, SpellsEach, SpellsNumber, SpellsMaybe, SpellsMaybeBracketed, SpellsMaybeHeaded, SpellsFlag, SpellsSymbolFlag, what_at}
+use Rattle.pearl_tree.specs.Types.{SpellsBound, SpellsBounds, SpellsBasic, SpellsTyping, SpellsWholeTyping}
 use Rattle.pearl_tree.specs.Declarations.{IsDeviceWord, SpellsDevice, SpellsPrio, SpellsItem, SpellsSema, SpellsDeclared, direction_word, SpellsClass, SpellsControl, SpellsSpec, SpellsParam}
 use Rattle.pearl_tree.specs.Statements.{SpellsBodyDecl, SpellsStmt, SpellsWholeBody}
 use Rattle.pearl_tree.specs.Modules.{SpellsTaskHead, SpellsReturns, SpellsBlock, SpellsDecl, SpellsModuleName, SpellsSystem, SpellsTree, Spells}
-use Rattle.pearl_tree.specs.ShownDeclarations.{shown_names, shown_sema, OfItem, OfSema, shown_item, shown_declared, OfInterrupt, OfDation, shown_spec, shown_param}
+use Rattle.pearl_tree.specs.ShownDeclarations.{shown_sema, OfItem, OfSema, shown_declared, OfInterrupt, OfDation, shown_spec, shown_param}
 use Rattle.pearl_tree.specs.ShownStatements.{shown_body_decl, shown_stmt}
 use Rattle.pearl_tree.specs.ShownModules.{shown_body, OfLength, OfType, OfDeclare, OfSpecify, OfTask, OfProc, shown_decl, shown_devices, shown_tree}
 use Rattle.pearl_tree.specs.Symbols as s
 use Rattle.pearl_tree.specs.WordCodes as w
-use Rattle.pearl_tree.proofs.LiteralEnds.{same_word, same_symbol}
+use Rattle.pearl_tree.proofs.Meeting.{same_word, same_symbol}
 use Rattle.pearl_tree.proofs.OneLiteral.{same_place, same_name, same_number}
 use Rattle.pearl_tree.proofs.OneList.{symbol_no_word, each_one, list_one, maybe_one, maybe_bracketed_one, maybe_headed_one, flag_one, as_they_are, option_as_it_is}
 use Rattle.pearl_tree.proofs.OneType.{NoBracket, ItemStops, one_names, one_number, one_item, one_basic, one_typing, same_sort, basic_word}

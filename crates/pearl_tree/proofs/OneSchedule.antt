@@ -1,9 +1,7 @@
 -- What tokens spell is one item of a format, one time of a statement: the same, and up to the same token.
-use Rattle.std.proofs.Common.{◌≡◌, ◌≢◌, ◌⊎◌, inl, inr, ℕ, ◌+◌, ◌*◌, ◌-◌, ◌<◌, ◌≤◌, Bool, true, false, List, [], ◌∷◌, Option, Some, None, map, option_map, codes, T, eqb, refl, sym, ap, subst, ◌∙◌, arith}
+use Rattle.std.proofs.Common.{◌≡◌, ◌≢◌, ◌⊎◌, inl, inr, ℕ, ◌+◌, ◌*◌, false, List, [], ◌∷◌, Option, Some, None, option_map, T, eqb, refl, sym, ap, subst, ◌∙◌, arith}
 use Rattle.std.proofs.Math.Facts.{yes_eqb}
-use Rattle.pearl_tree.specs.declared.name.Name.{Name}
 use Rattle.pearl_tree.specs.declared.expression.Expr.{Expr}
-use Rattle.pearl_tree.specs.declared.expression.Monadic.{Monadic}
 use Rattle.pearl_tree.specs.declared.expression.Ref.{Ref}
 use Rattle.pearl_tree.specs.declared.expression.Side.TheVariants.{Lower, Upper}
 use Rattle.pearl_tree.specs.declared.format.FreeCode.{FreeCode}
@@ -22,17 +20,15 @@ use Rattle.pearl_tree.specs.declared.statement.Once.TheVariants as once
 use Rattle.pearl_tree.specs.declared.token.What.{What}
 use Rattle.pearl_tree.specs.declared.token.What.TheVariants as what
 use Rattle.pearl_tree.specs.declared.token.Token.{Token}
-use Rattle.pearl_tree.specs.Standing.{IsAt, HasWord, HasSymbol, HasId, IsName, SpellsMaybe, SpellsBracketedNumber, what_at}
+use Rattle.pearl_tree.specs.Standing.{HasWord, HasSymbol, HasId, SpellsMaybe}
 use Rattle.pearl_tree.specs.Expressions.{SpellsWhole, SpellsOwnRef, side_word}
-use Rattle.pearl_tree.specs.Chains.{HasNoTerms}
 use Rattle.pearl_tree.specs.Formats.{SpellsFmt, free_text, wide_text}
 use Rattle.pearl_tree.specs.Statements.{SpellsAfter, SpellsPeriodEnd, SpellsPeriod, SpellsStart, SpellsOnce}
 use Rattle.pearl_tree.specs.Following.{is_monadic, lengthens_ref, lengthens_expr, HasOneOf}
-use Rattle.pearl_tree.specs.ShownExpressions.{ShownExpr, ShownRef, shown_expr, shown_ref}
+use Rattle.pearl_tree.specs.ShownExpressions.{shown_expr, shown_ref}
 use Rattle.pearl_tree.specs.ShownStatements.{OfUntil, OfDuring, shown_period_end, shown_period, OfAt, OfAfter, OfWhen, OfAll, shown_start, OnceAt, OnceAfter, OnceWhen, shown_once}
-use Rattle.pearl_tree.specs.Symbols as s
 use Rattle.pearl_tree.specs.WordCodes as w
-use Rattle.pearl_tree.proofs.LiteralEnds.{same_word, same_symbol, has_none, meets_once}
+use Rattle.pearl_tree.proofs.Meeting.{same_word, has_none, meets_once}
 use Rattle.pearl_tree.proofs.Chains.{exprs_meet, refs_meet, no_terms}
 use Rattle.pearl_tree.proofs.Operands.{Reads, no_primary, no_operand}
 use Rattle.pearl_tree.proofs.OneLiteral.{same_place, same_name}

@@ -1,12 +1,11 @@
 -- What tokens spell is one statement: the same, and up to the same token, wherever the parts lie in memory.
-use Rattle.std.proofs.Common.{◌≡◌, ◌≢◌, ◌⊎◌, inl, inr, ⊎_elim, ℕ, zero, suc, ◌+◌, ◌-◌, ◌<◌, ◌≤◌, ◌==◌, if◌then◌else◌, Bool, true, false, List, [], ◌∷◌, Option, Some, None, map, option_map, option_and_then, slice_get, T, eqb, refl, sym, ap, subst, ◌∙◌, arith}
+use Rattle.std.proofs.Common.{◌≡◌, ◌≢◌, ◌⊎◌, inl, inr, ℕ, zero, suc, ◌+◌, ◌-◌, ◌<◌, ◌==◌, if◌then◌else◌, true, false, List, [], ◌∷◌, Option, Some, None, map, option_map, option_and_then, slice_get, T, eqb, refl, sym, ap, subst, ◌∙◌, arith}
 use Rattle.std.proofs.Math.Facts.{yes_eqb}
 use Rattle.pearl_tree.specs.declared.parts.Parts.{Parts}
 use Rattle.pearl_tree.specs.declared.name.Name.{Name}
 use Rattle.pearl_tree.specs.declared.expression.Expr.{Expr}
 use Rattle.pearl_tree.specs.declared.expression.Ref.{Ref}
 use Rattle.pearl_tree.specs.declared.expression.Selector.{Selector, Subscripts}
-use Rattle.pearl_tree.specs.declared.declaration.Item.{Item}
 use Rattle.pearl_tree.specs.declared.format.Fmt.{Fmt}
 use Rattle.pearl_tree.specs.declared.statement.Start.{Start}
 use Rattle.pearl_tree.specs.declared.statement.Start.TheVariants as start
@@ -23,7 +22,7 @@ use Rattle.pearl_tree.specs.declared.statement.Stmt.{Stmt, Empty, Assign, Call, 
 use Rattle.pearl_tree.specs.declared.token.What.{What}
 use Rattle.pearl_tree.specs.declared.token.What.TheVariants as what
 use Rattle.pearl_tree.specs.declared.token.Token.{Token}
-use Rattle.pearl_tree.specs.Standing.{Spelling, IsAt, HasWord, HasSymbol, IsName, SpellsEach, SpellsList, SpellsName, SpellsMaybe, SpellsMaybeBracketed, SpellsFlag, what_at}
+use Rattle.pearl_tree.specs.Standing.{IsAt, HasWord, HasSymbol, IsName, SpellsEach, SpellsList, SpellsName, SpellsMaybe, SpellsMaybeBracketed, what_at}
 use Rattle.pearl_tree.specs.Expressions.{SpellsWhole, SpellsSelector, SpellsOwnRef}
 use Rattle.pearl_tree.specs.Formats.{SpellsFmt}
 use Rattle.pearl_tree.specs.Declarations.{SpellsItem}
@@ -31,11 +30,11 @@ use Rattle.pearl_tree.specs.Statements.{HasBecomes, SpellsAfter, SpellsFor, Spel
 use Rattle.pearl_tree.specs.Following.{lengthens_ref, lengthens_expr, HasOneOf}
 use Rattle.pearl_tree.specs.ShownExpressions.{shown_expr, shown_ref}
 use Rattle.pearl_tree.specs.ShownDeclarations.{shown_item}
-use Rattle.pearl_tree.specs.ShownStatements.{ShownStmt, OfEmpty, OfAssign, OfCall, OfIf, OfCase, OfRepeat, OfExit, OfBegin, OfReturn, OfActivate, OfContinue, OfResume, OfOnTask, OfOnSemas, OfOnInterrupt, OfPut, OfGet, OfSend, OfTake, NoStmts, MoreStmts, NoBranches, MoreBranches, NoOtherwise, OfOtherwise, shown_start, shown_once, shown_body_decl, shown_stmt, shown_stmts, shown_branches, shown_otherwise}
+use Rattle.pearl_tree.specs.ShownStatements.{OfEmpty, OfAssign, OfCall, OfIf, OfCase, OfRepeat, OfExit, OfBegin, OfReturn, OfActivate, OfContinue, OfResume, OfOnTask, OfOnSemas, OfOnInterrupt, OfPut, OfGet, OfSend, OfTake, MoreStmts, MoreBranches, OfOtherwise, shown_start, shown_once, shown_body_decl, shown_stmt, shown_stmts, shown_branches, shown_otherwise}
 use Rattle.pearl_tree.specs.Symbols as s
 use Rattle.pearl_tree.specs.WordCodes as w
 use Rattle.pearl_tree.proofs.ExpressionLists.{spells_subscripts}
-use Rattle.pearl_tree.proofs.LiteralEnds.{same_word, same_symbol, has_none, meets_once}
+use Rattle.pearl_tree.proofs.Meeting.{same_word, same_symbol, has_none, meets_once}
 use Rattle.pearl_tree.proofs.Chains.{exprs_meet}
 use Rattle.pearl_tree.proofs.OperandEnds.{selector_lists_meet}
 use Rattle.pearl_tree.proofs.OneLiteral.{same_place, same_name}
@@ -243,18 +242,17 @@ module _ (tokens : List Token) where
       (one_fmt tokens) xs ys from to end h i g j in
       (as_they_are xs ys same.0, same.1)
 
+  no_value : (from : ℕ) (a : Expr) (to : ℕ) → HasWord tokens from w.TO → SpellsWhole tokens from a to → ⊥
+  no_value from a to h g =
+      no_expr_at tokens from w.TO h refl (λ e. absurd (omega (arith, e))) (λ e. absurd (omega (arith, e))) (λ e. absurd (omega (arith, e)))
+      (λ e. absurd (omega (arith, e))) a to g
+
   -- [ expr { "," expr } ] TO
   one_values : (from : ℕ) (xs ys : List Expr) (to end : ℕ) → SpellsMaybeList tokens (SpellsWhole tokens) from xs to → HasWord tokens to w.TO →
       SpellsMaybeList tokens (SpellsWhole tokens) from ys end → HasWord tokens end w.TO → (map shown_expr xs ≡ map shown_expr ys) × (to ≡ end)
   one_values from [] [] to end h i g j = (refl, h ∙ sym g)
   one_values from [] (y ∷ ys) to end h i g j = absurd (no_value from y g.0 (subst (λ k. HasWord tokens k w.TO) h i) g.1)
-    where
-      no_value : (from : ℕ) (a : Expr) (to : ℕ) → HasWord tokens from w.TO → SpellsWhole tokens from a to → ⊥
-      no_value from a to h g = no_expr_at tokens from w.TO h refl (λ e. absurd (omega (arith, e))) (λ e. absurd (omega (arith, e))) (λ e. absurd (omega (arith, e))) (λ e. absurd (omega (arith, e))) a to g
   one_values from (x ∷ xs) [] to end h i g j = absurd (no_value from x h.0 (subst (λ k. HasWord tokens k w.TO) g j) h.1)
-    where
-      no_value : (from : ℕ) (a : Expr) (to : ℕ) → HasWord tokens from w.TO → SpellsWhole tokens from a to → ⊥
-      no_value from a to h g = no_expr_at tokens from w.TO h refl (λ e. absurd (omega (arith, e))) (λ e. absurd (omega (arith, e))) (λ e. absurd (omega (arith, e))) (λ e. absurd (omega (arith, e))) a to g
   one_values from (x ∷ xs) (y ∷ ys) to end h i g j =
       list_one tokens (SpellsWhole tokens) shown_expr (ExprStops tokens) (λ k. HasWord tokens k w.TO) comma_stops (λ k h. word_stops tokens k w.TO h refl)
       (λ k h g. symbol_no_word tokens k s.comma w.TO h g) (one_whole tokens) (x ∷ xs) (y ∷ ys) from to end h i g j

@@ -1,5 +1,5 @@
 -- What tokens spell is one name list, bound, type or item: the same, and up to the same token, wherever the parts lie in memory.
-use Rattle.std.proofs.Common.{◌≡◌, ◌⊎◌, inl, inr, ℕ, zero, suc, ◌+◌, ◌-◌, ◌<◌, ◌≤◌, Bool, true, false, List, [], ◌∷◌, Option, Some, None, map, option_map, codes, refl, sym, ap, subst, ◌∙◌, arith}
+use Rattle.std.proofs.Common.{◌≡◌, ◌⊎◌, inl, inr, ℕ, zero, suc, ◌+◌, ◌-◌, ◌<◌, Bool, true, false, List, [], ◌∷◌, Option, refl, sym, ap, subst, ◌∙◌, arith}
 use Rattle.pearl_tree.specs.declared.parts.Parts.{Parts}
 use Rattle.pearl_tree.specs.declared.name.Name.{Name}
 use Rattle.pearl_tree.specs.declared.name.Number.{Number}
@@ -15,18 +15,18 @@ use Rattle.pearl_tree.specs.declared.typing.Basic.TheVariants as basic
 use Rattle.pearl_tree.specs.declared.typing.Typing.{Typing, Row_of-Field, end_of-Field, more_of-Field}
 use Rattle.pearl_tree.specs.declared.typing.Typing as typing
 use Rattle.pearl_tree.specs.declared.declaration.Item.{Item}
-use Rattle.pearl_tree.specs.declared.token.What.{What}
 use Rattle.pearl_tree.specs.declared.token.What.TheVariants as what
 use Rattle.pearl_tree.specs.declared.token.Token.{Token}
-use Rattle.pearl_tree.specs.Standing.{IsAt, HasWord, HasSymbol, IsName, IsNumber, SpellsName, SpellsNumber, SpellsMaybe, SpellsFlag, SpellsSymbolFlag, SpellsMaybeHeaded, SpellsBracketedNumber, what_at}
+use Rattle.pearl_tree.specs.Standing.{IsAt, HasWord, HasSymbol, IsName, IsNumber, SpellsName, SpellsNumber, SpellsMaybe, SpellsFlag, SpellsSymbolFlag, SpellsMaybeHeaded, SpellsBracketedNumber}
 use Rattle.pearl_tree.specs.Expressions.{SpellsConst}
-use Rattle.pearl_tree.specs.Types.{SpellsNames, SpellsInt, SpellsUpper, SpellsBound, SpellsBounds, sort_word, SpellsBasic, SpellsTyping, SpellsFields, SpellsMoreFields, SpellsWholeTyping}
+use Rattle.pearl_tree.specs.Types.{SpellsNames, SpellsInt, SpellsUpper, SpellsBound, SpellsBounds, sort_word, SpellsBasic, SpellsTyping, SpellsFields, SpellsMoreFields}
 use Rattle.pearl_tree.specs.Declarations.{SpellsItem}
 use Rattle.pearl_tree.specs.Following.{lengthens_literal, HasOneOf}
-use Rattle.pearl_tree.specs.ShownDeclarations.{ShownNames, OfOne, OfSeveral, shown_names, ShownTyping, OfBasic, OfStruct, OfNamed, ShownFields, NoFields, MoreFields, shown_typing, shown_fields, ShownItem, shown_item}
+use Rattle.pearl_tree.specs.ShownDeclarations.{OfOne, OfSeveral, shown_names, OfBasic, OfStruct, OfNamed, MoreFields, shown_typing, shown_fields, shown_item}
 use Rattle.pearl_tree.specs.Symbols as s
 use Rattle.pearl_tree.specs.WordCodes as w
-use Rattle.pearl_tree.proofs.LiteralEnds.{same_word, same_symbol, has_none, meets_once, const_ends}
+use Rattle.pearl_tree.proofs.Meeting.{same_word, same_symbol, has_none, meets_once}
+use Rattle.pearl_tree.proofs.LiteralEnds.{const_ends}
 use Rattle.pearl_tree.proofs.OneLiteral.{same_place, same_name, same_number, same_const}
 use Rattle.pearl_tree.proofs.OneList.{symbol_no_word, bracketed_one, maybe_bracketed_one, maybe_headed_one, maybe_one, flag_one, as_they_are, option_as_it_is}
 

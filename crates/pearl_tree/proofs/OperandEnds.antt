@@ -1,16 +1,14 @@
 -- Two operands, or two references, that begin at the same token end at the same, or the shorter one before a token that
 -- lengthens it. What is known of the expressions between brackets is a premise here.
-use Rattle.std.proofs.Common.{◌≡◌, ◌⊎◌, inl, inr, ⊎_elim, ℕ, ◌+◌, ◌-◌, ◌<◌, ◌≤◌, ◌==◌, ◌||◌, Bool, true, false, List, [], ◌∷◌, length, Option, Some, None, option_map, option_and_then, is_some, refl, sym, ap, subst, ◌∙◌, arith}
-use Rattle.std.proofs.lemmas.Bool.{or_cases}
+use Rattle.std.proofs.Common.{◌≡◌, ◌⊎◌, inl, inr, ℕ, ◌+◌, ◌-◌, ◌<◌, ◌≤◌, ◌==◌, ◌||◌, Bool, true, false, List, Option, Some, None, option_map, refl, sym, ap, subst, ◌∙◌, arith}
 use Rattle.pearl_tree.specs.declared.literal.Literal.{Literal}
 use Rattle.pearl_tree.specs.declared.name.Number.{Number}
 use Rattle.pearl_tree.specs.declared.expression.Monad.{Monad}
 use Rattle.pearl_tree.specs.declared.expression.Monad.TheVariants as monad
 use Rattle.pearl_tree.specs.declared.expression.Monadic.{Monadic}
-use Rattle.pearl_tree.specs.declared.expression.Dyad.{Dyad}
 use Rattle.pearl_tree.specs.declared.expression.Side.{Side}
 use Rattle.pearl_tree.specs.declared.expression.Side.TheVariants.{Lower, Upper}
-use Rattle.pearl_tree.specs.declared.expression.Expr.{Expr, Operand', Dyadic'}
+use Rattle.pearl_tree.specs.declared.expression.Expr.{Expr}
 use Rattle.pearl_tree.specs.declared.expression.Operand.{Operand}
 use Rattle.pearl_tree.specs.declared.expression.Primary.{Primary}
 use Rattle.pearl_tree.specs.declared.expression.Primary as primary
@@ -19,15 +17,16 @@ use Rattle.pearl_tree.specs.declared.expression.Ref.{Ref, items-the_row-Selector
 use Rattle.pearl_tree.specs.declared.token.What.{What}
 use Rattle.pearl_tree.specs.declared.token.What.TheVariants as what
 use Rattle.pearl_tree.specs.declared.token.Token.{Token}
-use Rattle.pearl_tree.specs.Standing.{HasWord, HasSymbol, IsName, SpellsEach, SpellsList, SpellsMaybe, SpellsNumber, what_at}
-use Rattle.pearl_tree.specs.Expressions.{SpellsLiteral, SpellsMonadic, SpellsTerms, SpellsExpr, SpellsPrimary, SpellsSelector, SpellsRef, monad_what, dyad_count, dyad_of, HasDyad, side_word}
+use Rattle.pearl_tree.specs.Standing.{HasWord, HasSymbol, SpellsEach, SpellsList, SpellsMaybe, SpellsNumber, what_at}
+use Rattle.pearl_tree.specs.Expressions.{SpellsLiteral, SpellsMonadic, SpellsTerms, SpellsExpr, SpellsPrimary, SpellsSelector, SpellsRef, monad_what, dyad_count, side_word}
 use Rattle.pearl_tree.specs.Chains.{SpellsOperand}
 use Rattle.pearl_tree.specs.Following.{is_monadic, lengthens_literal, lengthens_ref, lengthens_operand, lengthens_expr, HasOneOf, Meet}
 use Rattle.pearl_tree.specs.Symbols as s
 use Rattle.pearl_tree.specs.WordCodes as w
 use Rattle.pearl_tree.proofs.ExpressionLists.{selectors, subscripts}
-use Rattle.pearl_tree.proofs.LiteralEnds.{meets_as, meets_once, literal_single, has_one, has_none, same_word, same_symbol, literal_ends, literal_after, literal_begins, begins_literal}
-use Rattle.pearl_tree.proofs.ExpressionsForward.{terms_after, primary_after, selector_after, monadics_after}
+use Rattle.pearl_tree.proofs.Meeting.{meets_as, meets_once, has_one, has_none, same_word, same_symbol}
+use Rattle.pearl_tree.proofs.LiteralEnds.{literal_single, literal_ends, literal_begins, begins_literal}
+use Rattle.pearl_tree.proofs.ExpressionsForward.{selector_after}
 use Rattle.pearl_tree.proofs.ListEnds.{each_after, each_meets, list_once}
 
 module _ (tokens : List Token) where

@@ -1,5 +1,5 @@
 -- Which primaries and operands begin at a token: none, or only those that end at a given token at the latest.
-use Rattle.std.proofs.Common.{◌≡◌, ◌⊎◌, inl, inr, ⊎_elim, ℕ, ◌+◌, ◌-◌, ◌<◌, ◌≤◌, List, [], ◌∷◌, length, Option, Some, None, option_map, refl, sym, ap, subst, ◌∙◌, arith}
+use Rattle.std.proofs.Common.{◌≡◌, inl, inr, ℕ, ◌+◌, ◌-◌, ◌≤◌, List, [], ◌∷◌, length, Some, None, refl, sym, subst, ◌∙◌, arith}
 use Rattle.pearl_tree.specs.declared.expression.Expr.{Expr}
 use Rattle.pearl_tree.specs.declared.expression.Monadic.{Monadic}
 use Rattle.pearl_tree.specs.declared.expression.Operand.{Operand}
@@ -11,13 +11,12 @@ use Rattle.pearl_tree.specs.declared.token.Token.{Token}
 use Rattle.pearl_tree.specs.Standing.{HasSymbol, SpellsEach, SpellsMore, SpellsList, what_at}
 use Rattle.pearl_tree.specs.Expressions.{SpellsMonadic, SpellsPrimary, SpellsTerms, SpellsExpr, SpellsSelector, dyad_count}
 use Rattle.pearl_tree.specs.Chains.{SpellsOperand, IsLongestPrimary, HasNoPrimary, IsLongestOperand, HasNoOperand, IsLongestExpr, HasNoTerms}
-use Rattle.pearl_tree.specs.Following.{is_monadic, lengthens_ref, lengthens_operand, lengthens_expr, HasOneOf, Meet}
+use Rattle.pearl_tree.specs.Following.{is_monadic, lengthens_operand, lengthens_expr, HasOneOf, Meet}
 use Rattle.pearl_tree.specs.Symbols as s
-use Rattle.pearl_tree.proofs.LiteralEnds.{meets_after, same_symbol, has_none}
+use Rattle.pearl_tree.proofs.Meeting.{meets_after, same_symbol, has_none}
 use Rattle.pearl_tree.proofs.OperandEnds as ends
-use Rattle.pearl_tree.proofs.Chains.{exprs_meet, operands_meet, primaries_meet}
+use Rattle.pearl_tree.proofs.Chains.{exprs_meet, primaries_meet}
 use Rattle.pearl_tree.proofs.ExpressionsForward.{selector_after}
-use Rattle.pearl_tree.proofs.ListEnds.{each_meets}
 
 module _ (tokens : List Token) (depth : ℕ) where
   -- what a primary that begins with a token of this kind reads

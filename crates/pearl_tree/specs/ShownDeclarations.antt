@@ -1,5 +1,5 @@
 -- What types and declarations say, apart from where their parts lie in memory.
-use Rattle.std.specs.Prelude.{ℕ, Bool, List, [], ◌∷◌, map}
+use Rattle.std.specs.Prelude.{ℕ, Bool, List}
 use Rattle.pearl_tree.specs.declared.name.Name.{Name}
 use Rattle.pearl_tree.specs.declared.name.Number.{Number}
 use Rattle.pearl_tree.specs.declared.name.Names.{Names}

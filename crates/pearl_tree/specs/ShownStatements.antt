@@ -1,10 +1,7 @@
 -- What statements, bodies and modules say, apart from where their parts lie in memory.
-use Rattle.std.specs.Prelude.{ℕ, Bool, List, [], ◌∷◌, map, Option, Some, None, option_map}
+use Rattle.std.specs.Prelude.{ℕ, Bool, List, map, Option, option_map}
 use Rattle.pearl_tree.specs.declared.name.Name.{Name}
-use Rattle.pearl_tree.specs.declared.name.Number.{Number}
 use Rattle.pearl_tree.specs.declared.format.Fmt.{Fmt}
-use Rattle.pearl_tree.specs.declared.typing.Basic.{Basic}
-use Rattle.pearl_tree.specs.declared.typing.Sort.{Sort}
 use Rattle.pearl_tree.specs.declared.statement.PeriodEnd.{PeriodEnd}
 use Rattle.pearl_tree.specs.declared.statement.PeriodEnd.TheVariants.{Until, During}
 use Rattle.pearl_tree.specs.declared.statement.Period.{Period}
