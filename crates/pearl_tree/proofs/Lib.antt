@@ -13,6 +13,7 @@ pub mod OperandEnds
 pub mod Chains
 pub mod Operands
 pub mod OneList
+pub mod Passing
 pub mod OneGrouping
 pub mod OneLiteral
 pub mod OneExpression
