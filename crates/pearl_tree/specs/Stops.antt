@@ -1,10 +1,8 @@
--- With which first tokens no source begins, and which tokens an expression cannot have behind others.
+-- With which first tokens no source begins.
 use Rattle.std.specs.Prelude.{◌≡◌, ℕ, ◌<◌, ◌≤◌, List}
-use Rattle.pearl_tree.specs.declared.expression.Expr.{Expr}
 use Rattle.pearl_tree.specs.declared.token.Token.{Token}
 use Rattle.pearl_tree.specs.declared.tree.Tree.{Tree}
 use Rattle.pearl_tree.specs.Standing.{what_at}
-use Rattle.pearl_tree.specs.Expressions.{SpellsWhole}
 use Rattle.pearl_tree.specs.Modules.{Spells}
 
 -- the same tokens up to and with number k, places aside, where the end of a source counts as one more token
@@ -24,8 +22,3 @@ SomeBegins tokens k =
 pub record IsFirstStop (tokens : List Token) (k : ℕ) : Type 0 where
   pub none : NoneBegins tokens k
   pub some : SomeBegins tokens k
-
--- no expression that begins at number `from` goes on past number k, whatever tokens stand behind it
-abbrev pub NoneGoesOn : List Token → ℕ → ℕ → Type 0
-NoneGoesOn tokens from k =
-    (expr : Expr) (to : ℕ) (others : List Token) → BeginAlike tokens others k → SpellsWhole others from expr to → to ≤ k
