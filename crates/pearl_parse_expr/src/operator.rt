@@ -1,11 +1,19 @@
 // The operators of expressions.
 
+ghost use Rattle.std.specs.Prelude.{◌≡◌, ◌+◌, ◌<◌, length, IfSome, Some, None, false};
+ghost use Rattle.std.specs.Option.{option_and_then};
+ghost use Rattle.pearl_tree.specs.Standing.{what_at, IsAt, HasWord};
+ghost use Rattle.pearl_tree.specs.Expressions as grammar;
+ghost use Rattle.pearl_parse_expr.specs.Stops as spec;
+
 use crate::symbol::*;
 use pearl_tables::word_code::*;
 use pearl_tree::expression::{Dyad, Dyadic, Monad, Monadic, Side};
 use pearl_tree::token::{Token, What};
 
-fn dyad_of_symbol(symbol: u8) -> Option<Dyad> {
+fn dyad_of_symbol(symbol: u8) -> Option<Dyad>
+    ensures { result ≡ grammar.dyad_in grammar.dyad_symbols symbol }
+{
     match symbol {
         POWER => Some(Dyad::Power),
         STAR => Some(Dyad::Times),
@@ -24,7 +32,9 @@ fn dyad_of_symbol(symbol: u8) -> Option<Dyad> {
     }
 }
 
-fn dyad_of_word(word: u8) -> Option<Dyad> {
+fn dyad_of_word(word: u8) -> Option<Dyad>
+    ensures { result ≡ grammar.dyad_in grammar.dyad_words word }
+{
     match word {
         REM => Some(Dyad::Rem),
         CAT => Some(Dyad::Cat),
@@ -43,7 +53,9 @@ fn dyad_of_word(word: u8) -> Option<Dyad> {
     }
 }
 
-fn dyad_of(what: &What) -> Option<Dyad> {
+fn dyad_of(what: &What) -> Option<Dyad>
+    ensures { result ≡ grammar.dyad_of what.now }
+{
     match *what {
         What::Symbol(symbol) => dyad_of_symbol(symbol),
         What::Word(word) => dyad_of_word(word),
@@ -52,7 +64,12 @@ fn dyad_of(what: &What) -> Option<Dyad> {
 }
 
 /// The dyadic operator that the token is.
-pub fn dyadic_at(tokens: &[Token], at: usize) -> Option<Dyadic> {
+pub fn dyadic_at(tokens: &[Token], at: usize) -> Option<Dyadic>
+    ensures some { IfSome result (λ dyadic. grammar.HasDyad tokens.now at dyadic.operator) }
+    ensures place { IfSome result (λ dyadic. IsAt tokens.now at dyadic.place) }
+    ensures none { result ≡ None → option_and_then grammar.dyad_of (what_at tokens.now at) ≡ None }
+    ensures within { IfSome result (λ _. at < length tokens.now) }
+{
     match tokens.get(at) {
         Some(token) => match dyad_of(&token.what) {
             Some(operator) => Some(Dyadic {
@@ -65,7 +82,10 @@ pub fn dyadic_at(tokens: &[Token], at: usize) -> Option<Dyadic> {
     }
 }
 
-fn monad_of(what: &What) -> Option<Monad> {
+fn monad_of(what: &What) -> Option<Monad>
+    ensures value { result ≡ spec.monad_of what.now }
+    ensures some { IfSome result (λ operator. what.now ≡ grammar.monad_what operator) }
+{
     match *what {
         What::Symbol(PLUS) => Some(Monad::Plus),
         What::Symbol(MINUS) => Some(Monad::Minus),
@@ -77,7 +97,11 @@ fn monad_of(what: &What) -> Option<Monad> {
 }
 
 /// The monadic operator that the token is.
-pub fn monadic_at(tokens: &[Token], at: usize) -> Option<Monadic> {
+pub fn monadic_at(tokens: &[Token], at: usize) -> Option<Monadic>
+    ensures some { IfSome result (λ monadic. grammar.SpellsMonadic tokens.now at monadic (at + 1)) }
+    ensures none { result ≡ None → option_and_then spec.monad_of (what_at tokens.now at) ≡ None }
+    ensures within { IfSome result (λ _. at < length tokens.now) }
+{
     match tokens.get(at) {
         Some(token) => match monad_of(&token.what) {
             Some(operator) => Some(Monadic {
@@ -91,7 +115,11 @@ pub fn monadic_at(tokens: &[Token], at: usize) -> Option<Monadic> {
 }
 
 /// Which bound of an array the token asks for.
-pub fn side_at(tokens: &[Token], at: usize) -> Option<Side> {
+pub fn side_at(tokens: &[Token], at: usize) -> Option<Side>
+    ensures some { IfSome result (λ side. HasWord tokens.now at (grammar.side_word side)) }
+    ensures none { result ≡ None → spec.is_side (what_at tokens.now at) ≡ false }
+    ensures within { IfSome result (λ _. at < length tokens.now) }
+{
     match tokens.get(at) {
         Some(token) => match token.what {
             What::Word(LWB) => Some(Side::Lower),
@@ -103,7 +131,9 @@ pub fn side_at(tokens: &[Token], at: usize) -> Option<Side> {
 }
 
 /// The rank of an operator: a smaller one binds closer.
-pub fn rank(operator: Dyad) -> u8 {
+pub fn rank(operator: Dyad) -> u8
+    ensures { result ≡ grammar.rank operator }
+{
     match operator {
         Dyad::Power => 1,
         Dyad::Times | Dyad::Over | Dyad::Rem | Dyad::Cat => 2,

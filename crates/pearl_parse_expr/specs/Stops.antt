@@ -1,0 +1,102 @@
+-- What tokens that begin alike have in common: which token goes on with a part, and with which none goes on.
+use Rattle.std.specs.Prelude.{if◌then◌else◌, ◌≡◌, ℕ, ◌+◌, ◌<◌, ◌≤◌, ◌⊎◌, ◌==◌, ◌||◌, ◌&&◌, Bool, true, false, List, length, Option, Some, None}
+use Rattle.std.specs.Option.{option_and_then}
+use Rattle.pearl_tree.specs.declared.expression.Monad.{Monad}
+use Rattle.pearl_tree.specs.declared.expression.Monad.TheVariants as monad
+use Rattle.pearl_tree.specs.declared.expression.Dyad.{Dyad}
+use Rattle.pearl_tree.specs.declared.token.What.{What}
+use Rattle.pearl_tree.specs.declared.token.What.TheVariants as what
+use Rattle.pearl_tree.specs.declared.token.Token.{Token}
+use Rattle.pearl_tree.specs.declared.literal.Secs.{Secs}
+use Rattle.pearl_tree.specs.Standing.{Spelling, SpellsMaybe, what_at}
+use Rattle.pearl_tree.specs.Expressions.{dyad_of, SpellsSeconds}
+use Rattle.pearl_tree.specs.Symbols as s
+use Rattle.pearl_tree.specs.WordCodes as w
+
+-- the same tokens up to and with this number, places aside
+abbrev pub Agree : List Token → List Token → ℕ → Type 0
+Agree tokens others stop = (k : ℕ) → k ≤ stop → what_at others k ≡ what_at tokens k
+
+-- a token that goes on with an operand that could end before it
+abbrev pub extends_operand : Option What → Bool
+extends_operand (Some (what.Symbol symbol)) = (symbol == s.left_round) || (symbol == s.period)
+extends_operand (Some (what.Word code)) =
+    (code == w.HRS) || ((code == w.MIN) || ((code == w.SEC) || ((code == w.LWB) || (code == w.UPB))))
+extends_operand (Some (what.Number value)) = true
+extends_operand (Some (what.Decimal whole thousandths)) = true
+extends_operand _ = false
+
+abbrev pub is_some_dyad : Option Dyad → Bool
+is_some_dyad None = false
+is_some_dyad (Some operator) = true
+
+-- a token that goes on with an expression that could end before it
+abbrev pub extends_expression : Option What → Bool
+extends_expression token = extends_operand token || is_some_dyad (option_and_then dyad_of token)
+
+-- however the tokens behind this one are replaced, what begins at `from` ends at `end`, or before a token that goes on with it
+abbrev pub Sure : {X : Type 0} → (List Token → Spelling X) → (Option What → Bool) → List Token → ℕ → ℕ → ℕ → Type 0
+Sure {X} spells extends tokens from end stop =
+    (others : List Token) → Agree tokens others stop → (x : X) (to : ℕ) → spells others from x to →
+    (to ≡ end) ⊎ ((to ≤ stop) × (extends (what_at others to) ≡ true))
+
+-- however the tokens behind this one are replaced, none begins at `from`
+abbrev pub Stuck : {X : Type 0} → (List Token → Spelling X) → List Token → ℕ → ℕ → Type 0
+Stuck {X} spells tokens from stop =
+    (others : List Token) → Agree tokens others stop → (x : X) (to : ℕ) → spells others from x to → ⊥
+
+-- what was read is not empty, and was stopped behind it within the tokens
+abbrev pub IsAhead : List Token → ℕ → ℕ → ℕ → Type 0
+IsAhead tokens from end stop = (from < end) × (end ≤ stop) × (stop ≤ length tokens)
+
+-- the number or the decimal that may stand before SEC
+abbrev pub is_secs : Option What → Bool
+is_secs (Some (what.Number value)) = true
+is_secs (Some (what.Decimal whole thousandths)) = true
+is_secs _ = false
+
+abbrev pub is_number : Option What → Bool
+is_number (Some (what.Number value)) = true
+is_number _ = false
+
+abbrev pub is_name : Option What → Bool
+is_name (Some (what.Id text)) = true
+is_name _ = false
+
+abbrev pub is_word : ℕ → Option What → Bool
+is_word word (Some (what.Word code)) = code == word
+is_word word _ = false
+
+abbrev pub is_symbol : ℕ → Option What → Bool
+is_symbol wanted (Some (what.Symbol symbol)) = symbol == wanted
+is_symbol wanted _ = false
+
+-- LWB or UPB
+abbrev pub is_side : Option What → Bool
+is_side (Some (what.Word code)) = (code == w.LWB) || (code == w.UPB)
+is_side _ = false
+
+-- a literal of one token
+abbrev pub is_plain : Option What → Bool
+is_plain (Some (what.Number value)) = true
+is_plain (Some (what.Bits len value)) = true
+is_plain (Some (what.Text text)) = true
+is_plain (Some (what.Clock milliseconds)) = true
+is_plain _ = false
+
+-- the monadic operator that a token is
+abbrev pub monad_of : What → Option Monad
+monad_of (what.Symbol symbol) =
+    if symbol == s.plus then Some monad.Plus else (if symbol == s.minus then Some monad.Minus else None)
+monad_of (what.Word code) =
+    if code == w.ABS then Some monad.Abs
+    else (if code == w.SIGN then Some monad.Sign else (if code == w.NOT then Some monad.Not else None))
+monad_of _ = None
+
+-- a number, and behind it a word
+abbrev pub is_counted : ℕ → List Token → ℕ → Bool
+is_counted word tokens at = is_number (what_at tokens at) && is_word word (what_at tokens (at + 1))
+
+-- [ secs SEC ]
+abbrev pub SpellsMaybeSeconds : List Token → Spelling (Option Secs)
+SpellsMaybeSeconds tokens = SpellsMaybe (SpellsSeconds tokens)
