@@ -8,8 +8,14 @@ use Rattle.pearl_tree.specs.declared.token.What.{What}
 use Rattle.pearl_tree.specs.declared.token.What.TheVariants as what
 use Rattle.pearl_tree.specs.declared.token.Token.{Token}
 use Rattle.pearl_tree.specs.declared.literal.Secs.{Secs}
-use Rattle.pearl_tree.specs.Standing.{Spelling, SpellsMaybe, what_at}
-use Rattle.pearl_tree.specs.Expressions.{dyad_of, SpellsSeconds}
+use Rattle.pearl_tree.specs.declared.expression.Monadic.{Monadic}
+use Rattle.pearl_tree.specs.declared.expression.Expr.{Expr}
+use Rattle.pearl_tree.specs.declared.expression.Primary.{Primary}
+use Rattle.pearl_tree.specs.declared.expression.Selector.{Selector}
+use Rattle.pearl_tree.specs.Standing.{Spelling, SpellsMaybe, SpellsEach, SpellsList, what_at}
+use Rattle.pearl_tree.specs.Expressions.{dyad_of, SpellsSeconds, SpellsMonadic, SpellsPrimary, SpellsSelector, SpellsExpr}
+use Rattle.pearl_parse_expr.specs.declared.reading.Halt.{Halt}
+use Rattle.pearl_parse_expr.specs.declared.reading.Halt.TheVariants.{Refused, NoMemory}
 use Rattle.pearl_tree.specs.Symbols as s
 use Rattle.pearl_tree.specs.WordCodes as w
 
@@ -100,3 +106,46 @@ is_counted word tokens at = is_number (what_at tokens at) && is_word word (what_
 -- [ secs SEC ]
 abbrev pub SpellsMaybeSeconds : List Token → Spelling (Option Secs)
 SpellsMaybeSeconds tokens = SpellsMaybe (SpellsSeconds tokens)
+
+-- however the tokens behind this one are replaced, what begins at `from` ends at `end`
+abbrev pub Exact : {X : Type 0} → (List Token → Spelling X) → List Token → ℕ → ℕ → ℕ → Type 0
+Exact {X} spells tokens from end stop =
+    (others : List Token) → Agree tokens others stop → (x : X) (to : ℕ) → spells others from x to → to ≡ end
+
+-- nothing was read: for want of memory, or since with this token none begins
+abbrev pub IsHalted : {X : Type 0} → (List Token → Spelling X) → List Token → ℕ → Halt → Type 0
+IsHalted {X} spells tokens from NoMemory = Unit {0}
+IsHalted {X} spells tokens from (Refused stop) =
+    Stuck spells tokens from stop × (from ≤ stop) × (stop ≤ length tokens)
+
+-- the first token of a literal
+abbrev pub is_literal : Option What → Bool
+is_literal token = is_plain token || is_secs token
+
+-- [ number ] ( LWB | UPB )
+abbrev pub begins_limit : List Token → ℕ → Bool
+begins_limit tokens from =
+    is_side (what_at tokens from) || (is_number (what_at tokens from) && is_side (what_at tokens (from + 1)))
+
+-- a token that goes on with expressions between commas that could end before it
+abbrev pub extends_list : Option What → Bool
+extends_list token = extends_expression token || is_symbol s.comma token
+
+-- { + | - | ABS | SIGN | NOT } primary
+abbrev pub SpellsSigned : List Token → ℕ → Spelling Primary
+SpellsSigned tokens depth from part to =
+    (m : ℕ) × (monadics : List Monadic) × (length monadics ≤ 8) × SpellsEach (SpellsMonadic tokens) from monadics m ×
+    SpellsPrimary tokens depth m part to
+
+-- id { "(" expr { "," expr } ")" | "." id }, by what follows the id
+abbrev pub SpellsNamed : List Token → ℕ → Spelling (List Selector)
+SpellsNamed tokens depth from selectors to =
+    (is_name (what_at tokens from) ≡ true) × SpellsEach (SpellsSelector tokens depth) (from + 1) selectors to
+
+-- { "(" expr { "," expr } ")" | "." id }
+abbrev pub SpellsSelectorsList : List Token → ℕ → Spelling (List Selector)
+SpellsSelectorsList tokens depth = SpellsEach (SpellsSelector tokens depth)
+
+-- expr { "," expr }
+abbrev pub SpellsSubscriptsList : List Token → ℕ → Spelling (List Expr)
+SpellsSubscriptsList tokens depth = SpellsList tokens (SpellsExpr tokens depth)

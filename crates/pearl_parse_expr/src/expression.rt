@@ -1,5 +1,16 @@
 // Expressions and references. Only a bracket begins another level of them.
 
+ghost use Rattle.std.specs.Prelude.{◌≡◌, ℕ, ◌+◌, ◌-◌, ◌<◌, ◌≤◌, ◌⊎◌, List, [], ◌∷◌, ◌++◌, length, max, IfOk, IfErr, IfSome, OnOk, Some, None, true, false};
+ghost use Rattle.std.specs.Option.{option_and_then};
+ghost use Rattle.pearl_tree.specs.declared.token.Token.{Token};
+ghost use Rattle.pearl_tree.specs.declared.expression.Expr as tree;
+ghost use Rattle.pearl_tree.specs.Standing.{what_at, IsAt, HasWord, HasSymbol, SpellsEach, SpellsMaybe, SpellsNumber};
+ghost use Rattle.pearl_tree.specs.Expressions as grammar;
+ghost use Rattle.pearl_tree.specs.WordCodes as w;
+ghost use Rattle.pearl_tree.specs.Symbols as s;
+ghost use Rattle.pearl_parse_expr.specs.declared.reading.Halt.{Halt};
+ghost use Rattle.pearl_parse_expr.specs.Stops as spec;
+
 use crate::fault::ParseFault;
 use crate::literal::literal;
 use crate::operator::{dyadic_at, monadic_at, rank, side_at};
@@ -23,14 +34,19 @@ const MONADS_MAX: usize = 8;
 // The place that is told where the tokens run out.
 const NO_PLACE: u32 = u32::MAX;
 
-fn append<T: Drop>(list: &mut Vec<T>, item: T) -> Result<(), Halt> {
+fn append<T: Drop>(list: &mut Vec<T>, item: T) -> Result<(), Halt>
+    ensures more { OnOk result (list.new.items ≡ list.old.items ++ item ∷ []) }
+    ensures fault { IfErr result (λ halt. halt ≡ Halt.NoMemory) }
+{
     match list.push(item) {
         Ok(()) => Ok(()),
         Err(_) => Err(Halt::NoMemory),
     }
 }
 
-fn first_place(expr: &Expr) -> u32 {
+fn first_place(expr: &Expr) -> u32
+    ensures { (tokens : List Token) (depth from to : ℕ) → grammar.SpellsTerms tokens depth from expr.now to → IsAt tokens from result }
+{
     match expr {
         Expr::Operand(operand) => operand.place,
         Expr::Dyadic { place, .. } => *place,
@@ -38,7 +54,16 @@ fn first_place(expr: &Expr) -> u32 {
 }
 
 // The two expressions with the operator between them.
-fn dyadic_of(alloc: Global, left: Expr, dyadic: Dyadic, right: Expr) -> Result<Expr, Halt> {
+fn dyadic_of(alloc: Global, left: Expr, dyadic: Dyadic, right: Expr) -> Result<Expr, Halt>
+    ensures spells { IfOk result (λ expr. (tokens : List Token) (depth from m to : ℕ) →
+        grammar.SpellsTerms tokens depth from left m → grammar.HasDyad tokens m dyadic.operator →
+        IsAt tokens m dyadic.place → grammar.SpellsTerms tokens depth (m + 1) right to →
+        grammar.rank_of left ≤ grammar.rank dyadic.operator → grammar.rank_of right < grammar.rank dyadic.operator →
+        grammar.SpellsTerms tokens depth from expr to) }
+    ensures count { IfOk result (λ expr. grammar.dyad_count expr ≡ grammar.dyad_count left + grammar.dyad_count right + 1) }
+    ensures rank { IfOk result (λ expr. grammar.rank_of expr ≡ grammar.rank dyadic.operator) }
+    ensures fault { IfErr result (λ halt. halt ≡ Halt.NoMemory) }
+{
     let place = first_place(&left);
     match Box::new(alloc, left) {
         Ok(left) => match Box::new(alloc, right) {
@@ -56,7 +81,15 @@ fn dyadic_of(alloc: Global, left: Expr, dyadic: Dyadic, right: Expr) -> Result<E
 
 // What the left expression becomes where an operator and an operand follow it: the operator takes as much of it as
 // binds closer or equally.
-fn joined(alloc: Global, left: Expr, dyadic: Dyadic, right: Operand) -> Result<Expr, Halt> {
+fn joined(alloc: Global, left: Expr, dyadic: Dyadic, right: Operand) -> Result<Expr, Halt>
+    ensures spells { IfOk result (λ expr. (tokens : List Token) (depth from m to : ℕ) →
+        grammar.SpellsTerms tokens depth from left m → grammar.HasDyad tokens m dyadic.operator →
+        IsAt tokens m dyadic.place → grammar.SpellsTerms tokens depth (m + 1) (tree.Operand right) to →
+        grammar.SpellsTerms tokens depth from expr to) }
+    ensures count { IfOk result (λ expr. grammar.dyad_count expr ≡ grammar.dyad_count left + 1) }
+    ensures rank { IfOk result (λ expr. grammar.rank_of expr ≡ max (grammar.rank_of left) (grammar.rank dyadic.operator)) }
+    ensures fault { IfErr result (λ halt. halt ≡ Halt.NoMemory) }
+{
     match left {
         Expr::Operand(operand) => dyadic_of(
             alloc,
@@ -89,7 +122,14 @@ fn joined(alloc: Global, left: Expr, dyadic: Dyadic, right: Operand) -> Result<E
 }
 
 // The monadic operators that begin here, as many as may stand before one primary.
-fn monadics(alloc: Global, tokens: &[Token], from: usize) -> Result<Vec<Monadic>, Halt> {
+fn monadics(alloc: Global, tokens: &[Token], from: usize) -> Result<Vec<Monadic>, Halt>
+    requires { from ≤ length tokens.now }
+    ensures each { IfOk result (λ list. SpellsEach (grammar.SpellsMonadic tokens.now) from list.items (from + length list.items)) }
+    ensures few { IfOk result (λ list. length list.items ≤ 8) }
+    ensures all { IfOk result (λ list. (length list.items ≡ 8) ⊎ (option_and_then spec.monad_of (what_at tokens.now (from + length list.items)) ≡ None)) }
+    ensures within { IfOk result (λ list. from + length list.items ≤ length tokens.now) }
+    ensures fault { IfErr result (λ halt. halt ≡ Halt.NoMemory) }
+{
     let mut list = Vec::new(alloc);
     while list.len() < MONADS_MAX {
         match monadic_at(tokens, from + list.len()) {
@@ -105,15 +145,20 @@ fn monadics(alloc: Global, tokens: &[Token], from: usize) -> Result<Vec<Monadic>
 struct LimitHead {
     dimension: Option<Number>,
     side: Side,
-    end: usize,
+    word: usize,
 }
 
-fn limit_head(tokens: &[Token], from: usize) -> Option<LimitHead> {
+fn limit_head(tokens: &[Token], from: usize) -> Option<LimitHead>
+    ensures dimension { IfSome result (λ head. SpellsMaybe (SpellsNumber tokens.now) from head.dimension head.word) }
+    ensures word { IfSome result (λ head. HasWord tokens.now head.word (grammar.side_word head.side)) }
+    ensures none { result ≡ None → spec.begins_limit tokens.now from ≡ false }
+    ensures within { IfSome result (λ head. (from ≤ head.word) × (head.word < length tokens.now)) }
+{
     if let Some(side) = side_at(tokens, from) {
         return Some(LimitHead {
             dimension: None,
             side,
-            end: from + 1,
+            word: from,
         });
     }
     match number_at(tokens, from) {
@@ -121,7 +166,7 @@ fn limit_head(tokens: &[Token], from: usize) -> Option<LimitHead> {
             Some(side) => Some(LimitHead {
                 dimension: Some(number),
                 side,
-                end: from + 2,
+                word: from + 1,
             }),
             None => None,
         },
@@ -129,7 +174,14 @@ fn limit_head(tokens: &[Token], from: usize) -> Option<LimitHead> {
     }
 }
 
-fn component(tokens: &[Token], from: usize) -> Result<Reading<Selector>, Halt> {
+fn component(tokens: &[Token], from: usize) -> Result<Reading<Selector>, Halt>
+    requires within { from ≤ length tokens.now }
+    requires period { HasSymbol tokens.now from s.period }
+    ensures spells { IfOk result (λ reading. (depth : ℕ) → grammar.SpellsSelector tokens.now depth from reading.part reading.end) }
+    ensures sure { IfOk result (λ reading. (depth : ℕ) → spec.Exact (λ tokens. grammar.SpellsSelector tokens depth) tokens.now from reading.end reading.stop) }
+    ensures ahead { IfOk result (λ reading. spec.IsAhead tokens.now from reading.end reading.stop) }
+    ensures refused { IfErr result (λ halt. (depth : ℕ) → spec.IsHalted (λ tokens. grammar.SpellsSelector tokens depth) tokens.now from halt) }
+{
     match name_at(tokens, from + 1) {
         Some(name) => Ok(Reading {
             part: Selector::Component {
@@ -143,7 +195,14 @@ fn component(tokens: &[Token], from: usize) -> Result<Reading<Selector>, Halt> {
     }
 }
 
-fn availability(tokens: &[Token], from: usize) -> Result<Reading<Primary>, Halt> {
+fn availability(tokens: &[Token], from: usize) -> Result<Reading<Primary>, Halt>
+    requires within { from ≤ length tokens.now }
+    requires word { HasWord tokens.now from w.TRY }
+    ensures spells { IfOk result (λ reading. (depth : ℕ) → grammar.SpellsPrimary tokens.now depth from reading.part reading.end) }
+    ensures sure { IfOk result (λ reading. (depth : ℕ) → spec.Sure (λ tokens. grammar.SpellsPrimary tokens depth) spec.extends_operand tokens.now from reading.end reading.stop) }
+    ensures ahead { IfOk result (λ reading. spec.IsAhead tokens.now from reading.end reading.stop) }
+    ensures refused { IfErr result (λ halt. (depth : ℕ) → spec.IsHalted (λ tokens. grammar.SpellsPrimary tokens depth) tokens.now from halt) }
+{
     match name_at(tokens, from + 1) {
         Some(name) => Ok(Reading {
             part: Primary::Try {
@@ -157,7 +216,18 @@ fn availability(tokens: &[Token], from: usize) -> Result<Reading<Primary>, Halt>
     }
 }
 
-fn literal_primary(tokens: &[Token], from: usize) -> Result<Reading<Primary>, Halt> {
+fn literal_primary(tokens: &[Token], from: usize) -> Result<Reading<Primary>, Halt>
+    requires within { from ≤ length tokens.now }
+    requires group { spec.is_symbol s.left_round (what_at tokens.now from) ≡ false }
+    requires name { spec.is_name (what_at tokens.now from) ≡ false }
+    requires now_word { spec.is_word w.NOW (what_at tokens.now from) ≡ false }
+    requires try_word { spec.is_word w.TRY (what_at tokens.now from) ≡ false }
+    requires limit { spec.begins_limit tokens.now from ≡ false }
+    ensures spells { IfOk result (λ reading. (depth : ℕ) → grammar.SpellsPrimary tokens.now depth from reading.part reading.end) }
+    ensures sure { IfOk result (λ reading. (depth : ℕ) → spec.Sure (λ tokens. grammar.SpellsPrimary tokens depth) spec.extends_operand tokens.now from reading.end reading.stop) }
+    ensures ahead { IfOk result (λ reading. spec.IsAhead tokens.now from reading.end reading.stop) }
+    ensures refused { IfErr result (λ halt. (depth : ℕ) → spec.IsHalted (λ tokens. grammar.SpellsPrimary tokens depth) tokens.now from halt) }
+{
     match literal(tokens, from) {
         Ok(literal) => Ok(Reading {
             part: Primary::Literal(literal.part),
@@ -174,7 +244,13 @@ fn subscripts(
     tokens: &[Token],
     from: usize,
     depth: u8,
-) -> Result<Reading<Vec<Expr>>, Halt> {
+) -> Result<Reading<Vec<Expr>>, Halt>
+    requires { from ≤ length tokens.now }
+    ensures spells { IfOk result (λ reading. spec.SpellsSubscriptsList tokens.now depth from reading.part.items reading.end) }
+    ensures sure { IfOk result (λ reading. spec.Sure (λ tokens. spec.SpellsSubscriptsList tokens depth) spec.extends_list tokens.now from reading.end reading.stop) }
+    ensures ahead { IfOk result (λ reading. spec.IsAhead tokens.now from reading.end reading.stop) }
+    ensures refused { IfErr result (λ halt. spec.IsHalted (λ tokens. spec.SpellsSubscriptsList tokens depth) tokens.now from halt) }
+{
     let first = level(alloc, tokens, from, depth)?;
     let mut list = Vec::new(alloc);
     append(&mut list, first.part)?;
@@ -212,7 +288,15 @@ fn bracketed(
     tokens: &[Token],
     from: usize,
     depth: u8,
-) -> Result<Reading<Selector>, Halt> {
+) -> Result<Reading<Selector>, Halt>
+    requires within { from ≤ length tokens.now }
+    requires bracket { HasSymbol tokens.now from s.left_round }
+    requires deep { 0 < depth }
+    ensures spells { IfOk result (λ reading. grammar.SpellsSelector tokens.now depth from reading.part reading.end) }
+    ensures sure { IfOk result (λ reading. spec.Exact (λ tokens. grammar.SpellsSelector tokens depth) tokens.now from reading.end reading.stop) }
+    ensures ahead { IfOk result (λ reading. spec.IsAhead tokens.now from reading.end reading.stop) }
+    ensures refused { IfErr result (λ halt. spec.IsHalted (λ tokens. grammar.SpellsSelector tokens depth) tokens.now from halt) }
+{
     let inner = subscripts(alloc, tokens, from + 1, depth - 1)?;
     if !is_symbol(tokens, inner.end, RIGHT_ROUND) {
         return Err(Halt::Refused(inner.stop));
@@ -233,7 +317,13 @@ fn selector(
     tokens: &[Token],
     from: usize,
     depth: u8,
-) -> Result<Reading<Selector>, Halt> {
+) -> Result<Reading<Selector>, Halt>
+    requires { from ≤ length tokens.now }
+    ensures spells { IfOk result (λ reading. grammar.SpellsSelector tokens.now depth from reading.part reading.end) }
+    ensures sure { IfOk result (λ reading. spec.Exact (λ tokens. grammar.SpellsSelector tokens depth) tokens.now from reading.end reading.stop) }
+    ensures ahead { IfOk result (λ reading. spec.IsAhead tokens.now from reading.end reading.stop) }
+    ensures refused { IfErr result (λ halt. spec.IsHalted (λ tokens. grammar.SpellsSelector tokens depth) tokens.now from halt) }
+{
     if is_symbol(tokens, from, PERIOD) {
         return component(tokens, from);
     }
@@ -249,7 +339,13 @@ fn selectors(
     tokens: &[Token],
     from: usize,
     depth: u8,
-) -> Result<Reading<Vec<Selector>>, Halt> {
+) -> Result<Reading<Vec<Selector>>, Halt>
+    requires { from ≤ length tokens.now }
+    ensures spells { IfOk result (λ reading. spec.SpellsSelectorsList tokens.now depth from reading.part.items reading.end) }
+    ensures sure { IfOk result (λ reading. spec.Sure (λ tokens. spec.SpellsSelectorsList tokens depth) spec.extends_operand tokens.now from reading.end reading.stop) }
+    ensures ahead { IfOk result (λ reading. (from ≤ reading.end) × (reading.end ≤ reading.stop) × (reading.stop ≤ length tokens.now)) }
+    ensures fault { IfErr result (λ halt. halt ≡ Halt.NoMemory) }
+{
     let mut list = Vec::new(alloc);
     let mut end = from;
     let mut stop = from;
@@ -281,7 +377,13 @@ pub fn reference(
     tokens: &[Token],
     from: usize,
     depth: u8,
-) -> Result<Reading<Ref>, Halt> {
+) -> Result<Reading<Ref>, Halt>
+    requires { from ≤ length tokens.now }
+    ensures spells { IfOk result (λ reading. grammar.SpellsRef tokens.now depth from reading.part reading.end) }
+    ensures sure { IfOk result (λ reading. spec.Sure (λ tokens. spec.SpellsNamed tokens depth) spec.extends_operand tokens.now from reading.end reading.stop) }
+    ensures ahead { IfOk result (λ reading. spec.IsAhead tokens.now from reading.end reading.stop) }
+    ensures refused { IfErr result (λ halt. spec.IsHalted (λ tokens. spec.SpellsNamed tokens depth) tokens.now from halt) }
+{
     match name_at(tokens, from) {
         Some(name) => {
             let place = name.place;
@@ -301,12 +403,14 @@ pub fn reference(
 }
 
 #[cycle(expression)]
-fn group(
-    alloc: Global,
-    tokens: &[Token],
-    from: usize,
-    depth: u8,
-) -> Result<Reading<Primary>, Halt> {
+fn group(alloc: Global, tokens: &[Token], from: usize, depth: u8) -> Result<Reading<Primary>, Halt>
+    requires within { from ≤ length tokens.now }
+    requires bracket { HasSymbol tokens.now from s.left_round }
+    ensures spells { IfOk result (λ reading. grammar.SpellsPrimary tokens.now depth from reading.part reading.end) }
+    ensures sure { IfOk result (λ reading. spec.Sure (λ tokens. grammar.SpellsPrimary tokens depth) spec.extends_operand tokens.now from reading.end reading.stop) }
+    ensures ahead { IfOk result (λ reading. spec.IsAhead tokens.now from reading.end reading.stop) }
+    ensures refused { IfErr result (λ halt. spec.IsHalted (λ tokens. grammar.SpellsPrimary tokens depth) tokens.now from halt) }
+{
     if depth == 0 {
         return Err(Halt::Refused(from));
     }
@@ -334,8 +438,17 @@ fn limit(
     from: usize,
     head: LimitHead,
     depth: u8,
-) -> Result<Reading<Primary>, Halt> {
-    let array = reference(alloc, tokens, head.end, depth)?;
+) -> Result<Reading<Primary>, Halt>
+    requires within { from ≤ length tokens.now }
+    requires dimension { SpellsMaybe (SpellsNumber tokens.now) from head.dimension head.word }
+    requires word { HasWord tokens.now head.word (grammar.side_word head.side) }
+    requires after { from ≤ head.word }
+    ensures spells { IfOk result (λ reading. grammar.SpellsPrimary tokens.now depth from reading.part reading.end) }
+    ensures sure { IfOk result (λ reading. spec.Sure (λ tokens. grammar.SpellsPrimary tokens depth) spec.extends_operand tokens.now from reading.end reading.stop) }
+    ensures ahead { IfOk result (λ reading. spec.IsAhead tokens.now from reading.end reading.stop) }
+    ensures refused { IfErr result (λ halt. spec.IsHalted (λ tokens. grammar.SpellsPrimary tokens depth) tokens.now from halt) }
+{
+    let array = reference(alloc, tokens, head.word + 1, depth)?;
     Ok(Reading {
         part: Primary::Limit {
             dimension: head.dimension,
@@ -354,7 +467,13 @@ fn primary(
     tokens: &[Token],
     from: usize,
     depth: u8,
-) -> Result<Reading<Primary>, Halt> {
+) -> Result<Reading<Primary>, Halt>
+    requires { from ≤ length tokens.now }
+    ensures spells { IfOk result (λ reading. grammar.SpellsPrimary tokens.now depth from reading.part reading.end) }
+    ensures sure { IfOk result (λ reading. spec.Sure (λ tokens. grammar.SpellsPrimary tokens depth) spec.extends_operand tokens.now from reading.end reading.stop) }
+    ensures ahead { IfOk result (λ reading. spec.IsAhead tokens.now from reading.end reading.stop) }
+    ensures refused { IfErr result (λ halt. spec.IsHalted (λ tokens. grammar.SpellsPrimary tokens depth) tokens.now from halt) }
+{
     if is_symbol(tokens, from, LEFT_ROUND) {
         return group(alloc, tokens, from, depth);
     }
@@ -390,7 +509,13 @@ fn operand(
     tokens: &[Token],
     from: usize,
     depth: u8,
-) -> Result<Reading<Operand>, Halt> {
+) -> Result<Reading<Operand>, Halt>
+    requires { from ≤ length tokens.now }
+    ensures spells { IfOk result (λ reading. grammar.SpellsTerms tokens.now depth from (tree.Operand reading.part) reading.end) }
+    ensures sure { IfOk result (λ reading. spec.Sure (λ tokens. spec.SpellsSigned tokens depth) spec.extends_operand tokens.now from reading.end reading.stop) }
+    ensures ahead { IfOk result (λ reading. spec.IsAhead tokens.now from reading.end reading.stop) }
+    ensures refused { IfErr result (λ halt. spec.IsHalted (λ tokens. spec.SpellsSigned tokens depth) tokens.now from halt) }
+{
     let monadics = monadics(alloc, tokens, from)?;
     let primary = primary(alloc, tokens, from + monadics.len(), depth)?;
     Ok(Reading {
@@ -406,12 +531,13 @@ fn operand(
 
 /// The longest expression that begins here, with at most `depth` brackets within one another.
 #[cycle(expression)]
-pub fn level(
-    alloc: Global,
-    tokens: &[Token],
-    from: usize,
-    depth: u8,
-) -> Result<Reading<Expr>, Halt> {
+pub fn level(alloc: Global, tokens: &[Token], from: usize, depth: u8) -> Result<Reading<Expr>, Halt>
+    requires { from ≤ length tokens.now }
+    ensures spells { IfOk result (λ reading. grammar.SpellsExpr tokens.now depth from reading.part reading.end) }
+    ensures sure { IfOk result (λ reading. spec.Sure (λ tokens. grammar.SpellsExpr tokens depth) spec.extends_expression tokens.now from reading.end reading.stop) }
+    ensures ahead { IfOk result (λ reading. spec.IsAhead tokens.now from reading.end reading.stop) }
+    ensures refused { IfErr result (λ halt. spec.IsHalted (λ tokens. grammar.SpellsExpr tokens depth) tokens.now from halt) }
+{
     let first = operand(alloc, tokens, from, depth)?;
     let mut expr = Expr::Operand(first.part);
     let mut end = first.end;

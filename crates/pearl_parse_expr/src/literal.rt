@@ -223,6 +223,7 @@ pub fn literal(tokens: &[Token], from: usize) -> Result<Reading<Literal>, usize>
     ensures sure { IfOk result (λ reading. Sure SpellsLiteral extends_operand tokens.now from reading.end reading.stop) }
     ensures ahead { IfOk result (λ reading. IsAhead tokens.now from reading.end reading.stop) }
     ensures refused { IfErr result (λ stop. Stuck SpellsLiteral tokens.now from stop) }
+    ensures none { IfErr result (λ _. is_plain (what_at tokens.now from) ≡ false) }
     ensures held { IfErr result (λ stop. (from ≤ stop) × (stop ≤ from + 1) × (stop ≤ length tokens.now)) }
 {
     match duration(tokens, from) {
