@@ -28,6 +28,10 @@ use Rattle.pearl_parse_expr.proofs.Literals.{same_word, secs_end}
 pub clash : (b : Bool) → b ≡ true → b ≡ false → ⊥
 clash b holds fails = true≢false (sym holds ∙ fails)
 
+pub or_absurd : (a b : Bool) → (a ≡ true → ⊥) → (b ≡ true → ⊥) → (a || b) ≡ true → ⊥
+or_absurd true b first second h = first refl
+or_absurd false b first second h = second h
+
 secs_head : (tokens : List Token) (from : ℕ) (part : Secs) (to : ℕ) → SpellsSecs tokens from part to → is_secs (what_at tokens from) ≡ true
 secs_head tokens from (secs.Number number) to h = ap is_secs h.0.0
 secs_head tokens from (secs.Decimal whole thousandths place) to h = ap is_secs h.0
@@ -43,7 +47,7 @@ literal_head tokens from (literal.Duration (Seconds (secs.Number number) place))
 literal_head tokens from (literal.Duration (Seconds (secs.Decimal whole thousandths place) _)) to h = ap is_literal h.1.1.0
 
 -- what the first token of each primary is
-abbrev Head : Primary → Option What → Type 0
+abbrev pub Head : Primary → Option What → Type 0
 Head (primary.Literal part) token = is_literal token ≡ true
 Head (primary.Ref' name _ list place) token = is_name token ≡ true
 Head (primary.Group' _ inner place) token = is_symbol s.left_round token ≡ true
@@ -52,7 +56,7 @@ Head (primary.Try name place) token = is_word w.TRY token ≡ true
 Head (primary.Limit' None side name _ list ref_place place) token = is_side token ≡ true
 Head (primary.Limit' (Some number) side name _ list ref_place place) token = is_number token ≡ true
 
-side_head : (token : Option What) (side : Side) → token ≡ Some (what.Word (side_word side)) → is_side token ≡ true
+pub side_head : (token : Option What) (side : Side) → token ≡ Some (what.Word (side_word side)) → is_side token ≡ true
 side_head token Lower h = ap is_side h
 side_head token Upper h = ap is_side h
 

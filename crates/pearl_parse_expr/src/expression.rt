@@ -19,6 +19,7 @@ use crate::standing::{is_name, is_symbol, is_word, name_at, number_at, place_at}
 use crate::symbol::*;
 use pearl_tables::word_code::{NOW, TRY};
 use pearl_tree::expression::{Dyadic, Expr, Monadic, Operand, Primary, Ref, Selector, Side};
+use pearl_tree::literal::Literal;
 use pearl_tree::name::Number;
 use pearl_tree::parts::Parts;
 use pearl_tree::token::Token;
@@ -238,6 +239,32 @@ fn literal_primary(tokens: &[Token], from: usize) -> Result<Reading<Primary>, Ha
     }
 }
 
+// What stands where LWB or UPB has no array: the number before it, if there is one.
+fn without_array(
+    tokens: &[Token],
+    from: usize,
+    head: LimitHead,
+    stop: usize,
+) -> Result<Reading<Primary>, Halt>
+    requires dimension { SpellsMaybe (SpellsNumber tokens.now) from head.dimension head.word }
+    requires word { HasWord tokens.now head.word (grammar.side_word head.side) }
+    requires after { head.word + 1 ≤ stop }
+    requires within { stop ≤ length tokens.now }
+    ensures spells { IfOk result (λ reading. (depth : ℕ) → grammar.SpellsPrimary tokens.now depth from reading.part reading.end) }
+    ensures sure { IfOk result (λ reading. (depth : ℕ) → spec.Stuck (λ tokens. spec.SpellsNamed tokens depth) tokens.now (head.word + 1) stop → spec.Sure (λ tokens. grammar.SpellsPrimary tokens depth) spec.extends_operand tokens.now from reading.end reading.stop) }
+    ensures ahead { IfOk result (λ reading. spec.IsAhead tokens.now from reading.end reading.stop) }
+    ensures refused { IfErr result (λ halt. (depth : ℕ) → spec.Stuck (λ tokens. spec.SpellsNamed tokens depth) tokens.now (head.word + 1) stop → spec.IsHalted (λ tokens. grammar.SpellsPrimary tokens depth) tokens.now from halt) }
+{
+    match head.dimension {
+        Some(number) => Ok(Reading {
+            part: Primary::Literal(Literal::Number(number)),
+            end: from + 1,
+            stop,
+        }),
+        None => Err(Halt::Refused(stop)),
+    }
+}
+
 #[cycle(expression)]
 fn subscripts(
     alloc: Global,
@@ -256,7 +283,7 @@ fn subscripts(
     append(&mut list, first.part)?;
     let mut end = first.end;
     let mut stop = first.stop;
-    while is_symbol(tokens, end, COMMA) {
+    'each: while is_symbol(tokens, end, COMMA) {
         match level(alloc, tokens, end + 1, depth) {
             Ok(next) => {
                 append(&mut list, next.part)?;
@@ -297,7 +324,10 @@ fn bracketed(
     ensures ahead { IfOk result (λ reading. spec.IsAhead tokens.now from reading.end reading.stop) }
     ensures refused { IfErr result (λ halt. spec.IsHalted (λ tokens. grammar.SpellsSelector tokens depth) tokens.now from halt) }
 {
-    let inner = subscripts(alloc, tokens, from + 1, depth - 1)?;
+    let inner = match subscripts(alloc, tokens, from + 1, depth - 1) {
+        Ok(inner) => inner,
+        Err(halt) => return Err(halt),
+    };
     if !is_symbol(tokens, inner.end, RIGHT_ROUND) {
         return Err(Halt::Refused(inner.stop));
     }
@@ -307,7 +337,7 @@ fn bracketed(
             place: place_at(tokens, from),
         },
         end: inner.end + 1,
-        stop: inner.end + 1,
+        stop: inner.stop.max(inner.end + 1),
     })
 }
 
@@ -349,7 +379,7 @@ fn selectors(
     let mut list = Vec::new(alloc);
     let mut end = from;
     let mut stop = from;
-    loop {
+    'each: loop {
         match selector(alloc, tokens, end, depth) {
             Ok(next) => {
                 append(&mut list, next.part)?;
@@ -414,7 +444,10 @@ fn group(alloc: Global, tokens: &[Token], from: usize, depth: u8) -> Result<Read
     if depth == 0 {
         return Err(Halt::Refused(from));
     }
-    let inner = level(alloc, tokens, from + 1, depth - 1)?;
+    let inner = match level(alloc, tokens, from + 1, depth - 1) {
+        Ok(inner) => inner,
+        Err(halt) => return Err(halt),
+    };
     if !is_symbol(tokens, inner.end, RIGHT_ROUND) {
         return Err(Halt::Refused(inner.stop));
     }
@@ -425,7 +458,7 @@ fn group(alloc: Global, tokens: &[Token], from: usize, depth: u8) -> Result<Read
                 place: place_at(tokens, from),
             },
             end: inner.end + 1,
-            stop: inner.end + 1,
+            stop: inner.stop.max(inner.end + 1),
         }),
         Err(_) => Err(Halt::NoMemory),
     }
@@ -448,17 +481,22 @@ fn limit(
     ensures ahead { IfOk result (λ reading. spec.IsAhead tokens.now from reading.end reading.stop) }
     ensures refused { IfErr result (λ halt. spec.IsHalted (λ tokens. grammar.SpellsPrimary tokens depth) tokens.now from halt) }
 {
-    let array = reference(alloc, tokens, head.word + 1, depth)?;
-    Ok(Reading {
-        part: Primary::Limit {
-            dimension: head.dimension,
-            side: head.side,
-            array: array.part,
-            place: place_at(tokens, from),
+    match reference(alloc, tokens, head.word + 1, depth) {
+        Ok(array) => Ok(Reading {
+            part: Primary::Limit {
+                dimension: head.dimension,
+                side: head.side,
+                array: array.part,
+                place: place_at(tokens, from),
+            },
+            end: array.end,
+            stop: array.stop,
+        }),
+        Err(halt) => match halt {
+            Halt::Refused(stop) => without_array(tokens, from, head, stop),
+            Halt::NoMemory => Err(Halt::NoMemory),
         },
-        end: array.end,
-        stop: array.stop,
-    })
+    }
 }
 
 #[cycle(expression)]
@@ -478,12 +516,14 @@ fn primary(
         return group(alloc, tokens, from, depth);
     }
     if is_name(tokens, from) {
-        let reference = reference(alloc, tokens, from, depth)?;
-        return Ok(Reading {
-            part: Primary::Ref(reference.part),
-            end: reference.end,
-            stop: reference.stop,
-        });
+        return match reference(alloc, tokens, from, depth) {
+            Ok(reference) => Ok(Reading {
+                part: Primary::Ref(reference.part),
+                end: reference.end,
+                stop: reference.stop,
+            }),
+            Err(halt) => Err(halt),
+        };
     }
     if is_word(tokens, from, NOW) {
         return Ok(Reading {
@@ -517,16 +557,18 @@ fn operand(
     ensures refused { IfErr result (λ halt. spec.IsHalted (λ tokens. spec.SpellsSigned tokens depth) tokens.now from halt) }
 {
     let monadics = monadics(alloc, tokens, from)?;
-    let primary = primary(alloc, tokens, from + monadics.len(), depth)?;
-    Ok(Reading {
-        part: Operand {
-            monadics: Parts::new(monadics),
-            primary: primary.part,
-            place: place_at(tokens, from),
-        },
-        end: primary.end,
-        stop: primary.stop,
-    })
+    match primary(alloc, tokens, from + monadics.len(), depth) {
+        Ok(primary) => Ok(Reading {
+            part: Operand {
+                monadics: Parts::new(monadics),
+                primary: primary.part,
+                place: place_at(tokens, from),
+            },
+            end: primary.end,
+            stop: primary.stop,
+        }),
+        Err(halt) => Err(halt),
+    }
 }
 
 /// The longest expression that begins here, with at most `depth` brackets within one another.
@@ -538,12 +580,15 @@ pub fn level(alloc: Global, tokens: &[Token], from: usize, depth: u8) -> Result<
     ensures ahead { IfOk result (λ reading. spec.IsAhead tokens.now from reading.end reading.stop) }
     ensures refused { IfErr result (λ halt. spec.IsHalted (λ tokens. grammar.SpellsExpr tokens depth) tokens.now from halt) }
 {
-    let first = operand(alloc, tokens, from, depth)?;
+    let first = match operand(alloc, tokens, from, depth) {
+        Ok(first) => first,
+        Err(halt) => return Err(halt),
+    };
     let mut expr = Expr::Operand(first.part);
     let mut end = first.end;
     let mut stop = first.stop;
     let mut count = 0;
-    while count < DYADS_MAX {
+    'each: while count < DYADS_MAX {
         let dyadic = match dyadic_at(tokens, end) {
             Some(dyadic) => dyadic,
             None => {

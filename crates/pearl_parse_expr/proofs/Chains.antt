@@ -1,0 +1,187 @@
+-- Operands with operators between them: what other tokens can spell that begin as these do, read up to some operand.
+use Rattle.std.proofs.Common.{◌≡◌, ℕ, zero, suc, ◌+◌, ◌<◌, ◌≤◌, Bool, true, false, ◌||◌, List, [], ◌∷◌, length, Option, Some, None, ◌⊎◌, inl, inr, refl, sym, ap, subst, ◌∙◌, arith, true≢false, eqb-true, ◌==◌}
+use Rattle.std.specs.Option.{option_and_then}
+use Rattle.pearl_tree.specs.declared.expression.Dyad.{Dyad}
+use Rattle.pearl_tree.specs.declared.expression.Monad.TheVariants as monad
+use Rattle.pearl_tree.specs.declared.expression.Monadic.{Monadic}
+use Rattle.pearl_tree.specs.declared.expression.Expr.{Expr, Operand', Dyadic'}
+use Rattle.pearl_tree.specs.declared.expression.Primary.{Primary}
+use Rattle.pearl_tree.specs.declared.token.What.{What}
+use Rattle.pearl_tree.specs.declared.token.What.TheVariants as what
+use Rattle.pearl_tree.specs.declared.token.Token.{Token}
+use Rattle.pearl_tree.specs.Standing.{what_at, SpellsEach}
+use Rattle.pearl_tree.specs.Expressions.{SpellsTerms, SpellsExpr, SpellsPrimary, SpellsMonadic, HasDyad, dyad_of, dyad_count}
+use Rattle.pearl_tree.specs.WordCodes as w
+use Rattle.pearl_tree.specs.Symbols as s
+use Rattle.pearl_parse_expr.specs.declared.reading.Halt.{Halt}
+use Rattle.pearl_parse_expr.specs.declared.reading.Halt.TheVariants.{Refused, NoMemory}
+use Rattle.pearl_parse_expr.specs.Stops.{Agree, IsHalted, Sure, Stuck, is_some_dyad, extends_operand, extends_expression, SpellsSigned}
+use Rattle.pearl_parse_expr.proofs.Primaries.{clash, or_absurd}
+use Rattle.pearl_parse_expr.proofs.Parts.{shorter, or_first, or_second}
+
+abbrev is_dyad : Option What → Bool
+is_dyad token = is_some_dyad (option_and_then dyad_of token)
+
+-- { dyadic operand }, this many times
+abbrev Rest : List Token → ℕ → ℕ → ℕ → ℕ → Type 0
+Rest tokens depth zero from to = to ≡ from
+Rest tokens depth (suc n) from to =
+    (m : ℕ) × (is_dyad (what_at tokens from) ≡ true) × ((x : Primary) × SpellsSigned tokens depth (from + 1) x m) × Rest tokens depth n m to
+
+join : (tokens : List Token) (depth a b from m to : ℕ) → Rest tokens depth a from m → Rest tokens depth b m to → Rest tokens depth (a + b) from to
+join tokens depth zero b from m to h rest =
+    let none : b ≡ zero + b = omega arith in
+    subst (λ n. Rest tokens depth n from to) none (subst (λ k. Rest tokens depth b k to) h rest)
+join tokens depth (suc a) b from m to h rest =
+    let more : suc (a + b) ≡ suc a + b = omega arith in
+    subst (λ n. Rest tokens depth n from to) more (h.0, h.1, h.2, join tokens depth a b h.0 m to h.3 rest)
+
+flat : (tokens : List Token) (depth from : ℕ) (x : Expr) (to : ℕ) → SpellsTerms tokens depth from x to →
+    (m : ℕ) × ((x : Primary) × SpellsSigned tokens depth from x m) × Rest tokens depth (dyad_count x) m to
+flat tokens depth from (Operand' monadics part place) to h =
+    (to, (part, (h.0, monadics.items.items, h.2, h.3, h.4)), refl)
+flat tokens depth from (Dyadic' _ left dyadic _ right place) to h =
+    let first = flat tokens depth from left h.0 h.2 in
+    let second = flat tokens depth (h.0 + 1) right to h.5 in
+    let count : dyad_count left + suc (dyad_count right) ≡ dyad_count left + dyad_count right + 1 = omega arith in (
+      first.0,
+      first.1,
+      subst (λ n. Rest tokens depth n first.0 to) count
+          (join tokens depth (dyad_count left) (suc (dyad_count right)) first.0 h.0 to first.2
+          (second.0, ap is_some_dyad h.3, second.1, second.2)),
+    )
+
+-- an operator does not go on with an operand
+dyad_is_behind : (token : Option What) → extends_operand token ≡ true → is_dyad token ≡ true → ⊥
+dyad_is_behind (Some (what.Word code)) extends dyad =
+    let none = λ (k : ℕ) (no_dyad : is_dyad (Some (what.Word k)) ≡ false) (h : (code == k) ≡ true).
+    clash _ dyad (ap (λ k. is_dyad (Some (what.Word k))) (eqb-true code k h) ∙ no_dyad) in
+    or_absurd (code == w.HRS) ((code == w.MIN) || ((code == w.SEC) || ((code == w.LWB) || (code == w.UPB)))) (none w.HRS refl)
+    (or_absurd (code == w.MIN) ((code == w.SEC) || ((code == w.LWB) || (code == w.UPB))) (none w.MIN refl)
+    (or_absurd (code == w.SEC) ((code == w.LWB) || (code == w.UPB)) (none w.SEC refl)
+    (or_absurd (code == w.LWB) (code == w.UPB) (none w.LWB refl) (none w.UPB refl)))) extends
+dyad_is_behind (Some (what.Id text)) extends dyad = true≢false (sym extends)
+dyad_is_behind (Some (what.Number value)) extends dyad = true≢false (sym dyad)
+dyad_is_behind (Some (what.Decimal whole thousandths)) extends dyad = true≢false (sym dyad)
+dyad_is_behind (Some (what.Clock milliseconds)) extends dyad = true≢false (sym extends)
+dyad_is_behind (Some (what.Bits len value)) extends dyad = true≢false (sym extends)
+dyad_is_behind (Some (what.Text text)) extends dyad = true≢false (sym extends)
+dyad_is_behind (Some (what.Symbol symbol)) extends dyad =
+    or_absurd (symbol == s.left_round) (symbol == s.period)
+    (λ h. clash _ dyad (ap (λ k. is_dyad (Some (what.Symbol k))) (eqb-true symbol s.left_round h)))
+    (λ h. clash _ dyad (ap (λ k. is_dyad (Some (what.Symbol k))) (eqb-true symbol s.period h))) extends
+dyad_is_behind None extends dyad = true≢false (sym extends)
+
+-- a chain from `from` ends early, or goes through `end` with all but `count` of its operators
+abbrev pub ChainGoes : List Token → ℕ → ℕ → ℕ → ℕ → ℕ → Type 0
+ChainGoes tokens depth from end stop count =
+    (others : List Token) → Agree tokens others stop → (m n to : ℕ) (x : Primary) → SpellsSigned others depth from x m → Rest others depth n m to →
+    ((to ≤ stop) × (extends_expression (what_at others to) ≡ true)) ⊎ ((j : ℕ) × (count + j ≡ n) × Rest others depth j end to)
+
+module _ (tokens : List Token) (depth from : ℕ) where
+  -- behind one more operand
+  after_operand : (others : List Token) (end stop m to j : ℕ) → Rest others depth j m to →
+      (m ≡ end) ⊎ ((m ≤ stop) × (extends_operand (what_at others m) ≡ true)) →
+      ((to ≤ stop) × (extends_expression (what_at others to) ≡ true)) ⊎ Rest others depth j end to
+  after_operand others end stop m to j h (inl same) = inr (subst (λ k. Rest others depth j k to) same h)
+  after_operand others end stop m to zero h (inr early) =
+      inl (
+        omega (arith, h, early.0),
+        subst (λ k. extends_expression (what_at others k) ≡ true) (sym h)
+            (or_first (extends_operand (what_at others m)) (is_dyad (what_at others m)) early.1),
+      )
+  after_operand others end stop m to (suc j) h (inr early) = absurd (dyad_is_behind (what_at others m) early.1 h.1)
+
+  counted : (others : List Token) (end stop to count j n : ℕ) → count + j ≡ n →
+      ((to ≤ stop) × (extends_expression (what_at others to) ≡ true)) ⊎ Rest others depth j end to →
+      ((to ≤ stop) × (extends_expression (what_at others to) ≡ true)) ⊎ ((j : ℕ) × (count + j ≡ n) × Rest others depth j end to)
+  counted others end stop to count j n size (inl early) = inl early
+  counted others end stop to count j n size (inr rest) = inr (j, size, rest)
+
+  pub chain_begins : (end stop : ℕ) → Sure (λ tokens. SpellsSigned tokens depth) extends_operand tokens from end stop →
+      ChainGoes tokens depth from end stop 0
+  chain_begins end stop sure = λ others agree m n to x first rest.
+      counted others end stop to 0 n n (omega arith) (after_operand others end stop m to n rest (sure others agree x m first))
+
+  later : (others : List Token) (next last new to : ℕ) → last ≤ new →
+      (to ≡ next) ⊎ ((to ≤ last) × (extends_operand (what_at others to) ≡ true)) →
+      (to ≡ next) ⊎ ((to ≤ new) × (extends_operand (what_at others to) ≡ true))
+  later others next last new to reach (inl same) = inl same
+  later others next last new to reach (inr early) = inr (omega (arith, early.0), early.1)
+
+  step : (others : List Token) (end stop next new count n to : ℕ) → end ≤ new → stop ≤ new → is_dyad (what_at others end) ≡ true →
+      ((x : Primary) (to : ℕ) → SpellsSigned others depth (end + 1) x to → (to ≡ next) ⊎ ((to ≤ new) × (extends_operand (what_at others to) ≡ true))) →
+      ((to ≤ stop) × (extends_expression (what_at others to) ≡ true)) ⊎ ((j : ℕ) × (count + j ≡ n) × Rest others depth j end to) →
+      ((to ≤ new) × (extends_expression (what_at others to) ≡ true)) ⊎ ((j : ℕ) × (count + 1 + j ≡ n) × Rest others depth j next to)
+  step others end stop next new count n to near below dyad sure (inl early) = inl (omega (arith, early.0), early.1)
+  step others end stop next new count n to near below dyad sure (inr (zero, size, h)) =
+      inl (
+        omega (arith, h),
+        subst (λ k. extends_expression (what_at others k) ≡ true) (sym h)
+            (or_second (extends_operand (what_at others end)) (is_dyad (what_at others end)) dyad),
+      )
+  step others end stop next new count n to near below dyad sure (inr (suc j, size, h)) =
+      counted others next new to (count + 1) j n (omega arith)
+      (after_operand others next new h.0 to j h.3 (sure h.2.0 h.0 h.2.1))
+
+  pub chain_goes_on : (end stop next last new count : ℕ) (operator : Dyad) → ChainGoes tokens depth from end stop count →
+      end ≤ stop → stop ≤ new → last ≤ new → HasDyad tokens end operator →
+      Sure (λ tokens. SpellsSigned tokens depth) extends_operand tokens (end + 1) next last →
+      ChainGoes tokens depth from next new (count + 1)
+  chain_goes_on end stop next last new count operator go near below reach dyad sure = λ others agree m n to x first rest.
+      step others end stop next new count n to (omega arith) below (ap is_dyad (agree end (omega arith)) ∙ ap is_some_dyad dyad)
+      (λ x to h. later others next last new to reach (sure others (shorter tokens others last new reach agree) x to h))
+      (go others (shorter tokens others stop new below agree) m n to x first rest)
+
+  stops : (others : List Token) (end stop new count n to : ℕ) → stop ≤ new →
+      ((j : ℕ) → count + suc j ≡ n → Rest others depth (suc j) end to → ⊥) →
+      ((to ≤ stop) × (extends_expression (what_at others to) ≡ true)) ⊎ ((j : ℕ) × (count + j ≡ n) × Rest others depth j end to) →
+      (to ≡ end) ⊎ ((to ≤ new) × (extends_expression (what_at others to) ≡ true))
+  stops others end stop new count n to below stuck (inl early) = inr (omega (arith, early.0), early.1)
+  stops others end stop new count n to below stuck (inr (zero, size, h)) = inl h
+  stops others end stop new count n to below stuck (inr (suc j, size, h)) = absurd (stuck j size h)
+
+  -- no operator follows
+  pub chain_ends : (end stop count : ℕ) → ChainGoes tokens depth from end stop count → end ≤ stop →
+      option_and_then dyad_of (what_at tokens end) ≡ None →
+      Sure (λ tokens. SpellsExpr tokens depth) extends_expression tokens from end stop
+  chain_ends end stop count go near none = λ others agree x to h.
+      let chain = flat others depth from x to h.0 in
+      stops others end stop stop count (dyad_count x) to (omega arith)
+      (λ j size rest. clash _ rest.1 (ap is_dyad (agree end near) ∙ ap is_some_dyad none))
+      (go others agree chain.0 (dyad_count x) to chain.1.0 chain.1.1 chain.2)
+
+  -- no operand follows the operator
+  pub chain_is_stuck : (end stop last new count : ℕ) → ChainGoes tokens depth from end stop count → stop ≤ new → last ≤ new →
+      Stuck (λ tokens. SpellsSigned tokens depth) tokens (end + 1) last →
+      Sure (λ tokens. SpellsExpr tokens depth) extends_expression tokens from end new
+  chain_is_stuck end stop last new count go below reach stuck = λ others agree x to h.
+      let chain = flat others depth from x to h.0 in
+      stops others end stop new count (dyad_count x) to below
+      (λ j size rest. stuck others (shorter tokens others last new reach agree) rest.2.0 rest.0 rest.2.1)
+      (go others (shorter tokens others stop new below agree) chain.0 (dyad_count x) to chain.1.0 chain.1.1 chain.2)
+
+  -- no more operators are allowed
+  pub chain_is_full : (end stop count : ℕ) → ChainGoes tokens depth from end stop count → 100 ≤ count →
+      Sure (λ tokens. SpellsExpr tokens depth) extends_expression tokens from end stop
+  chain_is_full end stop count go full = λ others agree x to h.
+      let chain = flat others depth from x to h.0 in
+      stops others end stop stop count (dyad_count x) to (omega arith)
+      (λ j size rest. omega (arith, h.1))
+      (go others agree chain.0 (dyad_count x) to chain.1.0 chain.1.1 chain.2)
+
+  none_begins : (others : List Token) (x : Expr) (to : ℕ) → ((x : Primary) (to : ℕ) → SpellsSigned others depth from x to → ⊥) →
+      SpellsExpr others depth from x to → ⊥
+  none_begins others x to stuck h =
+      let chain = flat others depth from x to h.0 in
+      stuck chain.1.0 chain.0 chain.1.1
+
+  -- no operand begins it
+  pub no_chain : (stop : ℕ) → Stuck (λ tokens. SpellsSigned tokens depth) tokens from stop → Stuck (λ tokens. SpellsExpr tokens depth) tokens from stop
+  no_chain stop stuck = λ others agree x to h. none_begins others x to (λ x to h. stuck others agree x to h) h
+
+-- why no expression is read, where no operand is
+pub no_chain_halted : (tokens : List Token) (depth from : ℕ) (halt : Halt) → IsHalted (λ tokens. SpellsSigned tokens depth) tokens from halt →
+    IsHalted (λ tokens. SpellsExpr tokens depth) tokens from halt
+no_chain_halted tokens depth from NoMemory h = tt
+no_chain_halted tokens depth from (Refused stop) h = (no_chain tokens depth from stop h.0, h.1, h.2)
