@@ -15,7 +15,7 @@ use Rattle.pearl_tree.specs.WordCodes as w
 use Rattle.pearl_tree.specs.Symbols as s
 use Rattle.pearl_parse_expr.specs.declared.reading.Halt.{Halt}
 use Rattle.pearl_parse_expr.specs.declared.reading.Halt.TheVariants.{Refused, NoMemory}
-use Rattle.pearl_parse_expr.specs.Stops.{Agree, IsHalted, Sure, Stuck, is_some_dyad, extends_operand, extends_expression, SpellsSigned}
+use Rattle.pearl_parse_expr.specs.Stops.{Agree, IsHalted, Sure, Stuck, EndsEarly, is_some_dyad, extends_operand, extends_expression, SpellsSigned}
 use Rattle.pearl_parse_expr.proofs.Primaries.{clash, or_absurd}
 use Rattle.pearl_parse_expr.proofs.Parts.{shorter, or_first, or_second}
 
@@ -76,70 +76,56 @@ dyad_is_behind None extends dyad = true≢false (sym extends)
 abbrev pub ChainGoes : List Token → ℕ → ℕ → ℕ → ℕ → ℕ → Type 0
 ChainGoes tokens depth from end stop count =
     (others : List Token) → Agree tokens others stop → (m n to : ℕ) (x : Primary) → SpellsSigned others depth from x m → Rest others depth n m to →
-    ((to ≤ stop) × (extends_expression (what_at others to) ≡ true)) ⊎ ((j : ℕ) × (count + j ≡ n) × Rest others depth j end to)
+    EndsEarly extends_expression others end to ⊎ ((j : ℕ) × (count + j ≡ n) × Rest others depth j end to)
 
 module _ (tokens : List Token) (depth from : ℕ) where
   -- behind one more operand
-  after_operand : (others : List Token) (end stop m to j : ℕ) → Rest others depth j m to →
-      (m ≡ end) ⊎ ((m ≤ stop) × (extends_operand (what_at others m) ≡ true)) →
-      ((to ≤ stop) × (extends_expression (what_at others to) ≡ true)) ⊎ Rest others depth j end to
-  after_operand others end stop m to j h (inl same) = inr (subst (λ k. Rest others depth j k to) same h)
-  after_operand others end stop m to zero h (inr early) =
+  after_operand : (others : List Token) (end m to count j n : ℕ) → Rest others depth j m to → count + j ≡ n →
+      (m ≡ end) ⊎ EndsEarly extends_operand others end m →
+      EndsEarly extends_expression others end to ⊎ ((j : ℕ) × (count + j ≡ n) × Rest others depth j end to)
+  after_operand others end m to count j n h size (inl same) = inr (j, size, subst (λ k. Rest others depth j k to) same h)
+  after_operand others end m to count zero n h size (inr early) =
       inl (
         omega (arith, h, early.0),
         subst (λ k. extends_expression (what_at others k) ≡ true) (sym h)
             (or_first (extends_operand (what_at others m)) (is_dyad (what_at others m)) early.1),
       )
-  after_operand others end stop m to (suc j) h (inr early) = absurd (dyad_is_behind (what_at others m) early.1 h.1)
-
-  counted : (others : List Token) (end stop to count j n : ℕ) → count + j ≡ n →
-      ((to ≤ stop) × (extends_expression (what_at others to) ≡ true)) ⊎ Rest others depth j end to →
-      ((to ≤ stop) × (extends_expression (what_at others to) ≡ true)) ⊎ ((j : ℕ) × (count + j ≡ n) × Rest others depth j end to)
-  counted others end stop to count j n size (inl early) = inl early
-  counted others end stop to count j n size (inr rest) = inr (j, size, rest)
+  after_operand others end m to count (suc j) n h size (inr early) = absurd (dyad_is_behind (what_at others m) early.1 h.1)
 
   pub chain_begins : (end stop : ℕ) → Sure (λ tokens. SpellsSigned tokens depth) extends_operand tokens from end stop →
       ChainGoes tokens depth from end stop 0
   chain_begins end stop sure = λ others agree m n to x first rest.
-      counted others end stop to 0 n n (omega arith) (after_operand others end stop m to n rest (sure others agree x m first))
+      after_operand others end m to 0 n n rest (omega arith) (sure others agree x m first)
 
-  later : (others : List Token) (next last new to : ℕ) → last ≤ new →
-      (to ≡ next) ⊎ ((to ≤ last) × (extends_operand (what_at others to) ≡ true)) →
-      (to ≡ next) ⊎ ((to ≤ new) × (extends_operand (what_at others to) ≡ true))
-  later others next last new to reach (inl same) = inl same
-  later others next last new to reach (inr early) = inr (omega (arith, early.0), early.1)
-
-  step : (others : List Token) (end stop next new count n to : ℕ) → end ≤ new → stop ≤ new → is_dyad (what_at others end) ≡ true →
-      ((x : Primary) (to : ℕ) → SpellsSigned others depth (end + 1) x to → (to ≡ next) ⊎ ((to ≤ new) × (extends_operand (what_at others to) ≡ true))) →
-      ((to ≤ stop) × (extends_expression (what_at others to) ≡ true)) ⊎ ((j : ℕ) × (count + j ≡ n) × Rest others depth j end to) →
-      ((to ≤ new) × (extends_expression (what_at others to) ≡ true)) ⊎ ((j : ℕ) × (count + 1 + j ≡ n) × Rest others depth j next to)
-  step others end stop next new count n to near below dyad sure (inl early) = inl (omega (arith, early.0), early.1)
-  step others end stop next new count n to near below dyad sure (inr (zero, size, h)) =
+  step : (others : List Token) (end next count n to : ℕ) → end < next → is_dyad (what_at others end) ≡ true →
+      ((x : Primary) (to : ℕ) → SpellsSigned others depth (end + 1) x to → (to ≡ next) ⊎ EndsEarly extends_operand others next to) →
+      EndsEarly extends_expression others end to ⊎ ((j : ℕ) × (count + j ≡ n) × Rest others depth j end to) →
+      EndsEarly extends_expression others next to ⊎ ((j : ℕ) × (count + 1 + j ≡ n) × Rest others depth j next to)
+  step others end next count n to ahead dyad sure (inl early) = inl (omega (arith, early.0), early.1)
+  step others end next count n to ahead dyad sure (inr (zero, size, h)) =
       inl (
         omega (arith, h),
         subst (λ k. extends_expression (what_at others k) ≡ true) (sym h)
             (or_second (extends_operand (what_at others end)) (is_dyad (what_at others end)) dyad),
       )
-  step others end stop next new count n to near below dyad sure (inr (suc j, size, h)) =
-      counted others next new to (count + 1) j n (omega arith)
-      (after_operand others next new h.0 to j h.3 (sure h.2.0 h.0 h.2.1))
+  step others end next count n to ahead dyad sure (inr (suc j, size, h)) =
+      after_operand others next h.0 to (count + 1) j n h.3 (omega arith) (sure h.2.0 h.0 h.2.1)
 
   pub chain_goes_on : (end stop next last new count : ℕ) (operator : Dyad) → ChainGoes tokens depth from end stop count →
-      end ≤ stop → stop ≤ new → last ≤ new → HasDyad tokens end operator →
+      end ≤ stop → end < next → stop ≤ new → last ≤ new → HasDyad tokens end operator →
       Sure (λ tokens. SpellsSigned tokens depth) extends_operand tokens (end + 1) next last →
       ChainGoes tokens depth from next new (count + 1)
-  chain_goes_on end stop next last new count operator go near below reach dyad sure = λ others agree m n to x first rest.
-      step others end stop next new count n to (omega arith) below (ap is_dyad (agree end (omega arith)) ∙ ap is_some_dyad dyad)
-      (λ x to h. later others next last new to reach (sure others (shorter tokens others last new reach agree) x to h))
+  chain_goes_on end stop next last new count operator go near ahead below reach dyad sure = λ others agree m n to x first rest.
+      step others end next count n to ahead (ap is_dyad (agree end (omega arith)) ∙ ap is_some_dyad dyad)
+      (λ x to h. sure others (shorter tokens others last new reach agree) x to h)
       (go others (shorter tokens others stop new below agree) m n to x first rest)
 
-  stops : (others : List Token) (end stop new count n to : ℕ) → stop ≤ new →
-      ((j : ℕ) → count + suc j ≡ n → Rest others depth (suc j) end to → ⊥) →
-      ((to ≤ stop) × (extends_expression (what_at others to) ≡ true)) ⊎ ((j : ℕ) × (count + j ≡ n) × Rest others depth j end to) →
-      (to ≡ end) ⊎ ((to ≤ new) × (extends_expression (what_at others to) ≡ true))
-  stops others end stop new count n to below stuck (inl early) = inr (omega (arith, early.0), early.1)
-  stops others end stop new count n to below stuck (inr (zero, size, h)) = inl h
-  stops others end stop new count n to below stuck (inr (suc j, size, h)) = absurd (stuck j size h)
+  stops : (others : List Token) (end count n to : ℕ) → ((j : ℕ) → count + suc j ≡ n → Rest others depth (suc j) end to → ⊥) →
+      EndsEarly extends_expression others end to ⊎ ((j : ℕ) × (count + j ≡ n) × Rest others depth j end to) →
+      (to ≡ end) ⊎ EndsEarly extends_expression others end to
+  stops others end count n to stuck (inl early) = inr early
+  stops others end count n to stuck (inr (zero, size, h)) = inl h
+  stops others end count n to stuck (inr (suc j, size, h)) = absurd (stuck j size h)
 
   -- no operator follows
   pub chain_ends : (end stop count : ℕ) → ChainGoes tokens depth from end stop count → end ≤ stop →
@@ -147,7 +133,7 @@ module _ (tokens : List Token) (depth from : ℕ) where
       Sure (λ tokens. SpellsExpr tokens depth) extends_expression tokens from end stop
   chain_ends end stop count go near none = λ others agree x to h.
       let chain = flat others depth from x to h.0 in
-      stops others end stop stop count (dyad_count x) to (omega arith)
+      stops others end count (dyad_count x) to
       (λ j size rest. clash _ rest.1 (ap is_dyad (agree end near) ∙ ap is_some_dyad none))
       (go others agree chain.0 (dyad_count x) to chain.1.0 chain.1.1 chain.2)
 
@@ -157,7 +143,7 @@ module _ (tokens : List Token) (depth from : ℕ) where
       Sure (λ tokens. SpellsExpr tokens depth) extends_expression tokens from end new
   chain_is_stuck end stop last new count go below reach stuck = λ others agree x to h.
       let chain = flat others depth from x to h.0 in
-      stops others end stop new count (dyad_count x) to below
+      stops others end count (dyad_count x) to
       (λ j size rest. stuck others (shorter tokens others last new reach agree) rest.2.0 rest.0 rest.2.1)
       (go others (shorter tokens others stop new below agree) chain.0 (dyad_count x) to chain.1.0 chain.1.1 chain.2)
 
@@ -166,19 +152,15 @@ module _ (tokens : List Token) (depth from : ℕ) where
       Sure (λ tokens. SpellsExpr tokens depth) extends_expression tokens from end stop
   chain_is_full end stop count go full = λ others agree x to h.
       let chain = flat others depth from x to h.0 in
-      stops others end stop stop count (dyad_count x) to (omega arith)
+      stops others end count (dyad_count x) to
       (λ j size rest. omega (arith, h.1))
       (go others agree chain.0 (dyad_count x) to chain.1.0 chain.1.1 chain.2)
 
-  none_begins : (others : List Token) (x : Expr) (to : ℕ) → ((x : Primary) (to : ℕ) → SpellsSigned others depth from x to → ⊥) →
-      SpellsExpr others depth from x to → ⊥
-  none_begins others x to stuck h =
-      let chain = flat others depth from x to h.0 in
-      stuck chain.1.0 chain.0 chain.1.1
-
   -- no operand begins it
   pub no_chain : (stop : ℕ) → Stuck (λ tokens. SpellsSigned tokens depth) tokens from stop → Stuck (λ tokens. SpellsExpr tokens depth) tokens from stop
-  no_chain stop stuck = λ others agree x to h. none_begins others x to (λ x to h. stuck others agree x to h) h
+  no_chain stop stuck = λ others agree x to h.
+      let chain = flat others depth from x to h.0 in
+      stuck others agree chain.1.0 chain.0 chain.1.1
 
 -- why no expression is read, where no operand is
 pub no_chain_halted : (tokens : List Token) (depth from : ℕ) (halt : Halt) → IsHalted (λ tokens. SpellsSigned tokens depth) tokens from halt →

@@ -9,19 +9,19 @@ use Rattle.pearl_tree.specs.declared.token.Token.{Token}
 use Rattle.pearl_tree.specs.Standing.{what_at, HasSymbol}
 use Rattle.pearl_tree.specs.Expressions.{SpellsPrimary, SpellsSelector, SpellsExpr}
 use Rattle.pearl_tree.specs.Symbols as s
-use Rattle.pearl_parse_expr.specs.Stops.{Agree, Sure, extends_expression, extends_list, is_symbol, SpellsSubscriptsList}
+use Rattle.pearl_parse_expr.specs.Stops.{Agree, Sure, EndsEarly, extends_expression, extends_list, is_symbol, SpellsSubscriptsList}
 use Rattle.pearl_parse_expr.proofs.Primaries.{clash, only_group, only_bracketed}
 use Rattle.pearl_parse_expr.proofs.Parts.{shorter}
 
 -- what ends before the closing bracket ends where it was read to
 closes : (extends : Option What → Bool) (others : List Token) (end stop m : ℕ) → extends (Some (what.Symbol s.right_round)) ≡ false → HasSymbol others m s.right_round →
-    (m ≡ end) ⊎ ((m ≤ stop) × (extends (what_at others m) ≡ true)) → m ≡ end
+    (m ≡ end) ⊎ EndsEarly extends others end m → m ≡ end
 closes extends others end stop m never bracket (inl same) = same
 closes extends others end stop m never bracket (inr early) = absurd (clash _ early.1 (ap extends bracket ∙ never))
 
 module _ (tokens others : List Token) (depth from end stop : ℕ) where
   group_end : HasSymbol others from s.left_round →
-      ((x : Expr) (to : ℕ) → SpellsExpr others (depth - 1) (from + 1) x to → (to ≡ end) ⊎ ((to ≤ stop) × (extends_expression (what_at others to) ≡ true))) →
+      ((x : Expr) (to : ℕ) → SpellsExpr others (depth - 1) (from + 1) x to → (to ≡ end) ⊎ EndsEarly extends_expression others end to) →
       (x : Primary) (to : ℕ) → SpellsPrimary others depth from x to → HasSymbol others end s.right_round × (to ≡ end + 1)
   group_end bracket sure x to h =
       let read = (only_group others depth from bracket x to h).1 in
@@ -43,7 +43,7 @@ module _ (tokens others : List Token) (depth from end stop : ℕ) where
       clash _ (ap (is_symbol s.right_round) closed.0) (ap (is_symbol s.right_round) (agree end below) ∙ unclosed)
 
   list_closes : HasSymbol others from s.left_round →
-      ((x : List Expr) (to : ℕ) → SpellsSubscriptsList others (depth - 1) (from + 1) x to → (to ≡ end) ⊎ ((to ≤ stop) × (extends_list (what_at others to) ≡ true))) →
+      ((x : List Expr) (to : ℕ) → SpellsSubscriptsList others (depth - 1) (from + 1) x to → (to ≡ end) ⊎ EndsEarly extends_list others end to) →
       (x : Selector) (to : ℕ) → SpellsSelector others depth from x to → HasSymbol others end s.right_round × (to ≡ end + 1)
   list_closes bracket sure x to h =
       let read = only_bracketed others depth from bracket x to h in

@@ -17,7 +17,7 @@ use Rattle.pearl_tree.specs.Standing.{what_at, HasWord, SpellsEach, SpellsMaybe,
 use Rattle.pearl_tree.specs.Expressions.{SpellsPrimary, SpellsMonadic, side_word, monad_what}
 use Rattle.pearl_tree.specs.WordCodes as w
 use Rattle.pearl_tree.specs.Symbols as s
-use Rattle.pearl_parse_expr.specs.Stops.{Agree, Sure, Stuck, is_number, is_side, is_literal, is_name, is_symbol, is_word, monad_of, extends_operand, SpellsNamed, SpellsSigned}
+use Rattle.pearl_parse_expr.specs.Stops.{Agree, Sure, Stuck, EndsEarly, is_number, is_side, is_literal, is_name, is_symbol, is_word, monad_of, extends_operand, SpellsNamed, SpellsSigned}
 use Rattle.pearl_parse_expr.proofs.Primaries.{clash, or_absurd, side_head, Head, first_token, only_limit, only_counted_limit}
 
 pub side_extends : (token : Option What) (side : Side) → token ≡ Some (what.Word (side_word side)) → extends_operand token ≡ true
@@ -198,12 +198,12 @@ same_monadics tokens others depth from stop list agree near each all x to h =
     let end : h.0 ≡ from + length list = omega (arith, theirs, same) in
     subst (λ k. SpellsPrimary others depth k x to) end h.4
 
-number_alone : (others : List Token) (depth from word stop to : ℕ) (dimension : Option Number) →
+number_alone : (others : List Token) (depth from word to : ℕ) (dimension : Option Number) →
     ((list : List Selector) → SpellsNamed others depth (word + 1) list to → ⊥) →
     (IsSome dimension × (to ≡ from + 1) × (extends_operand (what_at others to) ≡ true)) ⊎ ((list : List Selector) × SpellsNamed others depth (word + 1) list to) →
-    (to ≡ from + 1) ⊎ ((to ≤ stop) × (extends_operand (what_at others to) ≡ true))
-number_alone others depth from word stop to dimension stuck (inl number) = inl number.1
-number_alone others depth from word stop to dimension stuck (inr read) = absurd (stuck read.0 read.1)
+    (to ≡ from + 1) ⊎ EndsEarly extends_operand others (from + 1) to
+number_alone others depth from word to dimension stuck (inl number) = inl number.1
+number_alone others depth from word to dimension stuck (inr read) = absurd (stuck read.0 read.1)
 
 number_missing : (others : List Token) (depth from word to : ℕ) (dimension : Option Number) → dimension ≡ None →
     ((list : List Selector) → SpellsNamed others depth (word + 1) list to → ⊥) →
@@ -211,25 +211,24 @@ number_missing : (others : List Token) (depth from word to : ℕ) (dimension : O
 number_missing others depth from word to dimension none stuck (inl number) = subst IsSome none number.0
 number_missing others depth from word to dimension none stuck (inr read) = stuck read.0 read.1
 
-pub first_below : (tokens : List Token) (from word stop : ℕ) (dimension : Option Number) →
-    SpellsMaybe (SpellsNumber tokens) from dimension word → word + 1 ≤ stop → from + 1 ≤ stop
-first_below tokens from word stop None number near = omega (arith, number)
-first_below tokens from word stop (Some dimension) number near = omega (arith, number.1)
+pub number_before : (tokens : List Token) (from word : ℕ) (dimension : Option Number) → SpellsMaybe (SpellsNumber tokens) from dimension word → from ≤ word
+number_before tokens from word None number = omega (arith, number)
+number_before tokens from word (Some dimension) number = omega (arith, number.1)
 
-array_read : (others : List Token) (depth from word end stop to : ℕ) (dimension : Option Number) → from + 1 ≤ stop →
-    ((list : List Selector) → SpellsNamed others depth (word + 1) list to → (to ≡ end) ⊎ ((to ≤ stop) × (extends_operand (what_at others to) ≡ true))) →
+array_read : (others : List Token) (depth from word end to : ℕ) (dimension : Option Number) → from + 1 < end →
+    ((list : List Selector) → SpellsNamed others depth (word + 1) list to → (to ≡ end) ⊎ EndsEarly extends_operand others end to) →
     (IsSome dimension × (to ≡ from + 1) × (extends_operand (what_at others to) ≡ true)) ⊎ ((list : List Selector) × SpellsNamed others depth (word + 1) list to) →
-    (to ≡ end) ⊎ ((to ≤ stop) × (extends_operand (what_at others to) ≡ true))
-array_read others depth from word end stop to dimension near sure (inl number) = inr (omega (arith, number.1), number.2)
-array_read others depth from word end stop to dimension near sure (inr read) = sure read.0 read.1
+    (to ≡ end) ⊎ EndsEarly extends_operand others end to
+array_read others depth from word end to dimension near sure (inl number) = inr (omega (arith, number.1), number.2)
+array_read others depth from word end to dimension near sure (inr read) = sure read.0 read.1
 
 -- no array follows
 pub without_array : (tokens others : List Token) (depth from word stop : ℕ) (dimension : Option Number) (side : Side) →
     SpellsMaybe (SpellsNumber tokens) from dimension word → HasWord tokens word (side_word side) → word + 1 ≤ stop →
     Stuck (λ tokens. SpellsNamed tokens depth) tokens (word + 1) stop → Agree tokens others stop →
-    (x : Primary) (to : ℕ) → SpellsPrimary others depth from x to → (to ≡ from + 1) ⊎ ((to ≤ stop) × (extends_operand (what_at others to) ≡ true))
+    (x : Primary) (to : ℕ) → SpellsPrimary others depth from x to → (to ≡ from + 1) ⊎ EndsEarly extends_operand others (from + 1) to
 without_array tokens others depth from word stop dimension side number stands near stuck agree x to h =
-    number_alone others depth from word stop to dimension (λ list h. stuck others agree list to h)
+    number_alone others depth from word to dimension (λ list h. stuck others agree list to h)
     (limit_others tokens others depth from word stop dimension side number stands agree (omega arith) x to h)
 
 pub without_number : (tokens others : List Token) (depth from word stop : ℕ) (dimension : Option Number) (side : Side) →
@@ -242,9 +241,9 @@ without_number tokens others depth from word stop dimension side number stands n
 
 -- an array follows
 pub with_array : (tokens others : List Token) (depth from word end stop : ℕ) (dimension : Option Number) (side : Side) →
-    SpellsMaybe (SpellsNumber tokens) from dimension word → HasWord tokens word (side_word side) → word + 1 ≤ stop →
+    SpellsMaybe (SpellsNumber tokens) from dimension word → HasWord tokens word (side_word side) → word + 1 < end → end ≤ stop →
     Sure (λ tokens. SpellsNamed tokens depth) extends_operand tokens (word + 1) end stop → Agree tokens others stop →
-    (x : Primary) (to : ℕ) → SpellsPrimary others depth from x to → (to ≡ end) ⊎ ((to ≤ stop) × (extends_operand (what_at others to) ≡ true))
-with_array tokens others depth from word end stop dimension side number stands near sure agree x to h =
-    array_read others depth from word end stop to dimension (first_below tokens from word stop dimension number near) (λ list h. sure others agree list to h)
+    (x : Primary) (to : ℕ) → SpellsPrimary others depth from x to → (to ≡ end) ⊎ EndsEarly extends_operand others end to
+with_array tokens others depth from word end stop dimension side number stands ahead near sure agree x to h =
+    array_read others depth from word end to dimension (omega (arith, number_before tokens from word dimension number)) (λ list h. sure others agree list to h)
     (limit_others tokens others depth from word stop dimension side number stands agree (omega arith) x to h)

@@ -12,7 +12,7 @@ use Rattle.pearl_tree.specs.declared.token.Token.{Token}
 use Rattle.pearl_tree.specs.Standing.{what_at}
 use Rattle.pearl_tree.specs.Expressions.{SpellsSecs, SpellsSeconds, SpellsDuration, SpellsLiteral}
 use Rattle.pearl_tree.specs.WordCodes as w
-use Rattle.pearl_parse_expr.specs.Stops.{Agree, Stuck, is_counted, is_number, is_secs, extends_operand, SpellsMaybeSeconds}
+use Rattle.pearl_parse_expr.specs.Stops.{Agree, Stuck, EndsEarly, is_counted, is_number, is_secs, extends_operand, SpellsMaybeSeconds}
 
 -- a number with the word that it has not
 number_then_word : (word : ℕ) (tokens others : List Token) (from stop value : ℕ) → Agree tokens others stop → from ≤ stop →
@@ -70,14 +70,14 @@ number_extends (Some (what.Symbol symbol)) h = absurd (true≢false (sym h))
 number_extends None h = absurd (true≢false (sym h))
 
 -- hours and minutes, then perhaps seconds
-module _ (tokens : List Token) (from stop end : ℕ) (far : from + 4 ≤ stop)
+module _ (tokens : List Token) (from end : ℕ) (far : from + 4 ≤ end)
     (hours_word : what_at tokens (from + 1) ≡ Some (what.Word w.HRS))
     (number : is_number (what_at tokens (from + 2)) ≡ true)
     (minutes_word : what_at tokens (from + 3) ≡ Some (what.Word w.MIN))
     (sure : (x : Option Secs) (to : ℕ) → SpellsMaybeSeconds tokens (from + 4) x to →
-    (to ≡ end) ⊎ ((to ≤ stop) × (extends_operand (what_at tokens to) ≡ true))) where
+    (to ≡ end) ⊎ EndsEarly extends_operand tokens end to) where
   pub after_minutes : (x : Duration) (to : ℕ) → SpellsDuration tokens from x to →
-      (to ≡ end) ⊎ ((to ≤ stop) × (extends_operand (what_at tokens to) ≡ true))
+      (to ≡ end) ⊎ EndsEarly extends_operand tokens end to
   after_minutes (Hours hours None None place) to h =
       let at : to ≡ from + 2 = omega (arith, h.4, h.5) in
       inr (omega arith, subst (λ k. extends_operand (what_at tokens k) ≡ true) (sym at) (number_extends (what_at tokens (from + 2)) number))

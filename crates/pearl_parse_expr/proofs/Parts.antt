@@ -7,7 +7,7 @@ use Rattle.pearl_tree.specs.declared.token.Token.{Token}
 use Rattle.pearl_tree.specs.Standing.{what_at, HasSymbol, SpellsMore}
 use Rattle.pearl_tree.specs.Expressions.{SpellsSelector, SpellsExpr}
 use Rattle.pearl_tree.specs.Symbols as s
-use Rattle.pearl_parse_expr.specs.Stops.{Agree, Sure, Stuck, Exact, is_symbol, extends_operand, extends_expression, extends_list, SpellsSelectorsList, SpellsSubscriptsList}
+use Rattle.pearl_parse_expr.specs.Stops.{Agree, Sure, Stuck, Exact, EndsEarly, is_symbol, extends_operand, extends_expression, extends_list, SpellsSelectorsList, SpellsSubscriptsList}
 use Rattle.pearl_parse_expr.proofs.Primaries.{clash}
 
 pub shorter : (tokens others : List Token) (short long : ℕ) → short ≤ long → Agree tokens others long → Agree tokens others short
@@ -17,44 +17,39 @@ shorter tokens others short long below agree = λ k h. agree k (omega arith)
 abbrev pub SelectorsGo : List Token → ℕ → ℕ → ℕ → ℕ → Type 0
 SelectorsGo tokens depth from end stop =
     (others : List Token) → Agree tokens others stop → (xs : List Selector) (to : ℕ) → SpellsSelectorsList others depth from xs to →
-    ((to ≤ stop) × (extends_operand (what_at others to) ≡ true)) ⊎ ((ys : List Selector) × SpellsSelectorsList others depth end ys to)
+    EndsEarly extends_operand others end to ⊎ ((ys : List Selector) × SpellsSelectorsList others depth end ys to)
 
 module _ (tokens : List Token) (depth from : ℕ) where
-  pub selectors_begin : (stop : ℕ) → SelectorsGo tokens depth from from stop
-  selectors_begin stop = λ others agree xs to h. inr (xs, h)
-
-  selectors_step : (end stop next new : ℕ) (others : List Token) → end ≤ new → stop ≤ new → what_at others end ≡ what_at tokens end →
-      extends_operand (what_at tokens end) ≡ true →
-      ((x : Selector) (to : ℕ) → SpellsSelector others depth end x to → to ≡ next) → (to : ℕ) →
-      ((to ≤ stop) × (extends_operand (what_at others to) ≡ true)) ⊎ ((ys : List Selector) × SpellsSelectorsList others depth end ys to) →
-      ((to ≤ new) × (extends_operand (what_at others to) ≡ true)) ⊎ ((ys : List Selector) × SpellsSelectorsList others depth next ys to)
-  selectors_step end stop next new others near below same opens exact to (inl early) = inl (omega (arith, early.0), early.1)
-  selectors_step end stop next new others near below same opens exact to (inr ([], h)) =
-      inl (omega (arith, h), subst (λ k. extends_operand (what_at others k) ≡ true) (sym h) (ap extends_operand same ∙ opens))
-  selectors_step end stop next new others near below same opens exact to (inr (y ∷ ys, h)) =
+  selectors_step : (end next to : ℕ) (others : List Token) → end < next → extends_operand (what_at others end) ≡ true →
+      ((x : Selector) (to : ℕ) → SpellsSelector others depth end x to → to ≡ next) →
+      EndsEarly extends_operand others end to ⊎ ((ys : List Selector) × SpellsSelectorsList others depth end ys to) →
+      EndsEarly extends_operand others next to ⊎ ((ys : List Selector) × SpellsSelectorsList others depth next ys to)
+  selectors_step end next to others ahead opens exact (inl early) = inl (omega (arith, early.0), early.1)
+  selectors_step end next to others ahead opens exact (inr ([], h)) =
+      inl (omega (arith, h), subst (λ k. extends_operand (what_at others k) ≡ true) (sym h) opens)
+  selectors_step end next to others ahead opens exact (inr (y ∷ ys, h)) =
       inr (ys, subst (λ k. SpellsSelectorsList others depth k ys to) (exact y h.0 h.1) h.2)
 
-  pub selectors_next : (end stop next last new : ℕ) → SelectorsGo tokens depth from end stop → end ≤ stop → stop ≤ new → last ≤ new →
-      extends_operand (what_at tokens end) ≡ true → Exact (λ tokens. SpellsSelector tokens depth) tokens end next last →
+  pub selectors_next : (end stop next last new : ℕ) → SelectorsGo tokens depth from end stop → end ≤ stop → end < next → stop ≤ new →
+      last ≤ new → extends_operand (what_at tokens end) ≡ true → Exact (λ tokens. SpellsSelector tokens depth) tokens end next last →
       SelectorsGo tokens depth from next new
-  selectors_next end stop next last new go near below reach opens exact = λ others agree xs to h.
-      selectors_step end stop next new others (omega arith) below (agree end (omega arith)) opens
-      (λ x to h. exact others (shorter tokens others last new reach agree) x to h) to
+  selectors_next end stop next last new go near ahead below reach opens exact = λ others agree xs to h.
+      selectors_step end next to others ahead (ap extends_operand (agree end (omega arith)) ∙ opens)
+      (λ x to h. exact others (shorter tokens others last new reach agree) x to h)
       (go others (shorter tokens others stop new below agree) xs to h)
 
-  selectors_stuck : (end stop new : ℕ) (others : List Token) → stop ≤ new →
-      ((x : Selector) (to : ℕ) → SpellsSelector others depth end x to → ⊥) → (to : ℕ) →
-      ((to ≤ stop) × (extends_operand (what_at others to) ≡ true)) ⊎ ((ys : List Selector) × SpellsSelectorsList others depth end ys to) →
-      (to ≡ end) ⊎ ((to ≤ new) × (extends_operand (what_at others to) ≡ true))
-  selectors_stuck end stop new others below stuck to (inl early) = inr (omega (arith, early.0), early.1)
-  selectors_stuck end stop new others below stuck to (inr ([], h)) = inl h
-  selectors_stuck end stop new others below stuck to (inr (y ∷ ys, h)) = absurd (stuck y h.0 h.1)
+  selectors_stuck : (end to : ℕ) (others : List Token) → ((x : Selector) (to : ℕ) → SpellsSelector others depth end x to → ⊥) →
+      EndsEarly extends_operand others end to ⊎ ((ys : List Selector) × SpellsSelectorsList others depth end ys to) →
+      (to ≡ end) ⊎ EndsEarly extends_operand others end to
+  selectors_stuck end to others stuck (inl early) = inr early
+  selectors_stuck end to others stuck (inr ([], h)) = inl h
+  selectors_stuck end to others stuck (inr (y ∷ ys, h)) = absurd (stuck y h.0 h.1)
 
   pub selectors_end : (end stop last new : ℕ) → SelectorsGo tokens depth from end stop → stop ≤ new → last ≤ new →
       Stuck (λ tokens. SpellsSelector tokens depth) tokens end last →
       Sure (λ tokens. SpellsSelectorsList tokens depth) extends_operand tokens from end new
   selectors_end end stop last new go below reach stuck = λ others agree xs to h.
-      selectors_stuck end stop new others below (λ x to h. stuck others (shorter tokens others last new reach agree) x to h) to
+      selectors_stuck end to others (λ x to h. stuck others (shorter tokens others last new reach agree) x to h)
       (go others (shorter tokens others stop new below agree) xs to h)
 
 pub or_first : (a b : Bool) → a ≡ true → (a || b) ≡ true
@@ -72,74 +67,66 @@ list_extends token h = or_first (extends_expression token) (is_symbol s.comma to
 abbrev pub SubscriptsGo : List Token → ℕ → ℕ → ℕ → ℕ → Type 0
 SubscriptsGo tokens depth from end stop =
     (others : List Token) → Agree tokens others stop → (xs : List Expr) (to : ℕ) → SpellsSubscriptsList others depth from xs to →
-    ((to ≤ stop) × (extends_list (what_at others to) ≡ true)) ⊎ ((ys : List Expr) × SpellsMore others (SpellsExpr others depth) end ys to)
+    EndsEarly extends_list others end to ⊎ ((ys : List Expr) × SpellsMore others (SpellsExpr others depth) end ys to)
 
 module _ (tokens : List Token) (depth from : ℕ) where
   -- behind one more expression
-  after_expression : (others : List Token) (end stop m to : ℕ) (ys : List Expr) →
-      SpellsMore others (SpellsExpr others depth) m ys to →
-      (m ≡ end) ⊎ ((m ≤ stop) × (extends_expression (what_at others m) ≡ true)) →
-      ((to ≤ stop) × (extends_list (what_at others to) ≡ true)) ⊎ ((ys : List Expr) × SpellsMore others (SpellsExpr others depth) end ys to)
-  after_expression others end stop m to ys h (inl same) = inr (ys, subst (λ k. SpellsMore others (SpellsExpr others depth) k ys to) same h)
-  after_expression others end stop m to [] h (inr early) =
+  after_expression : (others : List Token) (end m to : ℕ) (ys : List Expr) → SpellsMore others (SpellsExpr others depth) m ys to →
+      (m ≡ end) ⊎ EndsEarly extends_expression others end m →
+      EndsEarly extends_list others end to ⊎ ((ys : List Expr) × SpellsMore others (SpellsExpr others depth) end ys to)
+  after_expression others end m to ys h (inl same) = inr (ys, subst (λ k. SpellsMore others (SpellsExpr others depth) k ys to) same h)
+  after_expression others end m to [] h (inr early) =
       inl (omega (arith, h, early.0), subst (λ k. extends_list (what_at others k) ≡ true) (sym h) (list_extends (what_at others m) early.1))
-  after_expression others end stop m to (y ∷ ys) h (inr early) = absurd (clash _ early.1 (ap extends_expression h.1))
+  after_expression others end m to (y ∷ ys) h (inr early) = absurd (clash _ early.1 (ap extends_expression h.1))
 
-  begin_list : (others : List Token) (end stop : ℕ) →
-      ((x : Expr) (to : ℕ) → SpellsExpr others depth from x to → (to ≡ end) ⊎ ((to ≤ stop) × (extends_expression (what_at others to) ≡ true))) →
+  list_begins : (others : List Token) (end : ℕ) →
+      ((x : Expr) (to : ℕ) → SpellsExpr others depth from x to → (to ≡ end) ⊎ EndsEarly extends_expression others end to) →
       (xs : List Expr) (to : ℕ) → SpellsSubscriptsList others depth from xs to →
-      ((to ≤ stop) × (extends_list (what_at others to) ≡ true)) ⊎ ((ys : List Expr) × SpellsMore others (SpellsExpr others depth) end ys to)
-  begin_list others end stop sure [] to h = absurd h
-  begin_list others end stop sure (x ∷ xs) to h = after_expression others end stop h.0 to xs h.2 (sure x h.0 h.1)
+      EndsEarly extends_list others end to ⊎ ((ys : List Expr) × SpellsMore others (SpellsExpr others depth) end ys to)
+  list_begins others end sure [] to h = absurd h
+  list_begins others end sure (x ∷ xs) to h = after_expression others end h.0 to xs h.2 (sure x h.0 h.1)
 
   pub subscripts_begin : (end stop : ℕ) → Sure (λ tokens. SpellsExpr tokens depth) extends_expression tokens from end stop →
       SubscriptsGo tokens depth from end stop
-  subscripts_begin end stop sure = λ others agree xs to h. begin_list others end stop (λ x to h. sure others agree x to h) xs to h
+  subscripts_begin end stop sure = λ others agree xs to h. list_begins others end (λ x to h. sure others agree x to h) xs to h
 
-  list_step : (others : List Token) (end stop next new : ℕ) → end ≤ new → stop ≤ new → HasSymbol others end s.comma →
-      ((x : Expr) (to : ℕ) → SpellsExpr others depth (end + 1) x to → (to ≡ next) ⊎ ((to ≤ new) × (extends_expression (what_at others to) ≡ true))) →
-      (to : ℕ) → ((to ≤ stop) × (extends_list (what_at others to) ≡ true)) ⊎ ((ys : List Expr) × SpellsMore others (SpellsExpr others depth) end ys to) →
-      ((to ≤ new) × (extends_list (what_at others to) ≡ true)) ⊎ ((ys : List Expr) × SpellsMore others (SpellsExpr others depth) next ys to)
-  list_step others end stop next new near below comma sure to (inl early) = inl (omega (arith, early.0), early.1)
-  list_step others end stop next new near below comma sure to (inr ([], h)) =
+  list_step : (others : List Token) (end next to : ℕ) → end < next → HasSymbol others end s.comma →
+      ((x : Expr) (to : ℕ) → SpellsExpr others depth (end + 1) x to → (to ≡ next) ⊎ EndsEarly extends_expression others next to) →
+      EndsEarly extends_list others end to ⊎ ((ys : List Expr) × SpellsMore others (SpellsExpr others depth) end ys to) →
+      EndsEarly extends_list others next to ⊎ ((ys : List Expr) × SpellsMore others (SpellsExpr others depth) next ys to)
+  list_step others end next to ahead comma sure (inl early) = inl (omega (arith, early.0), early.1)
+  list_step others end next to ahead comma sure (inr ([], h)) =
       inl (omega (arith, h), subst (λ k. extends_list (what_at others k) ≡ true) (sym h) (ap extends_list comma))
-  list_step others end stop next new near below comma sure to (inr (y ∷ ys, h)) =
-      after_expression others next new h.0 to ys h.3 (sure y h.0 h.2)
+  list_step others end next to ahead comma sure (inr (y ∷ ys, h)) = after_expression others next h.0 to ys h.3 (sure y h.0 h.2)
 
-  later : (others : List Token) (next last new to : ℕ) → last ≤ new →
-      (to ≡ next) ⊎ ((to ≤ last) × (extends_expression (what_at others to) ≡ true)) →
-      (to ≡ next) ⊎ ((to ≤ new) × (extends_expression (what_at others to) ≡ true))
-  later others next last new to reach (inl same) = inl same
-  later others next last new to reach (inr early) = inr (omega (arith, early.0), early.1)
-
-  pub subscripts_next : (end stop next last new : ℕ) → SubscriptsGo tokens depth from end stop → end ≤ stop → stop ≤ new → last ≤ new →
-      HasSymbol tokens end s.comma → Sure (λ tokens. SpellsExpr tokens depth) extends_expression tokens (end + 1) next last →
+  pub subscripts_next : (end stop next last new : ℕ) → SubscriptsGo tokens depth from end stop → end ≤ stop → end < next → stop ≤ new →
+      last ≤ new → HasSymbol tokens end s.comma → Sure (λ tokens. SpellsExpr tokens depth) extends_expression tokens (end + 1) next last →
       SubscriptsGo tokens depth from next new
-  subscripts_next end stop next last new go near below reach comma sure = λ others agree xs to h.
-      list_step others end stop next new (omega arith) below (agree end (omega arith) ∙ comma)
-      (λ x to h. later others next last new to reach (sure others (shorter tokens others last new reach agree) x to h)) to
+  subscripts_next end stop next last new go near ahead below reach comma sure = λ others agree xs to h.
+      list_step others end next to ahead (agree end (omega arith) ∙ comma)
+      (λ x to h. sure others (shorter tokens others last new reach agree) x to h)
       (go others (shorter tokens others stop new below agree) xs to h)
 
-  list_end : (others : List Token) (end stop new : ℕ) → stop ≤ new →
+  list_ends : (others : List Token) (end to : ℕ) →
       (HasSymbol others end s.comma → (x : Expr) (to : ℕ) → SpellsExpr others depth (end + 1) x to → ⊥) →
-      (to : ℕ) → ((to ≤ stop) × (extends_list (what_at others to) ≡ true)) ⊎ ((ys : List Expr) × SpellsMore others (SpellsExpr others depth) end ys to) →
-      (to ≡ end) ⊎ ((to ≤ new) × (extends_list (what_at others to) ≡ true))
-  list_end others end stop new below stuck to (inl early) = inr (omega (arith, early.0), early.1)
-  list_end others end stop new below stuck to (inr ([], h)) = inl h
-  list_end others end stop new below stuck to (inr (y ∷ ys, h)) = absurd (stuck h.1 y h.0 h.2)
+      EndsEarly extends_list others end to ⊎ ((ys : List Expr) × SpellsMore others (SpellsExpr others depth) end ys to) →
+      (to ≡ end) ⊎ EndsEarly extends_list others end to
+  list_ends others end to stuck (inl early) = inr early
+  list_ends others end to stuck (inr ([], h)) = inl h
+  list_ends others end to stuck (inr (y ∷ ys, h)) = absurd (stuck h.1 y h.0 h.2)
 
   pub subscripts_end : (end stop : ℕ) → SubscriptsGo tokens depth from end stop → end ≤ stop →
       is_symbol s.comma (what_at tokens end) ≡ false →
       Sure (λ tokens. SpellsSubscriptsList tokens depth) extends_list tokens from end stop
   subscripts_end end stop go near no_comma = λ others agree xs to h.
-      list_end others end stop stop (omega arith)
-      (λ comma x to h. clash _ (ap (is_symbol s.comma) comma) (ap (is_symbol s.comma) (agree end near) ∙ no_comma)) to
+      list_ends others end to
+      (λ comma x to h. clash _ (ap (is_symbol s.comma) comma) (ap (is_symbol s.comma) (agree end near) ∙ no_comma))
       (go others agree xs to h)
 
   pub subscripts_stuck : (end stop last new : ℕ) → SubscriptsGo tokens depth from end stop → stop ≤ new → last ≤ new →
       Stuck (λ tokens. SpellsExpr tokens depth) tokens (end + 1) last →
       Sure (λ tokens. SpellsSubscriptsList tokens depth) extends_list tokens from end new
   subscripts_stuck end stop last new go below reach stuck = λ others agree xs to h.
-      list_end others end stop new below
-      (λ comma x to h. stuck others (shorter tokens others last new reach agree) x to h) to
+      list_ends others end to
+      (λ comma x to h. stuck others (shorter tokens others last new reach agree) x to h)
       (go others (shorter tokens others stop new below agree) xs to h)

@@ -1,5 +1,5 @@
 -- What tokens that begin alike have in common: which token goes on with a part, and with which none goes on.
-use Rattle.std.specs.Prelude.{if◌then◌else◌, ◌≡◌, ℕ, ◌+◌, ◌<◌, ◌≤◌, ◌⊎◌, ◌==◌, ◌||◌, ◌&&◌, Bool, true, false, List, length, Option, Some, None}
+use Rattle.std.specs.Prelude.{if◌then◌else◌, ◌≡◌, ℕ, ◌+◌, ◌<◌, ◌≤◌, ◌⊎◌, ◌==◌, ◌||◌, ◌&&◌, ◌-◌, ◌^◌, unwrap_or, Bool, true, false, List, length, Option, Some, None}
 use Rattle.std.specs.Option.{option_and_then}
 use Rattle.pearl_tree.specs.declared.expression.Monad.{Monad}
 use Rattle.pearl_tree.specs.declared.expression.Monad.TheVariants as monad
@@ -12,8 +12,10 @@ use Rattle.pearl_tree.specs.declared.expression.Monadic.{Monadic}
 use Rattle.pearl_tree.specs.declared.expression.Expr.{Expr}
 use Rattle.pearl_tree.specs.declared.expression.Primary.{Primary}
 use Rattle.pearl_tree.specs.declared.expression.Selector.{Selector}
-use Rattle.pearl_tree.specs.Standing.{Spelling, SpellsMaybe, SpellsEach, SpellsList, what_at}
-use Rattle.pearl_tree.specs.Expressions.{dyad_of, SpellsSeconds, SpellsMonadic, SpellsPrimary, SpellsSelector, SpellsExpr}
+use Rattle.pearl_tree.specs.Standing.{Spelling, SpellsMaybe, SpellsEach, SpellsList, what_at, place_at}
+use Rattle.pearl_tree.specs.Expressions.{dyad_of, SpellsSeconds, SpellsMonadic, SpellsPrimary, SpellsSelector, SpellsExpr, SpellsWhole}
+use Rattle.pearl_parse_expr.specs.declared.fault.ParseFault.{ParseFault}
+use Rattle.pearl_parse_expr.specs.declared.fault.ParseFault.TheVariants as fault
 use Rattle.pearl_parse_expr.specs.declared.reading.Halt.{Halt}
 use Rattle.pearl_parse_expr.specs.declared.reading.Halt.TheVariants.{Refused, NoMemory}
 use Rattle.pearl_tree.specs.Symbols as s
@@ -40,11 +42,16 @@ is_some_dyad (Some operator) = true
 abbrev pub extends_expression : Option What → Bool
 extends_expression token = extends_operand token || is_some_dyad (option_and_then dyad_of token)
 
--- however the tokens behind this one are replaced, what begins at `from` ends at `end`, or before a token that goes on with it
+-- it ends before a token that goes on with it, and before this number
+abbrev pub EndsEarly : (Option What → Bool) → List Token → ℕ → ℕ → Type 0
+EndsEarly extends tokens end to = (to < end) × (extends (what_at tokens to) ≡ true)
+
+-- however the tokens behind this one are replaced, what begins at `from` ends at `end`, or before a token that goes on
+-- with it
 abbrev pub Sure : {X : Type 0} → (List Token → Spelling X) → (Option What → Bool) → List Token → ℕ → ℕ → ℕ → Type 0
 Sure {X} spells extends tokens from end stop =
     (others : List Token) → Agree tokens others stop → (x : X) (to : ℕ) → spells others from x to →
-    (to ≡ end) ⊎ ((to ≤ stop) × (extends (what_at others to) ≡ true))
+    (to ≡ end) ⊎ EndsEarly extends others end to
 
 -- however the tokens behind this one are replaced, none begins at `from`
 abbrev pub Stuck : {X : Type 0} → (List Token → Spelling X) → List Token → ℕ → ℕ → Type 0
@@ -149,3 +156,25 @@ SpellsSelectorsList tokens depth = SpellsEach (SpellsSelector tokens depth)
 -- expr { "," expr }
 abbrev pub SpellsSubscriptsList : List Token → ℕ → Spelling (List Expr)
 SpellsSubscriptsList tokens depth = SpellsList tokens (SpellsExpr tokens depth)
+
+-- no expression that begins at `from` goes past this token, however the tokens behind it are replaced
+abbrev pub NoneGoesPast : List Token → ℕ → ℕ → Type 0
+NoneGoesPast tokens from stop =
+    (others : List Token) → Agree tokens others stop → (expr : Expr) (to : ℕ) → SpellsWhole others from expr to → to ≤ stop
+
+-- where the token stands; past the end a place that no token has
+abbrev pub stop_place : List Token → ℕ → ℕ
+stop_place tokens stop = unwrap_or (place_at tokens stop) (2 ^ 32 - 1)
+
+-- the place of a token with which, up to and with it, no expression goes on from `from`
+pub record IsStop (tokens : List Token) (from place : ℕ) : Type 0 where
+  pub token : ℕ
+  pub stands : place ≡ stop_place tokens token
+  pub on : from ≤ token
+  pub none : NoneGoesPast tokens from token
+
+-- what is told where no expression begins
+abbrev pub IsRefused : List Token → ℕ → ParseFault → Type 0
+IsRefused tokens from fault.NoMemory = Unit {0}
+IsRefused tokens from (fault.Refused place) =
+    ((expr : Expr) (to : ℕ) → SpellsWhole tokens from expr to → ⊥) × IsStop tokens from place

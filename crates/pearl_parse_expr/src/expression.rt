@@ -4,6 +4,7 @@ ghost use Rattle.std.specs.Prelude.{◌≡◌, ℕ, ◌+◌, ◌-◌, ◌<◌, �
 ghost use Rattle.std.specs.Option.{option_and_then};
 ghost use Rattle.pearl_tree.specs.declared.token.Token.{Token};
 ghost use Rattle.pearl_tree.specs.declared.expression.Expr as tree;
+ghost use Rattle.pearl_tree.specs.declared.expression.Expr.{Expr};
 ghost use Rattle.pearl_tree.specs.Standing.{what_at, IsAt, HasWord, HasSymbol, SpellsEach, SpellsMaybe, SpellsNumber};
 ghost use Rattle.pearl_tree.specs.Expressions as grammar;
 ghost use Rattle.pearl_tree.specs.WordCodes as w;
@@ -625,7 +626,9 @@ pub fn level(alloc: Global, tokens: &[Token], from: usize, depth: u8) -> Result<
     })
 }
 
-fn stop_place(tokens: &[Token], stop: usize) -> u32 {
+fn stop_place(tokens: &[Token], stop: usize) -> u32
+    ensures { result ≡ spec.stop_place tokens.now stop }
+{
     match tokens.get(stop) {
         Some(token) => token.place,
         None => NO_PLACE,
@@ -638,7 +641,16 @@ pub fn expression(
     alloc: Global,
     tokens: &[Token],
     from: usize,
-) -> Result<(Expr, usize, u32), ParseFault> {
+) -> Result<(Expr, usize, u32), ParseFault>
+    ensures spells { IfOk result (λ found. grammar.SpellsWhole tokens.now from found.0 found.1) }
+    ensures longest { IfOk result (λ found. (expr : Expr) (to : ℕ) → grammar.SpellsWhole tokens.now from expr to → (to ≡ found.1) ⊎ spec.EndsEarly spec.extends_expression tokens.now found.1 to) }
+    ensures stop { IfOk result (λ found. spec.IsStop tokens.now from found.2) }
+    ensures refused { IfErr result (λ fault. spec.IsRefused tokens.now from fault) }
+    ensures within { IfOk result (λ found. (from < found.1) × (found.1 ≤ length tokens.now)) }
+{
+    if from > tokens.len() {
+        return Err(ParseFault::Refused(NO_PLACE));
+    }
     match level(alloc, tokens, from, BRACKETS_MAX) {
         Ok(reading) => Ok((reading.part, reading.end, stop_place(tokens, reading.stop))),
         Err(halt) => match halt {

@@ -10,7 +10,7 @@ use Rattle.pearl_parse_expr.proofs.Lists.{each_one_more, list_one_more}
 use Rattle.pearl_parse_expr.proofs.Parts.{selectors_next, selectors_end, subscripts_begin, subscripts_next, subscripts_end, subscripts_stuck}
 use Rattle.pearl_parse_expr.proofs.Chains.{chain_begins, chain_goes_on, chain_ends, chain_is_stuck, chain_is_full, no_chain_halted}
 use Rattle.pearl_parse_expr.proofs.Halts.{halted, at_depth, ok_map, err_map, stuck_of}
-use Rattle.pearl_parse_expr.proofs.Limits.{same_monadics, with_array, first_below}
+use Rattle.pearl_parse_expr.proofs.Limits.{same_monadics, with_array}
 use Rattle.pearl_parse_expr.proofs.Closings.{group_is_sure, group_is_open, list_is_exact, list_is_open}
 use Rattle.pearl_parse_expr.proofs.expression.+expression.Goals as goal
 use Rattle.pearl_parse_expr.proofs.expression.+expression.Goals.{selector-else-depth-gt0-via-then-depth-gt0+else-is_symbol-2, selector-else-depth-gt0-via-else-depth-gt0}
@@ -116,13 +116,14 @@ level-each-preserved t c =
     let read = c.in-Ok-operand.ensures in
     let whole = c.in_ok-expr-in-Ok-operand.ensures in
     let near : c.each.end ≤ c.each.stop = omega (arith, c.each.invariant.ahead) in
+    let ahead : c.each.end < next.end = omega (arith, read.ahead) in
     let below : c.each.stop ≤ c.max-stop.result = omega (arith, c.max-stop.ensures) in
     let reach : next.stop ≤ c.max-stop.result = omega (arith, c.max-stop.ensures) in
     record {
       spells = whole.spells c.args.tokens.now c.args.depth c.args.from c.each.end next.end c.each.invariant.spells c.in-Some.ensures.some c.in-Some.ensures.place read.spells;
       count = whole.count ∙ ap (λ n. n + 1) c.each.invariant.count;
       goes = chain_goes_on c.args.tokens.now c.args.depth c.args.from c.each.end c.each.stop next.end next.stop c.max-stop.result c.each.count c.in-Some.dyadic.operator
-          c.each.invariant.goes near below reach c.in-Some.ensures.some read.sure;
+          c.each.invariant.goes near ahead below reach c.in-Some.ensures.some read.sure;
       ahead = (omega (arith, c.each.invariant.ahead, read.ahead), omega (arith, read.ahead), omega (arith, c.each.invariant.ahead, read.ahead, c.max-stop.ensures));
       few = omega (arith, c.each-test.true);
     }
@@ -149,7 +150,7 @@ pub limit-returns-in-Ok-clause-sure : goal.limit-returns-in-Ok-clause-sure
 limit-returns-in-Ok-clause-sure t c = λ others agree x to h.
     let head = c.args.head in
     with_array c.args.tokens.now others c.args.depth c.args.from head.word c.in-Ok.array.end c.in-Ok.array.stop head.dimension head.side c.requires.dimension c.requires.word
-    (omega (arith, c.in-Ok.ensures.ahead)) c.in-Ok.ensures.sure agree x to h
+    (omega (arith, c.in-Ok.ensures.ahead)) (omega (arith, c.in-Ok.ensures.ahead)) c.in-Ok.ensures.sure agree x to h
 
 limit_stuck : (t : ℕ) (c : goal.limit-After-without_array t) → spec.Stuck (λ tokens. spec.SpellsNamed tokens c.args.depth) c.args.tokens.now (c.args.head.word + 1) c.in-Refused.stop
 limit_stuck t c = (stuck_of (λ tokens. spec.SpellsNamed tokens c.args.depth) c.args.tokens.now (c.args.head.word + 1) c.in-Refused.stop c.in-Err.halt c.in-Refused.is c.in-Err.ensures.refused).0
@@ -229,12 +230,13 @@ selectors-each-preserved t c =
     let next = c.in-Ok.next in
     let read = c.in-Ok.ensures in
     let near : c.each.end ≤ c.each.stop = omega (arith, c.each.invariant.ahead) in
+    let ahead : c.each.end < next.end = omega (arith, read.ahead) in
     let below : c.each.stop ≤ c.max-stop.result = omega (arith, c.max-stop.ensures) in
     let reach : next.stop ≤ c.max-stop.result = omega (arith, c.max-stop.ensures) in
     record {
       spells = subst (λ xs. spec.SpellsSelectorsList tokens depth c.args.from xs next.end) (sym c.in_ok-append-in-Ok.ensures.more)
           (each_one_more (grammar.SpellsSelector tokens depth) c.each.list.items c.args.from c.each.end next.end next.part c.each.invariant.spells read.spells);
-      goes = selectors_next tokens depth c.args.from c.each.end c.each.stop next.end next.stop c.max-stop.result c.each.invariant.goes near below reach
+      goes = selectors_next tokens depth c.args.from c.each.end c.each.stop next.end next.stop c.max-stop.result c.each.invariant.goes near ahead below reach
           (selector_extends tokens depth c.each.end next.part next.end read.spells) read.sure;
       ahead = (omega (arith, c.each.invariant.ahead, read.ahead), omega (arith, read.ahead), omega (arith, c.each.invariant.ahead, read.ahead, c.max-stop.ensures));
     }
@@ -265,12 +267,13 @@ subscripts-each-preserved t c =
     let read = c.in-Ok.ensures in
     let comma = c.each-test.ensures.stands refl in
     let near : c.each.end ≤ c.each.stop = omega (arith, c.each.invariant.ahead) in
+    let ahead : c.each.end < next.end = omega (arith, read.ahead) in
     let below : c.each.stop ≤ c.max-stop.result = omega (arith, c.max-stop.ensures) in
     let reach : next.stop ≤ c.max-stop.result = omega (arith, c.max-stop.ensures) in
     record {
       spells = subst (λ xs. spec.SpellsSubscriptsList tokens depth c.args.from xs next.end) (sym c.in_ok-append-in-Ok.ensures.more)
           (list_one_more tokens (grammar.SpellsExpr tokens depth) c.each.list.items c.args.from c.each.end next.end next.part c.each.invariant.spells comma read.spells);
-      goes = subscripts_next tokens depth c.args.from c.each.end c.each.stop next.end next.stop c.max-stop.result c.each.invariant.goes near below reach comma read.sure;
+      goes = subscripts_next tokens depth c.args.from c.each.end c.each.stop next.end next.stop c.max-stop.result c.each.invariant.goes near ahead below reach comma read.sure;
       ahead = (omega (arith, c.each.invariant.ahead, read.ahead), omega (arith, read.ahead), omega (arith, c.each.invariant.ahead, read.ahead, c.max-stop.ensures));
     }
 
