@@ -19,11 +19,11 @@ use Rattle.pearl_parse_expr.specs.Stops.{Agree, IsHalted, Sure, Stuck, EndsEarly
 use Rattle.pearl_parse_expr.proofs.Primaries.{clash, or_absurd}
 use Rattle.pearl_parse_expr.proofs.Parts.{shorter, or_first, or_second}
 
-abbrev is_dyad : Option What → Bool
+abbrev pub is_dyad : Option What → Bool
 is_dyad token = is_some_dyad (option_and_then dyad_of token)
 
 -- { dyadic operand }, this many times
-abbrev Rest : List Token → ℕ → ℕ → ℕ → ℕ → Type 0
+abbrev pub Rest : List Token → ℕ → ℕ → ℕ → ℕ → Type 0
 Rest tokens depth zero from to = to ≡ from
 Rest tokens depth (suc n) from to =
     (m : ℕ) × (is_dyad (what_at tokens from) ≡ true) × ((x : Primary) × SpellsSigned tokens depth (from + 1) x m) × Rest tokens depth n m to
@@ -36,7 +36,7 @@ join tokens depth (suc a) b from m to h rest =
     let more : suc (a + b) ≡ suc a + b = omega arith in
     subst (λ n. Rest tokens depth n from to) more (h.0, h.1, h.2, join tokens depth a b h.0 m to h.3 rest)
 
-flat : (tokens : List Token) (depth from : ℕ) (x : Expr) (to : ℕ) → SpellsTerms tokens depth from x to →
+pub flat : (tokens : List Token) (depth from : ℕ) (x : Expr) (to : ℕ) → SpellsTerms tokens depth from x to →
     (m : ℕ) × ((x : Primary) × SpellsSigned tokens depth from x m) × Rest tokens depth (dyad_count x) m to
 flat tokens depth from (Operand' monadics part place) to h =
     (to, (part, (h.0, monadics.items.items, h.2, h.3, h.4)), refl)

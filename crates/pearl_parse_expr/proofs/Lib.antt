@@ -6,3 +6,4 @@ pub mod Chains
 pub mod Halts
 pub mod Limits
 pub mod Closings
+pub mod PastEnd
