@@ -3,8 +3,9 @@
 use crate::fault::LexFault;
 use crate::lexer::tokens;
 use pearl_tree::token::{Token, What};
-use std::alloc::Global;
+use std::alloc::{AllocError, Global};
 use std::fmt;
+use std::test::Fail;
 
 #[derive(Clone, Copy)]
 enum Want {
@@ -195,7 +196,7 @@ fn are_same(tokens: &[Token], wants: &[(u32, Want)]) -> bool {
 }
 
 fn has_tokens(alloc: Global, source: &[u8], wants: &[(u32, Want)]) -> bool {
-    if source.len() > 1000 {
+    if source.len() > 1048576 {
         return false;
     }
     match tokens(alloc, source) {
@@ -205,12 +206,24 @@ fn has_tokens(alloc: Global, source: &[u8], wants: &[(u32, Want)]) -> bool {
 }
 
 fn is_refused(alloc: Global, source: &[u8], place: u32) -> bool {
-    if source.len() > 1000 {
+    if source.len() > 1048576 {
         return false;
     }
     match tokens(alloc, source) {
         Err(LexFault::Refused(at)) => at == place,
         _ => false,
+    }
+}
+
+// The source has this many tokens, and each is this one.
+fn has_only(alloc: Global, source: &[u8], want: Want, count: usize) -> bool {
+    if source.len() > 1048576 {
+        return false;
+    }
+    match tokens(alloc, source) {
+        Ok(tokens) => tokens.len() == count
+            && tokens.iter().all(|token| is_same(&token.what, want)),
+        Err(_) => false,
     }
 }
 
@@ -222,5 +235,25 @@ fn answers_sources(rt: HostRuntime) -> Result<(), fmt::Error> {
     for (source, place) in REFUSED {
         assert!(rt; is_refused(rt.alloc(), source, place), "{source:?}");
     }
+    Ok(())
+}
+
+// A source of 1 MiB that is one byte over and over.
+fn repeated(alloc: Global, byte: u8) -> Result<Vec<u8>, AllocError> {
+    let mut bytes = Vec::with_capacity(alloc, 1048576)?;
+    for _ in 0..1048576 {
+        bytes.push(byte)?;
+    }
+    Ok(bytes)
+}
+
+#[test]
+fn long_sources_are_read(rt: HostRuntime) -> Result<(), Fail> {
+    let digits = repeated(rt.alloc(), b'9')?;
+    assert!(rt; is_refused(rt.alloc(), digits.as_slice(), 0));
+    let apostrophes = repeated(rt.alloc(), b'\'')?;
+    assert!(rt; is_refused(rt.alloc(), apostrophes.as_slice(), 0));
+    let strokes = repeated(rt.alloc(), b'/')?;
+    assert!(rt; has_only(rt.alloc(), strokes.as_slice(), Want::Symbol(21), 524288));
     Ok(())
 }

@@ -18,7 +18,7 @@ use Rattle.pearl_tree.specs.Expressions.{SpellsTerms, SpellsExpr, SpellsPrimary,
 use Rattle.pearl_tree.specs.Symbols as s
 
 module _ (tokens : List Token) where
-  selectors : (depth from : ℕ) (n : _) (row : Row_of-Selector n) (to : ℕ) →
+  pub selectors : (depth from : ℕ) (n : _) (row : Row_of-Selector n) (to : ℕ) →
       SpellsSelectors tokens depth from row to ≡
       SpellsEach (SpellsSelector tokens depth) from (items-the_row-Selector n row) to
   selectors depth from _ end_of-Selector to = refl
@@ -33,7 +33,7 @@ module _ (tokens : List Token) where
       λ i. (m : ℕ) × HasSymbol tokens from s.comma × SpellsExpr tokens depth (from + 1) expr m ×
       more_subscripts depth m _ rest to i
 
-  subscripts : (depth from : ℕ) (n : _) (row : Row_of-Expr n) (to : ℕ) →
+  pub subscripts : (depth from : ℕ) (n : _) (row : Row_of-Expr n) (to : ℕ) →
       SpellsSubscripts tokens depth from row to ≡
       SpellsList tokens (SpellsExpr tokens depth) from (items-the_row-Expr n row) to
   subscripts depth from _ end_of-Expr to = refl

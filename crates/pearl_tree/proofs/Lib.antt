@@ -4,3 +4,19 @@ pub mod StatementLists
 mod Examples
 pub mod SpelledLists
 pub mod SpelledLawful
+pub mod LiteralEnds
+pub mod LongestLiterals
+pub mod ListEnds
+pub mod ExpressionsForward
+pub mod OperandEnds
+pub mod Chains
+pub mod Operands
+pub mod OneList
+pub mod OneGrouping
+pub mod OneLiteral
+pub mod OneExpression
+pub mod OneType
+pub mod OneSchedule
+pub mod OneStatement
+pub mod OneModule
+pub mod FirstStop

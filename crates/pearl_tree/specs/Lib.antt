@@ -2,6 +2,14 @@ pub mod WordCodes
 pub mod Symbols
 pub mod Standing
 pub mod Expressions
+pub mod Following
+pub mod Chains
+pub mod ShownExpressions
+pub mod ShownDeclarations
+pub mod ShownStatements
+pub mod ShownModules
+pub mod Stops
+pub mod Laws
 pub mod Types
 pub mod Formats
 pub mod Declarations

@@ -6,6 +6,7 @@ pub mod declaration;
 pub mod expression;
 pub mod fault;
 pub mod format;
+pub mod laws;
 pub mod literal;
 pub mod name;
 pub mod parts;
