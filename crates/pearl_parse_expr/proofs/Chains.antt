@@ -1,5 +1,5 @@
 -- Operands with operators between them: what other tokens can spell that begin as these do, read up to some operand.
-use Rattle.std.proofs.Common.{◌≡◌, ℕ, zero, suc, ◌+◌, ◌<◌, ◌≤◌, Bool, true, false, ◌||◌, List, [], ◌∷◌, length, Option, Some, None, ◌⊎◌, inl, inr, refl, sym, ap, subst, ◌∙◌, arith, true≢false, eqb-true, ◌==◌}
+use Rattle.std.proofs.Common.{◌≡◌, ℕ, zero, suc, ◌+◌, ◌<◌, ◌≤◌, Bool, true, false, ◌||◌, List, [], ◌∷◌, length, Option, Some, None, is_some, ◌⊎◌, inl, inr, refl, sym, ap, subst, ◌∙◌, arith, true≢false, eqb-true, ◌==◌}
 use Rattle.std.specs.Option.{option_and_then}
 use Rattle.pearl_tree.specs.declared.expression.Dyad.{Dyad}
 use Rattle.pearl_tree.specs.declared.expression.Monad.TheVariants as monad
@@ -15,12 +15,14 @@ use Rattle.pearl_tree.specs.WordCodes as w
 use Rattle.pearl_tree.specs.Symbols as s
 use Rattle.pearl_parse_expr.specs.declared.reading.Halt.{Halt}
 use Rattle.pearl_parse_expr.specs.declared.reading.Halt.TheVariants.{Refused, NoMemory}
-use Rattle.pearl_parse_expr.specs.Stops.{Agree, IsHalted, Sure, Stuck, EndsEarly, is_some_dyad, extends_operand, extends_expression, SpellsSigned}
+use Rattle.pearl_tree.specs.Following.{lengthens_operand}
+use Rattle.pearl_tree.specs.Stops.{BeginAlike}
+use Rattle.pearl_parse_expr.specs.Stops.{IsHalted, Sure, Stuck, EndsEarly, extends_operand, extends_expression, SpellsSigned}
 use Rattle.pearl_parse_expr.proofs.Primaries.{clash, or_absurd}
 use Rattle.pearl_parse_expr.proofs.Parts.{shorter, or_first, or_second}
 
 abbrev pub is_dyad : Option What → Bool
-is_dyad token = is_some_dyad (option_and_then dyad_of token)
+is_dyad token = is_some (option_and_then dyad_of token)
 
 -- { dyadic operand }, this many times
 abbrev pub Rest : List Token → ℕ → ℕ → ℕ → ℕ → Type 0
@@ -48,8 +50,16 @@ flat tokens depth from (Dyadic' _ left dyadic _ right place) to h =
       first.1,
       subst (λ n. Rest tokens depth n first.0 to) count
           (join tokens depth (dyad_count left) (suc (dyad_count right)) first.0 h.0 to first.2
-          (second.0, ap is_some_dyad h.3, second.1, second.2)),
+          (second.0, ap is_some h.3, second.1, second.2)),
     )
+
+operand_extends : (token : Option What) → extends_operand token ≡ true → extends_expression token ≡ true
+operand_extends None h = absurd (true≢false (sym h))
+operand_extends (Some token) h = or_first (lengthens_operand token) (is_some (dyad_of token)) h
+
+dyad_extends : (token : Option What) → is_dyad token ≡ true → extends_expression token ≡ true
+dyad_extends None h = absurd (true≢false (sym h))
+dyad_extends (Some token) h = or_second (lengthens_operand token) (is_some (dyad_of token)) h
 
 -- an operator does not go on with an operand
 dyad_is_behind : (token : Option What) → extends_operand token ≡ true → is_dyad token ≡ true → ⊥
@@ -75,7 +85,7 @@ dyad_is_behind None extends dyad = true≢false (sym extends)
 -- a chain from `from` ends early, or goes through `end` with all but `count` of its operators
 abbrev pub ChainGoes : List Token → ℕ → ℕ → ℕ → ℕ → ℕ → Type 0
 ChainGoes tokens depth from end stop count =
-    (others : List Token) → Agree tokens others stop → (m n to : ℕ) (x : Primary) → SpellsSigned others depth from x m → Rest others depth n m to →
+    (others : List Token) → BeginAlike tokens others stop → (m n to : ℕ) (x : Primary) → SpellsSigned others depth from x m → Rest others depth n m to →
     EndsEarly extends_expression others end to ⊎ ((j : ℕ) × (count + j ≡ n) × Rest others depth j end to)
 
 module _ (tokens : List Token) (depth from : ℕ) where
@@ -85,11 +95,7 @@ module _ (tokens : List Token) (depth from : ℕ) where
       EndsEarly extends_expression others end to ⊎ ((j : ℕ) × (count + j ≡ n) × Rest others depth j end to)
   after_operand others end m to count j n h size (inl same) = inr (j, size, subst (λ k. Rest others depth j k to) same h)
   after_operand others end m to count zero n h size (inr early) =
-      inl (
-        omega (arith, h, early.0),
-        subst (λ k. extends_expression (what_at others k) ≡ true) (sym h)
-            (or_first (extends_operand (what_at others m)) (is_dyad (what_at others m)) early.1),
-      )
+      inl (omega (arith, h, early.0), subst (λ k. extends_expression (what_at others k) ≡ true) (sym h) (operand_extends (what_at others m) early.1))
   after_operand others end m to count (suc j) n h size (inr early) = absurd (dyad_is_behind (what_at others m) early.1 h.1)
 
   pub chain_begins : (end stop : ℕ) → Sure (λ tokens. SpellsSigned tokens depth) extends_operand tokens from end stop →
@@ -103,11 +109,7 @@ module _ (tokens : List Token) (depth from : ℕ) where
       EndsEarly extends_expression others next to ⊎ ((j : ℕ) × (count + 1 + j ≡ n) × Rest others depth j next to)
   step others end next count n to ahead dyad sure (inl early) = inl (omega (arith, early.0), early.1)
   step others end next count n to ahead dyad sure (inr (zero, size, h)) =
-      inl (
-        omega (arith, h),
-        subst (λ k. extends_expression (what_at others k) ≡ true) (sym h)
-            (or_second (extends_operand (what_at others end)) (is_dyad (what_at others end)) dyad),
-      )
+      inl (omega (arith, h), subst (λ k. extends_expression (what_at others k) ≡ true) (sym h) (dyad_extends (what_at others end) dyad))
   step others end next count n to ahead dyad sure (inr (suc j, size, h)) =
       after_operand others next h.0 to (count + 1) j n h.3 (omega arith) (sure h.2.0 h.0 h.2.1)
 
@@ -116,7 +118,7 @@ module _ (tokens : List Token) (depth from : ℕ) where
       Sure (λ tokens. SpellsSigned tokens depth) extends_operand tokens (end + 1) next last →
       ChainGoes tokens depth from next new (count + 1)
   chain_goes_on end stop next last new count operator go near ahead below reach dyad sure = λ others agree m n to x first rest.
-      step others end next count n to ahead (ap is_dyad (agree end (omega arith)) ∙ ap is_some_dyad dyad)
+      step others end next count n to ahead (ap is_dyad (sym (agree end (omega arith))) ∙ ap is_some dyad)
       (λ x to h. sure others (shorter tokens others last new reach agree) x to h)
       (go others (shorter tokens others stop new below agree) m n to x first rest)
 
@@ -134,7 +136,7 @@ module _ (tokens : List Token) (depth from : ℕ) where
   chain_ends end stop count go near none = λ others agree x to h.
       let chain = flat others depth from x to h.0 in
       stops others end count (dyad_count x) to
-      (λ j size rest. clash _ rest.1 (ap is_dyad (agree end near) ∙ ap is_some_dyad none))
+      (λ j size rest. clash _ rest.1 (ap is_dyad (sym (agree end near)) ∙ ap is_some none))
       (go others agree chain.0 (dyad_count x) to chain.1.0 chain.1.1 chain.2)
 
   -- no operand follows the operator

@@ -9,7 +9,8 @@ use Rattle.pearl_tree.specs.declared.token.Token.{Token}
 use Rattle.pearl_tree.specs.Standing.{what_at, HasSymbol}
 use Rattle.pearl_tree.specs.Expressions.{SpellsPrimary, SpellsSelector, SpellsExpr}
 use Rattle.pearl_tree.specs.Symbols as s
-use Rattle.pearl_parse_expr.specs.Stops.{Agree, Sure, EndsEarly, extends_expression, extends_list, is_symbol, SpellsSubscriptsList}
+use Rattle.pearl_tree.specs.Stops.{BeginAlike}
+use Rattle.pearl_parse_expr.specs.Stops.{Sure, EndsEarly, extends_expression, extends_list, is_symbol, SpellsSubscriptsList}
 use Rattle.pearl_parse_expr.proofs.Primaries.{clash, only_group, only_bracketed}
 use Rattle.pearl_parse_expr.proofs.Parts.{shorter}
 
@@ -29,18 +30,18 @@ module _ (tokens others : List Token) (depth from end stop : ℕ) where
       (subst (λ k. HasSymbol others k s.right_round) same read.3, omega (arith, same, read.4))
 
   pub group_is_sure : (new : ℕ) → HasSymbol tokens from s.left_round → from ≤ new → stop ≤ new →
-      Sure (λ tokens. SpellsExpr tokens (depth - 1)) extends_expression tokens (from + 1) end stop → Agree tokens others new →
+      Sure (λ tokens. SpellsExpr tokens (depth - 1)) extends_expression tokens (from + 1) end stop → BeginAlike tokens others new →
       (x : Primary) (to : ℕ) → SpellsPrimary others depth from x to → to ≡ end + 1
   group_is_sure new bracket near below sure agree x to h =
-      (group_end (agree from near ∙ bracket) (λ x to h. sure others (shorter tokens others stop new below agree) x to h) x to h).1
+      (group_end (sym (agree from near) ∙ bracket) (λ x to h. sure others (shorter tokens others stop new below agree) x to h) x to h).1
 
   pub group_is_open : HasSymbol tokens from s.left_round → from ≤ stop → end ≤ stop →
       Sure (λ tokens. SpellsExpr tokens (depth - 1)) extends_expression tokens (from + 1) end stop →
-      is_symbol s.right_round (what_at tokens end) ≡ false → Agree tokens others stop →
+      is_symbol s.right_round (what_at tokens end) ≡ false → BeginAlike tokens others stop →
       (x : Primary) (to : ℕ) → SpellsPrimary others depth from x to → ⊥
   group_is_open bracket near below sure unclosed agree x to h =
-      let closed = group_end (agree from near ∙ bracket) (λ x to h. sure others agree x to h) x to h in
-      clash _ (ap (is_symbol s.right_round) closed.0) (ap (is_symbol s.right_round) (agree end below) ∙ unclosed)
+      let closed = group_end (sym (agree from near) ∙ bracket) (λ x to h. sure others agree x to h) x to h in
+      clash _ (ap (is_symbol s.right_round) closed.0) (ap (is_symbol s.right_round) (sym (agree end below)) ∙ unclosed)
 
   list_closes : HasSymbol others from s.left_round →
       ((x : List Expr) (to : ℕ) → SpellsSubscriptsList others (depth - 1) (from + 1) x to → (to ≡ end) ⊎ EndsEarly extends_list others end to) →
@@ -51,15 +52,15 @@ module _ (tokens others : List Token) (depth from end stop : ℕ) where
       (subst (λ k. HasSymbol others k s.right_round) same read.3, omega (arith, same, read.4))
 
   pub list_is_exact : (new : ℕ) → HasSymbol tokens from s.left_round → from ≤ new → stop ≤ new →
-      Sure (λ tokens. SpellsSubscriptsList tokens (depth - 1)) extends_list tokens (from + 1) end stop → Agree tokens others new →
+      Sure (λ tokens. SpellsSubscriptsList tokens (depth - 1)) extends_list tokens (from + 1) end stop → BeginAlike tokens others new →
       (x : Selector) (to : ℕ) → SpellsSelector others depth from x to → to ≡ end + 1
   list_is_exact new bracket near below sure agree x to h =
-      (list_closes (agree from near ∙ bracket) (λ x to h. sure others (shorter tokens others stop new below agree) x to h) x to h).1
+      (list_closes (sym (agree from near) ∙ bracket) (λ x to h. sure others (shorter tokens others stop new below agree) x to h) x to h).1
 
   pub list_is_open : HasSymbol tokens from s.left_round → from ≤ stop → end ≤ stop →
       Sure (λ tokens. SpellsSubscriptsList tokens (depth - 1)) extends_list tokens (from + 1) end stop →
-      is_symbol s.right_round (what_at tokens end) ≡ false → Agree tokens others stop →
+      is_symbol s.right_round (what_at tokens end) ≡ false → BeginAlike tokens others stop →
       (x : Selector) (to : ℕ) → SpellsSelector others depth from x to → ⊥
   list_is_open bracket near below sure unclosed agree x to h =
-      let closed = list_closes (agree from near ∙ bracket) (λ x to h. sure others agree x to h) x to h in
-      clash _ (ap (is_symbol s.right_round) closed.0) (ap (is_symbol s.right_round) (agree end below) ∙ unclosed)
+      let closed = list_closes (sym (agree from near) ∙ bracket) (λ x to h. sure others agree x to h) x to h in
+      clash _ (ap (is_symbol s.right_round) closed.0) (ap (is_symbol s.right_round) (sym (agree end below)) ∙ unclosed)

@@ -4,11 +4,12 @@ use Rattle.pearl_tree.specs.declared.token.Token.{Token}
 use Rattle.pearl_tree.specs.Standing.{Spelling}
 use Rattle.pearl_parse_expr.specs.declared.reading.Halt.{Halt}
 use Rattle.pearl_parse_expr.specs.declared.reading.Halt.TheVariants.{Refused, NoMemory}
-use Rattle.pearl_parse_expr.specs.Stops.{Agree, Stuck, IsHalted}
+use Rattle.pearl_tree.specs.Stops.{BeginAlike}
+use Rattle.pearl_parse_expr.specs.Stops.{Stuck, IsHalted}
 
 pub halted : {X Y : Type 0} (first : List Token → Spelling X) (whole : List Token → Spelling Y) (tokens : List Token) (from at : ℕ) (halt : Halt) →
     from ≤ at →
-    ((others : List Token) (stop : ℕ) → at ≤ stop → Agree tokens others stop → (y : Y) (to : ℕ) → whole others from y to →
+    ((others : List Token) (stop : ℕ) → at ≤ stop → BeginAlike tokens others stop → (y : Y) (to : ℕ) → whole others from y to →
     (x : X) × (k : ℕ) × first others at x k) →
     IsHalted first tokens at halt → IsHalted whole tokens from halt
 halted first whole tokens from at NoMemory below begins h = tt

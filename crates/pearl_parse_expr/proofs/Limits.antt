@@ -17,7 +17,8 @@ use Rattle.pearl_tree.specs.Standing.{what_at, HasWord, SpellsEach, SpellsMaybe,
 use Rattle.pearl_tree.specs.Expressions.{SpellsPrimary, SpellsMonadic, side_word, monad_what}
 use Rattle.pearl_tree.specs.WordCodes as w
 use Rattle.pearl_tree.specs.Symbols as s
-use Rattle.pearl_parse_expr.specs.Stops.{Agree, Sure, Stuck, EndsEarly, is_number, is_side, is_literal, is_name, is_symbol, is_word, monad_of, extends_operand, SpellsNamed, SpellsSigned}
+use Rattle.pearl_tree.specs.Stops.{BeginAlike}
+use Rattle.pearl_parse_expr.specs.Stops.{Sure, Stuck, EndsEarly, is_number, is_side, is_literal, is_name, is_symbol, is_word, monad_of, extends_operand, SpellsNamed, SpellsSigned}
 use Rattle.pearl_parse_expr.proofs.Primaries.{clash, or_absurd, side_head, Head, first_token, only_limit, only_counted_limit}
 
 pub side_extends : (token : Option What) (side : Side) → token ≡ Some (what.Word (side_word side)) → extends_operand token ≡ true
@@ -39,16 +40,16 @@ counted others depth from word to side after at (inr read) =
 
 -- what begins so is a limit, or the number alone
 pub limit_others : (tokens others : List Token) (depth from word stop : ℕ) (dimension : Option Number) (side : Side) →
-    SpellsMaybe (SpellsNumber tokens) from dimension word → HasWord tokens word (side_word side) → Agree tokens others stop → word ≤ stop →
+    SpellsMaybe (SpellsNumber tokens) from dimension word → HasWord tokens word (side_word side) → BeginAlike tokens others stop → word ≤ stop →
     (x : Primary) (to : ℕ) → SpellsPrimary others depth from x to →
     ((IsSome dimension) × (to ≡ from + 1) × (extends_operand (what_at others to) ≡ true)) ⊎ ((list : List Selector) × SpellsNamed others depth (word + 1) list to)
 limit_others tokens others depth from word stop None side number stands agree near x to h =
-    let at : what_at others from ≡ Some (what.Word (side_word side)) = subst (λ k. what_at others k ≡ Some (what.Word (side_word side))) number (agree word near ∙ stands) in
+    let at : what_at others from ≡ Some (what.Word (side_word side)) = subst (λ k. what_at others k ≡ Some (what.Word (side_word side))) number (sym (agree word near) ∙ stands) in
     let read = only_limit others depth from (side_head (what_at others from) side at) x to h in
     inr (read.0, subst (λ k. SpellsNamed others depth (k + 1) read.0 to) (sym number) read.1)
 limit_others tokens others depth from word stop (Some dimension) side number stands agree near x to h =
-    let at : what_at others (from + 1) ≡ Some (what.Word (side_word side)) = subst (λ k. what_at others k ≡ Some (what.Word (side_word side))) number.1 (agree word near ∙ stands) in
-    let here : is_number (what_at others from) ≡ true = ap is_number (agree from (omega (arith, number.1)) ∙ number.0.0) in
+    let at : what_at others (from + 1) ≡ Some (what.Word (side_word side)) = subst (λ k. what_at others k ≡ Some (what.Word (side_word side))) number.1 (sym (agree word near) ∙ stands) in
+    let here : is_number (what_at others from) ≡ true = ap is_number (sym (agree from (omega (arith, number.1))) ∙ number.0.0) in
     counted others depth from word to side number.1 at
     (only_counted_limit others depth from here (side_head (what_at others (from + 1)) side at) x to h)
 
@@ -183,7 +184,7 @@ no_more tokens from list stands others above few (inl full) is holds = omega ari
 no_more tokens from list stands others above few (inr none) is holds = true≢false (sym (is ∙ holds) ∙ ap is_some_monad none)
 
 -- the operators before a primary are the same
-pub same_monadics : (tokens others : List Token) (depth from stop : ℕ) (list : List Monadic) → Agree tokens others stop → from + length list ≤ stop →
+pub same_monadics : (tokens others : List Token) (depth from stop : ℕ) (list : List Monadic) → BeginAlike tokens others stop → from + length list ≤ stop →
     SpellsEach (SpellsMonadic tokens) from list (from + length list) →
     (length list ≡ 8) ⊎ (option_and_then monad_of (what_at tokens (from + length list)) ≡ None) →
     (x : Primary) (to : ℕ) → SpellsSigned others depth from x to → SpellsPrimary others depth (from + length list) x to
@@ -192,9 +193,9 @@ same_monadics tokens others depth from stop list agree near each all x to h =
     let same : length h.1 ≡ length list = same_size (length h.1) (length list)
     (λ below. head_is_no_monad x (what_at others h.0) (first_token others depth h.0 x to h.4)
     (subst (λ k. is_monad (what_at others k) ≡ true) (sym theirs)
-    (ap is_monad (agree (from + length h.1) (omega arith)) ∙ each_stands tokens from list (from + length list) (length h.1) each below)))
+    (ap is_monad (sym (agree (from + length h.1) (omega arith))) ∙ each_stands tokens from list (from + length list) (length h.1) each below)))
     (λ above. no_more tokens from list (is_monad (what_at tokens (from + length list))) h.1 above h.2 all refl
-    (sym (ap is_monad (agree (from + length list) near)) ∙ each_stands others from h.1 h.0 (length list) h.3 above)) in
+    (ap is_monad (agree (from + length list) near) ∙ each_stands others from h.1 h.0 (length list) h.3 above)) in
     let end : h.0 ≡ from + length list = omega (arith, theirs, same) in
     subst (λ k. SpellsPrimary others depth k x to) end h.4
 
@@ -225,7 +226,7 @@ array_read others depth from word end to dimension near sure (inr read) = sure r
 -- no array follows
 pub without_array : (tokens others : List Token) (depth from word stop : ℕ) (dimension : Option Number) (side : Side) →
     SpellsMaybe (SpellsNumber tokens) from dimension word → HasWord tokens word (side_word side) → word + 1 ≤ stop →
-    Stuck (λ tokens. SpellsNamed tokens depth) tokens (word + 1) stop → Agree tokens others stop →
+    Stuck (λ tokens. SpellsNamed tokens depth) tokens (word + 1) stop → BeginAlike tokens others stop →
     (x : Primary) (to : ℕ) → SpellsPrimary others depth from x to → (to ≡ from + 1) ⊎ EndsEarly extends_operand others (from + 1) to
 without_array tokens others depth from word stop dimension side number stands near stuck agree x to h =
     number_alone others depth from word to dimension (λ list h. stuck others agree list to h)
@@ -233,7 +234,7 @@ without_array tokens others depth from word stop dimension side number stands ne
 
 pub without_number : (tokens others : List Token) (depth from word stop : ℕ) (dimension : Option Number) (side : Side) →
     SpellsMaybe (SpellsNumber tokens) from dimension word → HasWord tokens word (side_word side) → word + 1 ≤ stop →
-    Stuck (λ tokens. SpellsNamed tokens depth) tokens (word + 1) stop → Agree tokens others stop → dimension ≡ None →
+    Stuck (λ tokens. SpellsNamed tokens depth) tokens (word + 1) stop → BeginAlike tokens others stop → dimension ≡ None →
     (x : Primary) (to : ℕ) → SpellsPrimary others depth from x to → ⊥
 without_number tokens others depth from word stop dimension side number stands near stuck agree none x to h =
     number_missing others depth from word to dimension none (λ list h. stuck others agree list to h)
@@ -242,7 +243,7 @@ without_number tokens others depth from word stop dimension side number stands n
 -- an array follows
 pub with_array : (tokens others : List Token) (depth from word end stop : ℕ) (dimension : Option Number) (side : Side) →
     SpellsMaybe (SpellsNumber tokens) from dimension word → HasWord tokens word (side_word side) → word + 1 < end → end ≤ stop →
-    Sure (λ tokens. SpellsNamed tokens depth) extends_operand tokens (word + 1) end stop → Agree tokens others stop →
+    Sure (λ tokens. SpellsNamed tokens depth) extends_operand tokens (word + 1) end stop → BeginAlike tokens others stop →
     (x : Primary) (to : ℕ) → SpellsPrimary others depth from x to → (to ≡ end) ⊎ EndsEarly extends_operand others end to
 with_array tokens others depth from word end stop dimension side number stands ahead near sure agree x to h =
     array_read others depth from word end to dimension (omega (arith, number_before tokens from word dimension number)) (λ list h. sure others agree list to h)

@@ -12,32 +12,33 @@ use Rattle.pearl_tree.specs.declared.token.Token.{Token}
 use Rattle.pearl_tree.specs.Standing.{what_at}
 use Rattle.pearl_tree.specs.Expressions.{SpellsSecs, SpellsSeconds, SpellsDuration, SpellsLiteral}
 use Rattle.pearl_tree.specs.WordCodes as w
-use Rattle.pearl_parse_expr.specs.Stops.{Agree, Stuck, EndsEarly, is_counted, is_number, is_secs, extends_operand, SpellsMaybeSeconds}
+use Rattle.pearl_tree.specs.Stops.{BeginAlike}
+use Rattle.pearl_parse_expr.specs.Stops.{Stuck, EndsEarly, is_counted, is_number, is_secs, extends_operand, SpellsMaybeSeconds}
 
 -- a number with the word that it has not
-number_then_word : (word : ℕ) (tokens others : List Token) (from stop value : ℕ) → Agree tokens others stop → from ≤ stop →
+number_then_word : (word : ℕ) (tokens others : List Token) (from stop value : ℕ) → BeginAlike tokens others stop → from ≤ stop →
     (is_secs (what_at tokens from) ≡ true → from + 1 ≤ stop) →
     what_at others from ≡ Some (what.Number value) → what_at others (from + 1) ≡ Some (what.Word word) →
     what_at tokens (from + 1) ≡ Some (what.Word word)
 number_then_word word tokens others from stop value agree near far number behind =
-    sym (agree (from + 1) (far (ap is_secs (sym (agree from near) ∙ number)))) ∙ behind
+    (agree (from + 1) (far (ap is_secs (agree from near ∙ number)))) ∙ behind
 
-pub no_duration : (tokens others : List Token) (from stop : ℕ) → Agree tokens others stop → from ≤ stop →
+pub no_duration : (tokens others : List Token) (from stop : ℕ) → BeginAlike tokens others stop → from ≤ stop →
     (is_secs (what_at tokens from) ≡ true → from + 1 ≤ stop) → is_counted w.HRS tokens from ≡ false →
     is_counted w.MIN tokens from ≡ false → Stuck SpellsSeconds tokens from stop →
     (x : Duration) (to : ℕ) → SpellsDuration others from x to → ⊥
 no_duration tokens others from stop agree near far no_hours no_minutes stuck (Hours hours minutes seconds place) to h =
-    let number = sym (agree from near) ∙ h.2.0 in
+    let number = (agree from near) ∙ h.2.0 in
     let word = number_then_word w.HRS tokens others from stop hours.value agree near far h.2.0 h.3 in
     true≢false (rw (number, word) at no_hours)
 no_duration tokens others from stop agree near far no_hours no_minutes stuck (Minutes minutes seconds place) to h =
-    let number = sym (agree from near) ∙ h.1.0 in
+    let number = (agree from near) ∙ h.1.0 in
     let word = number_then_word w.MIN tokens others from stop minutes.value agree near far h.1.0 h.2 in
     true≢false (rw (number, word) at no_minutes)
 no_duration tokens others from stop agree near far no_hours no_minutes stuck (Seconds seconds place) to h =
     stuck others agree seconds to h.1
 
-pub one_token : (tokens others : List Token) (from stop : ℕ) → Agree tokens others stop → Stuck SpellsDuration tokens from stop →
+pub one_token : (tokens others : List Token) (from stop : ℕ) → BeginAlike tokens others stop → Stuck SpellsDuration tokens from stop →
     (x : Literal) (to : ℕ) → SpellsLiteral others from x to → to ≡ from + 1
 one_token tokens others from stop agree stuck (literal.Number number) to h = h.1
 one_token tokens others from stop agree stuck (literal.Bits len value place) to h = h.2

@@ -7,16 +7,17 @@ use Rattle.pearl_tree.specs.declared.token.Token.{Token}
 use Rattle.pearl_tree.specs.Standing.{what_at, HasSymbol, SpellsMore}
 use Rattle.pearl_tree.specs.Expressions.{SpellsSelector, SpellsExpr}
 use Rattle.pearl_tree.specs.Symbols as s
-use Rattle.pearl_parse_expr.specs.Stops.{Agree, Sure, Stuck, Exact, EndsEarly, is_symbol, extends_operand, extends_expression, extends_list, SpellsSelectorsList, SpellsSubscriptsList}
+use Rattle.pearl_tree.specs.Stops.{BeginAlike}
+use Rattle.pearl_parse_expr.specs.Stops.{Sure, Stuck, Exact, EndsEarly, is_symbol, extends_operand, extends_expression, extends_list, SpellsSelectorsList, SpellsSubscriptsList}
 use Rattle.pearl_parse_expr.proofs.Primaries.{clash}
 
-pub shorter : (tokens others : List Token) (short long : ℕ) → short ≤ long → Agree tokens others long → Agree tokens others short
+pub shorter : (tokens others : List Token) (short long : ℕ) → short ≤ long → BeginAlike tokens others long → BeginAlike tokens others short
 shorter tokens others short long below agree = λ k h. agree k (omega arith)
 
 -- a list of selectors from `from` ends early, or goes through `end`
 abbrev pub SelectorsGo : List Token → ℕ → ℕ → ℕ → ℕ → Type 0
 SelectorsGo tokens depth from end stop =
-    (others : List Token) → Agree tokens others stop → (xs : List Selector) (to : ℕ) → SpellsSelectorsList others depth from xs to →
+    (others : List Token) → BeginAlike tokens others stop → (xs : List Selector) (to : ℕ) → SpellsSelectorsList others depth from xs to →
     EndsEarly extends_operand others end to ⊎ ((ys : List Selector) × SpellsSelectorsList others depth end ys to)
 
 module _ (tokens : List Token) (depth from : ℕ) where
@@ -34,7 +35,7 @@ module _ (tokens : List Token) (depth from : ℕ) where
       last ≤ new → extends_operand (what_at tokens end) ≡ true → Exact (λ tokens. SpellsSelector tokens depth) tokens end next last →
       SelectorsGo tokens depth from next new
   selectors_next end stop next last new go near ahead below reach opens exact = λ others agree xs to h.
-      selectors_step end next to others ahead (ap extends_operand (agree end (omega arith)) ∙ opens)
+      selectors_step end next to others ahead (ap extends_operand (sym (agree end (omega arith))) ∙ opens)
       (λ x to h. exact others (shorter tokens others last new reach agree) x to h)
       (go others (shorter tokens others stop new below agree) xs to h)
 
@@ -66,7 +67,7 @@ list_extends token h = or_first (extends_expression token) (is_symbol s.comma to
 -- expressions between commas from `from` end early, or go through `end`
 abbrev pub SubscriptsGo : List Token → ℕ → ℕ → ℕ → ℕ → Type 0
 SubscriptsGo tokens depth from end stop =
-    (others : List Token) → Agree tokens others stop → (xs : List Expr) (to : ℕ) → SpellsSubscriptsList others depth from xs to →
+    (others : List Token) → BeginAlike tokens others stop → (xs : List Expr) (to : ℕ) → SpellsSubscriptsList others depth from xs to →
     EndsEarly extends_list others end to ⊎ ((ys : List Expr) × SpellsMore others (SpellsExpr others depth) end ys to)
 
 module _ (tokens : List Token) (depth from : ℕ) where
@@ -103,7 +104,7 @@ module _ (tokens : List Token) (depth from : ℕ) where
       last ≤ new → HasSymbol tokens end s.comma → Sure (λ tokens. SpellsExpr tokens depth) extends_expression tokens (end + 1) next last →
       SubscriptsGo tokens depth from next new
   subscripts_next end stop next last new go near ahead below reach comma sure = λ others agree xs to h.
-      list_step others end next to ahead (agree end (omega arith) ∙ comma)
+      list_step others end next to ahead (sym (agree end (omega arith)) ∙ comma)
       (λ x to h. sure others (shorter tokens others last new reach agree) x to h)
       (go others (shorter tokens others stop new below agree) xs to h)
 
@@ -120,7 +121,7 @@ module _ (tokens : List Token) (depth from : ℕ) where
       Sure (λ tokens. SpellsSubscriptsList tokens depth) extends_list tokens from end stop
   subscripts_end end stop go near no_comma = λ others agree xs to h.
       list_ends others end to
-      (λ comma x to h. clash _ (ap (is_symbol s.comma) comma) (ap (is_symbol s.comma) (agree end near) ∙ no_comma))
+      (λ comma x to h. clash _ (ap (is_symbol s.comma) comma) (ap (is_symbol s.comma) (sym (agree end near)) ∙ no_comma))
       (go others agree xs to h)
 
   pub subscripts_stuck : (end stop last new : ℕ) → SubscriptsGo tokens depth from end stop → stop ≤ new → last ≤ new →

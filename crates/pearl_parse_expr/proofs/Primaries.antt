@@ -22,7 +22,9 @@ use Rattle.pearl_tree.specs.Standing.{what_at, HasWord, HasSymbol, SpellsEach, S
 use Rattle.pearl_tree.specs.Expressions.{SpellsSecs, SpellsDuration, SpellsLiteral, SpellsPrimary, SpellsSelectors, SpellsSelector, SpellsSubscripts, SpellsMoreSubscripts, SpellsExpr, side_word}
 use Rattle.pearl_tree.specs.WordCodes as w
 use Rattle.pearl_tree.specs.Symbols as s
-use Rattle.pearl_parse_expr.specs.Stops.{Agree, is_literal, is_name, is_number, is_secs, is_plain, is_side, is_symbol, is_word, begins_limit, extends_operand, SpellsNamed, SpellsSelectorsList, SpellsSubscriptsList}
+use Rattle.pearl_tree.specs.Stops.{BeginAlike}
+use Rattle.pearl_tree.proofs.ExpressionLists.{selectors, subscripts}
+use Rattle.pearl_parse_expr.specs.Stops.{is_literal, is_name, is_number, is_secs, is_plain, is_side, is_symbol, is_word, begins_limit, extends_operand, SpellsNamed, SpellsSelectorsList, SpellsSubscriptsList}
 use Rattle.pearl_parse_expr.proofs.Literals.{same_word, secs_end}
 
 pub clash : (b : Bool) → b ≡ true → b ≡ false → ⊥
@@ -114,24 +116,6 @@ subscripts_of (Subscripts' _ row _) = (_, row)
 subscripts_of _ = (_, end_of-Expr)
 
 module _ (tokens : List Token) where
-  selectors : (depth from : ℕ) (n : _) (row : Row_of-Selector n) (to : ℕ) →
-      SpellsSelectors tokens depth from row to ≡ SpellsEach (SpellsSelector tokens depth) from (items-the_row-Selector n row) to
-  selectors depth from _ end_of-Selector to = refl
-  selectors depth from _ (more_of-Selector selector rest) to =
-      λ i. (m : ℕ) × SpellsSelector tokens depth from selector m × selectors depth m _ rest to i
-
-  more_subscripts : (depth from : ℕ) (n : _) (row : Row_of-Expr n) (to : ℕ) →
-      SpellsMoreSubscripts tokens depth from row to ≡ SpellsMore tokens (SpellsExpr tokens depth) from (items-the_row-Expr n row) to
-  more_subscripts depth from _ end_of-Expr to = refl
-  more_subscripts depth from _ (more_of-Expr expr rest) to =
-      λ i. (m : ℕ) × HasSymbol tokens from s.comma × SpellsExpr tokens depth (from + 1) expr m × more_subscripts depth m _ rest to i
-
-  subscripts : (depth from : ℕ) (n : _) (row : Row_of-Expr n) (to : ℕ) →
-      SpellsSubscripts tokens depth from row to ≡ SpellsList tokens (SpellsExpr tokens depth) from (items-the_row-Expr n row) to
-  subscripts depth from _ end_of-Expr to = refl
-  subscripts depth from _ (more_of-Expr expr rest) to =
-      λ i. (m : ℕ) × SpellsExpr tokens depth from expr m × more_subscripts depth m _ rest to i
-
   pub first_token : (depth from : ℕ) (x : Primary) (to : ℕ) → SpellsPrimary tokens depth from x to → Head x (what_at tokens from)
   first_token depth from (primary.Literal part) to h = literal_head tokens from part to h
   first_token depth from (primary.Ref' name _ list place) to h = ap is_name h.1.0
@@ -162,7 +146,7 @@ module _ (tokens : List Token) where
       SpellsPrimary tokens depth from x to → (list : List Selector) × SpellsNamed tokens depth from list to
   only_named depth from stands (primary.Ref' name n list place) to h =
       let row = selectors_of (primary.Ref' name n list place) in
-      (items-the_row-Selector row.0 row.1, (stands, subst (λ X. X) (selectors depth (from + 1) row.0 row.1 to) h.2))
+      (items-the_row-Selector row.0 row.1, (stands, subst (λ X. X) (selectors tokens depth (from + 1) row.0 row.1 to) h.2))
   only_named depth from stands (primary.Literal part) to h = absurd (name_is_no_literal (what_at tokens from) stands (first_token depth from (primary.Literal part) to h))
   only_named depth from stands (primary.Group' _ inner place) to h = absurd (clash _ stands (ap is_name h.2))
   only_named depth from stands (primary.Now place) to h = absurd (clash _ stands (ap is_name h.1))
@@ -222,7 +206,7 @@ module _ (tokens : List Token) where
       let items = items-the_row-Selector row.0 row.1 in (
         items,
         subst (λ m. SpellsNamed tokens depth (m + 1) items to) h.2
-            (ap is_name h.4.1.0, subst (λ X. X) (selectors depth (h.0 + 1 + 1) row.0 row.1 to) h.4.2),
+            (ap is_name h.4.1.0, subst (λ X. X) (selectors tokens depth (h.0 + 1 + 1) row.0 row.1 to) h.4.2),
       )
   only_limit depth from stands (primary.Limit' (Some number) side name _ list ref_place place) to h =
       absurd (side_is_no_number (what_at tokens from) stands (ap is_number h.2.0.0))
@@ -254,7 +238,7 @@ module _ (tokens : List Token) where
       inr (
         items,
         subst (λ m. SpellsNamed tokens depth (m + 1) items to) h.2.1
-            (ap is_name h.4.1.0, subst (λ X. X) (selectors depth (h.0 + 1 + 1) row.0 row.1 to) h.4.2),
+            (ap is_name h.4.1.0, subst (λ X. X) (selectors tokens depth (h.0 + 1 + 1) row.0 row.1 to) h.4.2),
       )
   only_counted_limit depth from stands behind (primary.Literal part) to h = inl (literal_before_side from behind part to h)
   only_counted_limit depth from stands behind (primary.Ref' name _ list place) to h = absurd (clash _ stands (ap is_number h.1.0))
@@ -274,7 +258,7 @@ module _ (tokens : List Token) where
       (list : List Expr) × (m : ℕ) × SpellsSubscriptsList tokens (depth - 1) (from + 1) list m × HasSymbol tokens m s.right_round × (to ≡ m + 1)
   only_bracketed depth from stands (Subscripts' n list place) to h =
       let row = subscripts_of (Subscripts' n list place) in
-      (items-the_row-Expr row.0 row.1, h.0, subst (λ X. X) (subscripts (depth - 1) (from + 1) row.0 row.1 h.0) h.4, h.5, h.6)
+      (items-the_row-Expr row.0 row.1, h.0, subst (λ X. X) (subscripts tokens (depth - 1) (from + 1) row.0 row.1 h.0) h.4, h.5, h.6)
   only_bracketed depth from stands (Component name place) to h =
       absurd (clash _ (ap (is_symbol s.period) h.1) (ap (is_symbol s.period) stands))
 
@@ -307,18 +291,18 @@ second_false true b h holds = h
 second_false false b h holds = absurd (true≢false (sym holds))
 
 -- a literal, where the same tokens stand: `stop` is behind a number
-pub literal_others : (tokens others : List Token) (depth from stop : ℕ) → Agree tokens others stop → from ≤ stop →
+pub literal_others : (tokens others : List Token) (depth from stop : ℕ) → BeginAlike tokens others stop → from ≤ stop →
     (is_plain (what_at tokens from) ≡ true → from + 1 ≤ stop) →
     is_symbol s.left_round (what_at tokens from) ≡ false → is_name (what_at tokens from) ≡ false →
     is_word w.NOW (what_at tokens from) ≡ false → is_word w.TRY (what_at tokens from) ≡ false →
     begins_limit tokens from ≡ false →
     (x : Primary) (to : ℕ) → SpellsPrimary others depth from x to → (part : Literal) × SpellsLiteral others from part to
 literal_others tokens others depth from stop agree near far group name now_word try_word limit x to h =
-    let here = agree from near in
+    let here = sym (agree from near) in
     let limits = both_false (is_side (what_at tokens from)) (is_number (what_at tokens from) && is_side (what_at tokens (from + 1))) limit in
     only_literal others depth from (ap (is_symbol s.left_round) here ∙ group) (ap is_name here ∙ name)
     (ap (is_word w.NOW) here ∙ now_word) (ap (is_word w.TRY) here ∙ try_word) (ap is_side here ∙ limits.0)
-    (λ number. let stands = sym (ap is_number here) ∙ number in
-    ap is_side (agree (from + 1) (far (number_plain (what_at tokens from) stands))) ∙
+    (λ number. let stands = ap is_number (sym here) ∙ number in
+    ap is_side (sym (agree (from + 1) (far (number_plain (what_at tokens from) stands)))) ∙
     second_false (is_number (what_at tokens from)) (is_side (what_at tokens (from + 1))) limits.1 stands)
     x to h

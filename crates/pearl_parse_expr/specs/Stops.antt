@@ -18,29 +18,23 @@ use Rattle.pearl_parse_expr.specs.declared.fault.ParseFault.{ParseFault}
 use Rattle.pearl_parse_expr.specs.declared.fault.ParseFault.TheVariants as fault
 use Rattle.pearl_parse_expr.specs.declared.reading.Halt.{Halt}
 use Rattle.pearl_parse_expr.specs.declared.reading.Halt.TheVariants.{Refused, NoMemory}
+use Rattle.pearl_tree.specs.Following.{lengthens_operand, lengthens_expr}
+use Rattle.pearl_tree.specs.Stops.{BeginAlike, NoneGoesOn}
 use Rattle.pearl_tree.specs.Symbols as s
 use Rattle.pearl_tree.specs.WordCodes as w
 
--- the same tokens up to and with this number, places aside
-abbrev pub Agree : List Token → List Token → ℕ → Type 0
-Agree tokens others stop = (k : ℕ) → k ≤ stop → what_at others k ≡ what_at tokens k
+-- a token of this kind; the end is of none
+abbrev pub is_one_of : (What → Bool) → Option What → Bool
+is_one_of kind None = false
+is_one_of kind (Some what) = kind what
 
 -- a token that goes on with an operand that could end before it
 abbrev pub extends_operand : Option What → Bool
-extends_operand (Some (what.Symbol symbol)) = (symbol == s.left_round) || (symbol == s.period)
-extends_operand (Some (what.Word code)) =
-    (code == w.HRS) || ((code == w.MIN) || ((code == w.SEC) || ((code == w.LWB) || (code == w.UPB))))
-extends_operand (Some (what.Number value)) = true
-extends_operand (Some (what.Decimal whole thousandths)) = true
-extends_operand _ = false
-
-abbrev pub is_some_dyad : Option Dyad → Bool
-is_some_dyad None = false
-is_some_dyad (Some operator) = true
+extends_operand = is_one_of lengthens_operand
 
 -- a token that goes on with an expression that could end before it
 abbrev pub extends_expression : Option What → Bool
-extends_expression token = extends_operand token || is_some_dyad (option_and_then dyad_of token)
+extends_expression = is_one_of lengthens_expr
 
 -- it ends before a token that goes on with it, and before this number
 abbrev pub EndsEarly : (Option What → Bool) → List Token → ℕ → ℕ → Type 0
@@ -50,13 +44,13 @@ EndsEarly extends tokens end to = (to < end) × (extends (what_at tokens to) ≡
 -- with it
 abbrev pub Sure : {X : Type 0} → (List Token → Spelling X) → (Option What → Bool) → List Token → ℕ → ℕ → ℕ → Type 0
 Sure {X} spells extends tokens from end stop =
-    (others : List Token) → Agree tokens others stop → (x : X) (to : ℕ) → spells others from x to →
+    (others : List Token) → BeginAlike tokens others stop → (x : X) (to : ℕ) → spells others from x to →
     (to ≡ end) ⊎ EndsEarly extends others end to
 
 -- however the tokens behind this one are replaced, none begins at `from`
 abbrev pub Stuck : {X : Type 0} → (List Token → Spelling X) → List Token → ℕ → ℕ → Type 0
 Stuck {X} spells tokens from stop =
-    (others : List Token) → Agree tokens others stop → (x : X) (to : ℕ) → spells others from x to → ⊥
+    (others : List Token) → BeginAlike tokens others stop → (x : X) (to : ℕ) → spells others from x to → ⊥
 
 -- what was read is not empty, and was stopped behind it within the tokens
 abbrev pub IsAhead : List Token → ℕ → ℕ → ℕ → Type 0
@@ -117,7 +111,7 @@ SpellsMaybeSeconds tokens = SpellsMaybe (SpellsSeconds tokens)
 -- however the tokens behind this one are replaced, what begins at `from` ends at `end`
 abbrev pub Exact : {X : Type 0} → (List Token → Spelling X) → List Token → ℕ → ℕ → ℕ → Type 0
 Exact {X} spells tokens from end stop =
-    (others : List Token) → Agree tokens others stop → (x : X) (to : ℕ) → spells others from x to → to ≡ end
+    (others : List Token) → BeginAlike tokens others stop → (x : X) (to : ℕ) → spells others from x to → to ≡ end
 
 -- nothing was read: for want of memory, or since with this token none begins
 abbrev pub IsHalted : {X : Type 0} → (List Token → Spelling X) → List Token → ℕ → Halt → Type 0
@@ -157,11 +151,6 @@ SpellsSelectorsList tokens depth = SpellsEach (SpellsSelector tokens depth)
 abbrev pub SpellsSubscriptsList : List Token → ℕ → Spelling (List Expr)
 SpellsSubscriptsList tokens depth = SpellsList tokens (SpellsExpr tokens depth)
 
--- no expression that begins at `from` goes past this token, however the tokens behind it are replaced
-abbrev pub NoneGoesPast : List Token → ℕ → ℕ → Type 0
-NoneGoesPast tokens from stop =
-    (others : List Token) → Agree tokens others stop → (expr : Expr) (to : ℕ) → SpellsWhole others from expr to → to ≤ stop
-
 -- where the token stands; past the end a place that no token has
 abbrev pub stop_place : List Token → ℕ → ℕ
 stop_place tokens stop = unwrap_or (place_at tokens stop) (2 ^ 32 - 1)
@@ -171,7 +160,7 @@ pub record IsStop (tokens : List Token) (from place : ℕ) : Type 0 where
   pub token : ℕ
   pub stands : place ≡ stop_place tokens token
   pub on : from ≤ token
-  pub none : NoneGoesPast tokens from token
+  pub none : NoneGoesOn tokens from token
 
 -- what is told where no expression begins
 abbrev pub IsRefused : List Token → ℕ → ParseFault → Type 0

@@ -7,6 +7,7 @@ ghost use Rattle.pearl_tree.specs.declared.expression.Expr as tree;
 ghost use Rattle.pearl_tree.specs.declared.expression.Expr.{Expr};
 ghost use Rattle.pearl_tree.specs.Standing.{what_at, IsAt, HasWord, HasSymbol, SpellsEach, SpellsMaybe, SpellsNumber};
 ghost use Rattle.pearl_tree.specs.Expressions as grammar;
+ghost use Rattle.pearl_tree.specs.Following.{lengthens_expr, HasOneOf};
 ghost use Rattle.pearl_tree.specs.WordCodes as w;
 ghost use Rattle.pearl_tree.specs.Symbols as s;
 ghost use Rattle.pearl_parse_expr.specs.declared.reading.Halt.{Halt};
@@ -643,7 +644,7 @@ pub fn expression(
     from: usize,
 ) -> Result<(Expr, usize, u32), ParseFault>
     ensures spells { IfOk result (λ found. grammar.SpellsWhole tokens.now from found.0 found.1) }
-    ensures longest { IfOk result (λ found. (expr : Expr) (to : ℕ) → grammar.SpellsWhole tokens.now from expr to → (to ≡ found.1) ⊎ spec.EndsEarly spec.extends_expression tokens.now found.1 to) }
+    ensures longest { IfOk result (λ found. (expr : Expr) (to : ℕ) → grammar.SpellsWhole tokens.now from expr to → (to ≡ found.1) ⊎ ((to < found.1) × HasOneOf lengthens_expr tokens.now to)) }
     ensures stop { IfOk result (λ found. spec.IsStop tokens.now from found.2) }
     ensures refused { IfErr result (λ fault. spec.IsRefused tokens.now from fault) }
     ensures within { IfOk result (λ found. (from < found.1) × (found.1 ≤ length tokens.now)) }

@@ -20,7 +20,7 @@ bracketed-returns-in-Err-clause-refused t c =
     halted (λ tokens. spec.SpellsSubscriptsList tokens (c.args.depth - 1)) (λ tokens. grammar.SpellsSelector tokens c.args.depth) c.args.tokens.now c.args.from (c.args.from + 1) c.in-Err.halt
     (omega arith)
     (λ others stop near agree x to h.
-    let read = only_bracketed others c.args.depth c.args.from (agree c.args.from (omega arith) ∙ c.requires.bracket) x to h in
+    let read = only_bracketed others c.args.depth c.args.from (sym (agree c.args.from (omega arith)) ∙ c.requires.bracket) x to h in
     (read.0, read.1, read.2))
     c.in-Err.ensures.refused
 
@@ -58,7 +58,7 @@ bracketed-returns-clause-sure t c = λ others agree x to h.
 pub group-returns-then-depth-eq0-clause-refused : goal.group-returns-then-depth-eq0-clause-refused
 group-returns-then-depth-eq0-clause-refused t c = (
   λ others agree x to h.
-      let read = only_group others c.args.depth c.args.from (agree c.args.from (omega arith) ∙ c.requires.bracket) x to h in
+      let read = only_group others c.args.depth c.args.from (sym (agree c.args.from (omega arith)) ∙ c.requires.bracket) x to h in
       omega (arith, read.0),
   omega arith,
   c.requires.within,
@@ -74,7 +74,7 @@ group-returns-in-Err-clause-refused t c =
     halted (λ tokens. grammar.SpellsExpr tokens (c.args.depth - 1)) (λ tokens. grammar.SpellsPrimary tokens c.args.depth) c.args.tokens.now c.args.from (c.args.from + 1) c.in-Err.halt
     (omega arith)
     (λ others stop near agree x to h.
-    let read = (only_group others c.args.depth c.args.from (agree c.args.from (omega arith) ∙ c.requires.bracket) x to h).1 in
+    let read = (only_group others c.args.depth c.args.from (sym (agree c.args.from (omega arith)) ∙ c.requires.bracket) x to h).1 in
     (read.0, read.1, read.2))
     c.in-Err.ensures.refused
 
@@ -187,7 +187,7 @@ primary-returns-in-Err-clause-refused t c =
     halted (λ tokens. spec.SpellsNamed tokens c.args.depth) (λ tokens. grammar.SpellsPrimary tokens c.args.depth) c.args.tokens.now c.args.from c.args.from c.in-Err.halt
     (omega arith)
     (λ others stop near agree x to h.
-    let read = only_named others c.args.depth c.args.from (ap spec.is_name (agree c.args.from near) ∙ sym c.if-is_name.ensures) x to h in
+    let read = only_named others c.args.depth c.args.from (ap spec.is_name (sym (agree c.args.from near)) ∙ sym c.if-is_name.ensures) x to h in
     (read.0, to, read.1))
     c.in-Err.ensures.refused
 
@@ -198,12 +198,12 @@ primary-returns-in-Ok-clause-spells t c =
 pub primary-returns-in-Ok-clause-sure : goal.primary-returns-in-Ok-clause-sure
 primary-returns-in-Ok-clause-sure t c = λ others agree x to h.
     let near : c.args.from ≤ c.in-Ok.reference.stop = omega (arith, c.in-Ok.ensures.ahead) in
-    let read = only_named others c.args.depth c.args.from (ap spec.is_name (agree c.args.from near) ∙ sym c.if-is_name.ensures) x to h in
+    let read = only_named others c.args.depth c.args.from (ap spec.is_name (sym (agree c.args.from near)) ∙ sym c.if-is_name.ensures) x to h in
     c.in-Ok.ensures.sure others agree read.0 to read.1
 
 pub primary-returns-then-is_word-clause-sure : goal.primary-returns-then-is_word-clause-sure
 primary-returns-then-is_word-clause-sure t c = λ others agree x to h.
-    inl (only_now others c.args.depth c.args.from (agree c.args.from (omega arith) ∙ c.if-is_word.ensures.stands refl) x to h)
+    inl (only_now others c.args.depth c.args.from (sym (agree c.args.from (omega arith)) ∙ c.if-is_word.ensures.stands refl) x to h)
 
 pub primary-returns-then-is_word-2-clause-refused : goal.primary-returns-then-is_word-2-clause-refused
 primary-returns-then-is_word-2-clause-refused t c = err_map _ _ c.availability.result (λ halt h. h c.args.depth) c.availability.ensures.refused
@@ -217,8 +217,8 @@ selector-returns-then-is_symbol-clause-refused t c = err_map _ _ c.component.res
 pub selector-returns-clause-refused : goal.selector-returns-clause-refused
 selector-returns-clause-refused t c = (
   λ others agree x to h. no_selector others c.args.depth c.args.from
-      (ap (spec.is_symbol s.period) (agree c.args.from (omega arith)) ∙ sym c.if-is_symbol.ensures.value)
-      (λ stands deep. elim c.else-depth-gt0.branch [ selector-else-depth-gt0-via-then-depth-gt0+else-is_symbol-2 w ↦ clash _ stands (ap (spec.is_symbol s.left_round) (agree c.args.from (omega arith)) ∙ sym w.if-is_symbol-2.ensures.value) | selector-else-depth-gt0-via-else-depth-gt0 w ↦ omega (arith, deep, w.if-depth-gt0.false) ]) x to h,
+      (ap (spec.is_symbol s.period) (sym (agree c.args.from (omega arith))) ∙ sym c.if-is_symbol.ensures.value)
+      (λ stands deep. elim c.else-depth-gt0.branch [ selector-else-depth-gt0-via-then-depth-gt0+else-is_symbol-2 w ↦ clash _ stands (ap (spec.is_symbol s.left_round) (sym (agree c.args.from (omega arith))) ∙ sym w.if-is_symbol-2.ensures.value) | selector-else-depth-gt0-via-else-depth-gt0 w ↦ omega (arith, deep, w.if-depth-gt0.false) ]) x to h,
   omega arith,
   c.requires,
 )

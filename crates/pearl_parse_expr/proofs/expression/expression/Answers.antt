@@ -12,6 +12,6 @@ returns-then-from-tokens-clause-refused c =
         token = from;
         stands = sym (no_place tokens from past);
         on = omega arith;
-        none = λ others agree expr to h. absurd (no_expression others 32 from (agree from (omega arith) ∙ no_token tokens from past) expr to h);
+        none = λ expr to others agree h. absurd (no_expression others 32 from (sym (agree from (omega arith)) ∙ no_token tokens from past) expr to h);
       },
     )
