@@ -1,16 +1,14 @@
 -- Operands with operators between them: what other tokens can spell that begin as these do, read up to some operand.
-use Rattle.std.proofs.Common.{◌≡◌, ℕ, zero, suc, ◌+◌, ◌<◌, ◌≤◌, Bool, true, false, ◌||◌, List, [], ◌∷◌, length, Option, Some, None, is_some, ◌⊎◌, inl, inr, refl, sym, ap, subst, ◌∙◌, arith, true≢false, eqb-true, ◌==◌}
+use Rattle.std.proofs.Common.{◌≡◌, ℕ, zero, suc, ◌+◌, ◌<◌, ◌≤◌, Bool, true, false, ◌||◌, List, Option, Some, None, is_some, ◌⊎◌, inl, inr, refl, sym, ap, subst, ◌∙◌, arith, true≢false, eqb-true, ◌==◌}
 use Rattle.std.specs.Option.{option_and_then}
 use Rattle.pearl_tree.specs.declared.expression.Dyad.{Dyad}
-use Rattle.pearl_tree.specs.declared.expression.Monad.TheVariants as monad
-use Rattle.pearl_tree.specs.declared.expression.Monadic.{Monadic}
 use Rattle.pearl_tree.specs.declared.expression.Expr.{Expr, Operand', Dyadic'}
 use Rattle.pearl_tree.specs.declared.expression.Primary.{Primary}
 use Rattle.pearl_tree.specs.declared.token.What.{What}
 use Rattle.pearl_tree.specs.declared.token.What.TheVariants as what
 use Rattle.pearl_tree.specs.declared.token.Token.{Token}
-use Rattle.pearl_tree.specs.Standing.{what_at, SpellsEach}
-use Rattle.pearl_tree.specs.Expressions.{SpellsTerms, SpellsExpr, SpellsPrimary, SpellsMonadic, HasDyad, dyad_of, dyad_count}
+use Rattle.pearl_tree.specs.Standing.{what_at}
+use Rattle.pearl_tree.specs.Expressions.{SpellsTerms, SpellsExpr, HasDyad, dyad_of, dyad_count}
 use Rattle.pearl_tree.specs.WordCodes as w
 use Rattle.pearl_tree.specs.Symbols as s
 use Rattle.pearl_parse_expr.specs.declared.reading.Halt.{Halt}

@@ -1,5 +1,5 @@
 -- Why a part is not read, where what it begins with is not.
-use Rattle.std.proofs.Common.{◌≡◌, ℕ, ◌+◌, ◌≤◌, List, Result, Ok, Err, IfOk, IfErr, length, subst, arith}
+use Rattle.std.proofs.Common.{◌≡◌, ℕ, ◌≤◌, List, Result, Ok, Err, IfOk, IfErr, length, subst, arith}
 use Rattle.pearl_tree.specs.declared.token.Token.{Token}
 use Rattle.pearl_tree.specs.Standing.{Spelling}
 use Rattle.pearl_parse_expr.specs.declared.reading.Halt.{Halt}

@@ -1,5 +1,5 @@
 -- What other tokens can spell that begin with [ number ] ( LWB | UPB ), and with monadic operators.
-use Rattle.std.proofs.Common.{◌≡◌, ℕ, zero, suc, ◌+◌, ◌-◌, ◌<◌, ◌≤◌, Bool, true, false, List, [], ◌∷◌, length, Option, Some, None, ◌⊎◌, inl, inr, refl, sym, ap, subst, ◌∙◌, arith, true≢false, eqb-true, ◌==◌}
+use Rattle.std.proofs.Common.{◌≡◌, ℕ, zero, suc, ◌+◌, ◌<◌, ◌≤◌, Bool, true, false, List, [], ◌∷◌, length, Option, Some, None, ◌⊎◌, inl, inr, refl, sym, ap, subst, ◌∙◌, arith, true≢false, eqb-true, ◌==◌}
 use Rattle.std.specs.Option.{option_and_then}
 use Rattle.pearl_tree.specs.declared.name.Number.{Number}
 use Rattle.pearl_tree.specs.declared.expression.Monad.{Monad}

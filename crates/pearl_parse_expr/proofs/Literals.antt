@@ -1,5 +1,5 @@
 -- Which literals other tokens can spell that begin as these do.
-use Rattle.std.proofs.Common.{◌≡◌, ℕ, ◌+◌, ◌<◌, ◌≤◌, Bool, true, false, List, Option, Some, None, ◌⊎◌, inl, inr, refl, sym, ap, subst, ◌∙◌, arith, true≢false}
+use Rattle.std.proofs.Common.{◌≡◌, ℕ, ◌+◌, ◌≤◌, true, false, List, Option, Some, None, ◌⊎◌, inr, refl, sym, ap, subst, ◌∙◌, arith, true≢false}
 use Rattle.pearl_tree.specs.declared.literal.Duration.{Duration}
 use Rattle.pearl_tree.specs.declared.literal.Duration.TheVariants.{Hours, Minutes, Seconds}
 use Rattle.pearl_tree.specs.declared.literal.Literal.{Literal}

@@ -1,15 +1,14 @@
 -- Past the last token nothing begins.
-use Rattle.std.proofs.Common.{◌≡◌, ℕ, zero, suc, ◌+◌, ◌-◌, ◌≤◌, ◌^◌, true, false, List, [], ◌∷◌, length, Option, Some, None, slice_get, unwrap_or, refl, sym, ap, subst, ◌∙◌, arith, true≢false}
+use Rattle.std.proofs.Common.{◌≡◌, ℕ, zero, suc, ◌-◌, ◌≤◌, ◌^◌, List, [], ◌∷◌, length, Some, None, slice_get, unwrap_or, refl, sym, ap, subst, ◌∙◌, arith, true≢false}
 use Rattle.std.specs.Option.{option_map}
 use Rattle.pearl_tree.specs.declared.expression.Expr.{Expr}
 use Rattle.pearl_tree.specs.declared.expression.Monadic.{Monadic}
 use Rattle.pearl_tree.specs.declared.expression.Primary.{Primary}
 use Rattle.pearl_tree.specs.declared.expression.Primary as primary
-use Rattle.pearl_tree.specs.declared.token.What.{What}
 use Rattle.pearl_tree.specs.declared.token.Token.{Token}
-use Rattle.pearl_tree.specs.Standing.{what_at, place_at, SpellsEach}
+use Rattle.pearl_tree.specs.Standing.{what_at, SpellsEach}
 use Rattle.pearl_tree.specs.Expressions.{SpellsExpr, SpellsMonadic, SpellsPrimary}
-use Rattle.pearl_parse_expr.specs.Stops.{stop_place, SpellsSigned}
+use Rattle.pearl_parse_expr.specs.Stops.{stop_place}
 use Rattle.pearl_parse_expr.proofs.Primaries.{Head, first_token}
 use Rattle.pearl_parse_expr.proofs.Chains.{flat}
 

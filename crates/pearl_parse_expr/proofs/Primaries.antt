@@ -1,8 +1,6 @@
 -- What other tokens can spell at a primary or a selector, by the first token.
 use Rattle.std.proofs.Common.{◌≡◌, ℕ, zero, suc, ◌+◌, ◌-◌, ◌<◌, ◌≤◌, Bool, true, false, ◌||◌, ◌&&◌, List, [], ◌∷◌, length, Option, Some, None, ◌⊎◌, inl, inr, refl, sym, ap, subst, ◌∙◌, arith, true≢false}
 use mathlib.Core.Former.{Count}
-use Rattle.pearl_tree.specs.declared.name.Number.{Number}
-use Rattle.pearl_tree.specs.declared.literal.Duration.{Duration}
 use Rattle.pearl_tree.specs.declared.literal.Duration.TheVariants.{Hours, Minutes, Seconds}
 use Rattle.pearl_tree.specs.declared.literal.Literal.{Literal}
 use Rattle.pearl_tree.specs.declared.literal.Literal.TheVariants as literal
@@ -13,19 +11,19 @@ use Rattle.pearl_tree.specs.declared.expression.Side.TheVariants.{Lower, Upper}
 use Rattle.pearl_tree.specs.declared.expression.Expr.{Expr}
 use Rattle.pearl_tree.specs.declared.expression.Primary.{Primary}
 use Rattle.pearl_tree.specs.declared.expression.Primary as primary
-use Rattle.pearl_tree.specs.declared.expression.Selector.{Selector, Subscripts', Component, Row_of-Expr, end_of-Expr, more_of-Expr, items-the_row-Expr}
-use Rattle.pearl_tree.specs.declared.expression.Ref.{Row_of-Selector, end_of-Selector, more_of-Selector, items-the_row-Selector}
+use Rattle.pearl_tree.specs.declared.expression.Selector.{Selector, Subscripts', Component, Row_of-Expr, end_of-Expr, items-the_row-Expr}
+use Rattle.pearl_tree.specs.declared.expression.Ref.{Row_of-Selector, end_of-Selector, items-the_row-Selector}
 use Rattle.pearl_tree.specs.declared.token.What.{What}
 use Rattle.pearl_tree.specs.declared.token.What.TheVariants as what
 use Rattle.pearl_tree.specs.declared.token.Token.{Token}
-use Rattle.pearl_tree.specs.Standing.{what_at, HasWord, HasSymbol, SpellsEach, SpellsMore, SpellsList}
-use Rattle.pearl_tree.specs.Expressions.{SpellsSecs, SpellsDuration, SpellsLiteral, SpellsPrimary, SpellsSelectors, SpellsSelector, SpellsSubscripts, SpellsMoreSubscripts, SpellsExpr, side_word}
+use Rattle.pearl_tree.specs.Standing.{what_at, HasWord, HasSymbol}
+use Rattle.pearl_tree.specs.Expressions.{SpellsSecs, SpellsLiteral, SpellsPrimary, SpellsSelector, SpellsExpr, side_word}
 use Rattle.pearl_tree.specs.WordCodes as w
 use Rattle.pearl_tree.specs.Symbols as s
 use Rattle.pearl_tree.specs.Stops.{BeginAlike}
 use Rattle.pearl_tree.proofs.ExpressionLists.{selectors, subscripts}
-use Rattle.pearl_parse_expr.specs.Stops.{is_literal, is_name, is_number, is_secs, is_plain, is_side, is_symbol, is_word, begins_limit, extends_operand, SpellsNamed, SpellsSelectorsList, SpellsSubscriptsList}
-use Rattle.pearl_parse_expr.proofs.Literals.{same_word, secs_end}
+use Rattle.pearl_parse_expr.specs.Stops.{is_literal, is_name, is_number, is_secs, is_plain, is_side, is_symbol, is_word, begins_limit, extends_operand, SpellsNamed, SpellsSubscriptsList}
+use Rattle.pearl_parse_expr.proofs.Literals.{secs_end}
 
 pub clash : (b : Bool) → b ≡ true → b ≡ false → ⊥
 clash b holds fails = true≢false (sym holds ∙ fails)

@@ -1,9 +1,7 @@
 -- What tokens that begin alike have in common: which token goes on with a part, and with which none goes on.
 use Rattle.std.specs.Prelude.{if◌then◌else◌, ◌≡◌, ℕ, ◌+◌, ◌<◌, ◌≤◌, ◌⊎◌, ◌==◌, ◌||◌, ◌&&◌, ◌-◌, ◌^◌, unwrap_or, Bool, true, false, List, length, Option, Some, None}
-use Rattle.std.specs.Option.{option_and_then}
 use Rattle.pearl_tree.specs.declared.expression.Monad.{Monad}
 use Rattle.pearl_tree.specs.declared.expression.Monad.TheVariants as monad
-use Rattle.pearl_tree.specs.declared.expression.Dyad.{Dyad}
 use Rattle.pearl_tree.specs.declared.token.What.{What}
 use Rattle.pearl_tree.specs.declared.token.What.TheVariants as what
 use Rattle.pearl_tree.specs.declared.token.Token.{Token}
@@ -13,7 +11,7 @@ use Rattle.pearl_tree.specs.declared.expression.Expr.{Expr}
 use Rattle.pearl_tree.specs.declared.expression.Primary.{Primary}
 use Rattle.pearl_tree.specs.declared.expression.Selector.{Selector}
 use Rattle.pearl_tree.specs.Standing.{Spelling, SpellsMaybe, SpellsEach, SpellsList, what_at, place_at}
-use Rattle.pearl_tree.specs.Expressions.{dyad_of, SpellsSeconds, SpellsMonadic, SpellsPrimary, SpellsSelector, SpellsExpr, SpellsWhole}
+use Rattle.pearl_tree.specs.Expressions.{SpellsSeconds, SpellsMonadic, SpellsPrimary, SpellsSelector, SpellsExpr, SpellsWhole}
 use Rattle.pearl_parse_expr.specs.declared.fault.ParseFault.{ParseFault}
 use Rattle.pearl_parse_expr.specs.declared.fault.ParseFault.TheVariants as fault
 use Rattle.pearl_parse_expr.specs.declared.reading.Halt.{Halt}

@@ -3,6 +3,8 @@
 
 pub mod expression;
 pub mod fault;
+mod grouping;
+mod leaf;
 mod literal;
 mod operator;
 pub mod reading;

@@ -1,5 +1,8 @@
 // What reading some tokens gave.
 
+ghost use Rattle.std.specs.Prelude.{◌≡◌, [], ◌∷◌, ◌++◌, IfErr, OnOk};
+ghost use Rattle.pearl_parse_expr.specs.declared.reading.Halt.{Halt};
+
 /// A part, the number of the token after it, and the number of the first token with which nothing that begins where
 /// the part begins goes on.
 #[derive(Drop)]
@@ -15,4 +18,15 @@ pub enum Halt {
     /// The number of the first token with which nothing of this kind begins.
     Refused(usize),
     NoMemory,
+}
+
+/// Adds a part to a list.
+pub fn append<T: Drop>(list: &mut Vec<T>, item: T) -> Result<(), Halt>
+    ensures more { OnOk result (list.new.items ≡ list.old.items ++ item ∷ []) }
+    ensures fault { IfErr result (λ halt. halt ≡ Halt.NoMemory) }
+{
+    match list.push(item) {
+        Ok(()) => Ok(()),
+        Err(_) => Err(Halt::NoMemory),
+    }
 }

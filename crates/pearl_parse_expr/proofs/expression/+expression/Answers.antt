@@ -1,15 +1,13 @@
-use Rattle.std.proofs.Common.{◌≡◌, ℕ, ◌+◌, ◌-◌, ◌<◌, ◌≤◌, length, true, false, None, inl, inr, refl, sym, ap, subst, ◌∙◌, arith, rules, [], ◌∷◌, ◌++◌}
-use Rattle.pearl_tree.specs.Standing.{what_at}
+use Rattle.std.proofs.Common.{◌≡◌, ℕ, ◌+◌, ◌-◌, ◌<◌, ◌≤◌, length, inl, refl, sym, ap, subst, ◌∙◌, arith, rules, [], ◌∷◌, ◌++◌}
 use Rattle.pearl_tree.specs.Expressions as grammar
 use Rattle.pearl_tree.specs.Symbols as s
-use Rattle.pearl_tree.specs.WordCodes as w
 use Rattle.pearl_tree.proofs.ExpressionLists.{spells_ref, spells_limit, spells_subscripts}
 use Rattle.pearl_parse_expr.specs.Stops as spec
 use Rattle.pearl_parse_expr.proofs.Primaries.{clash, symbol_within, only_group, only_bracketed, only_named, only_now, no_selector, selector_extends}
 use Rattle.pearl_parse_expr.proofs.Lists.{each_one_more, list_one_more}
 use Rattle.pearl_parse_expr.proofs.Parts.{selectors_next, selectors_end, subscripts_begin, subscripts_next, subscripts_end, subscripts_stuck}
 use Rattle.pearl_parse_expr.proofs.Chains.{chain_begins, chain_goes_on, chain_ends, chain_is_stuck, chain_is_full, no_chain_halted}
-use Rattle.pearl_parse_expr.proofs.Halts.{halted, at_depth, ok_map, err_map, stuck_of}
+use Rattle.pearl_parse_expr.proofs.Halts.{halted, ok_map, err_map, stuck_of}
 use Rattle.pearl_parse_expr.proofs.Limits.{same_monadics, with_array}
 use Rattle.pearl_parse_expr.proofs.Closings.{group_is_sure, group_is_open, list_is_exact, list_is_open}
 use Rattle.pearl_parse_expr.proofs.expression.+expression.Goals as goal

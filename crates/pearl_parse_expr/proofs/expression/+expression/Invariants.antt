@@ -1,4 +1,4 @@
-use Rattle.std.proofs.Common.{◌≡◌, ◌+◌, ◌-◌, ◌*◌, ◌<◌, ◌≤◌, length}
+use Rattle.std.proofs.Common.{◌≡◌, ◌+◌, ◌-◌, ◌*◌, ◌≤◌, length}
 use Rattle.pearl_tree.specs.Expressions.{SpellsTerms, dyad_count}
 use Rattle.pearl_parse_expr.specs.Stops.{IsAhead, SpellsSelectorsList, SpellsSubscriptsList}
 use Rattle.pearl_parse_expr.proofs.Parts.{SelectorsGo, SubscriptsGo}

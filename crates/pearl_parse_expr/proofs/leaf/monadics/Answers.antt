@@ -1,6 +1,6 @@
 use Rattle.std.proofs.Common.{◌≡◌, [], ◌∷◌, ap, length, length-append, arith}
 use Rattle.pearl_parse_expr.proofs.Lists.{monadics_one_more}
-use Rattle.pearl_parse_expr.proofs.expression.monadics.Goals as goal
+use Rattle.pearl_parse_expr.proofs.leaf.monadics.Goals as goal
 
 pub loop-list-preserved : goal.loop-list-preserved
 loop-list-preserved c =

@@ -2,7 +2,7 @@ use Rattle.std.proofs.Common.{◌+◌, refl, sym, inl, arith, ap, ◌∙◌}
 use Rattle.pearl_tree.specs.WordCodes as w
 use Rattle.pearl_parse_expr.specs.Stops.{is_name}
 use Rattle.pearl_parse_expr.proofs.Primaries.{clash, word_within, only_try}
-use Rattle.pearl_parse_expr.proofs.expression.availability.Goals as goal
+use Rattle.pearl_parse_expr.proofs.leaf.availability.Goals as goal
 
 pub returns-in-Some-clause-sure : goal.returns-in-Some-clause-sure
 returns-in-Some-clause-sure c = λ depth others agree x to h.

@@ -2,7 +2,7 @@ use Rattle.std.proofs.Common.{◌+◌, refl, sym, arith, ap, ◌∙◌}
 use Rattle.pearl_tree.specs.Symbols as s
 use Rattle.pearl_parse_expr.specs.Stops.{is_name}
 use Rattle.pearl_parse_expr.proofs.Primaries.{clash, symbol_within, only_component}
-use Rattle.pearl_parse_expr.proofs.expression.component.Goals as goal
+use Rattle.pearl_parse_expr.proofs.leaf.component.Goals as goal
 
 pub returns-in-Some-clause-sure : goal.returns-in-Some-clause-sure
 returns-in-Some-clause-sure c = λ depth others agree x to h.

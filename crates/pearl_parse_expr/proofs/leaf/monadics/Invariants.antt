@@ -1,7 +1,7 @@
 use Rattle.std.proofs.Common.{◌+◌, ◌-◌, ◌≤◌, length}
 use Rattle.pearl_tree.specs.Standing.{SpellsEach}
 use Rattle.pearl_tree.specs.Expressions.{SpellsMonadic}
-use Rattle.pearl_parse_expr.proofs.expression.monadics.Given as goal
+use Rattle.pearl_parse_expr.proofs.leaf.monadics.Given as goal
 
 abbrev pub invariant-loop-list : goal.invariant-loop-list
 invariant-loop-list l =

@@ -1,6 +1,6 @@
-use Rattle.std.proofs.Common.{◌+◌, ◌≤◌, inl, refl, arith, sym, ◌∙◌}
+use Rattle.std.proofs.Common.{◌+◌, ◌≤◌, arith}
 use Rattle.pearl_parse_expr.proofs.Primaries.{clash, literal_others}
-use Rattle.pearl_parse_expr.proofs.expression.literal_primary.Goals as goal
+use Rattle.pearl_parse_expr.proofs.leaf.literal_primary.Goals as goal
 
 pub returns-in-Ok-clause-sure : goal.returns-in-Ok-clause-sure
 returns-in-Ok-clause-sure c = λ depth others agree x to h.

@@ -1,6 +1,6 @@
-use Rattle.std.proofs.Common.{◌≡◌, ◌+◌, ◌≤◌, Some, inl, inr, subst, sym, arith}
+use Rattle.std.proofs.Common.{arith}
 use Rattle.pearl_parse_expr.proofs.Limits.{without_array, without_number, number_before}
-use Rattle.pearl_parse_expr.proofs.expression.without_array.Goals as goal
+use Rattle.pearl_parse_expr.proofs.leaf.without_array.Goals as goal
 
 pub returns-in-Some-clause-sure : goal.returns-in-Some-clause-sure
 returns-in-Some-clause-sure c = λ depth stuck others agree x to h.
