@@ -405,8 +405,8 @@ fn stop_place(tokens: &[Token], stop: usize) -> u32
     }
 }
 
-/// The longest expression that begins at a token, the number of the token after it, and the place of the first token
-/// with which no expression goes on.
+/// The longest expression that begins at a token, the number of the token after it, and a stop: the place of a token
+/// past which no expression goes that begins there.
 pub fn expression(
     alloc: Global,
     tokens: &[Token],

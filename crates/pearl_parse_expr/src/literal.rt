@@ -216,7 +216,7 @@ fn duration(tokens: &[Token], from: usize) -> Result<Reading<Duration>, usize>
     from_seconds(tokens, from)
 }
 
-/// The longest literal that begins here, or the number of the first token with which none begins.
+/// The longest literal that begins here, or the number of a token with which none begins.
 pub fn literal(tokens: &[Token], from: usize) -> Result<Reading<Literal>, usize>
     requires { from ≤ length tokens.now }
     ensures spells { IfOk result (λ reading. SpellsLiteral tokens.now from reading.part reading.end) }

@@ -3,8 +3,8 @@
 ghost use Rattle.std.specs.Prelude.{◌≡◌, [], ◌∷◌, ◌++◌, IfErr, OnOk};
 ghost use Rattle.pearl_parse_expr.specs.declared.reading.Halt.{Halt};
 
-/// A part, the number of the token after it, and the number of the first token with which nothing that begins where
-/// the part begins goes on.
+/// A part, the number of the token after it, and the number of a token past which nothing of its kind goes that begins
+/// where it does.
 #[derive(Drop)]
 pub struct Reading<T> {
     pub part: T,
@@ -15,7 +15,7 @@ pub struct Reading<T> {
 /// Why a part is not read.
 #[derive(Drop)]
 pub enum Halt {
-    /// The number of the first token with which nothing of this kind begins.
+    /// The number of a token with which nothing of this kind begins.
     Refused(usize),
     NoMemory,
 }
