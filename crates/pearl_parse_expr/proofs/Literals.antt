@@ -1,0 +1,94 @@
+-- Which literals other tokens can spell that begin as these do.
+use Rattle.std.proofs.Common.{◌≡◌, ℕ, ◌+◌, ◌≤◌, true, false, List, Option, Some, None, ◌⊎◌, inr, refl, sym, ap, subst, ◌∙◌, arith, true≢false}
+use Rattle.pearl_tree.specs.declared.literal.Duration.{Duration}
+use Rattle.pearl_tree.specs.declared.literal.Duration.TheVariants.{Hours, Minutes, Seconds}
+use Rattle.pearl_tree.specs.declared.literal.Literal.{Literal}
+use Rattle.pearl_tree.specs.declared.literal.Literal.TheVariants as literal
+use Rattle.pearl_tree.specs.declared.literal.Secs.{Secs}
+use Rattle.pearl_tree.specs.declared.literal.Secs.TheVariants as secs
+use Rattle.pearl_tree.specs.declared.token.What.{What}
+use Rattle.pearl_tree.specs.declared.token.What.TheVariants as what
+use Rattle.pearl_tree.specs.declared.token.Token.{Token}
+use Rattle.pearl_tree.specs.Standing.{what_at}
+use Rattle.pearl_tree.specs.Expressions.{SpellsSecs, SpellsSeconds, SpellsDuration, SpellsLiteral}
+use Rattle.pearl_tree.specs.WordCodes as w
+use Rattle.pearl_tree.specs.Stops.{BeginAlike}
+use Rattle.pearl_parse_expr.specs.Stops.{Stuck, EndsEarly, is_counted, is_number, is_secs, extends_operand, SpellsMaybeSeconds}
+
+-- a number with the word that it has not
+number_then_word : (word : ℕ) (tokens others : List Token) (from stop value : ℕ) → BeginAlike tokens others stop → from ≤ stop →
+    (is_secs (what_at tokens from) ≡ true → from + 1 ≤ stop) →
+    what_at others from ≡ Some (what.Number value) → what_at others (from + 1) ≡ Some (what.Word word) →
+    what_at tokens (from + 1) ≡ Some (what.Word word)
+number_then_word word tokens others from stop value agree near far number behind =
+    (agree (from + 1) (far (ap is_secs (agree from near ∙ number)))) ∙ behind
+
+pub no_duration : (tokens others : List Token) (from stop : ℕ) → BeginAlike tokens others stop → from ≤ stop →
+    (is_secs (what_at tokens from) ≡ true → from + 1 ≤ stop) → is_counted w.HRS tokens from ≡ false →
+    is_counted w.MIN tokens from ≡ false → Stuck SpellsSeconds tokens from stop →
+    (x : Duration) (to : ℕ) → SpellsDuration others from x to → ⊥
+no_duration tokens others from stop agree near far no_hours no_minutes stuck (Hours hours minutes seconds place) to h =
+    let number = (agree from near) ∙ h.2.0 in
+    let word = number_then_word w.HRS tokens others from stop hours.value agree near far h.2.0 h.3 in
+    true≢false (rw (number, word) at no_hours)
+no_duration tokens others from stop agree near far no_hours no_minutes stuck (Minutes minutes seconds place) to h =
+    let number = (agree from near) ∙ h.1.0 in
+    let word = number_then_word w.MIN tokens others from stop minutes.value agree near far h.1.0 h.2 in
+    true≢false (rw (number, word) at no_minutes)
+no_duration tokens others from stop agree near far no_hours no_minutes stuck (Seconds seconds place) to h =
+    stuck others agree seconds to h.1
+
+pub one_token : (tokens others : List Token) (from stop : ℕ) → BeginAlike tokens others stop → Stuck SpellsDuration tokens from stop →
+    (x : Literal) (to : ℕ) → SpellsLiteral others from x to → to ≡ from + 1
+one_token tokens others from stop agree stuck (literal.Number number) to h = h.1
+one_token tokens others from stop agree stuck (literal.Bits len value place) to h = h.2
+one_token tokens others from stop agree stuck (literal.Text text place) to h = h.2
+one_token tokens others from stop agree stuck (literal.Clock milliseconds place) to h = h.2
+one_token tokens others from stop agree stuck (literal.Duration duration) to h = absurd (stuck others agree duration to h)
+
+pub same_word : (token : Option What) (a b : ℕ) → token ≡ Some (what.Word a) → token ≡ Some (what.Word b) → a ≡ b
+same_word token a b first second = cc
+
+pub secs_end : (tokens : List Token) (from : ℕ) (part : Secs) (to : ℕ) → SpellsSecs tokens from part to → to ≡ from + 1
+secs_end tokens from (secs.Number number) to h = h.1
+secs_end tokens from (secs.Decimal whole thousandths place) to h = h.2
+
+seconds_clash : (tokens : List Token) (from word : ℕ) (part : Secs) (to : ℕ) → SpellsSeconds tokens from part to →
+    what_at tokens (from + 1) ≡ Some (what.Word word) → w.SEC ≡ word
+seconds_clash tokens from word part to h stands =
+    let end = secs_end tokens from part h.0 h.1 in
+    same_word (what_at tokens (from + 1)) w.SEC word (subst (λ k. what_at tokens k ≡ Some (what.Word w.SEC)) end h.2) stands
+
+pub number_extends : (token : Option What) → is_number token ≡ true → extends_operand token ≡ true
+number_extends (Some (what.Number value)) h = refl
+number_extends (Some (what.Word code)) h = absurd (true≢false (sym h))
+number_extends (Some (what.Id text)) h = absurd (true≢false (sym h))
+number_extends (Some (what.Decimal whole thousandths)) h = refl
+number_extends (Some (what.Clock milliseconds)) h = absurd (true≢false (sym h))
+number_extends (Some (what.Bits len value)) h = absurd (true≢false (sym h))
+number_extends (Some (what.Text text)) h = absurd (true≢false (sym h))
+number_extends (Some (what.Symbol symbol)) h = absurd (true≢false (sym h))
+number_extends None h = absurd (true≢false (sym h))
+
+-- hours and minutes, then perhaps seconds
+module _ (tokens : List Token) (from end : ℕ) (far : from + 4 ≤ end)
+    (hours_word : what_at tokens (from + 1) ≡ Some (what.Word w.HRS))
+    (number : is_number (what_at tokens (from + 2)) ≡ true)
+    (minutes_word : what_at tokens (from + 3) ≡ Some (what.Word w.MIN))
+    (sure : (x : Option Secs) (to : ℕ) → SpellsMaybeSeconds tokens (from + 4) x to →
+    (to ≡ end) ⊎ EndsEarly extends_operand tokens end to) where
+  pub after_minutes : (x : Duration) (to : ℕ) → SpellsDuration tokens from x to →
+      (to ≡ end) ⊎ EndsEarly extends_operand tokens end to
+  after_minutes (Hours hours None None place) to h =
+      let at : to ≡ from + 2 = omega (arith, h.4, h.5) in
+      inr (omega arith, subst (λ k. extends_operand (what_at tokens k) ≡ true) (sym at) (number_extends (what_at tokens (from + 2)) number))
+  after_minutes (Hours hours None (Some seconds) place) to h =
+      let part = subst (λ m. SpellsSeconds tokens m seconds to) h.4 h.5 in
+      absurd (omega (arith, seconds_clash tokens (from + 2) w.MIN seconds to part (subst (λ k. what_at tokens k ≡ Some (what.Word w.MIN)) (omega arith) minutes_word)))
+  after_minutes (Hours hours (Some minutes) seconds place) to h =
+      let at : h.0 ≡ from + 4 = omega (arith, h.4.2) in
+      sure seconds to (subst (λ m. SpellsMaybeSeconds tokens m seconds to) at h.5)
+  after_minutes (Minutes minutes seconds place) to h =
+      absurd (omega (arith, same_word (what_at tokens (from + 1)) w.HRS w.MIN hours_word h.2))
+  after_minutes (Seconds seconds place) to h =
+      absurd (omega (arith, seconds_clash tokens from w.HRS seconds to h.1 hours_word))

@@ -1,0 +1,68 @@
+use Rattle.std.proofs.Common.{◌≡◌, ◌+◌, ◌-◌, ◌*◌, ◌≤◌, length}
+use Rattle.pearl_tree.specs.Expressions.{SpellsTerms, dyad_count}
+use Rattle.pearl_parse_expr.specs.Stops.{IsAhead, SpellsSelectorsList, SpellsSubscriptsList}
+use Rattle.pearl_parse_expr.proofs.Parts.{SelectorsGo, SubscriptsGo}
+use Rattle.pearl_parse_expr.proofs.Chains.{ChainGoes}
+use Rattle.pearl_parse_expr.proofs.expression.+expression.Given as goal
+
+abbrev pub decreases-subscripts : goal.decreases-subscripts
+decreases-subscripts l = 9 * l.depth + 8
+
+abbrev pub decreases-level : goal.decreases-level
+decreases-level l = 9 * l.depth + 7
+
+abbrev pub decreases-operand : goal.decreases-operand
+decreases-operand l = 9 * l.depth + 6
+
+abbrev pub decreases-primary : goal.decreases-primary
+decreases-primary l = 9 * l.depth + 5
+
+abbrev pub decreases-group : goal.decreases-group
+decreases-group l = 9 * l.depth + 4
+
+abbrev pub decreases-limit : goal.decreases-limit
+decreases-limit l = 9 * l.depth + 4
+
+abbrev pub decreases-reference : goal.decreases-reference
+decreases-reference l = 9 * l.depth + 3
+
+abbrev pub decreases-selectors : goal.decreases-selectors
+decreases-selectors l = 9 * l.depth + 2
+
+abbrev pub decreases-selector : goal.decreases-selector
+decreases-selector l = 9 * l.depth + 1
+
+abbrev pub decreases-bracketed : goal.decreases-bracketed
+decreases-bracketed l = 9 * l.depth
+
+abbrev pub invariant-level-each : goal.invariant-level-each
+invariant-level-each l = record {
+  spells : SpellsTerms l.tokens l.depth l.from l.expr l.end;
+  count : dyad_count l.expr ≡ l.count;
+  goes : ChainGoes l.tokens l.depth l.from l.end l.stop l.count;
+  ahead : IsAhead l.tokens l.from l.end l.stop;
+  few : l.count ≤ 100;
+}
+
+abbrev pub decreases-level-each : goal.decreases-level-each
+decreases-level-each l = 100 - l.count
+
+abbrev pub invariant-selectors-each : goal.invariant-selectors-each
+invariant-selectors-each l = record {
+  spells : SpellsSelectorsList l.tokens l.depth l.from l.list.items l.end;
+  goes : SelectorsGo l.tokens l.depth l.from l.end l.stop;
+  ahead : (l.from ≤ l.end) × (l.end ≤ l.stop) × (l.stop ≤ length l.tokens);
+}
+
+abbrev pub decreases-selectors-each : goal.decreases-selectors-each
+decreases-selectors-each l = length l.tokens - l.end
+
+abbrev pub invariant-subscripts-each : goal.invariant-subscripts-each
+invariant-subscripts-each l = record {
+  spells : SpellsSubscriptsList l.tokens l.depth l.from l.list.items l.end;
+  goes : SubscriptsGo l.tokens l.depth l.from l.end l.stop;
+  ahead : IsAhead l.tokens l.from l.end l.stop;
+}
+
+abbrev pub decreases-subscripts-each : goal.decreases-subscripts-each
+decreases-subscripts-each l = length l.tokens - l.end

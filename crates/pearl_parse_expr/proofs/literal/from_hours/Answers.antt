@@ -1,0 +1,24 @@
+use Rattle.std.proofs.Common.{◌≡◌, ◌+◌, ◌≤◌, Some, true, ap, subst, sym, ◌∙◌, arith}
+use Rattle.pearl_tree.specs.declared.token.What.TheVariants as what
+use Rattle.pearl_tree.specs.WordCodes as w
+use Rattle.pearl_tree.specs.Standing.{what_at}
+use Rattle.pearl_tree.specs.Stops.{BeginAlike}
+use Rattle.pearl_parse_expr.specs.Stops.{is_number}
+use Rattle.pearl_parse_expr.proofs.Literals.{after_minutes}
+use Rattle.pearl_parse_expr.proofs.literal.from_hours.Goals as goal
+
+pub returns-in-Some-clause-sure : goal.returns-in-Some-clause-sure
+returns-in-Some-clause-sure c = λ others agree x to h.
+    let tokens = c.args.tokens.now in
+    let from = c.args.from in
+    let seconds = c.seconds_at in
+    let far : from + 4 ≤ seconds.result.stop = omega (arith, c.seconds_at.ensures.ahead) in
+    let ends : from + 4 ≤ seconds.result.end = omega (arith, c.seconds_at.ensures.ahead) in
+    let agreed : BeginAlike tokens others seconds.result.stop = subst (λ stop. BeginAlike tokens others stop) c.hours_of.ensures.stop agree in
+    let hours_word : what_at others (from + 1) ≡ Some (what.Word w.HRS) = sym (agreed (from + 1) (omega arith)) ∙ c.requires.word in
+    let number : is_number (what_at others (from + 2)) ≡ true = ap is_number (sym (agreed (from + 2) (omega arith)) ∙ c.in-Some.ensures.some.0.0) in
+    let minutes_word : what_at others (from + 3) ≡ Some (what.Word w.MIN) =
+    sym (agreed (from + 3) (omega arith)) ∙ subst (λ k. what_at tokens k ≡ Some (what.Word w.MIN)) (omega arith) c.in-Some.ensures.some.1 in
+    rw c.hours_of.ensures.end
+    (after_minutes others from seconds.result.end ends hours_word number minutes_word
+    (λ x to h. seconds.ensures.sure others agreed x to h) x to h)

@@ -1,0 +1,431 @@
+// Expressions and references. Only a bracket begins another level of them.
+
+ghost use Rattle.std.specs.Prelude.{◌≡◌, ℕ, ◌+◌, ◌-◌, ◌<◌, ◌≤◌, ◌⊎◌, List, [], ◌∷◌, ◌++◌, length, max, IfOk, IfErr, IfSome, OnOk, Some, None, true, false};
+ghost use Rattle.std.specs.Option.{option_and_then};
+ghost use Rattle.pearl_tree.specs.declared.token.Token.{Token};
+ghost use Rattle.pearl_tree.specs.declared.expression.Expr as tree;
+ghost use Rattle.pearl_tree.specs.declared.expression.Expr.{Expr};
+ghost use Rattle.pearl_tree.specs.Standing.{what_at, IsAt, HasWord, HasSymbol, SpellsEach, SpellsMaybe, SpellsNumber};
+ghost use Rattle.pearl_tree.specs.Expressions as grammar;
+ghost use Rattle.pearl_tree.specs.Following.{lengthens_expr, HasOneOf};
+ghost use Rattle.pearl_tree.specs.WordCodes as w;
+ghost use Rattle.pearl_tree.specs.Symbols as s;
+ghost use Rattle.pearl_parse_expr.specs.declared.reading.Halt.{Halt};
+ghost use Rattle.pearl_parse_expr.specs.Stops as spec;
+
+use crate::fault::ParseFault;
+use crate::grouping::joined;
+use crate::leaf::{
+    LimitHead, availability, component, limit_head, literal_primary, monadics, without_array,
+};
+use crate::operator::dyadic_at;
+use crate::reading::{Halt, Reading, append};
+use crate::standing::{is_name, is_symbol, is_word, name_at, place_at};
+use crate::symbol::*;
+use pearl_tables::word_code::{NOW, TRY};
+use pearl_tree::expression::{Expr, Operand, Primary, Ref, Selector};
+use pearl_tree::parts::Parts;
+use pearl_tree::token::Token;
+use std::alloc::Global;
+
+/// How many brackets of one expression may stand within one another.
+pub const BRACKETS_MAX: u8 = 32;
+
+const DYADS_MAX: usize = 100;
+
+// The place that is told where the tokens run out.
+const NO_PLACE: u32 = u32::MAX;
+
+#[cycle(expression)]
+fn subscripts(
+    alloc: Global,
+    tokens: &[Token],
+    from: usize,
+    depth: u8,
+) -> Result<Reading<Vec<Expr>>, Halt>
+    requires { from ≤ length tokens.now }
+    ensures spells { IfOk result (λ reading. spec.SpellsSubscriptsList tokens.now depth from reading.part.items reading.end) }
+    ensures sure { IfOk result (λ reading. spec.Sure (λ tokens. spec.SpellsSubscriptsList tokens depth) spec.extends_list tokens.now from reading.end reading.stop) }
+    ensures ahead { IfOk result (λ reading. spec.IsAhead tokens.now from reading.end reading.stop) }
+    ensures refused { IfErr result (λ halt. spec.IsHalted (λ tokens. spec.SpellsSubscriptsList tokens depth) tokens.now from halt) }
+{
+    let first = level(alloc, tokens, from, depth)?;
+    let mut list = Vec::new(alloc);
+    append(&mut list, first.part)?;
+    let mut end = first.end;
+    let mut stop = first.stop;
+    'each: while is_symbol(tokens, end, COMMA) {
+        match level(alloc, tokens, end + 1, depth) {
+            Ok(next) => {
+                append(&mut list, next.part)?;
+                end = next.end;
+                stop = stop.max(next.stop);
+            }
+            Err(halt) => match halt {
+                Halt::Refused(at) => {
+                    return Ok(Reading {
+                        part: list,
+                        end,
+                        stop: stop.max(at),
+                    });
+                }
+                Halt::NoMemory => return Err(Halt::NoMemory),
+            },
+        }
+    }
+    Ok(Reading {
+        part: list,
+        end,
+        stop,
+    })
+}
+
+#[cycle(expression)]
+fn bracketed(
+    alloc: Global,
+    tokens: &[Token],
+    from: usize,
+    depth: u8,
+) -> Result<Reading<Selector>, Halt>
+    requires within { from ≤ length tokens.now }
+    requires bracket { HasSymbol tokens.now from s.left_round }
+    requires deep { 0 < depth }
+    ensures spells { IfOk result (λ reading. grammar.SpellsSelector tokens.now depth from reading.part reading.end) }
+    ensures sure { IfOk result (λ reading. spec.Exact (λ tokens. grammar.SpellsSelector tokens depth) tokens.now from reading.end reading.stop) }
+    ensures ahead { IfOk result (λ reading. spec.IsAhead tokens.now from reading.end reading.stop) }
+    ensures refused { IfErr result (λ halt. spec.IsHalted (λ tokens. grammar.SpellsSelector tokens depth) tokens.now from halt) }
+{
+    let inner = match subscripts(alloc, tokens, from + 1, depth - 1) {
+        Ok(inner) => inner,
+        Err(halt) => return Err(halt),
+    };
+    if !is_symbol(tokens, inner.end, RIGHT_ROUND) {
+        return Err(Halt::Refused(inner.stop));
+    }
+    Ok(Reading {
+        part: Selector::Subscripts {
+            subscripts: Parts::new(inner.part),
+            place: place_at(tokens, from),
+        },
+        end: inner.end + 1,
+        stop: inner.stop.max(inner.end + 1),
+    })
+}
+
+#[cycle(expression)]
+fn selector(
+    alloc: Global,
+    tokens: &[Token],
+    from: usize,
+    depth: u8,
+) -> Result<Reading<Selector>, Halt>
+    requires { from ≤ length tokens.now }
+    ensures spells { IfOk result (λ reading. grammar.SpellsSelector tokens.now depth from reading.part reading.end) }
+    ensures sure { IfOk result (λ reading. spec.Exact (λ tokens. grammar.SpellsSelector tokens depth) tokens.now from reading.end reading.stop) }
+    ensures ahead { IfOk result (λ reading. spec.IsAhead tokens.now from reading.end reading.stop) }
+    ensures refused { IfErr result (λ halt. spec.IsHalted (λ tokens. grammar.SpellsSelector tokens depth) tokens.now from halt) }
+{
+    if is_symbol(tokens, from, PERIOD) {
+        return component(tokens, from);
+    }
+    if depth > 0 && is_symbol(tokens, from, LEFT_ROUND) {
+        return bracketed(alloc, tokens, from, depth);
+    }
+    Err(Halt::Refused(from))
+}
+
+#[cycle(expression)]
+fn selectors(
+    alloc: Global,
+    tokens: &[Token],
+    from: usize,
+    depth: u8,
+) -> Result<Reading<Vec<Selector>>, Halt>
+    requires { from ≤ length tokens.now }
+    ensures spells { IfOk result (λ reading. spec.SpellsSelectorsList tokens.now depth from reading.part.items reading.end) }
+    ensures sure { IfOk result (λ reading. spec.Sure (λ tokens. spec.SpellsSelectorsList tokens depth) spec.extends_operand tokens.now from reading.end reading.stop) }
+    ensures ahead { IfOk result (λ reading. (from ≤ reading.end) × (reading.end ≤ reading.stop) × (reading.stop ≤ length tokens.now)) }
+    ensures fault { IfErr result (λ halt. halt ≡ Halt.NoMemory) }
+{
+    let mut list = Vec::new(alloc);
+    let mut end = from;
+    let mut stop = from;
+    'each: loop {
+        match selector(alloc, tokens, end, depth) {
+            Ok(next) => {
+                append(&mut list, next.part)?;
+                end = next.end;
+                stop = stop.max(next.stop);
+            }
+            Err(halt) => match halt {
+                Halt::Refused(at) => {
+                    return Ok(Reading {
+                        part: list,
+                        end,
+                        stop: stop.max(at),
+                    });
+                }
+                Halt::NoMemory => return Err(Halt::NoMemory),
+            },
+        }
+    }
+}
+
+/// The longest reference that begins here.
+#[cycle(expression)]
+pub fn reference(
+    alloc: Global,
+    tokens: &[Token],
+    from: usize,
+    depth: u8,
+) -> Result<Reading<Ref>, Halt>
+    requires { from ≤ length tokens.now }
+    ensures spells { IfOk result (λ reading. grammar.SpellsRef tokens.now depth from reading.part reading.end) }
+    ensures sure { IfOk result (λ reading. spec.Sure (λ tokens. spec.SpellsNamed tokens depth) spec.extends_operand tokens.now from reading.end reading.stop) }
+    ensures ahead { IfOk result (λ reading. spec.IsAhead tokens.now from reading.end reading.stop) }
+    ensures refused { IfErr result (λ halt. spec.IsHalted (λ tokens. spec.SpellsNamed tokens depth) tokens.now from halt) }
+{
+    match name_at(tokens, from) {
+        Some(name) => {
+            let place = name.place;
+            let selectors = selectors(alloc, tokens, from + 1, depth)?;
+            Ok(Reading {
+                part: Ref {
+                    name,
+                    selectors: Parts::new(selectors.part),
+                    place,
+                },
+                end: selectors.end,
+                stop: selectors.stop,
+            })
+        }
+        None => Err(Halt::Refused(from)),
+    }
+}
+
+#[cycle(expression)]
+fn group(alloc: Global, tokens: &[Token], from: usize, depth: u8) -> Result<Reading<Primary>, Halt>
+    requires within { from ≤ length tokens.now }
+    requires bracket { HasSymbol tokens.now from s.left_round }
+    ensures spells { IfOk result (λ reading. grammar.SpellsPrimary tokens.now depth from reading.part reading.end) }
+    ensures sure { IfOk result (λ reading. spec.Sure (λ tokens. grammar.SpellsPrimary tokens depth) spec.extends_operand tokens.now from reading.end reading.stop) }
+    ensures ahead { IfOk result (λ reading. spec.IsAhead tokens.now from reading.end reading.stop) }
+    ensures refused { IfErr result (λ halt. spec.IsHalted (λ tokens. grammar.SpellsPrimary tokens depth) tokens.now from halt) }
+{
+    if depth == 0 {
+        return Err(Halt::Refused(from));
+    }
+    let inner = match level(alloc, tokens, from + 1, depth - 1) {
+        Ok(inner) => inner,
+        Err(halt) => return Err(halt),
+    };
+    if !is_symbol(tokens, inner.end, RIGHT_ROUND) {
+        return Err(Halt::Refused(inner.stop));
+    }
+    match Box::new(alloc, inner.part) {
+        Ok(expr) => Ok(Reading {
+            part: Primary::Group {
+                inner: expr,
+                place: place_at(tokens, from),
+            },
+            end: inner.end + 1,
+            stop: inner.stop.max(inner.end + 1),
+        }),
+        Err(_) => Err(Halt::NoMemory),
+    }
+}
+
+#[cycle(expression)]
+fn limit(
+    alloc: Global,
+    tokens: &[Token],
+    from: usize,
+    head: LimitHead,
+    depth: u8,
+) -> Result<Reading<Primary>, Halt>
+    requires within { from ≤ length tokens.now }
+    requires dimension { SpellsMaybe (SpellsNumber tokens.now) from head.dimension head.word }
+    requires word { HasWord tokens.now head.word (grammar.side_word head.side) }
+    requires after { from ≤ head.word }
+    ensures spells { IfOk result (λ reading. grammar.SpellsPrimary tokens.now depth from reading.part reading.end) }
+    ensures sure { IfOk result (λ reading. spec.Sure (λ tokens. grammar.SpellsPrimary tokens depth) spec.extends_operand tokens.now from reading.end reading.stop) }
+    ensures ahead { IfOk result (λ reading. spec.IsAhead tokens.now from reading.end reading.stop) }
+    ensures refused { IfErr result (λ halt. spec.IsHalted (λ tokens. grammar.SpellsPrimary tokens depth) tokens.now from halt) }
+{
+    match reference(alloc, tokens, head.word + 1, depth) {
+        Ok(array) => Ok(Reading {
+            part: Primary::Limit {
+                dimension: head.dimension,
+                side: head.side,
+                array: array.part,
+                place: place_at(tokens, from),
+            },
+            end: array.end,
+            stop: array.stop,
+        }),
+        Err(halt) => match halt {
+            Halt::Refused(stop) => without_array(tokens, from, head, stop),
+            Halt::NoMemory => Err(Halt::NoMemory),
+        },
+    }
+}
+
+#[cycle(expression)]
+fn primary(
+    alloc: Global,
+    tokens: &[Token],
+    from: usize,
+    depth: u8,
+) -> Result<Reading<Primary>, Halt>
+    requires { from ≤ length tokens.now }
+    ensures spells { IfOk result (λ reading. grammar.SpellsPrimary tokens.now depth from reading.part reading.end) }
+    ensures sure { IfOk result (λ reading. spec.Sure (λ tokens. grammar.SpellsPrimary tokens depth) spec.extends_operand tokens.now from reading.end reading.stop) }
+    ensures ahead { IfOk result (λ reading. spec.IsAhead tokens.now from reading.end reading.stop) }
+    ensures refused { IfErr result (λ halt. spec.IsHalted (λ tokens. grammar.SpellsPrimary tokens depth) tokens.now from halt) }
+{
+    if is_symbol(tokens, from, LEFT_ROUND) {
+        return group(alloc, tokens, from, depth);
+    }
+    if is_name(tokens, from) {
+        return match reference(alloc, tokens, from, depth) {
+            Ok(reference) => Ok(Reading {
+                part: Primary::Ref(reference.part),
+                end: reference.end,
+                stop: reference.stop,
+            }),
+            Err(halt) => Err(halt),
+        };
+    }
+    if is_word(tokens, from, NOW) {
+        return Ok(Reading {
+            part: Primary::Now {
+                place: place_at(tokens, from),
+            },
+            end: from + 1,
+            stop: from + 1,
+        });
+    }
+    if is_word(tokens, from, TRY) {
+        return availability(tokens, from);
+    }
+    match limit_head(tokens, from) {
+        Some(head) => limit(alloc, tokens, from, head, depth),
+        None => literal_primary(tokens, from),
+    }
+}
+
+#[cycle(expression)]
+fn operand(
+    alloc: Global,
+    tokens: &[Token],
+    from: usize,
+    depth: u8,
+) -> Result<Reading<Operand>, Halt>
+    requires { from ≤ length tokens.now }
+    ensures spells { IfOk result (λ reading. grammar.SpellsTerms tokens.now depth from (tree.Operand reading.part) reading.end) }
+    ensures sure { IfOk result (λ reading. spec.Sure (λ tokens. spec.SpellsSigned tokens depth) spec.extends_operand tokens.now from reading.end reading.stop) }
+    ensures ahead { IfOk result (λ reading. spec.IsAhead tokens.now from reading.end reading.stop) }
+    ensures refused { IfErr result (λ halt. spec.IsHalted (λ tokens. spec.SpellsSigned tokens depth) tokens.now from halt) }
+{
+    let monadics = monadics(alloc, tokens, from)?;
+    match primary(alloc, tokens, from + monadics.len(), depth) {
+        Ok(primary) => Ok(Reading {
+            part: Operand {
+                monadics: Parts::new(monadics),
+                primary: primary.part,
+                place: place_at(tokens, from),
+            },
+            end: primary.end,
+            stop: primary.stop,
+        }),
+        Err(halt) => Err(halt),
+    }
+}
+
+/// The longest expression that begins here, with at most `depth` brackets within one another.
+#[cycle(expression)]
+pub fn level(alloc: Global, tokens: &[Token], from: usize, depth: u8) -> Result<Reading<Expr>, Halt>
+    requires { from ≤ length tokens.now }
+    ensures spells { IfOk result (λ reading. grammar.SpellsExpr tokens.now depth from reading.part reading.end) }
+    ensures sure { IfOk result (λ reading. spec.Sure (λ tokens. grammar.SpellsExpr tokens depth) spec.extends_expression tokens.now from reading.end reading.stop) }
+    ensures ahead { IfOk result (λ reading. spec.IsAhead tokens.now from reading.end reading.stop) }
+    ensures refused { IfErr result (λ halt. spec.IsHalted (λ tokens. grammar.SpellsExpr tokens depth) tokens.now from halt) }
+{
+    let first = match operand(alloc, tokens, from, depth) {
+        Ok(first) => first,
+        Err(halt) => return Err(halt),
+    };
+    let mut expr = Expr::Operand(first.part);
+    let mut end = first.end;
+    let mut stop = first.stop;
+    let mut count = 0;
+    'each: while count < DYADS_MAX {
+        let dyadic = match dyadic_at(tokens, end) {
+            Some(dyadic) => dyadic,
+            None => {
+                return Ok(Reading {
+                    part: expr,
+                    end,
+                    stop,
+                });
+            }
+        };
+        match operand(alloc, tokens, end + 1, depth) {
+            Ok(next) => {
+                expr = joined(alloc, expr, dyadic, next.part)?;
+                end = next.end;
+                stop = stop.max(next.stop);
+                count += 1;
+            }
+            Err(halt) => match halt {
+                Halt::Refused(at) => {
+                    return Ok(Reading {
+                        part: expr,
+                        end,
+                        stop: stop.max(at),
+                    });
+                }
+                Halt::NoMemory => return Err(Halt::NoMemory),
+            },
+        }
+    }
+    Ok(Reading {
+        part: expr,
+        end,
+        stop,
+    })
+}
+
+fn stop_place(tokens: &[Token], stop: usize) -> u32
+    ensures { result ≡ spec.stop_place tokens.now stop }
+{
+    match tokens.get(stop) {
+        Some(token) => token.place,
+        None => NO_PLACE,
+    }
+}
+
+/// The longest expression that begins at a token, the number of the token after it, and a stop: the place of a token
+/// past which no expression goes that begins there.
+pub fn expression(
+    alloc: Global,
+    tokens: &[Token],
+    from: usize,
+) -> Result<(Expr, usize, u32), ParseFault>
+    ensures spells { IfOk result (λ found. grammar.SpellsWhole tokens.now from found.0 found.1) }
+    ensures longest { IfOk result (λ found. (expr : Expr) (to : ℕ) → grammar.SpellsWhole tokens.now from expr to → (to ≡ found.1) ⊎ ((to < found.1) × HasOneOf lengthens_expr tokens.now to)) }
+    ensures stop { IfOk result (λ found. spec.IsStop tokens.now from found.2) }
+    ensures refused { IfErr result (λ fault. spec.IsRefused tokens.now from fault) }
+    ensures within { IfOk result (λ found. (from < found.1) × (found.1 ≤ length tokens.now)) }
+{
+    if from > tokens.len() {
+        return Err(ParseFault::Refused(NO_PLACE));
+    }
+    match level(alloc, tokens, from, BRACKETS_MAX) {
+        Ok(reading) => Ok((reading.part, reading.end, stop_place(tokens, reading.stop))),
+        Err(halt) => match halt {
+            Halt::Refused(stop) => Err(ParseFault::Refused(stop_place(tokens, stop))),
+            Halt::NoMemory => Err(ParseFault::NoMemory),
+        },
+    }
+}

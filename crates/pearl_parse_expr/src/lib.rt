@@ -1,0 +1,14 @@
+// Expressions and references, read from the tokens of a source.
+#![tactic(auto)]
+
+pub mod expression;
+pub mod fault;
+mod grouping;
+mod leaf;
+mod literal;
+mod operator;
+pub mod reading;
+pub mod standing;
+pub mod symbol;
+#[cfg(test)]
+mod tests;

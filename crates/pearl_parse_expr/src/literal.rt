@@ -1,0 +1,244 @@
+// Literals and durations.
+
+ghost use Rattle.std.specs.Prelude.{◌≡◌, ◌+◌, ◌<◌, ◌≤◌, length, IfOk, IfErr, IfSome, Some, None, true, false};
+ghost use Rattle.pearl_tree.specs.Standing.{what_at, IsNumber, HasWord};
+ghost use Rattle.pearl_tree.specs.Expressions.{SpellsSecs, SpellsSeconds, SpellsDuration, SpellsLiteral};
+ghost use Rattle.pearl_tree.specs.WordCodes as w;
+ghost use Rattle.pearl_tree.specs.declared.literal.Duration.{Duration};
+ghost use Rattle.pearl_parse_expr.specs.Stops.{Sure, Stuck, IsAhead, extends_operand, is_plain, is_secs, is_counted, SpellsMaybeSeconds};
+
+use crate::reading::Reading;
+use crate::standing::{is_word, number_at};
+use pearl_tables::word_code::{HRS, MIN, SEC};
+use pearl_tree::literal::{Duration, Literal, Secs};
+use pearl_tree::name::Number;
+use pearl_tree::token::{Token, What};
+
+// A literal of one token.
+fn plain_at(tokens: &[Token], at: usize) -> Option<Literal>
+    ensures some { IfSome result (λ part. SpellsLiteral tokens.now at part (at + 1)) }
+    ensures none { result ≡ None → is_plain (what_at tokens.now at) ≡ false }
+    ensures within { IfSome result (λ _. at < length tokens.now) }
+{
+    match tokens.get(at) {
+        Some(token) => match &token.what {
+            What::Number(value) => Some(Literal::Number(Number {
+                value: *value,
+                place: token.place,
+            })),
+            What::Bits { len, value } => Some(Literal::Bits {
+                len: *len,
+                value: *value,
+                place: token.place,
+            }),
+            What::Text(text) => Some(Literal::Text {
+                text: text.clone().unwrap(),
+                place: token.place,
+            }),
+            What::Clock(milliseconds) => Some(Literal::Clock {
+                milliseconds: *milliseconds,
+                place: token.place,
+            }),
+            _ => None,
+        },
+        None => None,
+    }
+}
+
+fn secs_at(tokens: &[Token], at: usize) -> Option<Secs>
+    ensures some { IfSome result (λ part. SpellsSecs tokens.now at part (at + 1)) }
+    ensures none { result ≡ None → is_secs (what_at tokens.now at) ≡ false }
+    ensures within { IfSome result (λ _. at < length tokens.now) }
+{
+    match tokens.get(at) {
+        Some(token) => match token.what {
+            What::Number(value) => Some(Secs::Number(Number {
+                value,
+                place: token.place,
+            })),
+            What::Decimal { whole, thousandths } => Some(Secs::Decimal {
+                whole,
+                thousandths,
+                place: token.place,
+            }),
+            _ => None,
+        },
+        None => None,
+    }
+}
+
+// The seconds that may end a duration.
+fn seconds_at(tokens: &[Token], at: usize) -> Reading<Option<Secs>>
+    requires { at ≤ length tokens.now }
+    ensures spells { SpellsMaybeSeconds tokens.now at result.part result.end }
+    ensures sure { Sure SpellsMaybeSeconds extends_operand tokens.now at result.end result.stop }
+    ensures ahead { (at ≤ result.end) × (result.end ≤ result.stop) × (result.stop ≤ length tokens.now) }
+    ensures stuck { result.part ≡ None → Stuck SpellsSeconds tokens.now at result.stop }
+    ensures near { result.part ≡ None → result.stop ≤ at + 1 }
+    ensures far { is_secs (what_at tokens.now at) ≡ true → at + 1 ≤ result.stop }
+{
+    match secs_at(tokens, at) {
+        Some(secs) => {
+            if is_word(tokens, at + 1, SEC) {
+                Reading {
+                    part: Some(secs),
+                    end: at + 2,
+                    stop: at + 2,
+                }
+            } else {
+                Reading {
+                    part: None,
+                    end: at,
+                    stop: at + 1,
+                }
+            }
+        }
+        None => Reading {
+            part: None,
+            end: at,
+            stop: at,
+        },
+    }
+}
+
+// A number with its word.
+fn counted_at(tokens: &[Token], at: usize, word: u8) -> Option<Number>
+    ensures some { IfSome result (λ number. IsNumber tokens.now at number × HasWord tokens.now (at + 1) word) }
+    ensures none { result ≡ None → is_counted word tokens.now at ≡ false }
+    ensures within { IfSome result (λ _. at + 2 ≤ length tokens.now) }
+{
+    match number_at(tokens, at) {
+        Some(number) => {
+            if is_word(tokens, at + 1, word) {
+                Some(number)
+            } else {
+                None
+            }
+        }
+        None => None,
+    }
+}
+
+// Hours, with the minutes and the seconds behind them.
+fn hours_of(
+    hours: Number,
+    minutes: Option<Number>,
+    seconds: Reading<Option<Secs>>,
+) -> Reading<Duration>
+    ensures part { result.part ≡ Duration.Hours hours minutes seconds.part hours.place }
+    ensures end { result.end ≡ seconds.end }
+    ensures stop { result.stop ≡ seconds.stop }
+{
+    Reading {
+        part: Duration::Hours {
+            hours,
+            minutes,
+            seconds: seconds.part,
+            place: hours.place,
+        },
+        end: seconds.end,
+        stop: seconds.stop,
+    }
+}
+
+fn from_hours(tokens: &[Token], from: usize, hours: Number) -> Reading<Duration>
+    requires within { from + 2 ≤ length tokens.now }
+    requires number { IsNumber tokens.now from hours }
+    requires word { HasWord tokens.now (from + 1) w.HRS }
+    ensures spells { SpellsDuration tokens.now from result.part result.end }
+    ensures sure { Sure SpellsDuration extends_operand tokens.now from result.end result.stop }
+    ensures ahead { IsAhead tokens.now from result.end result.stop }
+{
+    match counted_at(tokens, from + 2, MIN) {
+        Some(minutes) => hours_of(hours, Some(minutes), seconds_at(tokens, from + 4)),
+        None => hours_of(hours, None, seconds_at(tokens, from + 2)),
+    }
+}
+
+fn from_minutes(tokens: &[Token], from: usize, minutes: Number) -> Reading<Duration>
+    requires within { from + 2 ≤ length tokens.now }
+    requires number { IsNumber tokens.now from minutes }
+    requires word { HasWord tokens.now (from + 1) w.MIN }
+    ensures spells { SpellsDuration tokens.now from result.part result.end }
+    ensures sure { Sure SpellsDuration extends_operand tokens.now from result.end result.stop }
+    ensures ahead { IsAhead tokens.now from result.end result.stop }
+{
+    let seconds = seconds_at(tokens, from + 2);
+    Reading {
+        part: Duration::Minutes {
+            minutes,
+            seconds: seconds.part,
+            place: minutes.place,
+        },
+        end: seconds.end,
+        stop: seconds.stop,
+    }
+}
+
+fn from_seconds(tokens: &[Token], from: usize) -> Result<Reading<Duration>, usize>
+    requires within { from ≤ length tokens.now }
+    requires hours { is_counted w.HRS tokens.now from ≡ false }
+    requires minutes { is_counted w.MIN tokens.now from ≡ false }
+    ensures spells { IfOk result (λ reading. SpellsDuration tokens.now from reading.part reading.end) }
+    ensures sure { IfOk result (λ reading. Sure SpellsDuration extends_operand tokens.now from reading.end reading.stop) }
+    ensures ahead { IfOk result (λ reading. IsAhead tokens.now from reading.end reading.stop) }
+    ensures refused { IfErr result (λ stop. Stuck SpellsDuration tokens.now from stop) }
+    ensures held { IfErr result (λ stop. (from ≤ stop) × (stop ≤ from + 1) × (stop ≤ length tokens.now)) }
+{
+    let seconds = seconds_at(tokens, from);
+    match seconds.part {
+        Some(seconds) => Ok(Reading {
+            part: Duration::Seconds {
+                seconds,
+                place: tokens[from].place,
+            },
+            end: from + 2,
+            stop: from + 2,
+        }),
+        None => Err(seconds.stop),
+    }
+}
+
+fn duration(tokens: &[Token], from: usize) -> Result<Reading<Duration>, usize>
+    requires { from ≤ length tokens.now }
+    ensures spells { IfOk result (λ reading. SpellsDuration tokens.now from reading.part reading.end) }
+    ensures sure { IfOk result (λ reading. Sure SpellsDuration extends_operand tokens.now from reading.end reading.stop) }
+    ensures ahead { IfOk result (λ reading. IsAhead tokens.now from reading.end reading.stop) }
+    ensures refused { IfErr result (λ stop. Stuck SpellsDuration tokens.now from stop) }
+    ensures held { IfErr result (λ stop. (from ≤ stop) × (stop ≤ from + 1) × (stop ≤ length tokens.now)) }
+{
+    if let Some(hours) = counted_at(tokens, from, HRS) {
+        return Ok(from_hours(tokens, from, hours));
+    }
+    if let Some(minutes) = counted_at(tokens, from, MIN) {
+        return Ok(from_minutes(tokens, from, minutes));
+    }
+    from_seconds(tokens, from)
+}
+
+/// The longest literal that begins here, or the number of a token with which none begins.
+pub fn literal(tokens: &[Token], from: usize) -> Result<Reading<Literal>, usize>
+    requires { from ≤ length tokens.now }
+    ensures spells { IfOk result (λ reading. SpellsLiteral tokens.now from reading.part reading.end) }
+    ensures sure { IfOk result (λ reading. Sure SpellsLiteral extends_operand tokens.now from reading.end reading.stop) }
+    ensures ahead { IfOk result (λ reading. IsAhead tokens.now from reading.end reading.stop) }
+    ensures refused { IfErr result (λ stop. Stuck SpellsLiteral tokens.now from stop) }
+    ensures none { IfErr result (λ _. is_plain (what_at tokens.now from) ≡ false) }
+    ensures held { IfErr result (λ stop. (from ≤ stop) × (stop ≤ from + 1) × (stop ≤ length tokens.now)) }
+{
+    match duration(tokens, from) {
+        Ok(duration) => Ok(Reading {
+            part: Literal::Duration(duration.part),
+            end: duration.end,
+            stop: duration.stop,
+        }),
+        Err(stop) => match plain_at(tokens, from) {
+            Some(part) => Ok(Reading {
+                part,
+                end: from + 1,
+                stop: from + 1,
+            }),
+            None => Err(stop),
+        },
+    }
+}

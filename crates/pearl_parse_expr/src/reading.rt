@@ -1,0 +1,32 @@
+// What reading some tokens gave.
+
+ghost use Rattle.std.specs.Prelude.{◌≡◌, [], ◌∷◌, ◌++◌, IfErr, OnOk};
+ghost use Rattle.pearl_parse_expr.specs.declared.reading.Halt.{Halt};
+
+/// A part, the number of the token after it, and the number of a token past which nothing of its kind goes that begins
+/// where it does.
+#[derive(Drop)]
+pub struct Reading<T> {
+    pub part: T,
+    pub end: usize,
+    pub stop: usize,
+}
+
+/// Why a part is not read.
+#[derive(Drop)]
+pub enum Halt {
+    /// The number of a token with which nothing of this kind begins.
+    Refused(usize),
+    NoMemory,
+}
+
+/// Adds a part to a list.
+pub fn append<T: Drop>(list: &mut Vec<T>, item: T) -> Result<(), Halt>
+    ensures more { OnOk result (list.new.items ≡ list.old.items ++ item ∷ []) }
+    ensures fault { IfErr result (λ halt. halt ≡ Halt.NoMemory) }
+{
+    match list.push(item) {
+        Ok(()) => Ok(()),
+        Err(_) => Err(Halt::NoMemory),
+    }
+}
