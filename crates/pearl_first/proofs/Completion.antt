@@ -1,16 +1,13 @@
 -- What a program begins with can be completed.
-use Rattle.std.proofs.Common.{◌≡◌, ◌≤◌, ◌<◌, ◌+◌, ◌⊎◌, inl, inr, ℕ, zero, suc, Bool, true, false, List, [], ◌∷◌, ◌++◌, length, map, Option, Some, codes, append_assoc, append-nil, length-append, lit<, lit≤, refl, sym, ap, subst, ◌∙◌, arith}
+use Rattle.std.proofs.Common.{◌≡◌, ◌≤◌, ◌<◌, ◌+◌, ◌⊎◌, inl, inr, ℕ, Bool, false, List, [], ◌∷◌, ◌++◌, length, Option, Some, codes, append_assoc, append-nil, length-append, lit<, lit≤, refl, sym, ap, subst, ◌∙◌, arith}
 use Rattle.std.specs.List.{AllByRecursion}
-use Rattle.arrayvec.specs.declared.array_vec.ArrayVec.{ArrayVec}
 use Rattle.pearl_first.specs.declared.word.Word.TheVariants as said
 use Rattle.pearl_first.specs.declared.token.Symbol.TheVariants.{Semicolon, Becomes}
 use Rattle.pearl_first.specs.declared.token.Token.{Token}
 use Rattle.pearl_first.specs.declared.token.What.{What}
-use Rattle.pearl_first.specs.declared.form.Form.{Form}
 use Rattle.pearl_first.specs.declared.form.Form.TheVariants.{AnyName, AnyNumber}
 use Rattle.pearl_first.specs.declared.form.TheConstants.{HEAD, DECLARATION, TASK_HEAD, TARGET}
 use Rattle.pearl_first.specs.declared.tree.Name.{Name}
-use Rattle.pearl_first.specs.declared.tree.Part.{Part}
 use Rattle.pearl_first.specs.declared.tree.Part.TheVariants as part
 use Rattle.pearl_first.specs.declared.tree.Sign.{Sign}
 use Rattle.pearl_first.specs.declared.tree.Term.{Term}
@@ -18,10 +15,9 @@ use Rattle.pearl_first.specs.declared.tree.Sum.{Sum}
 use Rattle.pearl_first.specs.declared.tree.Assign.{Assign}
 use Rattle.pearl_first.specs.declared.tree.Put.{Put}
 use Rattle.pearl_first.specs.declared.tree.Step.{Step}
-use Rattle.pearl_first.specs.declared.tree.Step.TheVariants as step
 use Rattle.pearl_first.specs.declared.tree.Tree.{Tree}
-use Rattle.pearl_first.specs.Forms.{Fits, FitFront, IsSign}
-use Rattle.pearl_first.specs.Grammar.{Mark, MarkAt, bare, word, sign, id, number, what_at, Stand, head, name_mark, declaration_marks, declarations_marks, task_marks, symbol_of, part_mark, terms_marks, sum_marks, step_end, assign_marks, target_marks, put_marks, step_marks, steps_marks, closing, tree_marks, HasFewSigns, IsWithinLimits, Spells, SomeBegins}
+use Rattle.pearl_first.specs.Forms.{Fits, FitFront}
+use Rattle.pearl_first.specs.Grammar.{Mark, MarkAt, bare, word, sign, id, number, what_at, Stand, head, name_mark, declaration_marks, declarations_marks, task_marks, symbol_of, part_mark, terms_marks, sum_marks, step_end, assign_marks, target_marks, put_marks, step_marks, steps_marks, closing, tree_marks, HasFewSigns, IsWithinLimits, SomeBegins}
 use Rattle.pearl_first.specs.Stops.{Begun, EndBegun, IsOpened}
 use Rattle.pearl_first.proofs.Marks.{both, extend, either, join_begun, then_begun, cons_begun, none_begun, one_begun, fit_begun, tokens_of, made, made_length, made_said}
 

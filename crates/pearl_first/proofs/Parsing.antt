@@ -1,5 +1,5 @@
 -- How the tokens of two programs agree, and where a parse has to stop.
-use Rattle.std.proofs.Common.{◌≡◌, ◌⊎◌, inl, inr, ◌≤◌, ◌<◌, ◌+◌, ℕ, zero, suc, Bool, true, false, List, [], ◌∷◌, ◌++◌, length, length-append, Option, Some, refl, sym, ap, subst, ◌∙◌, lit<, arith}
+use Rattle.std.proofs.Common.{◌≡◌, inl, inr, ◌≤◌, ◌<◌, ◌+◌, ℕ, zero, suc, Bool, true, false, List, [], ◌∷◌, ◌++◌, length, length-append, Option, Some, refl, sym, ap, subst, ◌∙◌, arith}
 use Rattle.std.specs.List.{AllByRecursion}
 use Rattle.pearl_first.specs.declared.word.Word.TheVariants as said
 use Rattle.pearl_first.specs.declared.token.Symbol.TheVariants.{Semicolon, Becomes}
@@ -18,8 +18,8 @@ use Rattle.pearl_first.specs.declared.tree.Put.{Put}
 use Rattle.pearl_first.specs.declared.tree.Step.{Step}
 use Rattle.pearl_first.specs.declared.tree.Step.TheVariants as step
 use Rattle.pearl_first.specs.declared.tree.Tree.{Tree}
-use Rattle.pearl_first.specs.Forms.{Fits, FitsAt, FitFront, IsPart, IsSign, StartsStep}
-use Rattle.pearl_first.specs.Grammar.{Mark, MarkAt, bare, word, sign, id, what_at, Stand, head, name_mark, declaration_marks, declarations_marks, task_marks, symbol_of, part_mark, terms_marks, sum_marks, step_end, assign_marks, target_marks, put_marks, step_marks, steps_marks, closing, HasFewSigns, Spells, Agree, NoneBegins}
+use Rattle.pearl_first.specs.Forms.{Fits, FitsAt, IsPart, IsSign, StartsStep}
+use Rattle.pearl_first.specs.Grammar.{Mark, bare, word, sign, what_at, Stand, head, declaration_marks, declarations_marks, task_marks, symbol_of, terms_marks, sum_marks, step_end, assign_marks, target_marks, put_marks, step_marks, steps_marks, closing, HasFewSigns, Spells, Agree, NoneBegins}
 use Rattle.pearl_first.specs.Stops.{NoEnd, NoClosing, FollowsSum, NoSum, NoStep, IsOpened}
 use Rattle.pearl_first.proofs.Marks.{shift, left, right, at_zero}
 

@@ -9,7 +9,6 @@ use Rattle.pearl_first.specs.declared.word.Word.{Word}
 use Rattle.pearl_first.specs.declared.token.What.{What}
 use Rattle.pearl_first.specs.declared.token.What.TheVariants as what
 use Rattle.pearl_first.specs.declared.token.Symbol.{Symbol}
-use Rattle.pearl_first.specs.declared.token.Symbol.TheVariants as symbol
 use Rattle.pearl_first.specs.declared.token.Token.{Token}
 use Rattle.pearl_first.specs.declared.token.Front.{Front}
 use Rattle.pearl_first.specs.declared.tree.Part.{Part}

@@ -1,34 +1,29 @@
 -- A tree without faults means a sound program.
-use Rattle.std.proofs.Common.{◌≡◌, ◌≤◌, ◌<◌, ◌+◌, ◌-◌, ◌^◌, ◌||◌, not, ℕ, zero, suc, pos, Bool, true, false, IsTrue, IsSome, nat_le, nat_lt, bytes_eq, cond, codes, max, rules, List, [], ◌∷◌, ◌++◌, length, map, get_or, slice_get, All, Option, Some, None, inl, lit<, lit≤, append-nil, append_assoc, refl, sym, ap, subst, ◌∙◌, arith}
+use Rattle.std.proofs.Common.{◌≡◌, ◌≤◌, ◌<◌, ◌+◌, ◌-◌, ◌^◌, ◌||◌, ℕ, zero, suc, pos, Bool, true, false, IsTrue, IsSome, nat_le, nat_lt, bytes_eq, cond, codes, max, rules, List, [], ◌∷◌, ◌++◌, length, map, slice_get, All, Option, Some, None, inl, lit<, lit≤, refl, sym, ap, subst, ◌∙◌, arith}
 use Rattle.std.specs.List.{AllByRecursion}
 use Rattle.std.proofs.lemmas.Bool.Decides.{nat_tests}
-use Rattle.pearl_value.specs.declared.kind.Kind.{Kind}
 use Rattle.pearl_value.specs.declared.kind.Kind.TheVariants as kind
 use Rattle.pearl_value.specs.declared.cell.Cell.{Cell}
-use Rattle.pearl_value.specs.declared.cell.Cell.TheVariants as cell
-use Rattle.pearl_value.specs.declared.operator.Dyad.{Dyad}
 use Rattle.pearl_value.specs.Cells.{FitsFixed, kind_of}
 use Rattle.pearl_value.specs.Conversions.{SuitsKind}
 use Rattle.pearl_value.specs.WellFormed.{IsWellFormed}
 use Rattle.pearl_value.specs.Rows.{row2}
 use Rattle.pearl_format.specs.declared.item.ItemCode.TheVariants.{F}
-use Rattle.pearl_format.specs.declared.item.Item.{Item}
 use Rattle.pearl_format.specs.Items.{Suits}
 use Rattle.pearl_rules.specs.declared.setup.Setup.{Setup}
 use Rattle.pearl_rules.specs.declared.setup.TaskEntry.{TaskEntry}
 use Rattle.pearl_rules.specs.declared.setup.Device.{Device}
-use Rattle.pearl_rules.specs.Core.{value_at, cell_or_zero}
+use Rattle.pearl_rules.specs.Core.{value_at}
 use Rattle.pearl_rules.specs.Slots.{slot_kind}
 use Rattle.pearl_rules.specs.Tables.{is_id, IsTaskEntry, IsDevice, AreRising, IsFormat, IsWritable, TakesTexts}
 use Rattle.pearl_prog.specs.declared.program.Variable.{Variable}
-use Rattle.pearl_prog.specs.declared.program.Target.TheVariants.{Leaf}
 use Rattle.pearl_prog.specs.declared.program.Expr.{Expr, Number, Read, Dyadic'}
 use Rattle.pearl_prog.specs.declared.program.Statement.{Statement}
 use Rattle.pearl_prog.specs.declared.program.Statement.TheVariants as statement
 use Rattle.pearl_prog.specs.declared.program.Routine.{Routine}
 use Rattle.pearl_prog.specs.declared.program.Program.{Program}
-use Rattle.pearl_prog.specs.Kinds.{slot_of, kind_or, kind_of_expr, held, held_by_all}
-use Rattle.pearl_prog.specs.Sound.{IsVariable, IsExpr, FitsFormat, FitsSome, IsAssign, IsPut, IsStatement, IsRoutine, IsSound}
+use Rattle.pearl_prog.specs.Kinds.{slot_of, kind_or, kind_of_expr, held}
+use Rattle.pearl_prog.specs.Sound.{IsExpr, FitsFormat, FitsSome, IsPut, IsStatement, IsRoutine, IsSound}
 use Rattle.pearl_first.specs.declared.rules.Fault.{Fault}
 use Rattle.pearl_first.specs.declared.rules.Sort.{Sort}
 use Rattle.pearl_first.specs.declared.rules.Sort.TheVariants as sort
@@ -47,7 +42,7 @@ use Rattle.pearl_first.specs.declared.tree.Tree.{Tree}
 use Rattle.pearl_first.specs.Rules as rule
 use Rattle.pearl_first.specs.Rules.{fault_if, first_of, declarations, is_none, is_same, is_other, s2, s16, use_faults, part_faults, terms_faults, sum_faults, s33_width, s33_sum, skip_width, step_faults, steps_faults, s1_of_variables, s1_of_task, specified, faults}
 use Rattle.pearl_first.specs.Lawful.{IsSmall, HasSmallPart, HasSmallParts, IsLawfulStep, IsLawful}
-use Rattle.pearl_first.specs.Resolved.{task_of, devices, skip_items, format_of, formats_of, HasWidth, first_value, variable_number, variable_of, literal_of, part_of, operator_of, IsSumOf, IsDyadic, IsValueOf, IsAssignOf, IsOneValue, IsPutOf, IsStatementOf, AreStatements, IsOneRoutine, Resolves}
+use Rattle.pearl_first.specs.Resolved.{task_of, devices, skip_items, format_of, formats_of, HasWidth, first_value, variable_number, literal_of, part_of, operator_of, IsSumOf, IsDyadic, IsValueOf, IsAssignOf, IsOneValue, IsPutOf, IsStatementOf, AreStatements, IsOneRoutine, Resolves}
 
 -- ---- what is built up, one at a time
 

@@ -1,5 +1,5 @@
 -- Where statements and programs stand, and where one is stuck.
-use Rattle.std.proofs.Common.{◌≡◌, ◌≤◌, ◌<◌, ◌+◌, ℕ, Bool, true, false, List, [], ◌∷◌, ◌++◌, length, length-append, Option, Some, lit<, lit≤, refl, sym, ap, subst, ◌∙◌, arith}
+use Rattle.std.proofs.Common.{◌≡◌, ◌≤◌, ◌<◌, ◌+◌, ℕ, false, List, [], ◌∷◌, ◌++◌, length, length-append, Some, lit≤, refl, sym, ap, subst, arith}
 use Rattle.std.specs.List.{AllByRecursion}
 use Rattle.pearl_first.specs.declared.word.Word.TheVariants as said
 use Rattle.pearl_first.specs.declared.token.Symbol.TheVariants.{Semicolon, Becomes}
@@ -10,13 +10,12 @@ use Rattle.pearl_first.specs.declared.parser.ParseFault.TheVariants.{Stuck, NoMe
 use Rattle.pearl_first.specs.declared.tree.Name.{Name}
 use Rattle.pearl_first.specs.declared.tree.Sum.{Sum}
 use Rattle.pearl_first.specs.declared.tree.Part.TheVariants as part
-use Rattle.pearl_first.specs.declared.tree.Assign.{Assign}
 use Rattle.pearl_first.specs.declared.tree.Put.{Put}
 use Rattle.pearl_first.specs.declared.tree.Step.{Step}
 use Rattle.pearl_first.specs.declared.tree.Step.TheVariants as step
 use Rattle.pearl_first.specs.Forms.{FitsAt, FitFront, StartsStep}
-use Rattle.pearl_first.specs.Grammar.{Mark, MarkAt, bare, word, sign, id, number, what_at, place_at, Stand, head, name_mark, declaration_marks, declarations_marks, task_marks, sum_marks, step_end, assign_marks, target_marks, put_marks, step_marks, steps_marks, closing, HasFewSigns, Spells}
-use Rattle.pearl_first.specs.Stops.{Begun, EndBegun, NoEnd, IsSumAt, IsSumStuck, IsSumFault, IsStepAt, IsStepStuck, IsStepFault, IsOpened, IsParseFault}
+use Rattle.pearl_first.specs.Grammar.{Mark, MarkAt, bare, word, sign, id, number, what_at, place_at, Stand, head, name_mark, declaration_marks, declarations_marks, task_marks, sum_marks, step_end, target_marks, step_marks, steps_marks, closing, HasFewSigns, Spells}
+use Rattle.pearl_first.specs.Stops.{Begun, EndBegun, NoEnd, IsSumAt, IsSumFault, IsStepAt, IsStepStuck, IsStepFault, IsOpened, IsParseFault}
 use Rattle.pearl_first.proofs.Marks.{shift_back, both, extend, stand_begun, one_begun}
 use Rattle.pearl_first.proofs.Parsing.{no_becomes, no_assigned, no_semicolon, no_written, no_target, no_end, no_step_begins}
 use Rattle.pearl_first.proofs.Completion.{assign_begun, put_begun, sum_whole, front_begun, end_begun, some_name, head_stands, step_begins}

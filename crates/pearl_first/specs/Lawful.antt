@@ -1,6 +1,5 @@
 -- What is in range in each token and tree of a source.
 use Rattle.std.specs.Prelude.{◌<◌, ◌≤◌, ◌^◌, IsTrue, All, length}
-use Rattle.std.specs.List.{AllByRecursion}
 use Rattle.pearl_rules.specs.Tables.{is_id}
 use Rattle.pearl_first.specs.declared.tree.Part.{Part}
 use Rattle.pearl_first.specs.declared.tree.Part.TheVariants.{Number, Name}

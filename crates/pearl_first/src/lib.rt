@@ -1,5 +1,5 @@
-// A first part of PEARL 90, from the bytes of a source to its resolved program: a module with a fixed head and one
-// task, whose statements write numbers to a terminal.
+// The first language, a part of PEARL 90, from the bytes of a source to its resolved program: a module with a fixed
+// head, variables and one task, which assigns sums to variables and writes them to a terminal.
 #![tactic(auto)]
 
 pub mod fault;

@@ -18,7 +18,7 @@ enum Answer {
 }
 
 // What follows the head, which has 100 bytes, and the answer to both together.
-const SOURCES: [(&str, Answer); 14] = [
+const SOURCES: [(&str, Answer); 24] = [
     (
         "t:TASK MAIN;PUT 7 TO tty BY F(5),SKIP;END;MODEND;",
         Answer::Accepted,
@@ -65,6 +65,43 @@ const SOURCES: [(&str, Answer); 14] = [
     (
         "t:TASK MAIN;PUT 1 TO no BY F(1025);END;MODEND;",
         Answer::Source(112, 33),
+    ),
+    (
+        "DCL x FIXED;DCL y FIXED;t:TASK MAIN;x:=2147483647+1;y = x - 7 - y;PUT x-y TO tty BY F(9);END;MODEND;",
+        Answer::Accepted,
+    ),
+    (
+        "DCL x FIXED;t:TASK MAIN;x:=x;END;DCL y FIXED;MODEND;",
+        Answer::Syntax(133),
+    ),
+    ("DCL x;t:TASK MAIN;END;MODEND;", Answer::Syntax(105)),
+    (
+        "DCL x FIXED;t:TASK MAIN;x:=1+;END;MODEND;",
+        Answer::Syntax(129),
+    ),
+    (
+        "DCL x FIXED;t:TASK MAIN;x==1;END;MODEND;",
+        Answer::Syntax(125),
+    ),
+    (
+        "DCL x FIXED;t:TASK MAIN;x:=1 TO tty;END;MODEND;",
+        Answer::Syntax(129),
+    ),
+    (
+        "DCL x FIXED;DCL x FIXED;x:TASK MAIN;END;MODEND;",
+        Answer::Source(116, 1),
+    ),
+    (
+        "DCL x FIXED;t:TASK MAIN;x:=x-y;END;MODEND;",
+        Answer::Source(129, 2),
+    ),
+    (
+        "DCL x FIXED;t:TASK MAIN;t:=x;END;MODEND;",
+        Answer::Source(124, 16),
+    ),
+    (
+        "DCL x FIXED;t:TASK MAIN;PUT x TO x BY F(5);END;MODEND;",
+        Answer::Source(133, 16),
     ),
 ];
 

@@ -1,4 +1,4 @@
-use Rattle.std.proofs.Common.{◌≡◌, refl, sym, true≢false}
+use Rattle.std.proofs.Common.{refl, sym, true≢false}
 use Rattle.pearl_first.proofs.Statements.{not_becoming, not_assigned, not_ended, assigned}
 use Rattle.pearl_first.proofs.parser.assign_at.Goals as goal
 

@@ -1,7 +1,6 @@
-use Rattle.std.proofs.Common.{◌≡◌, ◌+◌, length, subst, sym, arith}
+use Rattle.std.proofs.Common.{◌+◌, subst, sym, arith}
 use Rattle.pearl_first.specs.declared.tree.Put.{Put}
 use Rattle.pearl_first.specs.declared.tree.Step.TheVariants as step
-use Rattle.pearl_first.specs.Grammar.{step_end}
 use Rattle.pearl_first.specs.Stops.{IsStepAt}
 use Rattle.pearl_first.proofs.Statements.{not_written, not_targeted, not_closed, written}
 use Rattle.pearl_first.proofs.parser.put_at.Goals as goal

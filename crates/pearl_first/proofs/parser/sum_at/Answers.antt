@@ -1,13 +1,12 @@
-use Rattle.std.proofs.Common.{◌≡◌, ◌≤◌, ◌+◌, ◌++◌, ◌∷◌, [], length, length-append, vec_len, Some, lit≤, refl, subst, sym, ap, ◌∙◌, arith}
+use Rattle.std.proofs.Common.{◌≡◌, ◌+◌, ◌++◌, ◌∷◌, [], length, length-append, vec_len, lit≤, refl, subst, sym, ap, ◌∙◌, arith}
 use Rattle.pearl_first.specs.declared.tree.Term.{Term}
 use Rattle.pearl_first.specs.declared.tree.Sum.{Sum}
 use Rattle.pearl_first.specs.declared.tree.Part.TheVariants as part
-use Rattle.pearl_first.specs.Forms.{IsSign}
-use Rattle.pearl_first.specs.Grammar.{MarkAt, Stand, part_mark, sum_marks, terms_marks, what_at}
+use Rattle.pearl_first.specs.Grammar.{MarkAt, Stand, part_mark, sum_marks, terms_marks}
 use Rattle.pearl_first.specs.Stops.{IsSumAt}
 use Rattle.pearl_first.proofs.Marks.{none_begun}
 use Rattle.pearl_first.proofs.Parsing.{no_sum, no_sign, no_part}
-use Rattle.pearl_first.proofs.Completion.{sum_stands, sum_begun, longer, longer_marks, more_terms}
+use Rattle.pearl_first.proofs.Completion.{sum_stands, sum_begun, longer, more_terms}
 use Rattle.pearl_first.proofs.Statements.{sum_full}
 use Rattle.pearl_first.proofs.parser.sum_at.Goals as goal
 

@@ -1,4 +1,4 @@
-use Rattle.std.proofs.Common.{◌≡◌, ◌+◌, refl, sym, subst, arith}
+use Rattle.std.proofs.Common.{◌+◌, sym, subst, arith}
 use Rattle.pearl_first.specs.Grammar.{Spells}
 use Rattle.pearl_first.proofs.Parsing.{no_head, no_task, no_closing_begins}
 use Rattle.pearl_first.proofs.Completion.{head_begins, head_stands, task_begins, task_begun, closing_begins}

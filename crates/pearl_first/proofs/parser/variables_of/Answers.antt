@@ -1,4 +1,4 @@
-use Rattle.std.proofs.Common.{◌≡◌, ◌≤◌, ◌+◌, ◌++◌, ◌∷◌, [], length, length-append, vec_len, refl, subst, sym, ap, ◌∙◌, arith}
+use Rattle.std.proofs.Common.{◌≡◌, ◌+◌, ◌++◌, ◌∷◌, [], length, length-append, vec_len, refl, subst, sym, ap, ◌∙◌, arith}
 use Rattle.pearl_first.specs.Grammar.{Stand, declarations_marks, declaration_marks}
 use Rattle.pearl_first.proofs.Marks.{both}
 use Rattle.pearl_first.proofs.Parsing.{no_declaration, no_more_names}

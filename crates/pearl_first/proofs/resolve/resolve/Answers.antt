@@ -1,4 +1,4 @@
-use Rattle.std.proofs.Common.{◌<◌, length, map, get_or, ap, subst, sym, ◌∙◌, arith}
+use Rattle.std.proofs.Common.{◌<◌, length, map, get_or, ap, subst, sym, ◌∙◌}
 use Rattle.pearl_first.specs.Resolved.{HasWidth, first_value, formats_of, IsOneRoutine}
 use Rattle.pearl_first.proofs.Resolution.{widths, resolved_sound}
 use Rattle.pearl_first.proofs.resolve.resolve.Goals as goal

@@ -1,4 +1,4 @@
-use Rattle.std.proofs.Common.{◌≡◌, subst}
+use Rattle.std.proofs.Common.{subst}
 use Rattle.pearl_first.specs.Rules.{IsFirstOf, fault_if, s33_width, s33_sum}
 use Rattle.pearl_first.proofs.rules.put_fault.Goals as goal
 

@@ -1,4 +1,4 @@
-use Rattle.std.proofs.Common.{◌≡◌, ℕ, Bool, true, false, cond, codes, bytes_eq, List, [], ◌∷◌, map, Some, None, sym, ap, ◌∙◌}
+use Rattle.std.proofs.Common.{◌≡◌, ℕ, true, false, cond, codes, bytes_eq, List, [], ◌∷◌, map, Some, None, sym, ap, ◌∙◌}
 use Rattle.pearl_first.specs.declared.rules.Sort.{Sort}
 use Rattle.pearl_first.specs.declared.rules.Sort.TheVariants.{Task}
 use Rattle.pearl_first.specs.Rules.{is_among, text_of}
