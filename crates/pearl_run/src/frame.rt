@@ -171,7 +171,9 @@ fn step(object: &Object, instr: &Instr, frame: &mut Frame) -> Option<Action>
             replace(frame, 1, made)
         }
         Instr::Dyadic(op) => {
-            let made = apply2(*op, operand(frame, 2), operand(frame, 1));
+            let left = operand(frame, 2);
+            let right = operand(frame, 1);
+            let made = apply2(*op, left, right);
             replace(frame, 2, made)
         }
         Instr::Read(slot) => Some(Action::Read(*slot)),

@@ -55,29 +55,29 @@ returns-in-Conv-clause-ready c =
     (if_ok (λ x. kind_of x ≡ c.in-Conv.to) (λ x. IsSteady o (next_with stack (left ++ x ∷ []))) c.convert-made.result
     (λ x is. conv_steady o stack c.requires.ready.steady c.in-Conv.to x (c.requires.here ∙ ap Some c.in-Conv.is) is) c.convert-made.ensures.same_kind)
 
-pub operand-requires-in-Dyadic-clause-there : goal.operand-requires-in-Dyadic-clause-there
-operand-requires-in-Dyadic-clause-there c =
+pub operand-left-requires-clause-there : goal.operand-left-requires-clause-there
+operand-left-requires-clause-there c =
     dyadic_enough c.args.object.now (stack_of c.args.frame.now) c.requires.ready.steady _ (c.requires.here ∙ ap Some c.in-Dyadic.is)
 
-pub operand-requires-in-Dyadic-2-clause-there : goal.operand-requires-in-Dyadic-2-clause-there
-operand-requires-in-Dyadic-2-clause-there c =
+pub operand-right-requires-clause-there : goal.operand-right-requires-clause-there
+operand-right-requires-clause-there c =
     let enough = dyadic_enough c.args.object.now (stack_of c.args.frame.now) c.requires.ready.steady _ (c.requires.here ∙ ap Some c.in-Dyadic.is) in
     omega (arith, enough)
 
 pub apply2-made-requires-clause-left : goal.apply2-made-requires-clause-left
 apply2-made-requires-clause-left c =
     let enough = dyadic_enough c.args.object.now (stack_of c.args.frame.now) c.requires.ready.steady _ (c.requires.here ∙ ap Some c.in-Dyadic.is) in
-    rw c.operand-in-Dyadic.ensures (well_at c.args.frame.now.operands.items _ c.requires.ready.well_formed (omega (arith, enough)))
+    rw c.operand-left.ensures (well_at c.args.frame.now.operands.items _ c.requires.ready.well_formed (omega (arith, enough)))
 
 pub apply2-made-requires-clause-right : goal.apply2-made-requires-clause-right
 apply2-made-requires-clause-right c =
     let enough = dyadic_enough c.args.object.now (stack_of c.args.frame.now) c.requires.ready.steady _ (c.requires.here ∙ ap Some c.in-Dyadic.is) in
-    rw c.operand-in-Dyadic-2.ensures (well_at c.args.frame.now.operands.items _ c.requires.ready.well_formed (omega (arith, enough)))
+    rw c.operand-right.ensures (well_at c.args.frame.now.operands.items _ c.requires.ready.well_formed (omega (arith, enough)))
 
 pub apply2-made-requires-clause-row : goal.apply2-made-requires-clause-row
 apply2-made-requires-clause-row c =
     let r = dyadic_row c.args.object.now (stack_of c.args.frame.now) c.requires.ready.steady _ (c.requires.here ∙ ap Some c.in-Dyadic.is) in
-    rw (c.operand-in-Dyadic.ensures, c.operand-in-Dyadic-2.ensures, r.1) refl
+    rw (c.operand-left.ensures, c.operand-right.ensures, r.1) refl
 
 pub replace-requires-in-Dyadic-clause-enough : goal.replace-requires-in-Dyadic-clause-enough
 replace-requires-in-Dyadic-clause-enough c =
@@ -91,11 +91,11 @@ returns-in-Dyadic-clause-ready c =
     let op = c.in-Dyadic.op in
     pushed_ready o c.args.frame.now c.replace-in-Dyadic.new.frame left c.apply2-made.result c.replace-in-Dyadic.result c.requires.ready
     c.replace-in-Dyadic.ensures.does c.replace-in-Dyadic.ensures.room (All-take IsWellFormed _ stack.operands c.requires.ready.well_formed) c.apply2-made.ensures.well_formed
-    (if_ok (λ x. row2 op (kind_of c.operand-in-Dyadic.result.now) (kind_of c.operand-in-Dyadic-2.result.now) ≡ Some (kind_of x))
+    (if_ok (λ x. row2 op (kind_of c.operand-left.result.now) (kind_of c.operand-right.result.now) ≡ Some (kind_of x))
     (λ x. IsSteady o (next_with stack (left ++ x ∷ []))) c.apply2-made.result
     (λ x is. dyadic_steady o stack c.requires.ready.steady op x (c.requires.here ∙ ap Some c.in-Dyadic.is)
-    (ap (λ y. row2 op (kind_of (second stack.operands)) (kind_of y)) (sym c.operand-in-Dyadic-2.ensures)
-    ∙ (ap (λ y. row2 op (kind_of y) (kind_of c.operand-in-Dyadic-2.result.now)) (sym c.operand-in-Dyadic.ensures) ∙ is))) c.apply2-made.ensures.same_kind)
+    (ap (λ y. row2 op (kind_of (second stack.operands)) (kind_of y)) (sym c.operand-right.ensures)
+    ∙ (ap (λ y. row2 op (kind_of y) (kind_of c.operand-right.result.now)) (sym c.operand-left.ensures) ∙ is))) c.apply2-made.ensures.same_kind)
 
 pub returns-in-Read-clause-lawful : goal.returns-in-Read-clause-lawful
 returns-in-Read-clause-lawful c =
