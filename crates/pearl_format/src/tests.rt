@@ -335,6 +335,7 @@ fn put_result(
 #[test]
 fn operators_and_their_texts(rt: HostRuntime) {
     let overflow = Err(Trap::Overflow);
+    let format = Err(Trap::Format);
     let rows: [(
         u8,
         Given,
@@ -344,7 +345,7 @@ fn operators_and_their_texts(rt: HostRuntime) {
         u8,
         Result<(), Trap>,
         &[u8],
-    ); 8] = [
+    ); 12] = [
         (
             3,
             Given::Fixed(2),
@@ -424,6 +425,46 @@ fn operators_and_their_texts(rt: HostRuntime) {
             24,
             Ok(()),
             b"-1 HRS 00 MIN 00.000 SEC",
+        ),
+        (
+            0,
+            Given::Span(0),
+            Dyad::Sub,
+            Given::Span(1),
+            ItemCode::D,
+            24,
+            Ok(()),
+            b"-0 HRS 00 MIN 00.001 SEC",
+        ),
+        (
+            0,
+            Given::Span(0),
+            Dyad::Sub,
+            Given::Span(1),
+            ItemCode::D,
+            23,
+            format,
+            b"",
+        ),
+        (
+            31,
+            Given::Bits(5, 0b10111),
+            Dyad::And,
+            Given::Bits(5, 0b11111),
+            ItemCode::B4,
+            0,
+            Ok(()),
+            b"B8",
+        ),
+        (
+            31,
+            Given::Bits(5, 0b10111),
+            Dyad::And,
+            Given::Bits(5, 0b11111),
+            ItemCode::B4,
+            1,
+            format,
+            b"",
         ),
     ];
     for (len, left, op, right, code, width, told, want) in rows {

@@ -89,6 +89,7 @@ fits_short setup device format operands left items count fits same counted =
     let number : count ≡ data_count (format_of setup format) = counted ∙ ap data_count same in
     let above : map kind_of (drop (length operands - count) operands) ≡ fits.values = rw number p.above in
     rw (take_rest, above, same) fits.short
+
 -- the operands in which these kinds are on top
 pub kind_at : (operands : List Cell) (left : List Kind) (k : Kind) (more : List Kind) → map kind_of operands ≡ left ++ k ∷ more →
     kind_of (value_at operands (length left)) ≡ k

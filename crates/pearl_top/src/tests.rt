@@ -116,10 +116,7 @@ fn names_are_checked(rt: HostRuntime) -> Result<(), Fail> {
             b"DCL x FIXED; DCL x FIXED; main: TASK MAIN; END;",
             b"error source 126 S1\n",
         ),
-        (
-            b"DCL x FIXED; x: TASK MAIN; END;",
-            b"error source 122 S1\n",
-        ),
+        (b"DCL x FIXED; x: TASK MAIN; END;", b"error source 122 S1\n"),
         (
             b"DCL x FIXED; main: TASK MAIN; x := x + y; END;",
             b"error source 148 S2\n",
