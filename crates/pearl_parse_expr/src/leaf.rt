@@ -1,6 +1,6 @@
 // The parts of expressions that no bracket encloses.
 
-ghost use Rattle.std.specs.Prelude.{◌≡◌, ℕ, ◌+◌, ◌<◌, ◌≤◌, ◌⊎◌, length, IfOk, IfErr, IfSome, None, false};
+ghost use Rattle.std.specs.Prelude.{◌≡◌, ◌≢◌, ℕ, ◌+◌, ◌<◌, ◌≤◌, ◌⊎◌, length, IfOk, IfErr, IfSome, None, false};
 ghost use Rattle.std.specs.Option.{option_and_then};
 ghost use Rattle.pearl_tree.specs.Standing.{what_at, HasWord, HasSymbol, SpellsEach, SpellsMaybe, SpellsNumber};
 ghost use Rattle.pearl_tree.specs.Expressions as grammar;
@@ -83,6 +83,7 @@ pub fn component(tokens: &[Token], from: usize) -> Result<Reading<Selector>, Hal
     ensures sure { IfOk result (λ reading. (depth : ℕ) → spec.Exact (λ tokens. grammar.SpellsSelector tokens depth) tokens.now from reading.end reading.stop) }
     ensures ahead { IfOk result (λ reading. spec.IsAhead tokens.now from reading.end reading.stop) }
     ensures refused { IfErr result (λ halt. (depth : ℕ) → spec.IsHalted (λ tokens. grammar.SpellsSelector tokens depth) tokens.now from halt) }
+    ensures memory { IfErr result (λ halt. halt ≢ Halt.NoMemory) }
 {
     match name_at(tokens, from + 1) {
         Some(name) => Ok(Reading {
@@ -105,6 +106,7 @@ pub fn availability(tokens: &[Token], from: usize) -> Result<Reading<Primary>, H
     ensures sure { IfOk result (λ reading. (depth : ℕ) → spec.Sure (λ tokens. grammar.SpellsPrimary tokens depth) spec.extends_operand tokens.now from reading.end reading.stop) }
     ensures ahead { IfOk result (λ reading. spec.IsAhead tokens.now from reading.end reading.stop) }
     ensures refused { IfErr result (λ halt. (depth : ℕ) → spec.IsHalted (λ tokens. grammar.SpellsPrimary tokens depth) tokens.now from halt) }
+    ensures memory { IfErr result (λ halt. halt ≢ Halt.NoMemory) }
 {
     match name_at(tokens, from + 1) {
         Some(name) => Ok(Reading {
@@ -131,6 +133,7 @@ pub fn literal_primary(tokens: &[Token], from: usize) -> Result<Reading<Primary>
     ensures sure { IfOk result (λ reading. (depth : ℕ) → spec.Sure (λ tokens. grammar.SpellsPrimary tokens depth) spec.extends_operand tokens.now from reading.end reading.stop) }
     ensures ahead { IfOk result (λ reading. spec.IsAhead tokens.now from reading.end reading.stop) }
     ensures refused { IfErr result (λ halt. (depth : ℕ) → spec.IsHalted (λ tokens. grammar.SpellsPrimary tokens depth) tokens.now from halt) }
+    ensures memory { IfErr result (λ halt. halt ≢ Halt.NoMemory) }
 {
     match literal(tokens, from) {
         Ok(literal) => Ok(Reading {
@@ -157,6 +160,7 @@ pub fn without_array(
     ensures sure { IfOk result (λ reading. (depth : ℕ) → spec.Stuck (λ tokens. spec.SpellsNamed tokens depth) tokens.now (head.word + 1) stop → spec.Sure (λ tokens. grammar.SpellsPrimary tokens depth) spec.extends_operand tokens.now from reading.end reading.stop) }
     ensures ahead { IfOk result (λ reading. spec.IsAhead tokens.now from reading.end reading.stop) }
     ensures refused { IfErr result (λ halt. (depth : ℕ) → spec.Stuck (λ tokens. spec.SpellsNamed tokens depth) tokens.now (head.word + 1) stop → spec.IsHalted (λ tokens. grammar.SpellsPrimary tokens depth) tokens.now from halt) }
+    ensures memory { IfErr result (λ halt. halt ≢ Halt.NoMemory) }
 {
     match head.dimension {
         Some(number) => Ok(Reading {
