@@ -1,0 +1,18 @@
+// The canonical text of a tree.
+#![tactic(auto)]
+
+mod declaration;
+mod expression;
+mod format;
+mod lists;
+mod literal;
+mod module;
+pub mod print;
+mod put;
+mod schedule;
+mod spelling;
+mod statement;
+mod symbol;
+mod tasking;
+mod transfer;
+mod typing;
