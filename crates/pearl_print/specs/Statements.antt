@@ -13,7 +13,7 @@ use Rattle.pearl_tree.specs.Symbols as s
 use Rattle.pearl_tree.specs.WordCodes as w
 use Rattle.pearl_print.specs.Lists.{word, symbol, name_tokens, listed, maybe_bracketed, maybe}
 use Rattle.pearl_print.specs.Expressions.{expr_tokens, ref_tokens}
-use Rattle.pearl_print.specs.Formats.{fmt_tokens}
+use Rattle.pearl_print.specs.Formats.{by_tokens}
 use Rattle.pearl_print.specs.Declarations.{item_tokens}
 use Rattle.pearl_print.specs.Schedules.{after_tokens, start_tokens, once_tokens}
 
@@ -85,12 +85,10 @@ abbrev mutual
   stmt_tokens (OnInterrupt code name place) = word (interrupt_word code) ++ name_tokens name ++ symbol s.semicolon
   -- PUT [ expr { "," expr } ] TO id BY fmt { "," fmt } ";"
   stmt_tokens (Put values dation formats place) =
-      word w.PUT ++ listed expr_tokens values.items.items ++ word w.TO ++ name_tokens dation ++ word w.BY ++
-      listed fmt_tokens formats.items.items ++ symbol s.semicolon
+      word w.PUT ++ listed expr_tokens values.items.items ++ word w.TO ++ by_tokens dation formats
   -- GET [ ref { "," ref } ] FROM id BY fmt { "," fmt } ";"
   stmt_tokens (Get targets dation formats place) =
-      word w.GET ++ listed ref_tokens targets.items.items ++ word w.FROM ++ name_tokens dation ++ word w.BY ++
-      listed fmt_tokens formats.items.items ++ symbol s.semicolon
+      word w.GET ++ listed ref_tokens targets.items.items ++ word w.FROM ++ by_tokens dation formats
   -- SEND expr TO id ";"
   stmt_tokens (Send value dation place) =
       after_tokens w.SEND value ++ word w.TO ++ name_tokens dation ++ symbol s.semicolon

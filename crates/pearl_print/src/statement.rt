@@ -67,12 +67,19 @@ fn put_return(into: &mut Vec<u8>, value: &Option<Expr>) -> Result<(), NoMemory>
         into.new.items ≡ into.old.items ++ text_of tokens) }
 {
     put_word(into, RETURN)?;
+    put_returned(into, value)?;
+    put_symbol(into, SEMICOLON)?;
+    Ok(())
+}
+
+fn put_returned(into: &mut Vec<u8>, value: &Option<Expr>) -> Result<(), NoMemory>
+    ensures { OnOk result (into.new.items ≡ into.old.items ++ text_of (maybe value_tokens value.now)) }
+{
     if let Some(value) = value {
         put_symbol(into, LEFT_ROUND)?;
         put_expr(into, value)?;
         put_symbol(into, RIGHT_ROUND)?;
     }
-    put_symbol(into, SEMICOLON)?;
     Ok(())
 }
 

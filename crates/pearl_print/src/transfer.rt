@@ -7,7 +7,7 @@ ghost use Rattle.pearl_tree.specs.WordCodes as w;
 ghost use Rattle.pearl_print.specs.Lists.{word, symbol, name_tokens, listed};
 ghost use Rattle.pearl_print.specs.Spelled.{text_of};
 ghost use Rattle.pearl_print.specs.Expressions.{expr_tokens, ref_tokens};
-ghost use Rattle.pearl_print.specs.Formats.{fmt_tokens};
+ghost use Rattle.pearl_print.specs.Formats.{by_tokens};
 ghost use Rattle.pearl_print.specs.Schedules.{after_tokens};
 
 use crate::expression::put_ref;
@@ -22,6 +22,16 @@ use pearl_tree::name::Name;
 use pearl_tree::parts::Parts;
 use std::alloc::AllocError as NoMemory;
 
+fn put_by(into: &mut Vec<u8>, name: &Name, formats: &Parts<Fmt>) -> Result<(), NoMemory>
+    ensures { OnOk result (into.new.items ≡ into.old.items ++ text_of (by_tokens name.now formats.now)) }
+{
+    name.put(into)?;
+    put_word(into, BY)?;
+    put_listed(into, formats.as_slice())?;
+    put_symbol(into, SEMICOLON)?;
+    Ok(())
+}
+
 pub(crate) fn put_put(
     into: &mut Vec<u8>,
     values: &Parts<Expr>,
@@ -29,17 +39,14 @@ pub(crate) fn put_put(
     formats: &Parts<Fmt>,
 ) -> Result<(), NoMemory>
     ensures { OnOk result
-        (let tokens = word w.PUT ++ listed expr_tokens values.now.items.items ++ word w.TO ++ name_tokens dation.now ++
-        word w.BY ++ listed fmt_tokens formats.now.items.items ++ symbol s.semicolon in
+        (let tokens = word w.PUT ++ listed expr_tokens values.now.items.items ++ word w.TO ++
+        by_tokens dation.now formats.now in
         into.new.items ≡ into.old.items ++ text_of tokens) }
 {
     put_word(into, PUT)?;
     put_listed(into, values.as_slice())?;
     put_word(into, TO)?;
-    dation.put(into)?;
-    put_word(into, BY)?;
-    put_listed(into, formats.as_slice())?;
-    put_symbol(into, SEMICOLON)?;
+    put_by(into, dation, formats)?;
     Ok(())
 }
 
@@ -50,17 +57,14 @@ pub(crate) fn put_get(
     formats: &Parts<Fmt>,
 ) -> Result<(), NoMemory>
     ensures { OnOk result
-        (let tokens = word w.GET ++ listed ref_tokens targets.now.items.items ++ word w.FROM ++ name_tokens dation.now ++
-        word w.BY ++ listed fmt_tokens formats.now.items.items ++ symbol s.semicolon in
+        (let tokens = word w.GET ++ listed ref_tokens targets.now.items.items ++ word w.FROM ++
+        by_tokens dation.now formats.now in
         into.new.items ≡ into.old.items ++ text_of tokens) }
 {
     put_word(into, GET)?;
     put_listed(into, targets.as_slice())?;
     put_word(into, FROM)?;
-    dation.put(into)?;
-    put_word(into, BY)?;
-    put_listed(into, formats.as_slice())?;
-    put_symbol(into, SEMICOLON)?;
+    put_by(into, dation, formats)?;
     Ok(())
 }
 
