@@ -6,12 +6,16 @@ ghost use Rattle.pearl_tree.specs.Declarations.{direction_word};
 ghost use Rattle.pearl_print.specs.Spelled.{text_of};
 ghost use Rattle.pearl_print.specs.Declarations.{device_word_tokens, device_tokens, prio_tokens, item_tokens, sema_tokens, declared_tokens, class_tokens, spec_tokens, param_tokens};
 
-use crate::lists::{put_bracketed_number, put_flag, put_maybe_headed, Part};
+use crate::lists::{Part, put_bracketed_number, put_flag, put_maybe_headed};
 use crate::put::{put_symbol, put_word};
 use crate::symbol::{COLON, SEMICOLON};
 use crate::typing::{put_basic, put_bounds, put_names, put_typing};
-use pearl_tables::word_code::{ALPHIC, BASIC, DATION, IDENTICAL, IN, INIT, INOUT, INTERRUPT, INV, OUT, PRESET, PRIORITY, SEMA};
-use pearl_tree::declaration::{Class, Declared, Device, DeviceWord, Direction, Item, Param, Prio, Sema, Spec};
+use pearl_tables::word_code::{
+    ALPHIC, BASIC, DATION, IDENTICAL, IN, INIT, INOUT, INTERRUPT, INV, OUT, PRESET, PRIORITY, SEMA,
+};
+use pearl_tree::declaration::{
+    Class, Declared, Device, DeviceWord, Direction, Item, Param, Prio, Sema, Spec,
+};
 use std::alloc::AllocError as NoMemory;
 
 fn put_device_word(into: &mut Vec<u8>, word: &DeviceWord) -> Result<(), NoMemory>
@@ -112,7 +116,12 @@ impl Part for Spec {
                 put_word(into, INTERRUPT)?;
                 Ok(())
             }
-            Spec::Dation { names, direction, class, .. } => {
+            Spec::Dation {
+                names,
+                direction,
+                class,
+                ..
+            } => {
                 put_names(into, names)?;
                 put_word(into, DATION)?;
                 put_word(into, direction_word(*direction))?;

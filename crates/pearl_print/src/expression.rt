@@ -8,7 +8,7 @@ ghost use Rattle.pearl_print.specs.Lists.{listed, bracketed};
 ghost use Rattle.pearl_print.specs.Spelled.{text_of};
 ghost use Rattle.pearl_print.specs.Expressions.{monadic_tokens, dyad_what, expr_tokens, operand_tokens, primary_tokens, limit_tokens, selector_tokens, ref_tokens};
 
-use crate::lists::{put_each, put_maybe, Part};
+use crate::lists::{Part, put_each, put_maybe};
 use crate::literal::put_literal;
 use crate::put::{put_symbol, put_word};
 use crate::symbol::*;
@@ -72,7 +72,12 @@ pub(crate) fn put_expr(into: &mut Vec<u8>, expr: &Expr) -> Result<(), NoMemory>
 {
     match expr {
         Expr::Operand(operand) => put_operand(into, operand),
-        Expr::Dyadic { left, dyadic, right, .. } => {
+        Expr::Dyadic {
+            left,
+            dyadic,
+            right,
+            ..
+        } => {
             put_expr(into, left)?;
             put_dyad(into, dyadic.operator)?;
             put_expr(into, right)?;
@@ -109,7 +114,12 @@ fn put_primary(into: &mut Vec<u8>, primary: &Primary) -> Result<(), NoMemory>
             name.put(into)?;
             Ok(())
         }
-        Primary::Limit { dimension, side, array, .. } => put_limit(into, dimension, *side, array),
+        Primary::Limit {
+            dimension,
+            side,
+            array,
+            ..
+        } => put_limit(into, dimension, *side, array),
     }
 }
 

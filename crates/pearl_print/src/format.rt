@@ -5,7 +5,7 @@ ghost use Rattle.std.specs.Prelude.{◌≡◌, ◌++◌, OnOk};
 ghost use Rattle.pearl_tree.specs.Formats.{free_text, wide_text};
 ghost use Rattle.pearl_print.specs.Formats.{fmt_tokens};
 
-use crate::lists::{put_bracketed_number, Part};
+use crate::lists::{Part, put_bracketed_number};
 use crate::put::put_id;
 use pearl_tree::format::{Fmt, FreeCode, WideCode};
 use std::alloc::AllocError as NoMemory;

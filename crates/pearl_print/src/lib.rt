@@ -14,5 +14,7 @@ mod spelling;
 mod statement;
 mod symbol;
 mod tasking;
+#[cfg(test)]
+mod tests;
 mod transfer;
 mod typing;

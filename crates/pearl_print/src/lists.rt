@@ -78,7 +78,11 @@ pub(crate) fn put_maybe_bracketed<T: Part>(into: &mut Vec<u8>, parts: &[T]) -> R
     Ok(())
 }
 
-pub(crate) fn put_maybe_headed<T: Part>(into: &mut Vec<u8>, code: u8, parts: &[T]) -> Result<(), NoMemory>
+pub(crate) fn put_maybe_headed<T: Part>(
+    into: &mut Vec<u8>,
+    code: u8,
+    parts: &[T],
+) -> Result<(), NoMemory>
     requires { code < code_count }
     ensures { OnOk result
         (into.new.items ≡ into.old.items ++ text_of (maybe_headed code T.tokens parts.now)) }

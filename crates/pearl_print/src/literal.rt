@@ -19,7 +19,11 @@ fn secs_milliseconds(secs: &Secs) -> u128
 {
     match secs {
         Secs::Number(number) => 1000 * u128::from(number.value),
-        Secs::Decimal { whole, thousandths, .. } => 1000 * u128::from(*whole) + u128::from(*thousandths),
+        Secs::Decimal {
+            whole,
+            thousandths,
+            ..
+        } => 1000 * u128::from(*whole) + u128::from(*thousandths),
     }
 }
 
@@ -47,10 +51,19 @@ fn duration_milliseconds(duration: &Duration) -> u128
     ensures { result ≡ duration_milliseconds duration.now }
 {
     match duration {
-        Duration::Hours { hours, minutes, seconds, .. } => {
+        Duration::Hours {
+            hours,
+            minutes,
+            seconds,
+            ..
+        } => {
             3_600_000 * u128::from(hours.value) + maybe_minutes(minutes) + maybe_seconds(seconds)
         }
-        Duration::Minutes { minutes, seconds, .. } => 60_000 * u128::from(minutes.value) + maybe_seconds(seconds),
+        Duration::Minutes {
+            minutes,
+            seconds,
+            ..
+        } => 60_000 * u128::from(minutes.value) + maybe_seconds(seconds),
         Duration::Seconds { seconds, .. } => secs_milliseconds(seconds),
     }
 }

@@ -6,12 +6,17 @@ ghost use Rattle.pearl_print.specs.Lists.{maybe};
 ghost use Rattle.pearl_print.specs.Spelled.{text_of};
 ghost use Rattle.pearl_print.specs.Modules.{head_tokens, returns_tokens, task_body_tokens, task_tokens, proc_tokens, decl_tokens, bracketed_name, module_name_tokens, system_tokens, front_tokens, tokens_of};
 
-use crate::lists::{put_bracketed_number, put_each, put_flag, put_listed, put_maybe, put_maybe_bracketed, Part};
+use crate::lists::{
+    Part, put_bracketed_number, put_each, put_flag, put_listed, put_maybe, put_maybe_bracketed,
+};
 use crate::put::{put_symbol, put_word};
 use crate::statement::put_body;
 use crate::symbol::{COLON, LEFT_ROUND, RIGHT_ROUND, SEMICOLON};
 use crate::typing::{put_basic, put_typing, sort_word};
-use pearl_tables::word_code::{DECLARE, END, LENGTH, MAIN, MODEND, MODULE, PROBLEM, PROCEDURE, RETURNS, SPECIFY, SYSTEM, TASK, TYPE};
+use pearl_tables::word_code::{
+    DECLARE, END, LENGTH, MAIN, MODEND, MODULE, PROBLEM, PROCEDURE, RETURNS, SPECIFY, SYSTEM, TASK,
+    TYPE,
+};
 use pearl_tree::declaration::{Device, Param};
 use pearl_tree::name::Name;
 use pearl_tree::parts::Parts;
@@ -121,8 +126,19 @@ impl Part for Decl {
                 put_symbol(into, SEMICOLON)?;
                 Ok(())
             }
-            Decl::Task { name, head, body, .. } => put_task(into, name, head, body),
-            Decl::Proc { name, params, returns, body, .. } => put_proc(into, name, params, returns, body),
+            Decl::Task {
+                name,
+                head,
+                body,
+                ..
+            } => put_task(into, name, head, body),
+            Decl::Proc {
+                name,
+                params,
+                returns,
+                body,
+                ..
+            } => put_proc(into, name, params, returns, body),
         }
     }
 }

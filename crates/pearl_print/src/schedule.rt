@@ -8,7 +8,7 @@ ghost use Rattle.pearl_print.specs.Spelled.{text_of};
 ghost use Rattle.pearl_print.specs.Schedules.{after_tokens, period_end_tokens, period_tokens, start_tokens, once_tokens};
 
 use crate::expression::put_expr;
-use crate::lists::{put_maybe, Part};
+use crate::lists::{Part, put_maybe};
 use crate::put::put_word;
 use pearl_tables::word_code::{AFTER, ALL, AT, DURING, UNTIL, WHEN};
 use pearl_tree::expression::Expr;
@@ -24,7 +24,11 @@ pub(crate) fn put_after(into: &mut Vec<u8>, code: u8, expr: &Expr) -> Result<(),
     Ok(())
 }
 
-pub(crate) fn put_maybe_after(into: &mut Vec<u8>, code: u8, expr: &Option<Expr>) -> Result<(), NoMemory>
+pub(crate) fn put_maybe_after(
+    into: &mut Vec<u8>,
+    code: u8,
+    expr: &Option<Expr>,
+) -> Result<(), NoMemory>
     requires { code < code_count }
     ensures { OnOk result
         (into.new.items ≡ into.old.items ++ text_of (maybe (after_tokens code) expr.now)) }
@@ -66,12 +70,21 @@ impl Part for Start {
                 put_maybe(into, period)?;
                 Ok(())
             }
-            Start::After { duration, period, .. } => {
+            Start::After {
+                duration,
+                period,
+                ..
+            } => {
                 put_after(into, AFTER, duration)?;
                 put_maybe(into, period)?;
                 Ok(())
             }
-            Start::When { interrupt, after, period, .. } => {
+            Start::When {
+                interrupt,
+                after,
+                period,
+                ..
+            } => {
                 put_word(into, WHEN)?;
                 interrupt.put(into)?;
                 put_maybe_after(into, AFTER, after)?;

@@ -12,13 +12,18 @@ ghost use Rattle.pearl_print.specs.Expressions.{expr_tokens, ref_tokens};
 ghost use Rattle.pearl_print.specs.Statements.{value_tokens, body_decl_tokens, for_tokens, loop_tokens, stmt_tokens, branch_tokens, body_tokens, block_tokens};
 
 use crate::expression::{put_expr, put_ref};
-use crate::lists::{put_each, put_listed, put_maybe_bracketed, Part};
+use crate::lists::{Part, put_each, put_listed, put_maybe_bracketed};
 use crate::put::{put_symbol, put_word};
 use crate::schedule::{put_after, put_maybe_after};
 use crate::symbol::{BECOMES, LEFT_ROUND, RIGHT_ROUND, SEMICOLON};
-use crate::tasking::{put_activate, put_continue, put_on_interrupt, put_on_semas, put_on_task, put_resume};
+use crate::tasking::{
+    put_activate, put_continue, put_on_interrupt, put_on_semas, put_on_task, put_resume,
+};
 use crate::transfer::{put_get, put_put, put_send, put_take};
-use pearl_tables::word_code::{ALT, BEGIN, BY, CALL, CASE, DECLARE, ELSE, END, EXIT, FIN, FOR, FROM, IF, OUT, REPEAT, RETURN, THEN, TO, WHILE};
+use pearl_tables::word_code::{
+    ALT, BEGIN, BY, CALL, CASE, DECLARE, ELSE, END, EXIT, FIN, FOR, FROM, IF, OUT, REPEAT, RETURN,
+    THEN, TO, WHILE,
+};
 use pearl_tree::expression::{Expr, Ref};
 use pearl_tree::name::Name;
 use pearl_tree::parts::Parts;
@@ -130,8 +135,17 @@ fn put_stmt(into: &mut Vec<u8>, stmt: &Stmt) -> Result<(), NoMemory>
     match stmt {
         Stmt::Empty { .. } => put_symbol(into, SEMICOLON),
         Stmt::Assign { target, value, .. } => put_assign(into, target, value),
-        Stmt::Call { name, arguments, .. } => put_call(into, name, arguments),
-        Stmt::If { condition, statements, otherwise, .. } => {
+        Stmt::Call {
+            name,
+            arguments,
+            ..
+        } => put_call(into, name, arguments),
+        Stmt::If {
+            condition,
+            statements,
+            otherwise,
+            ..
+        } => {
             put_after(into, IF, condition)?;
             put_word(into, THEN)?;
             put_stmts(into, statements)?;
@@ -139,14 +153,27 @@ fn put_stmt(into: &mut Vec<u8>, stmt: &Stmt) -> Result<(), NoMemory>
             put_ended(into, FIN)?;
             Ok(())
         }
-        Stmt::Case { selector, alternatives, otherwise, .. } => {
+        Stmt::Case {
+            selector,
+            alternatives,
+            otherwise,
+            ..
+        } => {
             put_after(into, CASE, selector)?;
             put_alternatives(into, alternatives)?;
             put_otherwise(into, OUT, otherwise)?;
             put_ended(into, FIN)?;
             Ok(())
         }
-        Stmt::Repeat { control, begin, step, end, condition, body, .. } => {
+        Stmt::Repeat {
+            control,
+            begin,
+            step,
+            end,
+            condition,
+            body,
+            ..
+        } => {
             put_loop(into, control, begin, step, end, condition)?;
             put_block(into, REPEAT, body)?;
             Ok(())
@@ -154,14 +181,29 @@ fn put_stmt(into: &mut Vec<u8>, stmt: &Stmt) -> Result<(), NoMemory>
         Stmt::Exit { .. } => put_ended(into, EXIT),
         Stmt::Begin { body, .. } => put_block(into, BEGIN, body),
         Stmt::Return { value, .. } => put_return(into, value),
-        Stmt::Activate { start, task, priority, .. } => put_activate(into, start, task, priority),
+        Stmt::Activate {
+            start,
+            task,
+            priority,
+            ..
+        } => put_activate(into, start, task, priority),
         Stmt::Continue { once, task, .. } => put_continue(into, once, task),
         Stmt::Resume { once, .. } => put_resume(into, once),
         Stmt::OnTask { word, task, .. } => put_on_task(into, *word, task),
         Stmt::OnSemas { word, names, .. } => put_on_semas(into, *word, names),
         Stmt::OnInterrupt { word, name, .. } => put_on_interrupt(into, *word, name),
-        Stmt::Put { values, dation, formats, .. } => put_put(into, values, dation, formats),
-        Stmt::Get { targets, dation, formats, .. } => put_get(into, targets, dation, formats),
+        Stmt::Put {
+            values,
+            dation,
+            formats,
+            ..
+        } => put_put(into, values, dation, formats),
+        Stmt::Get {
+            targets,
+            dation,
+            formats,
+            ..
+        } => put_get(into, targets, dation, formats),
         Stmt::Send { value, dation, .. } => put_send(into, value, dation),
         Stmt::Take { target, dation, .. } => put_take(into, target, dation),
     }

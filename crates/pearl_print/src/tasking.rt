@@ -9,11 +9,14 @@ ghost use Rattle.pearl_print.specs.Lists.{word, symbol, name_tokens, listed, may
 ghost use Rattle.pearl_print.specs.Spelled.{text_of};
 ghost use Rattle.pearl_print.specs.Schedules.{after_tokens, start_tokens, once_tokens};
 
-use crate::lists::{put_listed, put_maybe, Part};
+use crate::lists::{Part, put_listed, put_maybe};
 use crate::put::{put_symbol, put_word};
 use crate::schedule::put_maybe_after;
 use crate::symbol::SEMICOLON;
-use pearl_tables::word_code::{ACTIVATE, CONTINUE, DISABLE, ENABLE, PREVENT, PRIORITY, RELEASE, REQUEST, RESUME, SUSPEND, TERMINATE, TRIGGER};
+use pearl_tables::word_code::{
+    ACTIVATE, CONTINUE, DISABLE, ENABLE, PREVENT, PRIORITY, RELEASE, REQUEST, RESUME, SUSPEND,
+    TERMINATE, TRIGGER,
+};
 use pearl_tree::expression::Expr;
 use pearl_tree::name::Name;
 use pearl_tree::parts::Parts;
@@ -39,7 +42,11 @@ pub(crate) fn put_activate(
     Ok(())
 }
 
-pub(crate) fn put_continue(into: &mut Vec<u8>, once: &Option<Once>, task: &Name) -> Result<(), NoMemory>
+pub(crate) fn put_continue(
+    into: &mut Vec<u8>,
+    once: &Option<Once>,
+    task: &Name,
+) -> Result<(), NoMemory>
     ensures { OnOk result
         (let tokens = maybe once_tokens once.now ++ word w.CONTINUE ++ name_tokens task.now ++
         symbol s.semicolon in
@@ -73,7 +80,11 @@ fn task_word(word: TaskWord) -> u8
     }
 }
 
-pub(crate) fn put_on_task(into: &mut Vec<u8>, code: TaskWord, task: &Option<Name>) -> Result<(), NoMemory>
+pub(crate) fn put_on_task(
+    into: &mut Vec<u8>,
+    code: TaskWord,
+    task: &Option<Name>,
+) -> Result<(), NoMemory>
     ensures { OnOk result
         (let tokens = word (task_word code) ++ maybe name_tokens task.now ++ symbol s.semicolon in
         into.new.items ≡ into.old.items ++ text_of tokens) }
@@ -93,7 +104,11 @@ fn sema_word(word: SemaWord) -> u8
     }
 }
 
-pub(crate) fn put_on_semas(into: &mut Vec<u8>, code: SemaWord, names: &Parts<Name>) -> Result<(), NoMemory>
+pub(crate) fn put_on_semas(
+    into: &mut Vec<u8>,
+    code: SemaWord,
+    names: &Parts<Name>,
+) -> Result<(), NoMemory>
     ensures { OnOk result
         (let tokens = word (sema_word code) ++ listed name_tokens names.now.items.items ++ symbol s.semicolon in
         into.new.items ≡ into.old.items ++ text_of tokens) }
@@ -114,7 +129,11 @@ fn interrupt_word(word: InterruptWord) -> u8
     }
 }
 
-pub(crate) fn put_on_interrupt(into: &mut Vec<u8>, code: InterruptWord, name: &Name) -> Result<(), NoMemory>
+pub(crate) fn put_on_interrupt(
+    into: &mut Vec<u8>,
+    code: InterruptWord,
+    name: &Name,
+) -> Result<(), NoMemory>
     ensures { OnOk result
         (let tokens = word (interrupt_word code) ++ name_tokens name.now ++ symbol s.semicolon in
         into.new.items ≡ into.old.items ++ text_of tokens) }

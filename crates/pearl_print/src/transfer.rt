@@ -11,7 +11,7 @@ ghost use Rattle.pearl_print.specs.Formats.{by_tokens};
 ghost use Rattle.pearl_print.specs.Schedules.{after_tokens};
 
 use crate::expression::put_ref;
-use crate::lists::{put_listed, Part};
+use crate::lists::{Part, put_listed};
 use crate::put::{put_symbol, put_word};
 use crate::schedule::put_after;
 use crate::symbol::SEMICOLON;

@@ -7,7 +7,7 @@ ghost use Rattle.pearl_print.specs.Lists.{listed};
 ghost use Rattle.pearl_print.specs.Spelled.{text_of};
 ghost use Rattle.pearl_print.specs.Types.{names_tokens, int_tokens, bound_tokens, bounds_tokens, basic_tokens, typing_tokens, struct_tokens, field_tokens};
 
-use crate::lists::{put_bracketed, put_bracketed_number, put_maybe_bracketed, Part};
+use crate::lists::{Part, put_bracketed, put_bracketed_number, put_maybe_bracketed};
 use crate::put::{put_symbol, put_word};
 use crate::symbol::{COLON, COMMA, LEFT_SQUARE, MINUS, RIGHT_SQUARE};
 use pearl_tables::word_code::{BIT, CHARACTER, CLOCK, DURATION, FIXED, STRUCT};

@@ -9,5 +9,5 @@ pub returns : goal.returns
 unfolding tokens_of
 returns c =
     let declarations : c.put_each.new.into.items ≡ c.put_front.new.into.items ++ text_of (flat_map decl_tokens c.args.tree.now.declarations.items.items) =
-        rw (← c.as_slice.ensures) c.in_ok-put_each.ensures in
+    rw (← c.as_slice.ensures) c.in_ok-put_each.ensures in
     adds _ _ _ _ _ (adds _ _ _ _ _ (adds _ _ _ _ _ c.in_ok-put_front.ensures declarations) c.in_ok-put_word.ensures) c.in_ok-put_symbol.ensures

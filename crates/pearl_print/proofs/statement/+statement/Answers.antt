@@ -13,9 +13,9 @@ pub put_stmt-returns-in_ok-put_ended-in-If : goal.put_stmt-returns-in_ok-put_end
 put_stmt-returns-in_ok-put_ended-in-If t c =
     let x = c.in-If in
     let e : stmt_tokens c.args.stmt.now ≡
-        after_tokens w.IF x.condition ++ word w.THEN ++ flat_map stmt_tokens x.statements.items.items ++
-        maybe (branch_tokens w.ELSE) x.otherwise ++ (word w.FIN ++ symbol s.semicolon) =
-        ap stmt_tokens x.is ∙ if_shown x.condition x.statements x.otherwise x.place in
+    after_tokens w.IF x.condition ++ word w.THEN ++ flat_map stmt_tokens x.statements.items.items ++
+    maybe (branch_tokens w.ELSE) x.otherwise ++ (word w.FIN ++ symbol s.semicolon) =
+    ap stmt_tokens x.is ∙ if_shown x.condition x.statements x.otherwise x.place in
     rw e (adds _ _ _ _ _ (adds _ _ _ _ _ (adds _ _ _ _ _ (adds _ _ _ _ _ c.in_ok-put_after-in-If.ensures c.in_ok-put_word-in-If.ensures)
     c.in_ok-put_stmts-in-If.ensures) c.in_ok-put_otherwise-in-If.ensures) c.in_ok-put_ended-in-If.ensures)
 
@@ -23,9 +23,9 @@ pub put_stmt-returns-in_ok-put_ended-in-Case : goal.put_stmt-returns-in_ok-put_e
 put_stmt-returns-in_ok-put_ended-in-Case t c =
     let x = c.in-Case in
     let e : stmt_tokens c.args.stmt.now ≡
-        after_tokens w.CASE x.selector ++ flat_map (branch_tokens w.ALT) x.alternatives.items.items ++
-        maybe (branch_tokens w.OUT) x.otherwise ++ (word w.FIN ++ symbol s.semicolon) =
-        ap stmt_tokens x.is ∙ case_shown x.selector x.alternatives x.otherwise x.place in
+    after_tokens w.CASE x.selector ++ flat_map (branch_tokens w.ALT) x.alternatives.items.items ++
+    maybe (branch_tokens w.OUT) x.otherwise ++ (word w.FIN ++ symbol s.semicolon) =
+    ap stmt_tokens x.is ∙ case_shown x.selector x.alternatives x.otherwise x.place in
     rw e (adds _ _ _ _ _ (adds _ _ _ _ _ (adds _ _ _ _ _ c.in_ok-put_after-in-Case.ensures c.in_ok-put_alternatives-in-Case.ensures)
     c.in_ok-put_otherwise-in-Case.ensures) c.in_ok-put_ended-in-Case.ensures)
 
@@ -33,7 +33,7 @@ pub put_stmt-returns-in_ok-put_block-in-Repeat : goal.put_stmt-returns-in_ok-put
 put_stmt-returns-in_ok-put_block-in-Repeat t c =
     let x = c.in-Repeat in
     let e : stmt_tokens c.args.stmt.now ≡ loop_tokens x.control x.begin x.step x.end x.condition ++ block_tokens w.REPEAT x.body =
-        ap stmt_tokens x.is ∙ repeat_shown x.control x.begin x.step x.end x.condition x.body x.place in
+    ap stmt_tokens x.is ∙ repeat_shown x.control x.begin x.step x.end x.condition x.body x.place in
     rw e (adds _ _ _ _ _ c.in_ok-put_loop-in-Repeat.ensures c.in_ok-put_block-in-Repeat.ensures)
 
 pub put_stmt-returns-in-Begin : goal.put_stmt-returns-in-Begin
