@@ -7,3 +7,4 @@ pub mod Declarations
 pub mod Schedules
 pub mod Statements
 pub mod Modules
+pub mod Reading

@@ -4,6 +4,7 @@
 mod declaration;
 mod expression;
 mod format;
+pub mod laws;
 mod lists;
 mod literal;
 mod module;
