@@ -4,3 +4,8 @@ pub mod StatementRows
 pub mod Reading
 pub mod WordsRead
 pub mod SymbolsRead
+pub mod NumbersRead
+pub mod TextsRead
+pub mod BitsRead
+pub mod ClocksRead
+pub mod LawfulRead

@@ -68,27 +68,29 @@ rest_of (token ∷ whats) bytes before from is space each =
     let parts : text_of (token ∷ whats) ≡ spelled token ++ gap token ++ text_of whats = text_of-cons token whats ∙ ap (λ t. t ++ text_of whats) (text_of_one token) in
     let here_is : drop place bytes ≡ spelled token ++ gap token ++ text_of whats = ap (drop place) is ∙ drop_front before (text_of (token ∷ whats)) ∙ parts in
     let up_to : bytes ≡ (before ++ spelled token) ++ (gap token ++ text_of whats) =
-        is ∙ ap (λ t. before ++ t) (parts ∙ append_assoc (spelled token) (gap token) (text_of whats)) ∙
-        sym (append_assoc before (spelled token) (gap token ++ text_of whats)) in
+    is ∙ ap (λ t. before ++ t) (parts ∙ append_assoc (spelled token) (gap token) (text_of whats)) ∙
+    sym (append_assoc before (spelled token) (gap token ++ text_of whats)) in
     let past : bytes ≡ (before ++ spelled token ++ gap token) ++ text_of whats = up_to ∙ sym (append_assoc (before ++ spelled token) (gap token) (text_of whats)) in
     let end_is : length (before ++ spelled token) ≡ next = length-append before (spelled token) in
     let gap_here : drop next bytes ≡ gap token ++ text_of whats =
-        ap (λ n. drop n bytes) (sym end_is) ∙ ap (drop (length (before ++ spelled token))) up_to ∙ drop_front (before ++ spelled token) (gap token ++ text_of whats) in
+    ap (λ n. drop n bytes) (sym end_is) ∙ ap (drop (length (before ++ spelled token))) up_to ∙ drop_front (before ++ spelled token) (gap token ++ text_of whats) in
     let blank : IsSpace bytes next (next + 1) = more_space bytes next 1 next (no_space bytes next) (omega arith) (ap space_len gap_here ∙ gap_is_space token (text_of whats)) in
     let after_is : next + 1 ≡ length (before ++ spelled token ++ gap token) = omega (arith, length-append (before ++ spelled token) (gap token), gap_length token, end_is) in
     let others = rest_of whats bytes (before ++ spelled token ++ gap token) next past (subst (λ n. IsSpace bytes next n) after_is blank) (All-tail IsReadBack token whats each) in
     let first : IsToken bytes from (record { place = place; what = token }) next = record {
-        size = length (spelled token);
-        place = space;
-        no_space = ap space_len here_is ∙ here.no_space (text_of whats);
-        begins = ap front here_is ∙ here.begins (text_of whats);
-        end = refl } in
+      size = length (spelled token);
+      place = space;
+      no_space = ap space_len here_is ∙ here.no_space (text_of whats);
+      begins = ap front here_is ∙ here.begins (text_of whats);
+      end = refl;
+    } in
     record {
-        tokens = record { place = place; what = token } ∷ others.tokens;
-        end = others.end;
-        tokens_are = (next, first, others.tokens_are);
-        rest = others.rest;
-        are = ap (λ ts. token ∷ ts) others.are }
+      tokens = record { place = place; what = token } ∷ others.tokens;
+      end = others.end;
+      tokens_are = (next, first, others.tokens_are);
+      rest = others.rest;
+      are = ap (λ ts. token ∷ ts) others.are;
+    }
 
 pub text_reads : TextReads
 text_reads whats each =

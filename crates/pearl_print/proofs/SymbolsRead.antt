@@ -18,31 +18,76 @@ holds_at P (suc n) all (suc k) inside = holds_at (λ k. P (suc k)) n all.1 k (om
 
 all_read : HoldsOf (λ code. IsReadBack (what.Symbol code)) symbol_count
 unfolding spelled symbol_text symbol_texts front
-all_read =
-    (record { begins = λ rest. refl; no_space = λ rest. refl },
-    (record { begins = λ rest. refl; no_space = λ rest. refl },
-    (record { begins = λ rest. refl; no_space = λ rest. refl },
-    (record { begins = λ rest. refl; no_space = λ rest. refl },
-    (record { begins = λ rest. refl; no_space = λ rest. refl },
-    (record { begins = λ rest. refl; no_space = λ rest. refl },
-    (record { begins = λ rest. refl; no_space = λ rest. refl },
-    (record { begins = λ rest. refl; no_space = λ rest. refl },
-    (record { begins = λ rest. refl; no_space = λ rest. refl },
-    (record { begins = λ rest. refl; no_space = λ rest. refl },
-    (record { begins = λ rest. refl; no_space = λ rest. refl },
-    (record { begins = λ rest. refl; no_space = λ rest. refl },
-    (record { begins = λ rest. refl; no_space = λ rest. refl },
-    (record { begins = λ rest. refl; no_space = λ rest. refl },
-    (record { begins = λ rest. refl; no_space = λ rest. refl },
-    (record { begins = λ rest. refl; no_space = λ rest. refl },
-    (record { begins = λ rest. refl; no_space = λ rest. refl },
-    (record { begins = λ rest. refl; no_space = λ rest. refl },
-    (record { begins = λ rest. refl; no_space = λ rest. refl },
-    (record { begins = λ rest. refl; no_space = λ rest. refl },
-    (record { begins = λ rest. refl; no_space = λ rest. refl },
-    (record { begins = λ rest. refl; no_space = λ rest. refl },
-    (record { begins = λ rest. refl; no_space = λ rest. refl },
-    tt)))))))))))))))))))))))
+all_read = (
+  record { begins = λ rest. refl; no_space = λ rest. refl },
+  (
+    record { begins = λ rest. refl; no_space = λ rest. refl },
+    (
+      record { begins = λ rest. refl; no_space = λ rest. refl },
+      (
+        record { begins = λ rest. refl; no_space = λ rest. refl },
+        (
+          record { begins = λ rest. refl; no_space = λ rest. refl },
+          (
+            record { begins = λ rest. refl; no_space = λ rest. refl },
+            (
+              record { begins = λ rest. refl; no_space = λ rest. refl },
+              (
+                record { begins = λ rest. refl; no_space = λ rest. refl },
+                (
+                  record { begins = λ rest. refl; no_space = λ rest. refl },
+                  (
+                    record { begins = λ rest. refl; no_space = λ rest. refl },
+                    (
+                      record { begins = λ rest. refl; no_space = λ rest. refl },
+                      (
+                        record { begins = λ rest. refl; no_space = λ rest. refl },
+                        (
+                          record { begins = λ rest. refl; no_space = λ rest. refl },
+                          (
+                            record { begins = λ rest. refl; no_space = λ rest. refl },
+                            (
+                              record { begins = λ rest. refl; no_space = λ rest. refl },
+                              (
+                                record { begins = λ rest. refl; no_space = λ rest. refl },
+                                (
+                                  record { begins = λ rest. refl; no_space = λ rest. refl },
+                                  (
+                                    record { begins = λ rest. refl; no_space = λ rest. refl },
+                                    (
+                                      record { begins = λ rest. refl; no_space = λ rest. refl },
+                                      (
+                                        record { begins = λ rest. refl; no_space = λ rest. refl },
+                                        (
+                                          record { begins = λ rest. refl; no_space = λ rest. refl },
+                                          (
+                                            record { begins = λ rest. refl; no_space = λ rest. refl },
+                                            (
+                                              record { begins = λ rest. refl; no_space = λ rest. refl },
+                                              tt,
+                                            ),
+                                          ),
+                                        ),
+                                      ),
+                                    ),
+                                  ),
+                                ),
+                              ),
+                            ),
+                          ),
+                        ),
+                      ),
+                    ),
+                  ),
+                ),
+              ),
+            ),
+          ),
+        ),
+      ),
+    ),
+  ),
+)
 
 -- a symbol is read back
 pub symbol_reads : (code : ℕ) → code < symbol_count → IsReadBack (what.Symbol code)

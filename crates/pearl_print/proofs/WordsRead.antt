@@ -112,8 +112,9 @@ word_reads code inside =
     let plain : is_name_text text ≡ true = and_front (is_name_text text) (has_code (meaning words text) code) e in
     let means : meaning words text ≡ Some code = has_code-is (meaning words text) code (and_back (is_name_text text) (has_code (meaning words text) code) e) in
     record {
-        begins = λ rest. ap front (append_assoc text (32 ∷ []) rest) ∙ name_front text rest plain ∙ ap (λ m. sized (word_or_id m text) (length text)) means;
-        no_space = λ rest. ap space_len (append_assoc text (32 ∷ []) rest) ∙ name_no_space text (32 ∷ rest) plain }
+      begins = λ rest. ap front (append_assoc text (32 ∷ []) rest) ∙ name_front text rest plain ∙ ap (λ m. sized (word_or_id m text) (length text)) means;
+      no_space = λ rest. ap space_len (append_assoc text (32 ∷ []) rest) ∙ name_no_space text (32 ∷ rest) plain;
+    }
 
 both : (a b : Bool) → a ≡ true → b ≡ true → a && b ≡ true
 both true true e f = refl
@@ -156,6 +157,7 @@ id_reads text is =
     let plain : is_name_text text ≡ true = id_is_name_text text is.begins is.bytes in
     let means : meaning words text ≡ None = no_meaning words text is.no_word in
     record {
-        begins = λ rest. ap front (append_assoc text (32 ∷ []) rest) ∙ name_front text rest plain ∙
-            ap (λ m. sized (word_or_id m text) (length text)) means ∙ ap (λ what. sized what (length text)) (short_id text is.length);
-        no_space = λ rest. ap space_len (append_assoc text (32 ∷ []) rest) ∙ name_no_space text (32 ∷ rest) plain }
+      begins = λ rest. ap front (append_assoc text (32 ∷ []) rest) ∙ name_front text rest plain ∙
+          ap (λ m. sized (word_or_id m text) (length text)) means ∙ ap (λ what. sized what (length text)) (short_id text is.length);
+      no_space = λ rest. ap space_len (append_assoc text (32 ∷ []) rest) ∙ name_no_space text (32 ∷ rest) plain;
+    }

@@ -2,6 +2,7 @@
 use Rattle.std.specs.Prelude.{◌≡◌, ℕ, List, ◌++◌, length, map, Some, All}
 use Rattle.pearl_tree.specs.declared.token.What.{What}
 use Rattle.pearl_tree.specs.declared.token.Token.{Token}
+use Rattle.pearl_tree.specs.Tokens.{IsLawfulWhat}
 use Rattle.pearl_lex.specs.Spelling.{space_len}
 use Rattle.pearl_lex.specs.Front.{front}
 use Rattle.pearl_lex.specs.Lexes.{Lexes}
@@ -21,3 +22,7 @@ pub record Reads (text : List ℕ) (whats : List What) : Type 0 where
 -- where each token is read back by itself, the text of tokens has exactly these tokens
 abbrev pub TextReads : Type 0
 TextReads = (whats : List What) → All IsReadBack whats → Reads (text_of whats) whats
+
+-- the text of lawful tokens has exactly these tokens
+abbrev pub LawfulTextReads : Type 0
+LawfulTextReads = (whats : List What) → All IsLawfulWhat whats → Reads (text_of whats) whats

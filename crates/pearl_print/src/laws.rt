@@ -1,8 +1,8 @@
 // What the text of tokens is read as.
 
-ghost use Rattle.pearl_print.specs.Reading.{TextReads};
+ghost use Rattle.pearl_print.specs.Reading.{LawfulTextReads};
 
-/// Where each token is read back by itself, the text of tokens has exactly these tokens.
+/// The text of lawful tokens has exactly these tokens.
 pub fn text_reads()
-    ensures { TextReads }
+    ensures { LawfulTextReads }
 {}

@@ -1,7 +1,5 @@
-use Rattle.pearl_print.proofs.Reading.{text_reads}
-use Rattle.pearl_print.proofs.SymbolsRead.{symbol_reads}
-use Rattle.pearl_print.proofs.WordsRead.{word_reads}
+use Rattle.pearl_print.proofs.LawfulRead.{lawful_text_reads}
 use Rattle.pearl_print.proofs.laws.text_reads.Goals as goal
 
 pub returns : goal.returns
-returns c = text_reads
+returns c = lawful_text_reads
