@@ -1,17 +1,15 @@
 -- Bits are read back as they are written.
-use Rattle.std.proofs.Common.{◌≡◌, ◌<◌, ◌≤◌, ◌+◌, ◌-◌, ◌*◌, ◌/◌, ◌%◌, ◌^◌, ℕ, zero, suc, Bool, true, false, ◌&&◌, ◌==◌, nat_le, nat_lt, if◌then◌else◌, List, [], ◌∷◌, ◌++◌, length, take, drop, fold, slice_index, Option, Some, None, codes, refl, sym, ap, ◌∙◌, append_assoc, arith, length-append}
+use Rattle.std.proofs.Common.{◌≡◌, ◌≤◌, ◌+◌, ◌-◌, ◌*◌, ◌/◌, ◌%◌, ◌^◌, ℕ, zero, suc, Bool, true, false, ◌&&◌, ◌==◌, List, [], ◌∷◌, ◌++◌, length, take, drop, fold, slice_index, Some, refl, sym, ap, ◌∙◌, append_assoc, arith, length-append}
 use Rattle.std.proofs.lemmas.Grind.{common_steps}
 use Rattle.std.proofs.lemmas.Bool.Decides.{nat_tests}
 use Rattle.std.proofs.Math.Nat.{div-eq_of_lt, div-div-eq-div-mul}
 use Rattle.std.specs.List.{list_all}
-use Rattle.pearl_tree.specs.declared.token.What.{What}
 use Rattle.pearl_tree.specs.declared.token.What.TheVariants as what
 use Rattle.pearl_tree.specs.Tokens.{IsBits}
-use Rattle.pearl_lex.specs.declared.front.Front.{Front}
-use Rattle.pearl_lex.specs.Spelling.{space_len, sized}
+use Rattle.pearl_lex.specs.Spelling.{sized}
 use Rattle.pearl_lex.specs.Quoted.{is_char, chars_len, digit_value, is_digit_of, bits_value, bits_of, quoted}
 use Rattle.pearl_lex.specs.Front.{front}
-use Rattle.pearl_print.specs.Spelled.{binary, spelled, gap}
+use Rattle.pearl_print.specs.Spelled.{binary, spelled}
 use Rattle.pearl_print.specs.Reading.{IsReadBack}
 use Rattle.pearl_print.proofs.TextsRead.{len_plain, some_left, taken_front, index_front, drop_more}
 

@@ -1,18 +1,16 @@
 -- Clocks are read back as they are written.
-use Rattle.std.proofs.Common.{◌≡◌, ◌<◌, ◌≤◌, ◌+◌, ◌-◌, ◌*◌, ◌/◌, ◌%◌, ◌^◌, ℕ, Bool, true, false, ◌&&◌, ◌==◌, nat_le, if◌then◌else◌, List, [], ◌∷◌, ◌++◌, length, Option, Some, None, codes, refl, sym, ap, ◌∙◌, arith}
+use Rattle.std.proofs.Common.{◌≡◌, ◌<◌, ◌≤◌, ◌+◌, ◌*◌, ◌/◌, ◌%◌, ℕ, Bool, true, false, ◌==◌, nat_le, if◌then◌else◌, List, [], ◌∷◌, ◌++◌, length, Some, None, codes, refl, sym, ap, ◌∙◌, arith}
 use Rattle.std.specs.Char.{is_ascii_alphabetic, is_ascii_digit}
 use Rattle.std.proofs.lemmas.Bool.{eqb-true}
 use Rattle.std.proofs.Math.Nat.{div-div-eq-div-mul}
-use Rattle.pearl_tree.specs.declared.token.What.{What}
 use Rattle.pearl_tree.specs.declared.token.What.TheVariants as what
 use Rattle.pearl_tree.specs.Tokens.{IsClock}
-use Rattle.pearl_lex.specs.declared.front.Front.{Front}
-use Rattle.pearl_lex.specs.Spelling.{space_len, sized}
+use Rattle.pearl_lex.specs.Spelling.{sized}
 use Rattle.pearl_lex.specs.Literals.{value_of, value_within, thousandths, milliseconds, clock_of}
 use Rattle.pearl_lex.specs.Front.{front}
-use Rattle.pearl_print.specs.Spelled.{digit, two_digits, three_digits, fraction, spelled, gap}
+use Rattle.pearl_print.specs.Spelled.{digit, two_digits, three_digits, fraction, spelled}
 use Rattle.pearl_print.specs.Reading.{IsReadBack}
-use Rattle.pearl_print.proofs.NumbersRead.{IsDigitByte, digit_is, digit_is_no_letter, digit_is_no_space, digit_written, three_worth, within_limit}
+use Rattle.pearl_print.proofs.NumbersRead.{digit_is_no_letter, digit_is_no_space, digit_written, three_worth, within_limit}
 
 -- a clock without thousandths, and one with them
 whole_front : (rest : List ℕ) (a b c d e f : ℕ) → is_ascii_alphabetic a ≡ false → is_ascii_digit a ≡ true → is_ascii_digit b ≡ true → is_ascii_digit c ≡ true →

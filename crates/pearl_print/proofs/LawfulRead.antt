@@ -1,11 +1,10 @@
 -- The text of lawful tokens has exactly these tokens.
-use Rattle.std.proofs.Common.{ℕ, List, [], ◌∷◌, All}
+use Rattle.std.proofs.Common.{List, [], ◌∷◌, All}
 use Rattle.std.proofs.lemmas.List.Elements.{All-cons, All-nil, All-head, All-tail}
 use Rattle.pearl_tree.specs.declared.token.What.{What}
 use Rattle.pearl_tree.specs.declared.token.What.TheVariants as what
 use Rattle.pearl_tree.specs.Tokens.{IsLawfulWhat}
-use Rattle.pearl_print.specs.Spelled.{text_of}
-use Rattle.pearl_print.specs.Reading.{IsReadBack, Reads, LawfulTextReads}
+use Rattle.pearl_print.specs.Reading.{IsReadBack, LawfulTextReads}
 use Rattle.pearl_print.proofs.Reading.{text_reads}
 use Rattle.pearl_print.proofs.WordsRead.{word_reads, id_reads}
 use Rattle.pearl_print.proofs.SymbolsRead.{symbol_reads}

@@ -1,22 +1,20 @@
 -- Numbers are read back as they are written.
-use Rattle.std.proofs.Common.{◌≡◌, ◌<◌, ◌≤◌, ◌+◌, ◌-◌, ◌*◌, ◌^◌, ◌/◌, ◌%◌, ℕ, Bool, true, false, ◌&&◌, ◌==◌, nat_le, if◌then◌else◌, List, [], ◌∷◌, ◌++◌, length, take, drop, fold, slice_index, Option, Some, None, refl, sym, ap, ◌∙◌, append_assoc, arith, length-append}
+use Rattle.std.proofs.Common.{◌≡◌, ◌<◌, ◌≤◌, ◌+◌, ◌-◌, ◌*◌, ◌^◌, ◌/◌, ℕ, true, false, nat_le, if◌then◌else◌, List, [], ◌∷◌, ◌++◌, length, take, drop, fold, slice_index, Some, None, refl, sym, ap, ◌∙◌, append_assoc, arith, length-append}
 use Rattle.std.specs.Fmt.{decimal}
 use Rattle.std.specs.Option.{option_map}
 use Rattle.std.specs.Char.{is_ascii_alphabetic, is_ascii_digit}
-use Rattle.std.specs.List.{prefix_len, list_all}
+use Rattle.std.specs.List.{prefix_len}
 use Rattle.std.specs.Char.{digit_value}
-use Rattle.std.specs.Str.Parse.{AllDigits, IsNumeral, digits_value_after}
+use Rattle.std.specs.Str.Parse.{AllDigits, digits_value_after}
 use Rattle.std.proofs.lemmas.Fmt.{decimal_is_IsNumeral}
 use Rattle.std.proofs.lemmas.Grind.{common_steps}
 use Rattle.std.proofs.lemmas.Bool.Decides.{nat_tests}
-use Rattle.pearl_tree.specs.declared.token.What.{What}
 use Rattle.pearl_tree.specs.declared.token.What.TheVariants as what
 use Rattle.pearl_tree.specs.Tokens.{IsNumberValue}
-use Rattle.pearl_lex.specs.declared.front.Front.{Front}
-use Rattle.pearl_lex.specs.Spelling.{is_blank, space_len, sized}
-use Rattle.pearl_lex.specs.Literals.{next_value, value_of, value_within, number_of, digit_count, digits_of, after_digits, numeral, thousandths, decimal_by, decimal_of}
+use Rattle.pearl_lex.specs.Spelling.{space_len, sized}
+use Rattle.pearl_lex.specs.Literals.{next_value, value_of, value_within, number_of, thousandths, decimal_by, decimal_of}
 use Rattle.pearl_lex.specs.Front.{front}
-use Rattle.pearl_print.specs.Spelled.{digit, spelled, gap}
+use Rattle.pearl_print.specs.Spelled.{digit, spelled}
 use Rattle.pearl_print.specs.Reading.{IsReadBack}
 
 -- a digit is no other byte that begins something

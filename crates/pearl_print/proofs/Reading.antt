@@ -1,5 +1,5 @@
 -- The text of tokens that are read back one by one has exactly these tokens.
-use Rattle.std.proofs.Common.{◌≡◌, ◌<◌, ◌+◌, ℕ, Bool, true, false, ◌==◌, if◌then◌else◌, List, [], ◌∷◌, ◌++◌, length, drop, map, Some, All, codes, refl, sym, subst, ap, ◌∙◌, append_assoc, arith, length-append}
+use Rattle.std.proofs.Common.{◌≡◌, ◌+◌, ℕ, Bool, true, false, ◌==◌, if◌then◌else◌, List, [], ◌∷◌, ◌++◌, length, drop, map, All, codes, refl, sym, subst, ap, ◌∙◌, append_assoc, arith, length-append}
 use Rattle.std.proofs.lemmas.List.{append-nil}
 use Rattle.std.proofs.lemmas.List.Elements.{All-head, All-tail}
 use Rattle.pearl_tree.specs.declared.token.What.{What}
@@ -8,10 +8,10 @@ use Rattle.pearl_tree.specs.declared.token.Token.{Token}
 use Rattle.pearl_tree.specs.Symbols as s
 use Rattle.pearl_lex.specs.Spelling.{space_len}
 use Rattle.pearl_lex.specs.Front.{front}
-use Rattle.pearl_lex.specs.Lexes.{Lexes, IsSpace, IsToken, AreTokens}
+use Rattle.pearl_lex.specs.Lexes.{IsSpace, IsToken, AreTokens}
 use Rattle.pearl_lex.proofs.Lexing.{no_space, more_space}
 use Rattle.pearl_print.specs.Spelled.{spelled, gap, text_of}
-use Rattle.pearl_print.specs.Reading.{IsReadBack, Reads, TextReads}
+use Rattle.pearl_print.specs.Reading.{IsReadBack, TextReads}
 use Rattle.pearl_print.proofs.Texts.{text_of-nil, text_of-cons}
 
 text_of_one : (token : What) → text_of (token ∷ []) ≡ spelled token ++ gap token

@@ -1,17 +1,14 @@
 -- Texts are read back as they are written.
-use Rattle.std.proofs.Common.{◌≡◌, ◌<◌, ◌≤◌, ◌+◌, ℕ, suc, Bool, true, false, ◌&&◌, ◌==◌, nat_le, if◌then◌else◌, List, [], ◌∷◌, ◌++◌, length, take, drop, slice_index, Option, Some, None, All, codes, refl, sym, ap, ◌∙◌, append_assoc, arith, length-append}
+use Rattle.std.proofs.Common.{◌≡◌, ◌<◌, ◌≤◌, ◌+◌, ℕ, suc, Bool, true, false, ◌==◌, if◌then◌else◌, List, [], ◌∷◌, ◌++◌, length, take, drop, slice_index, Some, All, refl, sym, ap, ◌∙◌, append_assoc, arith, length-append}
 use Rattle.std.proofs.lemmas.Grind.{common_steps}
-use Rattle.std.proofs.lemmas.Bool.{eqb-true}
 use Rattle.std.proofs.lemmas.Bool.Decides.{nat_tests}
 use Rattle.std.proofs.lemmas.List.Elements.{All-head, All-tail}
-use Rattle.pearl_tree.specs.declared.token.What.{What}
 use Rattle.pearl_tree.specs.declared.token.What.TheVariants as what
 use Rattle.pearl_tree.specs.Tokens.{IsText}
-use Rattle.pearl_lex.specs.declared.front.Front.{Front}
-use Rattle.pearl_lex.specs.Spelling.{space_len, sized}
+use Rattle.pearl_lex.specs.Spelling.{sized}
 use Rattle.pearl_lex.specs.Quoted.{is_char, chars_len, chars_of, text_of, quoted}
 use Rattle.pearl_lex.specs.Front.{front}
-use Rattle.pearl_print.specs.Spelled.{doubled, spelled, gap}
+use Rattle.pearl_print.specs.Spelled.{doubled, spelled}
 use Rattle.pearl_print.specs.Reading.{IsReadBack}
 
 abbrev IsChar : ℕ → Type 0

@@ -1,19 +1,18 @@
 -- Words and names are read back as they are written.
-use Rattle.std.proofs.Common.{◌≡◌, ◌≢◌, ◌<◌, ◌≤◌, ◌+◌, ℕ, zero, suc, Bool, true, false, ◌&&◌, ◌||◌, ◌==◌, eqb, if◌then◌else◌, List, [], ◌∷◌, ◌++◌, length, take, get_or, Option, Some, None, All, refl, sym, subst, ap, ◌∙◌, append_assoc, arith}
-use Rattle.std.specs.Char.{is_ascii_alphabetic, is_ascii_digit}
+use Rattle.std.proofs.Common.{◌≡◌, ◌≢◌, ◌<◌, ◌≤◌, ℕ, zero, suc, Bool, true, false, ◌&&◌, ◌==◌, eqb, if◌then◌else◌, List, [], ◌∷◌, ◌++◌, length, take, get_or, Option, Some, None, All, refl, ap, ◌∙◌, append_assoc, arith}
+use Rattle.std.specs.Char.{is_ascii_alphabetic}
 use Rattle.std.specs.List.{prefix_len, list_all}
 use Rattle.std.specs.Str.{bytes_eq}
 use Rattle.std.proofs.lemmas.Bool.{eqb-true}
 use Rattle.std.proofs.lemmas.Slice.Eq.{bytes_eq-Decides}
 use Rattle.std.proofs.lemmas.List.Elements.{All-head, All-tail}
 use Rattle.pearl_tree.specs.WordCodes.{words, code_count}
-use Rattle.pearl_tree.specs.declared.token.What.{What}
 use Rattle.pearl_tree.specs.declared.token.What.TheVariants as what
 use Rattle.pearl_lex.specs.declared.front.Front.{Front}
 use Rattle.pearl_lex.specs.Spelling.{is_id_byte, is_blank, space_len, sized, meaning, word_or_id, id_of}
 use Rattle.pearl_lex.specs.Front.{front}
 use Rattle.pearl_lex.proofs.Passes.{and_front, and_back}
-use Rattle.pearl_print.specs.Spelled.{word_texts, word_text, spelled, gap}
+use Rattle.pearl_print.specs.Spelled.{word_texts, word_text, spelled}
 use Rattle.pearl_print.specs.Reading.{IsReadBack}
 use Rattle.pearl_tree.specs.Tokens.{IsLetter, IsIdByte, IsId, BeginsWithLetter}
 use Rattle.std.proofs.lemmas.Grind.{common_steps}

@@ -1,5 +1,5 @@
 -- The tokens of devices, and of declarations other than those that have a body.
-use Rattle.std.specs.Prelude.{ℕ, List, ◌++◌}
+use Rattle.std.specs.Prelude.{List, ◌++◌}
 use Rattle.pearl_tree.specs.declared.declaration.DeviceWord.{DeviceWord}
 use Rattle.pearl_tree.specs.declared.declaration.DeviceWord.TheVariants as device
 use Rattle.pearl_tree.specs.declared.declaration.Device.{Device}

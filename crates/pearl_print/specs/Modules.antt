@@ -1,5 +1,5 @@
 -- The tokens of a module.
-use Rattle.std.specs.Prelude.{ℕ, List, ◌++◌, Option}
+use Rattle.std.specs.Prelude.{List, ◌++◌, Option}
 use Rattle.std.specs.List.{flat_map}
 use Rattle.pearl_tree.specs.declared.declaration.Device.{Device}
 use Rattle.pearl_tree.specs.declared.declaration.Param.{Param}

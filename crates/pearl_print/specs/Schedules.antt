@@ -1,6 +1,5 @@
 -- The tokens of schedules, and of an expression behind a word.
 use Rattle.std.specs.Prelude.{ℕ, List, ◌++◌}
-use Rattle.pearl_tree.specs.declared.name.Name.{Name}
 use Rattle.pearl_tree.specs.declared.expression.Expr.{Expr}
 use Rattle.pearl_tree.specs.declared.statement.PeriodEnd.{PeriodEnd}
 use Rattle.pearl_tree.specs.declared.statement.PeriodEnd.TheVariants.{Until, During}

@@ -1,5 +1,5 @@
 -- The tokens of names, bounds and types.
-use Rattle.std.specs.Prelude.{ℕ, Bool, true, false, List, [], ◌∷◌, ◌++◌}
+use Rattle.std.specs.Prelude.{Bool, true, false, List, [], ◌++◌}
 use Rattle.pearl_tree.specs.declared.name.Names.{Names}
 use Rattle.pearl_tree.specs.declared.name.Names.TheVariants.{One, Several}
 use Rattle.pearl_tree.specs.declared.typing.Int.{Int}

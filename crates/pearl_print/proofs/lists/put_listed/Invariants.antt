@@ -1,4 +1,4 @@
-use Rattle.std.proofs.Common.{◌≡◌, ◌++◌, [], ◌∷◌, take}
+use Rattle.std.proofs.Common.{◌≡◌, ◌++◌, take}
 use Rattle.pearl_print.specs.Spelled.{text_of}
 use Rattle.pearl_print.specs.Lists.{more}
 use Rattle.pearl_print.proofs.lists.put_listed.Given as goal

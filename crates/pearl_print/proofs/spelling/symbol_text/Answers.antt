@@ -1,4 +1,4 @@
-use Rattle.std.proofs.Common.{◌≡◌, ◌<◌, ℕ, List, Bor, length, ap, arith}
+use Rattle.std.proofs.Common.{◌≡◌, ℕ, List, Bor, length, arith}
 use Rattle.pearl_print.specs.Spelled.{symbol_text, symbol_texts}
 use Rattle.pearl_print.proofs.Texts.{shown_text, shown_length}
 use Rattle.pearl_print.proofs.spelling.symbol_text.Goals as goal
