@@ -1,0 +1,11 @@
+pub mod Texts
+pub mod Rows
+pub mod StatementRows
+pub mod Reading
+pub mod WordsRead
+pub mod SymbolsRead
+pub mod NumbersRead
+pub mod TextsRead
+pub mod BitsRead
+pub mod ClocksRead
+pub mod LawfulRead

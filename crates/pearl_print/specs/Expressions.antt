@@ -1,0 +1,148 @@
+-- The tokens of literals, references and expressions.
+use Rattle.std.specs.Prelude.{ℕ, ◌+◌, ◌*◌, ◌/◌, ◌%◌, List, [], ◌∷◌, ◌++◌, Option, Some, None}
+use Rattle.std.specs.List.{flat_map}
+use Rattle.pearl_tree.specs.declared.name.Number.{Number}
+use Rattle.pearl_tree.specs.declared.literal.Secs.{Secs}
+use Rattle.pearl_tree.specs.declared.literal.Secs.TheVariants as secs
+use Rattle.pearl_tree.specs.declared.literal.Duration.{Duration}
+use Rattle.pearl_tree.specs.declared.literal.Duration.TheVariants.{Hours, Minutes, Seconds}
+use Rattle.pearl_tree.specs.declared.literal.Literal.{Literal}
+use Rattle.pearl_tree.specs.declared.literal.Literal.TheVariants as literal
+use Rattle.pearl_tree.specs.declared.literal.Sign.{Sign}
+use Rattle.pearl_tree.specs.declared.literal.Sign.TheVariants as sign
+use Rattle.pearl_tree.specs.declared.literal.Const.{Const}
+use Rattle.pearl_tree.specs.declared.expression.Monadic.{Monadic}
+use Rattle.pearl_tree.specs.declared.expression.Dyad.{Dyad}
+use Rattle.pearl_tree.specs.declared.expression.Dyad.TheVariants as dyad
+use Rattle.pearl_tree.specs.declared.expression.Dyadic.{Dyadic}
+use Rattle.pearl_tree.specs.declared.expression.Expr.{Expr, Operand', Dyadic'}
+use Rattle.pearl_tree.specs.declared.expression.Side.{Side}
+use Rattle.pearl_tree.specs.declared.expression.Operand.{Operand}
+use Rattle.pearl_tree.specs.declared.expression.Primary.{Primary}
+use Rattle.pearl_tree.specs.declared.expression.Primary as primary
+use Rattle.pearl_tree.specs.declared.expression.Selector.{Selector, Subscripts', Component, Row_of-Expr, end_of-Expr, more_of-Expr}
+use Rattle.pearl_tree.specs.declared.expression.Ref.{Ref, Row_of-Selector, end_of-Selector, more_of-Selector}
+use Rattle.pearl_tree.specs.declared.token.What.{What}
+use Rattle.pearl_tree.specs.declared.token.What.TheVariants as what
+use Rattle.pearl_tree.specs.Expressions.{monad_what, side_word}
+use Rattle.pearl_tree.specs.Symbols as s
+use Rattle.pearl_tree.specs.WordCodes as w
+use Rattle.pearl_print.specs.Lists.{word, symbol, name_tokens, number_tokens, maybe}
+
+abbrev pub secs_milliseconds : Secs → ℕ
+secs_milliseconds (secs.Number number) = 1000 * number.value
+secs_milliseconds (secs.Decimal whole thousandths place) = 1000 * whole + thousandths
+
+abbrev pub maybe_seconds : Option Secs → ℕ
+maybe_seconds None = 0
+maybe_seconds (Some part) = secs_milliseconds part
+
+abbrev pub maybe_minutes : Option Number → ℕ
+maybe_minutes None = 0
+maybe_minutes (Some number) = 60000 * number.value
+
+abbrev pub duration_milliseconds : Duration → ℕ
+duration_milliseconds (Hours hours minutes seconds place) =
+    3600000 * hours.value + maybe_minutes minutes + maybe_seconds seconds
+duration_milliseconds (Minutes minutes seconds place) = 60000 * minutes.value + maybe_seconds seconds
+duration_milliseconds (Seconds seconds place) = secs_milliseconds seconds
+
+-- number HRS number MIN decimal SEC, with minutes and seconds below 60
+abbrev pub carried : ℕ → List What
+carried ms =
+    what.Number (ms / 3600000) ∷ word w.HRS ++ what.Number (ms / 60000 % 60) ∷ word w.MIN ++
+    what.Decimal (ms / 1000 % 60) (ms % 1000) ∷ word w.SEC
+
+-- literal = number | bits | text | clock | duration
+abbrev pub literal_tokens : Literal → List What
+literal_tokens (literal.Number number) = number_tokens number
+literal_tokens (literal.Bits len value place) = what.Bits len value ∷ []
+literal_tokens (literal.Text text place) = what.Text text ∷ []
+literal_tokens (literal.Clock milliseconds place) = what.Clock milliseconds ∷ []
+literal_tokens (literal.Duration duration) = carried (duration_milliseconds duration)
+
+-- "+" | "-"
+abbrev pub sign_tokens : Sign → List What
+sign_tokens sign.Plus = symbol s.plus
+sign_tokens sign.Minus = symbol s.minus
+
+-- const = [ "+" | "-" ] literal
+abbrev pub const_tokens : Const → List What
+const_tokens constant = maybe sign_tokens constant.sign ++ literal_tokens constant.literal
+
+-- + | - | ABS | SIGN | NOT
+abbrev pub monadic_tokens : Monadic → List What
+monadic_tokens monadic = monad_what monadic.operator ∷ []
+
+-- the symbol of an operator, or its word where it has none
+abbrev pub dyad_what : Dyad → What
+dyad_what dyad.Power = what.Symbol s.power
+dyad_what dyad.Times = what.Symbol s.star
+dyad_what dyad.Over = what.Symbol s.over
+dyad_what dyad.Rem = what.Word w.REM
+dyad_what dyad.Cat = what.Symbol s.joined
+dyad_what dyad.Plus = what.Symbol s.plus
+dyad_what dyad.Minus = what.Symbol s.minus
+dyad_what dyad.Cshift = what.Symbol s.turned
+dyad_what dyad.Shift = what.Word w.SHIFT
+dyad_what dyad.Lt = what.Symbol s.less
+dyad_what dyad.Gt = what.Symbol s.more
+dyad_what dyad.Le = what.Symbol s.at_most
+dyad_what dyad.Ge = what.Symbol s.at_least
+dyad_what dyad.Eq = what.Symbol s.same
+dyad_what dyad.Ne = what.Symbol s.differs
+dyad_what dyad.And = what.Word w.AND
+dyad_what dyad.Or = what.Word w.OR
+dyad_what dyad.Exor = what.Word w.EXOR
+
+abbrev pub dyadic_tokens : Dyadic → List What
+dyadic_tokens dyadic = dyad_what dyadic.operator ∷ []
+
+abbrev mutual
+  -- expr = operand { dyadic operand }, operand = { + | - | ABS | SIGN | NOT } primary
+  pub expr_tokens : Expr → List What
+  expr_tokens (Operand' monadics part place) = flat_map monadic_tokens monadics.items.items ++ primary_tokens part
+  expr_tokens (Dyadic' _ left dyadic _ right place) = expr_tokens left ++ dyadic_tokens dyadic ++ expr_tokens right
+
+  -- primary = literal | ref | "(" expr ")" | NOW | TRY id | [ number ] ( LWB | UPB ) ref
+  pub primary_tokens : Primary → List What
+  primary_tokens (primary.Literal part) = literal_tokens part
+  primary_tokens (primary.Ref' name _ selectors place) = name_tokens name ++ selectors_tokens selectors
+  primary_tokens (primary.Group' _ inner place) = symbol s.left_round ++ expr_tokens inner ++ symbol s.right_round
+  primary_tokens (primary.Now place) = word w.NOW
+  primary_tokens (primary.Try name place) = word w.TRY ++ name_tokens name
+  primary_tokens (primary.Limit' dimension side name _ selectors ref_place place) =
+      maybe number_tokens dimension ++ word (side_word side) ++ (name_tokens name ++ selectors_tokens selectors)
+
+  -- { "(" expr { "," expr } ")" | "." id }
+  pub selectors_tokens : {n : _} → Row_of-Selector n → List What
+  selectors_tokens end_of-Selector = []
+  selectors_tokens (more_of-Selector selector rest) = selector_tokens selector ++ selectors_tokens rest
+
+  pub selector_tokens : Selector → List What
+  selector_tokens (Subscripts' _ subscripts place) =
+      symbol s.left_round ++ subscripts_tokens subscripts ++ symbol s.right_round
+  selector_tokens (Component name place) = symbol s.period ++ name_tokens name
+
+  -- expr { "," expr }
+  pub subscripts_tokens : {n : _} → Row_of-Expr n → List What
+  subscripts_tokens end_of-Expr = []
+  subscripts_tokens (more_of-Expr first rest) = expr_tokens first ++ more_subscripts_tokens rest
+
+  -- { "," expr }
+  pub more_subscripts_tokens : {n : _} → Row_of-Expr n → List What
+  more_subscripts_tokens end_of-Expr = []
+  more_subscripts_tokens (more_of-Expr next rest) =
+      (symbol s.comma ++ expr_tokens next) ++ more_subscripts_tokens rest
+
+-- ref = id { "(" expr { "," expr } ")" | "." id }
+abbrev pub ref_tokens : Ref → List What
+ref_tokens reference = name_tokens reference.name ++ flat_map selector_tokens reference.selectors.items.items
+
+-- operand = { + | - | ABS | SIGN | NOT } primary
+abbrev pub operand_tokens : Operand → List What
+operand_tokens operand = flat_map monadic_tokens operand.monadics.items.items ++ primary_tokens operand.primary
+
+-- [ number ] ( LWB | UPB ) ref
+abbrev pub limit_tokens : Option Number → Side → Ref → List What
+limit_tokens dimension side array = maybe number_tokens dimension ++ word (side_word side) ++ ref_tokens array

@@ -1,0 +1,10 @@
+pub mod Spelled
+pub mod Lists
+pub mod Expressions
+pub mod Types
+pub mod Formats
+pub mod Declarations
+pub mod Schedules
+pub mod Statements
+pub mod Modules
+pub mod Reading

@@ -1,0 +1,28 @@
+-- What the text of tokens is read as.
+use Rattle.std.specs.Prelude.{◌≡◌, ℕ, List, ◌++◌, length, map, Some, All}
+use Rattle.pearl_tree.specs.declared.token.What.{What}
+use Rattle.pearl_tree.specs.declared.token.Token.{Token}
+use Rattle.pearl_tree.specs.Tokens.{IsLawfulWhat}
+use Rattle.pearl_lex.specs.Spelling.{space_len}
+use Rattle.pearl_lex.specs.Front.{front}
+use Rattle.pearl_lex.specs.Lexes.{Lexes}
+use Rattle.pearl_print.specs.Spelled.{spelled, gap, text_of}
+
+-- whatever comes behind the byte that follows it, the token begins the text, and is no blank or comment
+pub record IsReadBack (what : What) : Type 0 where
+  pub begins : (rest : List ℕ) → front (spelled what ++ gap what ++ rest) ≡ Some (record { what = what; size = length (spelled what) })
+  pub no_space : (rest : List ℕ) → space_len (spelled what ++ gap what ++ rest) ≡ 0
+
+-- a text has exactly these tokens, at some places
+pub record Reads (text : List ℕ) (whats : List What) : Type 0 where
+  pub tokens : List Token
+  pub lexes : Lexes text tokens
+  pub are : map (λ token. token.what) tokens ≡ whats
+
+-- where each token is read back by itself, the text of tokens has exactly these tokens
+abbrev pub TextReads : Type 0
+TextReads = (whats : List What) → All IsReadBack whats → Reads (text_of whats) whats
+
+-- the text of lawful tokens has exactly these tokens
+abbrev pub LawfulTextReads : Type 0
+LawfulTextReads = (whats : List What) → All IsLawfulWhat whats → Reads (text_of whats) whats

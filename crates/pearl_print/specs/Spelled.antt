@@ -1,0 +1,87 @@
+-- How each token is written, and the text of a list of tokens.
+use Rattle.std.specs.Prelude.{ℕ, zero, suc, ◌+◌, ◌/◌, ◌%◌, ◌^◌, ◌==◌, if◌then◌else◌, List, [], ◌∷◌, ◌++◌, codes, slice_index_or}
+use Rattle.std.specs.Fmt.{decimal}
+use Rattle.std.specs.List.{flat_map}
+use Rattle.pearl_tree.specs.declared.token.What.{What}
+use Rattle.pearl_tree.specs.declared.token.What.TheVariants as what
+use Rattle.pearl_tree.specs.Symbols as s
+
+-- the words in the order of their codes: of those that mean the same, the one that the grammar names
+unfoldable pub word_texts : List (List ℕ)
+word_texts =
+    codes "MODULE" ∷ codes "MODEND" ∷ codes "SYSTEM" ∷ codes "PROBLEM" ∷ codes "DCL" ∷ codes "SPC" ∷ codes "INV" ∷
+    codes "INIT" ∷ codes "PRESET" ∷ codes "STRUCT" ∷ codes "TYPE" ∷ codes "LENGTH" ∷ codes "FIXED" ∷ codes "BIT" ∷
+    codes "CHAR" ∷ codes "CLOCK" ∷ codes "DURATION" ∷ codes "SEMA" ∷ codes "INTERRUPT" ∷ codes "DATION" ∷
+    codes "IN" ∷ codes "OUT" ∷ codes "INOUT" ∷ codes "ALPHIC" ∷ codes "BASIC" ∷ codes "TASK" ∷ codes "PROC" ∷
+    codes "MAIN" ∷ codes "PRIO" ∷ codes "IDENT" ∷ codes "RETURNS" ∷ codes "RETURN" ∷ codes "BEGIN" ∷ codes "END" ∷
+    codes "IF" ∷ codes "THEN" ∷ codes "ELSE" ∷ codes "FIN" ∷ codes "CASE" ∷ codes "ALT" ∷ codes "FOR" ∷
+    codes "FROM" ∷ codes "BY" ∷ codes "TO" ∷ codes "WHILE" ∷ codes "REPEAT" ∷ codes "EXIT" ∷ codes "CALL" ∷
+    codes "ACTIVATE" ∷ codes "TERMINATE" ∷ codes "SUSPEND" ∷ codes "CONTINUE" ∷ codes "RESUME" ∷ codes "PREVENT" ∷
+    codes "AT" ∷ codes "AFTER" ∷ codes "ALL" ∷ codes "UNTIL" ∷ codes "DURING" ∷ codes "WHEN" ∷ codes "REQUEST" ∷
+    codes "RELEASE" ∷ codes "TRY" ∷ codes "ENABLE" ∷ codes "DISABLE" ∷ codes "TRIGGER" ∷ codes "GET" ∷ codes "PUT" ∷
+    codes "TAKE" ∷ codes "SEND" ∷ codes "NOW" ∷ codes "REM" ∷ codes "ABS" ∷ codes "SIGN" ∷ codes "EQ" ∷ codes "NE" ∷
+    codes "LT" ∷ codes "GT" ∷ codes "LE" ∷ codes "GE" ∷ codes "AND" ∷ codes "OR" ∷ codes "EXOR" ∷ codes "NOT" ∷
+    codes "CAT" ∷ codes "CSHIFT" ∷ codes "SHIFT" ∷ codes "LWB" ∷ codes "UPB" ∷ codes "HRS" ∷ codes "MIN" ∷
+    codes "SEC" ∷ codes "GLOBAL" ∷ codes "BOLT" ∷ codes "RESERVE" ∷ codes "FREE" ∷ codes "ENTER" ∷ codes "LEAVE" ∷ []
+
+unfoldable pub word_text : ℕ → List ℕ
+word_text code = slice_index_or word_texts code []
+
+-- the symbols in the order of their codes
+unfoldable pub symbol_texts : List (List ℕ)
+symbol_texts =
+    codes "(" ∷ codes ")" ∷ codes "[" ∷ codes "]" ∷ codes "," ∷ codes ";" ∷ codes ":" ∷ codes "." ∷ codes ":=" ∷
+    codes "=" ∷ codes "==" ∷ codes "/=" ∷ codes "<" ∷ codes ">" ∷ codes "<=" ∷ codes ">=" ∷ codes "><" ∷ codes "<>" ∷
+    codes "+" ∷ codes "-" ∷ codes "*" ∷ codes "//" ∷ codes "**" ∷ []
+
+unfoldable pub symbol_text : ℕ → List ℕ
+symbol_text code = slice_index_or symbol_texts code []
+
+-- the last digit of a number
+abbrev pub digit : ℕ → ℕ
+digit n = 48 + n % 10
+
+abbrev pub two_digits : ℕ → List ℕ
+two_digits n = digit (n / 10) ∷ digit n ∷ []
+
+abbrev pub three_digits : ℕ → List ℕ
+three_digits n = digit (n / 100) ∷ two_digits n
+
+-- a period and the thousandths where there are some
+abbrev pub fraction : ℕ → List ℕ
+fraction thousandths = if thousandths == 0 then [] else codes "." ++ three_digits thousandths
+
+-- hours, minutes and seconds, and the thousandths where there are some
+abbrev pub clock_text : ℕ → List ℕ
+clock_text ms =
+    two_digits (ms / 3600000) ++ codes ":" ++ two_digits (ms / 60000 % 60) ++ codes ":" ++
+    two_digits (ms / 1000 % 60) ++ fraction (ms % 1000)
+
+-- so many bits of a number, the highest first
+abbrev pub binary : ℕ → ℕ → List ℕ
+binary zero value = []
+binary (suc n) value = (48 + value / 2 ^ n % 2) ∷ binary n value
+
+-- a text with each apostrophe doubled
+abbrev pub doubled : List ℕ → List ℕ
+doubled text = flat_map (λ byte. if byte == 39 then byte ∷ byte ∷ [] else byte ∷ []) text
+
+-- a token without what follows it
+unfoldable pub spelled : What → List ℕ
+spelled (what.Word code) = word_text code
+spelled (what.Id text) = text.items
+spelled (what.Number value) = decimal value
+spelled (what.Decimal whole thousandths) = decimal whole ++ codes "." ++ three_digits thousandths
+spelled (what.Clock milliseconds) = clock_text milliseconds
+spelled (what.Bits len value) = codes "'" ++ binary len value ++ codes "'B"
+spelled (what.Text text) = codes "'" ++ doubled text.items ++ codes "'"
+spelled (what.Symbol symbol) = symbol_text symbol
+
+-- what follows a token: a line end after `;`, and a blank after any other
+abbrev pub gap : What → List ℕ
+gap (what.Symbol symbol) = if symbol == s.semicolon then codes "\n" else codes " "
+gap _ = codes " "
+
+-- the text of tokens in order
+unfoldable pub text_of : List What → List ℕ
+text_of tokens = flat_map (λ token. spelled token ++ gap token) tokens

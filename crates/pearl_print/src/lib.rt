@@ -1,0 +1,21 @@
+// The canonical text of a tree.
+#![tactic(auto)]
+
+mod declaration;
+mod expression;
+mod format;
+pub mod laws;
+mod lists;
+mod literal;
+mod module;
+pub mod print;
+mod put;
+mod schedule;
+mod spelling;
+mod statement;
+mod symbol;
+mod tasking;
+#[cfg(test)]
+mod tests;
+mod transfer;
+mod typing;
