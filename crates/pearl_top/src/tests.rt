@@ -54,7 +54,12 @@ fn module(alloc: Global, body: &[u8]) -> Result<Vec<u8>, AllocError> {
 fn variables_hold_what_was_put_into_them(rt: HostRuntime) -> Result<(), Fail> {
     let alloc = rt.alloc();
     let names = words(alloc, &["run", "s", "j"])?;
-    let cases: [(&[u8], &[u8], &[u8]); 8] = [
+    let cases: [(&[u8], &[u8], &[u8]); 9] = [
+        (
+            b"DCL inflow FIXED;\nDCL level FIXED;\nmain: TASK MAIN;\n  inflow := 40;\n  level := level + inflow - 3;\n  PUT level TO tty BY F(5), SKIP;\n  level := 2147483647 + level;\nEND;",
+            b"run 6\nrun 10\n",
+            b"0 start main 255\n0 out 1 '   37\\n'\n0 trap main Overflow\n0 state main dormant\n0 close\n",
+        ),
         (
             b"DCL x FIXED; main: TASK MAIN; x := 2147483647 + 1; END;",
             b"run 10",
