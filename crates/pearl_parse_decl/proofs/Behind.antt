@@ -1,14 +1,14 @@
 -- Why a part is not read, where one within it is not, behind others that were read.
-use Rattle.std.proofs.Common.{◌≡◌, ℕ, ◌≤◌, max, Bool, List, Option, Some, None, ◌⊎◌, inl, inr, length, subst, arith}
+use Rattle.std.proofs.Common.{◌≡◌, ℕ, ◌<◌, ◌≤◌, ◌||◌, true, sym, max, Bool, List, Option, Some, None, ◌⊎◌, inl, inr, length, subst, arith}
 use Rattle.pearl_tree.specs.declared.token.Token.{Token}
 use Rattle.pearl_tree.specs.declared.token.What.{What}
-use Rattle.pearl_tree.specs.Standing.{Spelling, SpellsMaybe}
+use Rattle.pearl_tree.specs.Standing.{Spelling, SpellsMaybe, what_at}
 use Rattle.pearl_tree.specs.Stops.{BeginAlike}
 use Rattle.pearl_parse_expr.specs.declared.reading.Halt.{Halt}
 use Rattle.pearl_parse_expr.specs.declared.reading.Halt.TheVariants.{Refused, NoMemory}
 use Rattle.pearl_parse_expr.specs.Stops.{Sure, Stuck, EndsEarly, IsHalted}
-use Rattle.pearl_parse_decl.specs.Readings.{behind}
-use Rattle.pearl_parse_expr.proofs.Parts.{shorter}
+use Rattle.pearl_parse_decl.specs.Readings.{behind, IsPast}
+use Rattle.pearl_parse_expr.proofs.Parts.{shorter, or_first, or_second}
 
 -- `whole` has `first` at `at`
 abbrev pub Has : {X Y : Type 0} → (List Token → Spelling X) → (List Token → Spelling Y) → List Token → ℕ → ℕ → ℕ → Type 0
@@ -26,6 +26,38 @@ halted_behind first whole tokens from at stop (Refused last) below within has h 
   omega (arith, h.1),
   omega (arith, h.2, within),
 )
+
+-- the same of parts that begin at the same token, where it was read up to `past` which of them there is
+pub halted_past : {X Y : Type 0} (first : List Token → Spelling X) (whole : List Token → Spelling Y) (tokens : List Token) (from past : ℕ) (halt : Halt) →
+    IsPast past halt → Has first whole tokens from from past →
+    IsHalted first tokens from halt → IsHalted whole tokens from halt
+halted_past first whole tokens from past NoMemory far has h = tt
+halted_past first whole tokens from past (Refused last) far has h = (
+  λ others agree y to whole.
+      let read = has others (shorter tokens others past last far agree) y to whole in
+      h.0 others agree read.0 read.1 read.2,
+  h.1,
+  h.2,
+)
+
+-- a part that may be missing at the end: what it stands behind ends early only where it is missing
+pub last : (first second : Option What → Bool) (others : List Token) (d e f to : ℕ) → e ≤ f →
+    (first (what_at others d) ≡ true → to ≡ d) → (d ≡ e) ⊎ EndsEarly first others e d →
+    (d ≡ e → (to ≡ f) ⊎ EndsEarly second others f to) →
+    (to ≡ f) ⊎ EndsEarly (λ token. first token || second token) others f to
+last first second others d e f to near missing (inl same) rest = either (rest same)
+  where
+    either : (to ≡ f) ⊎ EndsEarly second others f to → (to ≡ f) ⊎ EndsEarly (λ token. first token || second token) others f to
+    either (inl end) = inl end
+    either (inr early) = inr (early.0, or_second (first (what_at others to)) (second (what_at others to)) early.1)
+last first second others d e f to near missing (inr early) rest =
+    let same = missing early.1 in
+    inr (omega (arith, same, early.0), or_first (first (what_at others to)) (second (what_at others to)) (subst (λ k. first (what_at others k) ≡ true) (sym same) early.1))
+
+pub ends_as : (first second : Option What → Bool) (others : List Token) (end to : ℕ) → ((token : Option What) → first token ≡ true → second token ≡ true) →
+    (to ≡ end) ⊎ EndsEarly first others end to → (to ≡ end) ⊎ EndsEarly second others end to
+ends_as first second others end to more (inl same) = inl same
+ends_as first second others end to more (inr early) = inr (early.0, more (what_at others to) early.1)
 
 -- where no such part begins, none is read
 pub maybe_is_none : {X : Type 0} (spells : List Token → Spelling X) (extends : Option What → Bool) (tokens : List Token) (from stop : ℕ) →

@@ -1,3 +1,4 @@
 pub mod Lists
 pub mod Behind
 pub mod Types
+pub mod Items

@@ -7,13 +7,14 @@ use Rattle.pearl_tree.specs.declared.name.Names.TheVariants.{One, Several}
 use Rattle.pearl_tree.specs.declared.typing.Basic.{Basic}
 use Rattle.pearl_tree.specs.declared.typing.Basic.TheVariants as basic
 use Rattle.pearl_tree.specs.declared.typing.Field.{Field}
+use Rattle.pearl_tree.specs.declared.typing.Sort.{Sort}
 use Rattle.pearl_tree.specs.declared.typing.Sort.TheVariants.{Fixed, Bit, Char}
 use Rattle.pearl_tree.specs.declared.typing.Typing.{Typing, Row_of-Field, end_of-Field, more_of-Field, items-the_row-Field}
 use Rattle.pearl_tree.specs.declared.typing.Typing as typing
 use Rattle.pearl_tree.specs.declared.token.What.TheVariants as what
 use Rattle.pearl_tree.specs.declared.token.Token.{Token}
 use Rattle.pearl_tree.specs.Standing.{what_at, HasWord, HasSymbol, SpellsName, SpellsMore, SpellsList, SpellsBracketed}
-use Rattle.pearl_tree.specs.Types.{SpellsNames, SpellsBounds, SpellsBasic, SpellsTyping, SpellsFields, SpellsMoreFields, SpellsField}
+use Rattle.pearl_tree.specs.Types.{SpellsNames, SpellsBounds, sort_word, SpellsBasic, SpellsTyping, SpellsFields, SpellsMoreFields, SpellsField}
 use Rattle.pearl_tree.specs.Symbols as s
 use Rattle.pearl_tree.specs.WordCodes as w
 use Rattle.pearl_tree.specs.Stops.{BeginAlike}
@@ -62,6 +63,32 @@ module _ (tokens : List Token) where
   basic_no_struct from (basic.Sized Char number place) to h = ap (is_word w.STRUCT) h.1
   basic_no_struct from (basic.Clock place) to h = ap (is_word w.STRUCT) h.1
   basic_no_struct from (basic.Duration place) to h = ap (is_word w.STRUCT) h.1
+
+  -- nor with a word that is no word of types
+  typing_word : (word : ℕ) → ((sort : Sort) → is_word word (Some (what.Word (sort_word sort))) ≡ false) → is_word word (Some (what.Word w.CLOCK)) ≡ false →
+      is_word word (Some (what.Word w.DURATION)) ≡ false → is_word word (Some (what.Word w.STRUCT)) ≡ false →
+      (depth from : ℕ) (x : Typing) (to : ℕ) → SpellsTyping tokens depth from x to → is_word word (what_at tokens from) ≡ false
+  typing_word word sorts clock duration struct depth from (typing.Basic (basic.Sized sort number place)) to h = ap (is_word word) h.1 ∙ sorts sort
+  typing_word word sorts clock duration struct depth from (typing.Basic (basic.Clock place)) to h = ap (is_word word) h.1 ∙ clock
+  typing_word word sorts clock duration struct depth from (typing.Basic (basic.Duration place)) to h = ap (is_word word) h.1 ∙ duration
+  typing_word word sorts clock duration struct depth from (typing.Struct' _ fields place) to h = ap (is_word word) h.2 ∙ struct
+  typing_word word sorts clock duration struct depth from (typing.Named name) to h = ap (is_word word) h.0.0
+
+  sorts_no_inv : (sort : Sort) → is_word w.INV (Some (what.Word (sort_word sort))) ≡ false
+  sorts_no_inv Fixed = refl
+  sorts_no_inv Bit = refl
+  sorts_no_inv Char = refl
+
+  sorts_no_sema : (sort : Sort) → is_word w.SEMA (Some (what.Word (sort_word sort))) ≡ false
+  sorts_no_sema Fixed = refl
+  sorts_no_sema Bit = refl
+  sorts_no_sema Char = refl
+
+  pub typing_no_inv : (depth from : ℕ) (x : Typing) (to : ℕ) → SpellsTyping tokens depth from x to → is_word w.INV (what_at tokens from) ≡ false
+  typing_no_inv = typing_word w.INV sorts_no_inv refl refl refl
+
+  pub typing_no_sema : (depth from : ℕ) (x : Typing) (to : ℕ) → SpellsTyping tokens depth from x to → is_word w.SEMA (what_at tokens from) ≡ false
+  typing_no_sema = typing_word w.SEMA sorts_no_sema refl refl refl
 
   more_fields : (depth from : ℕ) (n : _) (row : Row_of-Field n) (to : ℕ) →
       SpellsMoreFields tokens depth from row to → SpellsMore tokens (SpellsField tokens depth) from (items-the_row-Field n row) to

@@ -19,6 +19,10 @@ by_bracket = is_symbol s.left_round
 abbrev pub by_colon : Option What → Bool
 by_colon = is_symbol s.colon
 
+-- `+` or `-`
+abbrev pub is_sign : Option What → Bool
+is_sign token = is_symbol s.plus token || is_symbol s.minus token
+
 -- part { "," part }
 abbrev pub by_comma : (Option What → Bool) → Option What → Bool
 by_comma extends token = extends token || is_symbol s.comma token
@@ -50,3 +54,8 @@ IsOn tokens from end stop = (from ≤ end) × (end ≤ stop) × (stop ≤ length
 abbrev pub behind : Halt → ℕ → Halt
 behind NoMemory stop = NoMemory
 behind (Refused at) stop = Refused (max at stop)
+
+-- a part is refused at this token or behind it, or not read for want of memory
+abbrev pub IsPast : ℕ → Halt → Type 0
+IsPast at NoMemory = Unit {0}
+IsPast at (Refused stop) = at ≤ stop

@@ -1,7 +1,10 @@
 // Names, types, formats and declarations, read from the tokens of a source: all that has no statement in it.
 #![tactic(auto)]
 
+pub mod constant;
+pub mod flag;
 pub mod format;
+pub mod item;
 pub mod list;
 pub mod name;
 pub mod symbol;
