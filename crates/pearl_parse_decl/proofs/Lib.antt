@@ -2,3 +2,4 @@ pub mod Lists
 pub mod Behind
 pub mod Types
 pub mod Items
+pub mod Specifications

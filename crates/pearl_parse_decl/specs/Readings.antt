@@ -36,6 +36,10 @@ extends_sema = is_word w.PRESET
 abbrev pub extends_declared : Option What → Bool
 extends_declared token = extends_item token || extends_sema token
 
+-- what may stand behind the colon of a device
+abbrev pub is_device_word : Option What → Bool
+is_device_word token = is_name token || is_word w.INTERRUPT token
+
 -- the id may be CONTROL
 abbrev pub extends_spec : Option What → Bool
 extends_spec token = by_bracket token || is_name token

@@ -2,10 +2,13 @@
 #![tactic(auto)]
 
 pub mod constant;
+pub mod declaration;
 pub mod flag;
 pub mod format;
+pub mod head;
 pub mod item;
 pub mod list;
 pub mod name;
+pub mod specification;
 pub mod symbol;
 pub mod typing;
