@@ -1,5 +1,5 @@
 -- Why a part is not read, where one within it is not, behind others that were read.
-use Rattle.std.proofs.Common.{◌≡◌, ℕ, ◌<◌, ◌≤◌, ◌||◌, true, sym, max, Bool, List, Option, Some, None, ◌⊎◌, inl, inr, length, subst, arith}
+use Rattle.std.proofs.Common.{◌≡◌, ℕ, ◌≤◌, ◌||◌, true, sym, max, Bool, List, Option, Some, None, ◌⊎◌, inl, inr, length, subst, arith}
 use Rattle.pearl_tree.specs.declared.token.Token.{Token}
 use Rattle.pearl_tree.specs.declared.token.What.{What}
 use Rattle.pearl_tree.specs.Standing.{Spelling, SpellsMaybe, what_at}

@@ -1,5 +1,5 @@
 -- Items and semaphores, behind their names.
-use Rattle.std.proofs.Common.{◌≡◌, ℕ, ◌+◌, ◌<◌, ◌≤◌, Bool, true, false, List, [], ◌∷◌, Option, Some, ◌⊎◌, inl, inr, refl, sym, ap, subst, ◌∙◌, arith}
+use Rattle.std.proofs.Common.{◌≡◌, ℕ, ◌≤◌, Bool, true, false, List, [], ◌∷◌, ◌⊎◌, refl, sym, ap, subst}
 use Rattle.pearl_tree.specs.declared.typing.Typing.{Typing}
 use Rattle.pearl_tree.specs.declared.typing.Bound.{Bound}
 use Rattle.pearl_tree.specs.declared.literal.Const.{Const}
@@ -7,9 +7,8 @@ use Rattle.pearl_tree.specs.declared.declaration.Item.{Item}
 use Rattle.pearl_tree.specs.declared.declaration.Sema.{Sema}
 use Rattle.pearl_tree.specs.declared.declaration.Declared.{Declared}
 use Rattle.pearl_tree.specs.declared.declaration.Declared.TheVariants as declared
-use Rattle.pearl_tree.specs.declared.token.What.TheVariants as what
 use Rattle.pearl_tree.specs.declared.token.Token.{Token}
-use Rattle.pearl_tree.specs.Standing.{what_at, HasWord, SpellsFlag, SpellsMaybeBracketed, SpellsMaybeHeaded}
+use Rattle.pearl_tree.specs.Standing.{what_at, SpellsFlag, SpellsMaybeBracketed, SpellsMaybeHeaded}
 use Rattle.pearl_tree.specs.Expressions.{SpellsConst}
 use Rattle.pearl_tree.specs.Types.{SpellsNames, SpellsBound, SpellsBounds, SpellsTyping}
 use Rattle.pearl_tree.specs.Declarations.{SpellsItem, SpellsSema, SpellsDeclared}

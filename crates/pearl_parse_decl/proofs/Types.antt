@@ -1,5 +1,5 @@
 -- What other tokens can spell at names and types, by the first token.
-use Rattle.std.proofs.Common.{◌≡◌, ℕ, ◌+◌, ◌-◌, ◌<◌, ◌≤◌, Bool, true, false, List, [], ◌∷◌, Option, Some, ◌⊎◌, inl, inr, refl, sym, ap, subst, ◌∙◌, arith}
+use Rattle.std.proofs.Common.{◌≡◌, ℕ, ◌+◌, ◌-◌, ◌<◌, ◌≤◌, true, false, List, Some, inl, refl, sym, ap, subst, ◌∙◌, arith}
 use mathlib.Core.Former.{Count}
 use Rattle.pearl_tree.specs.declared.name.Name.{Name}
 use Rattle.pearl_tree.specs.declared.name.Names.{Names}
@@ -18,7 +18,7 @@ use Rattle.pearl_tree.specs.Types.{SpellsNames, SpellsBounds, sort_word, SpellsB
 use Rattle.pearl_tree.specs.Symbols as s
 use Rattle.pearl_tree.specs.WordCodes as w
 use Rattle.pearl_tree.specs.Stops.{BeginAlike}
-use Rattle.pearl_parse_expr.specs.Stops.{Sure, Stuck, Exact, EndsEarly, is_symbol, is_word, is_name}
+use Rattle.pearl_parse_expr.specs.Stops.{Sure, Stuck, Exact, is_symbol, is_word, is_name}
 use Rattle.pearl_parse_decl.specs.Readings.{by_bracket, by_comma}
 use Rattle.pearl_parse_expr.proofs.Primaries.{clash}
 use Rattle.pearl_parse_expr.proofs.Parts.{shorter}

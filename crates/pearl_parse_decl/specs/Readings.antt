@@ -1,5 +1,5 @@
 -- With which tokens a part goes on that could end before them, and what is told of a part that is not read.
-use Rattle.std.specs.Prelude.{◌≡◌, ℕ, ◌≤◌, ◌||◌, max, Bool, false, List, length, Option}
+use Rattle.std.specs.Prelude.{ℕ, ◌≤◌, ◌||◌, max, Bool, false, List, length, Option}
 use Rattle.pearl_tree.specs.declared.token.What.{What}
 use Rattle.pearl_tree.specs.declared.token.Token.{Token}
 use Rattle.pearl_tree.specs.Symbols as s

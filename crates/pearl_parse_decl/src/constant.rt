@@ -1,8 +1,9 @@
 // Constants.
 
-ghost use Rattle.std.specs.Prelude.{◌≡◌, ◌+◌, ◌≤◌, List, Some, None, length, IfOk, IfErr, refl};
+ghost use Rattle.std.specs.Prelude.{◌≡◌, ◌≢◌, ◌+◌, ◌≤◌, List, Some, None, length, IfOk, IfErr, refl};
 ghost use Rattle.pearl_tree.specs.Standing.{SpellsMaybe};
 ghost use Rattle.pearl_tree.specs.Expressions as grammar;
+ghost use Rattle.pearl_parse_expr.specs.declared.reading.Halt.{Halt};
 ghost use Rattle.pearl_parse_expr.specs.Stops as stops;
 ghost use Rattle.pearl_parse_decl.specs.Readings as spec;
 
@@ -50,6 +51,7 @@ pub fn constant(tokens: &[Token], from: usize) -> Result<Reading<Const>, Halt>
     ensures sure { IfOk result (λ reading. stops.Sure grammar.SpellsConst stops.extends_operand tokens.now from reading.end reading.stop) }
     ensures ahead { IfOk result (λ reading. stops.IsAhead tokens.now from reading.end reading.stop) }
     ensures refused { IfErr result (λ halt. stops.IsHalted grammar.SpellsConst tokens.now from halt) }
+    ensures memory { IfErr result (λ halt. halt ≢ Halt.NoMemory) }
 {
     let sign = sign(tokens, from);
     match literal(tokens, sign.end) {

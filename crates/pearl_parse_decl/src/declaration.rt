@@ -1,9 +1,10 @@
 // Declarations that have no body, from their first words on.
 
-ghost use Rattle.std.specs.Prelude.{◌≡◌, ◌+◌, ◌≤◌, List, length, max, IfOk, IfErr};
+ghost use Rattle.std.specs.Prelude.{◌≡◌, ◌≢◌, ◌+◌, ◌≤◌, List, length, max, IfOk, IfErr};
 ghost use Rattle.pearl_tree.specs.Standing.{HasWord};
 ghost use Rattle.pearl_tree.specs.Modules as modules;
 ghost use Rattle.pearl_tree.specs.WordCodes as w;
+ghost use Rattle.pearl_parse_expr.specs.declared.reading.Halt.{Halt};
 ghost use Rattle.pearl_parse_expr.specs.Stops as stops;
 
 use crate::list::list;
@@ -26,6 +27,7 @@ pub fn length_of(tokens: &[Token], from: usize) -> Result<Reading<Decl>, Halt>
     ensures sure { IfOk result (λ reading. stops.Exact modules.SpellsDecl tokens.now from reading.end reading.stop) }
     ensures ahead { IfOk result (λ reading. stops.IsAhead tokens.now from reading.end reading.stop) }
     ensures refused { IfErr result (λ halt. stops.IsHalted modules.SpellsDecl tokens.now from halt) }
+    ensures memory { IfErr result (λ halt. halt ≢ Halt.NoMemory) }
 {
     let sort = match sort_at(tokens, from + 1) {
         Some(sort) => sort,

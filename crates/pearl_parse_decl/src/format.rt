@@ -1,10 +1,11 @@
 // Items of formats.
 
-ghost use Rattle.std.specs.Prelude.{◌≡◌, ◌+◌, ◌<◌, ◌≤◌, List, Some, None, length, IfOk, IfErr, IfSome, refl};
+ghost use Rattle.std.specs.Prelude.{◌≡◌, ◌≢◌, ◌+◌, ◌<◌, ◌≤◌, List, Some, None, length, IfOk, IfErr, IfSome, refl};
 ghost use Rattle.pearl_tree.specs.Standing.{what_at, HasId, HasSymbol, SpellsMaybe, SpellsBracketedNumber};
 ghost use Rattle.pearl_tree.specs.Formats as grammar;
 ghost use Rattle.pearl_tree.specs.declared.format.FreeCode.{FreeCode};
 ghost use Rattle.pearl_tree.specs.declared.format.WideCode.{WideCode};
+ghost use Rattle.pearl_parse_expr.specs.declared.reading.Halt.{Halt};
 ghost use Rattle.pearl_parse_expr.specs.Stops as stops;
 ghost use Rattle.pearl_parse_decl.specs.Readings as spec;
 
@@ -80,6 +81,7 @@ pub fn fmt(tokens: &[Token], from: usize) -> Result<Reading<Fmt>, Halt>
     ensures sure { IfOk result (λ reading. stops.Sure grammar.SpellsFmt spec.by_bracket tokens.now from reading.end reading.stop) }
     ensures ahead { IfOk result (λ reading. stops.IsAhead tokens.now from reading.end reading.stop) }
     ensures refused { IfErr result (λ halt. stops.IsHalted grammar.SpellsFmt tokens.now from halt) }
+    ensures memory { IfErr result (λ halt. halt ≢ Halt.NoMemory) }
 {
     if let Some(code) = free_at(tokens, from) {
         let width = maybe_number(tokens, from + 1);

@@ -1,7 +1,7 @@
 // Heads of tasks and procedures.
 
 ghost use Rattle.std.specs.Prelude.{◌≡◌, ◌+◌, ◌<◌, ◌≤◌, List, None, length, max, IfOk, IfErr, IfSome, refl};
-ghost use Rattle.pearl_tree.specs.Standing.{SpellsMaybe};
+ghost use Rattle.pearl_tree.specs.Standing.{HasWord, SpellsMaybe};
 ghost use Rattle.pearl_tree.specs.Declarations as grammar;
 ghost use Rattle.pearl_tree.specs.Modules as modules;
 ghost use Rattle.pearl_tree.specs.WordCodes as w;
@@ -65,7 +65,7 @@ impl Part for Param {
     ghost stops_at_bracket = { refl };
 }
 
-/// `PRIO number`, or the number of a token with which none begins.
+// `PRIO number`, or the number of a token with which none begins.
 fn prio(tokens: &[Token], from: usize) -> Result<Prio, usize>
     requires { from ≤ length tokens.now }
     ensures spells { IfOk result (λ part. grammar.SpellsPrio tokens.now from part (from + 2)) }
@@ -132,30 +132,53 @@ pub fn task_head(tokens: &[Token], from: usize) -> Reading<TaskHead>
     }
 }
 
-/// `RETURNS "(" basic ")"`, or the number of a token with which none begins.
-fn result_kind(tokens: &[Token], from: usize) -> Result<Reading<Basic>, Halt>
+// `RETURNS "(" basic ")"`, or the number of a token with which none begins.
+fn returned(tokens: &[Token], from: usize) -> Result<Reading<Basic>, usize>
     requires { from ≤ length tokens.now }
     ensures spells { IfOk result (λ reading. modules.SpellsReturns tokens.now from reading.part reading.end) }
     ensures sure { IfOk result (λ reading. stops.Exact modules.SpellsReturns tokens.now from reading.end reading.stop) }
     ensures ahead { IfOk result (λ reading. stops.IsAhead tokens.now from reading.end reading.stop) }
-    ensures refused { IfErr result (λ halt. stops.IsHalted modules.SpellsReturns tokens.now from halt) }
+    ensures word { IfOk result (λ _. HasWord tokens.now from w.RETURNS) }
+    ensures refused { IfErr result (λ stop. stops.Stuck modules.SpellsReturns tokens.now from stop) }
+    ensures held { IfErr result (λ stop. (from ≤ stop) × (stop ≤ length tokens.now)) }
 {
     if !is_word(tokens, from, RETURNS) {
-        return Err(Halt::Refused(from));
+        return Err(from);
     }
     if !is_symbol(tokens, from + 1, LEFT_ROUND) {
-        return Err(Halt::Refused(from + 1));
+        return Err(from + 1);
     }
     let basic = match basic(tokens, from + 2) {
         Ok(basic) => basic,
-        Err(halt) => return Err(halt),
+        Err(_) => return Err(from + 2),
     };
     if !is_symbol(tokens, basic.end, RIGHT_ROUND) {
-        return Err(Halt::Refused(basic.stop));
+        return Err(basic.stop);
     }
     Ok(Reading {
         part: basic.part,
         end: basic.end + 1,
         stop: basic.stop.max(basic.end + 1),
     })
+}
+
+/// `[ RETURNS "(" basic ")" ]`
+pub fn returns(tokens: &[Token], from: usize) -> Reading<Option<Basic>>
+    requires { from ≤ length tokens.now }
+    ensures spells { SpellsMaybe (modules.SpellsReturns tokens.now) from result.part result.end }
+    ensures sure { stops.Sure (λ tokens. SpellsMaybe (modules.SpellsReturns tokens)) (stops.is_word w.RETURNS) tokens.now from result.end result.stop }
+    ensures ahead { spec.IsOn tokens.now from result.end result.stop }
+{
+    match returned(tokens, from) {
+        Ok(basic) => Reading {
+            part: Some(basic.part),
+            end: basic.end,
+            stop: basic.stop,
+        },
+        Err(stop) => Reading {
+            part: None,
+            end: from,
+            stop,
+        },
+    }
 }

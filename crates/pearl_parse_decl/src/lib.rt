@@ -11,4 +11,6 @@ pub mod list;
 pub mod name;
 pub mod specification;
 pub mod symbol;
+#[cfg(test)]
+mod tests;
 pub mod typing;

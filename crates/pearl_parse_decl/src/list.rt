@@ -1,6 +1,6 @@
 // Lists of parts with commas between them.
 
-ghost use Rattle.std.specs.Prelude.{◌≡◌, ℕ, ◌+◌, ◌<◌, ◌≤◌, List, Bool, Option, Some, length, IfOk, IfErr, false};
+ghost use Rattle.std.specs.Prelude.{◌≡◌, ◌≢◌, ℕ, ◌+◌, ◌<◌, ◌≤◌, List, Bool, Option, Some, length, IfOk, IfErr, false};
 ghost use Rattle.pearl_tree.specs.declared.token.Token.{Token};
 ghost use Rattle.pearl_tree.specs.declared.token.What.{What};
 ghost use Rattle.pearl_tree.specs.declared.token.What.TheVariants as what;
@@ -40,7 +40,8 @@ pub trait Part: Drop {
 
 /// The same want of memory, or the later one of two tokens.
 pub fn behind(halt: Halt, stop: usize) -> Halt
-    ensures { result ≡ spec.behind halt stop }
+    ensures same { result ≡ spec.behind halt stop }
+    ensures memory { halt ≢ Halt.NoMemory → result ≢ Halt.NoMemory }
 {
     match halt {
         Halt::Refused(at) => Halt::Refused(at.max(stop)),
@@ -49,11 +50,7 @@ pub fn behind(halt: Halt, stop: usize) -> Halt
 }
 
 /// The longest `part { "," part }` that begins here.
-pub fn list<P: Part>(
-    alloc: Global,
-    tokens: &[Token],
-    from: usize,
-) -> Result<Reading<Vec<P>>, Halt>
+pub fn list<P: Part>(alloc: Global, tokens: &[Token], from: usize) -> Result<Reading<Vec<P>>, Halt>
     requires { from ≤ length tokens.now }
     ensures spells { IfOk result (λ reading. SpellsList tokens.now (P.spelling tokens.now) from reading.part.items reading.end) }
     ensures sure { IfOk result (λ reading. stops.Sure (λ tokens. SpellsList tokens (P.spelling tokens)) (spec.by_comma P.extends) tokens.now from reading.end reading.stop) }

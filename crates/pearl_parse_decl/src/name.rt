@@ -1,8 +1,9 @@
 // Names, and numbers in brackets.
 
-ghost use Rattle.std.specs.Prelude.{◌≡◌, ◌+◌, ◌<◌, ◌≤◌, ◌⊎◌, List, Some, None, length, IfOk, IfErr, IfSome, refl};
+ghost use Rattle.std.specs.Prelude.{◌≡◌, ◌≢◌, ◌+◌, ◌<◌, ◌≤◌, ◌⊎◌, List, Some, None, length, IfOk, IfErr, IfSome, refl};
 ghost use Rattle.pearl_tree.specs.Standing.{what_at, HasSymbol, SpellsName, SpellsNumber, SpellsMaybe, SpellsBracketedNumber};
 ghost use Rattle.pearl_tree.specs.Types as grammar;
+ghost use Rattle.pearl_parse_expr.specs.declared.reading.Halt.{Halt};
 ghost use Rattle.pearl_parse_expr.specs.Stops as stops;
 ghost use Rattle.pearl_parse_decl.specs.Readings as spec;
 
@@ -22,6 +23,7 @@ pub fn name(tokens: &[Token], from: usize) -> Result<Reading<Name>, Halt>
     ensures sure { IfOk result (λ reading. stops.Exact SpellsName tokens.now from reading.end reading.stop) }
     ensures ahead { IfOk result (λ reading. stops.IsAhead tokens.now from reading.end reading.stop) }
     ensures refused { IfErr result (λ halt. stops.IsHalted SpellsName tokens.now from halt) }
+    ensures memory { IfErr result (λ halt. halt ≢ Halt.NoMemory) }
 {
     match name_at(tokens, from) {
         Some(part) => Ok(Reading {
@@ -40,6 +42,7 @@ pub fn number(tokens: &[Token], from: usize) -> Result<Reading<Number>, Halt>
     ensures sure { IfOk result (λ reading. stops.Exact SpellsNumber tokens.now from reading.end reading.stop) }
     ensures ahead { IfOk result (λ reading. stops.IsAhead tokens.now from reading.end reading.stop) }
     ensures refused { IfErr result (λ halt. stops.IsHalted SpellsNumber tokens.now from halt) }
+    ensures memory { IfErr result (λ halt. halt ≢ Halt.NoMemory) }
 {
     match number_at(tokens, from) {
         Some(part) => Ok(Reading {

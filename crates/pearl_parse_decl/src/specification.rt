@@ -1,11 +1,12 @@
 // Specifications of interrupts and dations, and devices.
 
-ghost use Rattle.std.specs.Prelude.{◌≡◌, ◌+◌, ◌<◌, ◌≤◌, List, None, true, false, codes, length, max, IfOk, IfErr, IfSome, refl};
+ghost use Rattle.std.specs.Prelude.{◌≡◌, ◌≢◌, ◌+◌, ◌<◌, ◌≤◌, List, None, true, false, codes, length, max, IfOk, IfErr, IfSome, refl};
 ghost use Rattle.pearl_tree.specs.Standing.{what_at, HasWord, HasId};
 ghost use Rattle.pearl_tree.specs.Types as types;
 ghost use Rattle.pearl_tree.specs.Declarations as grammar;
 ghost use Rattle.pearl_tree.specs.declared.declaration.Direction.{Direction};
 ghost use Rattle.pearl_tree.specs.WordCodes as w;
+ghost use Rattle.pearl_parse_expr.specs.declared.reading.Halt.{Halt};
 ghost use Rattle.pearl_parse_expr.specs.Stops as stops;
 ghost use Rattle.pearl_parse_decl.specs.Readings as spec;
 
@@ -45,6 +46,7 @@ fn class(tokens: &[Token], from: usize) -> Result<Reading<Class>, Halt>
     ensures sure { IfOk result (λ reading. stops.Sure grammar.SpellsClass spec.by_bracket tokens.now from reading.end reading.stop) }
     ensures ahead { IfOk result (λ reading. stops.IsAhead tokens.now from reading.end reading.stop) }
     ensures refused { IfErr result (λ halt. stops.IsHalted grammar.SpellsClass tokens.now from halt) }
+    ensures memory { IfErr result (λ halt. halt ≢ Halt.NoMemory) }
 {
     if is_word(tokens, from, ALPHIC) {
         return Ok(Reading {
@@ -152,6 +154,7 @@ fn dation_behind(
     ensures sure { IfOk result (λ reading. stops.Sure grammar.SpellsSpec spec.extends_spec tokens.now from reading.end reading.stop) }
     ensures ahead { IfOk result (λ reading. stops.IsAhead tokens.now from reading.end reading.stop) }
     ensures refused { IfErr result (λ halt. stops.IsHalted grammar.SpellsSpec tokens.now from halt) }
+    ensures memory { IfErr result (λ halt. halt ≢ Halt.NoMemory) }
 {
     let direction = match direction_at(tokens, names.end + 1) {
         Some(direction) => direction,
@@ -241,6 +244,7 @@ pub fn device(tokens: &[Token], from: usize) -> Result<Reading<Device>, Halt>
     ensures sure { IfOk result (λ reading. stops.Exact grammar.SpellsDevice tokens.now from reading.end reading.stop) }
     ensures ahead { IfOk result (λ reading. stops.IsAhead tokens.now from reading.end reading.stop) }
     ensures refused { IfErr result (λ halt. stops.IsHalted grammar.SpellsDevice tokens.now from halt) }
+    ensures memory { IfErr result (λ halt. halt ≢ Halt.NoMemory) }
 {
     let name = match name_at(tokens, from) {
         Some(name) => name,

@@ -1,6 +1,6 @@
 // Bounds and types.
 
-ghost use Rattle.std.specs.Prelude.{◌≡◌, ℕ, ◌+◌, ◌-◌, ◌<◌, ◌≤◌, List, Bool, Option, Some, None, length, max, IfOk, IfErr, IfSome, refl, true, false};
+ghost use Rattle.std.specs.Prelude.{◌≡◌, ◌≢◌, ℕ, ◌+◌, ◌-◌, ◌<◌, ◌≤◌, List, Bool, Option, Some, None, length, max, IfOk, IfErr, IfSome, refl, true, false};
 ghost use Rattle.pearl_tree.specs.Standing.{what_at, HasWord, HasSymbol, SpellsMaybe, SpellsMaybeBracketed, SpellsList};
 ghost use Rattle.pearl_tree.specs.Types as grammar;
 ghost use Rattle.pearl_tree.specs.declared.typing.Sort.{Sort};
@@ -98,6 +98,7 @@ pub fn bound(tokens: &[Token], from: usize) -> Result<Reading<Bound>, Halt>
     ensures sure { IfOk result (λ reading. stops.Sure grammar.SpellsBound spec.by_colon tokens.now from reading.end reading.stop) }
     ensures ahead { IfOk result (λ reading. stops.IsAhead tokens.now from reading.end reading.stop) }
     ensures refused { IfErr result (λ halt. stops.IsHalted grammar.SpellsBound tokens.now from halt) }
+    ensures memory { IfErr result (λ halt. halt ≢ Halt.NoMemory) }
 {
     let first = match int(tokens, from) {
         Ok(first) => first,
@@ -172,6 +173,7 @@ pub fn basic(tokens: &[Token], from: usize) -> Result<Reading<Basic>, Halt>
     ensures sure { IfOk result (λ reading. stops.Sure grammar.SpellsBasic spec.by_bracket tokens.now from reading.end reading.stop) }
     ensures ahead { IfOk result (λ reading. stops.IsAhead tokens.now from reading.end reading.stop) }
     ensures refused { IfErr result (λ halt. stops.IsHalted grammar.SpellsBasic tokens.now from halt) }
+    ensures held { IfErr result (λ halt. halt ≡ Halt.Refused from) }
 {
     if let Some(sort) = sort_at(tokens, from) {
         let number = maybe_number(tokens, from + 1);

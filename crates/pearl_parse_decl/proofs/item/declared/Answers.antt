@@ -1,10 +1,4 @@
-use Rattle.std.proofs.Common.{◌≡◌, ℕ, ◌≤◌, ◌⊎◌, inl, inr, Bool, List, Option, true, false, sym, ap, subst, ◌∙◌, arith}
-use Rattle.pearl_tree.specs.declared.declaration.Declared.{Declared}
-use Rattle.pearl_tree.specs.declared.declaration.Item.{Item}
-use Rattle.pearl_tree.specs.declared.declaration.Sema.{Sema}
-use Rattle.pearl_tree.specs.declared.token.Token.{Token}
-use Rattle.pearl_tree.specs.Standing.{what_at}
-use Rattle.pearl_tree.specs.Stops.{BeginAlike}
+use Rattle.std.proofs.Common.{◌≡◌, ◌≤◌, ◌⊎◌, sym, ap, subst, ◌∙◌, arith}
 use Rattle.pearl_tree.specs.Declarations as grammar
 use Rattle.pearl_tree.specs.WordCodes as w
 use Rattle.pearl_parse_expr.specs.Stops as stops

@@ -19,7 +19,7 @@ returns-in-Err-typing-clause-refused c =
     let last : inv.stop ≤ stop = omega (arith, c.max-before.ensures) in
     let within : stop ≤ length tokens = omega (arith, c.max-before.ensures, c.max.ensures, c.requires.ahead, c.in-Ok.ensures.ahead, c.flag-inv.ensures.ahead) in
     let on : c.args.from ≤ inv.end = omega (arith, c.requires.ahead, c.in-Ok.ensures.ahead, c.flag-inv.ensures.ahead) in
-    subst (λ halt. stops.IsHalted grammar.SpellsItem tokens c.args.from halt) (sym c.behind.ensures)
+    subst (λ halt. stops.IsHalted grammar.SpellsItem tokens c.args.from halt) (sym c.behind.ensures.same)
     (halted_behind (λ tokens. SpellsTyping tokens 8) grammar.SpellsItem tokens c.args.from inv.end stop c.in-Err-typing.halt on within
     (λ others agree x to h.
     let read = item_typing tokens others c.args.from names.end bounds.end inv.end names.stop bounds.stop inv.stop stop below reach last

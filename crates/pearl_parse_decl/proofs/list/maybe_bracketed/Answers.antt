@@ -1,4 +1,4 @@
-use Rattle.std.proofs.Common.{◌<◌, ◌≤◌, arith}
+use Rattle.std.proofs.Common.{◌≤◌, arith}
 use Rattle.pearl_tree.specs.Standing.{SpellsBracketed}
 use Rattle.pearl_parse_expr.proofs.Halts.{stuck_of}
 use Rattle.pearl_parse_decl.proofs.Lists.{maybe_is_sure, maybe_is_none}

@@ -1,4 +1,4 @@
-use Rattle.std.proofs.Common.{◌≡◌, ◌+◌, ◌-◌, ◌<◌, ◌≤◌, length, [], ◌∷◌, ◌++◌, inl, refl, sym, ap, subst, ◌∙◌, arith}
+use Rattle.std.proofs.Common.{◌+◌, ◌-◌, ◌<◌, ◌≤◌, length, [], ◌∷◌, ◌++◌, inl, refl, sym, ap, subst, ◌∙◌, arith}
 use Rattle.pearl_tree.specs.Standing.{SpellsList}
 use Rattle.pearl_tree.specs.Types as grammar
 use Rattle.pearl_tree.specs.WordCodes as w
@@ -26,10 +26,14 @@ field-returns-in-Err-typing-clause-refused t c =
     let reach : bounds.stop ≤ stop = omega (arith, c.max-stop.ensures) in
     let within : stop ≤ length tokens = omega (arith, c.max-stop.ensures, c.in-Ok.ensures.ahead, c.in-Ok-bounds.ensures.ahead) in
     let on : c.args.from ≤ bounds.end = omega (arith, c.in-Ok.ensures.ahead, c.in-Ok-bounds.ensures.ahead) in
-    subst (λ halt. stops.IsHalted (λ tokens. grammar.SpellsField tokens depth) tokens c.args.from halt) (sym c.behind.ensures)
+    subst (λ halt. stops.IsHalted (λ tokens. grammar.SpellsField tokens depth) tokens c.args.from halt) (sym c.behind.ensures.same)
     (halted_behind (λ tokens. grammar.SpellsTyping tokens depth) (λ tokens. grammar.SpellsField tokens depth) tokens c.args.from bounds.end stop c.in-Err-typing.halt on within
-    (λ others agree x to h. (x.typing, to, field_typing tokens others depth c.args.from names.end bounds.end names.stop bounds.stop stop below reach
-    c.in-Ok.ensures.sure c.in-Ok-bounds.ensures.sure agree x to h))
+    (λ others agree x to h. (
+      x.typing,
+      to,
+      field_typing tokens others depth c.args.from names.end bounds.end names.stop bounds.stop stop below reach
+          c.in-Ok.ensures.sure c.in-Ok-bounds.ensures.sure agree x to h,
+    ))
     c.in-Err-typing.ensures.refused)
 
 pub field-returns-clause-sure : goal.field-returns-clause-sure
