@@ -5,7 +5,7 @@ pub mod expression;
 pub mod fault;
 mod grouping;
 mod leaf;
-mod literal;
+pub mod literal;
 mod operator;
 pub mod reading;
 pub mod standing;

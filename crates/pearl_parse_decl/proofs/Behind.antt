@@ -1,0 +1,70 @@
+-- Why a part is not read, where one within it is not, behind others that were read.
+use Rattle.std.proofs.Common.{◌≡◌, ℕ, ◌≤◌, ◌||◌, true, sym, max, Bool, List, Option, Some, None, ◌⊎◌, inl, inr, length, subst, arith}
+use Rattle.pearl_tree.specs.declared.token.Token.{Token}
+use Rattle.pearl_tree.specs.declared.token.What.{What}
+use Rattle.pearl_tree.specs.Standing.{Spelling, SpellsMaybe, what_at}
+use Rattle.pearl_tree.specs.Stops.{BeginAlike}
+use Rattle.pearl_parse_expr.specs.declared.reading.Halt.{Halt}
+use Rattle.pearl_parse_expr.specs.declared.reading.Halt.TheVariants.{Refused, NoMemory}
+use Rattle.pearl_parse_expr.specs.Stops.{Sure, Stuck, EndsEarly, IsHalted}
+use Rattle.pearl_parse_decl.specs.Readings.{behind, IsPast}
+use Rattle.pearl_parse_expr.proofs.Parts.{shorter, or_first, or_second}
+
+-- `whole` has `first` at `at`
+abbrev pub Has : {X Y : Type 0} → (List Token → Spelling X) → (List Token → Spelling Y) → List Token → ℕ → ℕ → ℕ → Type 0
+Has {X} {Y} first whole tokens from at stop =
+    (others : List Token) → BeginAlike tokens others stop → (y : Y) (to : ℕ) → whole others from y to → (x : X) × (k : ℕ) × first others at x k
+
+pub halted_behind : {X Y : Type 0} (first : List Token → Spelling X) (whole : List Token → Spelling Y) (tokens : List Token) (from at stop : ℕ) (halt : Halt) →
+    from ≤ at → stop ≤ length tokens → Has first whole tokens from at stop →
+    IsHalted first tokens at halt → IsHalted whole tokens from (behind halt stop)
+halted_behind first whole tokens from at stop NoMemory below within has h = tt
+halted_behind first whole tokens from at stop (Refused last) below within has h = (
+  λ others agree y to whole.
+      let read = has others (shorter tokens others stop (max last stop) (omega arith) agree) y to whole in
+      h.0 others (shorter tokens others last (max last stop) (omega arith) agree) read.0 read.1 read.2,
+  omega (arith, h.1),
+  omega (arith, h.2, within),
+)
+
+-- the same of parts that begin at the same token, where it was read up to `past` which of them there is
+pub halted_past : {X Y : Type 0} (first : List Token → Spelling X) (whole : List Token → Spelling Y) (tokens : List Token) (from past : ℕ) (halt : Halt) →
+    IsPast past halt → Has first whole tokens from from past →
+    IsHalted first tokens from halt → IsHalted whole tokens from halt
+halted_past first whole tokens from past NoMemory far has h = tt
+halted_past first whole tokens from past (Refused last) far has h = (
+  λ others agree y to whole.
+      let read = has others (shorter tokens others past last far agree) y to whole in
+      h.0 others agree read.0 read.1 read.2,
+  h.1,
+  h.2,
+)
+
+-- a part that may be missing at the end: what it stands behind ends early only where it is missing
+pub last : (first second : Option What → Bool) (others : List Token) (d e f to : ℕ) → e ≤ f →
+    (first (what_at others d) ≡ true → to ≡ d) → (d ≡ e) ⊎ EndsEarly first others e d →
+    (d ≡ e → (to ≡ f) ⊎ EndsEarly second others f to) →
+    (to ≡ f) ⊎ EndsEarly (λ token. first token || second token) others f to
+last first second others d e f to near missing (inl same) rest = either (rest same)
+  where
+    either : (to ≡ f) ⊎ EndsEarly second others f to → (to ≡ f) ⊎ EndsEarly (λ token. first token || second token) others f to
+    either (inl end) = inl end
+    either (inr early) = inr (early.0, or_second (first (what_at others to)) (second (what_at others to)) early.1)
+last first second others d e f to near missing (inr early) rest =
+    let same = missing early.1 in
+    inr (omega (arith, same, early.0), or_first (first (what_at others to)) (second (what_at others to)) (subst (λ k. first (what_at others k) ≡ true) (sym same) early.1))
+
+pub ends_as : (first second : Option What → Bool) (others : List Token) (end to : ℕ) → ((token : Option What) → first token ≡ true → second token ≡ true) →
+    (to ≡ end) ⊎ EndsEarly first others end to → (to ≡ end) ⊎ EndsEarly second others end to
+ends_as first second others end to more (inl same) = inl same
+ends_as first second others end to more (inr early) = inr (early.0, more (what_at others to) early.1)
+
+-- where no such part begins, none is read
+pub maybe_is_none : {X : Type 0} (spells : List Token → Spelling X) (extends : Option What → Bool) (tokens : List Token) (from stop : ℕ) →
+    Stuck spells tokens from stop → Sure (λ tokens. SpellsMaybe (spells tokens)) extends tokens from from stop
+maybe_is_none {X} spells extends tokens from stop stuck = λ others agree x to h. by others (λ x to h. stuck others agree x to h) x to h
+  where
+    by : (others : List Token) → ((x : X) (to : ℕ) → spells others from x to → ⊥) → (x : Option X) (to : ℕ) → SpellsMaybe (spells others) from x to →
+        (to ≡ from) ⊎ EndsEarly extends others from to
+    by others none None to h = inl h
+    by others none (Some x) to h = absurd (none x to h)

@@ -1,0 +1,5 @@
+pub mod Lists
+pub mod Behind
+pub mod Types
+pub mod Items
+pub mod Specifications

@@ -1,0 +1,43 @@
+-- Devices and dations, by their words.
+use Rattle.std.proofs.Common.{◌≡◌, ℕ, ◌+◌, ◌≤◌, Bool, true, false, List, ◌⊎◌, ap, subst}
+use Rattle.pearl_tree.specs.declared.name.Names.{Names}
+use Rattle.pearl_tree.specs.declared.declaration.Class.{Class}
+use Rattle.pearl_tree.specs.declared.declaration.DeviceWord.{DeviceWord}
+use Rattle.pearl_tree.specs.declared.declaration.DeviceWord.TheVariants as device
+use Rattle.pearl_tree.specs.declared.declaration.Spec.{Spec}
+use Rattle.pearl_tree.specs.declared.declaration.Spec.TheVariants as spec
+use Rattle.pearl_tree.specs.declared.token.Token.{Token}
+use Rattle.pearl_tree.specs.Standing.{what_at}
+use Rattle.pearl_tree.specs.Types.{SpellsNames}
+use Rattle.pearl_tree.specs.Declarations.{IsDeviceWord, SpellsClass, SpellsControl, SpellsSpec}
+use Rattle.pearl_tree.specs.WordCodes as w
+use Rattle.pearl_parse_expr.specs.Stops.{EndsEarly, is_name, is_word}
+use Rattle.pearl_parse_decl.specs.Readings.{by_bracket, extends_spec, is_device_word}
+use Rattle.pearl_parse_expr.proofs.Primaries.{clash}
+use Rattle.pearl_parse_decl.proofs.Behind.{last}
+
+module _ (others : List Token) where
+  pub device_head : (k : ℕ) (word : DeviceWord) → IsDeviceWord others k word → is_device_word (what_at others k) ≡ true
+  device_head k (device.Id name) h = ap is_device_word h.0
+  device_head k (device.Interrupt place) h = ap is_device_word h.1
+
+  pub only_dation : (from end : ℕ) → is_word w.DATION (what_at others end) ≡ true →
+      ((x : Names) (to : ℕ) → SpellsNames others from x to → to ≡ end) → (x : Spec) (to : ℕ) → SpellsSpec others from x to →
+      (class : Class) × (b : ℕ) × (control : Bool) × SpellsClass others (end + 2) class b × SpellsControl others b control to
+  only_dation from end dation exact (spec.Interrupt names place) to h =
+      absurd (clash _ dation (subst (λ k. is_word w.DATION (what_at others k) ≡ false) (exact names h.0 h.2) (ap (is_word w.DATION) h.3)))
+  only_dation from end dation exact (spec.Dation names direction class control place) to h =
+      (class, h.1, control, subst (λ k. SpellsClass others (k + 2) class h.1) (exact names h.0 h.3) h.6, h.7)
+
+  no_control : (b : ℕ) (control : Bool) (to : ℕ) → SpellsControl others b control to → by_bracket (what_at others b) ≡ true → to ≡ b
+  no_control b false to h bracket = h
+  no_control b true to h bracket = absurd (clash _ bracket (ap by_bracket h.0))
+
+  -- the end of a dation
+  pub control_last : (b e f : ℕ) (control : Bool) (to : ℕ) → e ≤ f → SpellsControl others b control to →
+      (b ≡ e) ⊎ EndsEarly by_bracket others e b →
+      ((x : Bool) (to : ℕ) → SpellsControl others e x to → (to ≡ f) ⊎ EndsEarly is_name others f to) →
+      (to ≡ f) ⊎ EndsEarly extends_spec others f to
+  control_last b e f control to near h class sure =
+      last by_bracket is_name others b e f to near (no_control b control to h) class
+      (λ same. sure control to (subst (λ k. SpellsControl others k control to) same h))

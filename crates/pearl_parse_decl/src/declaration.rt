@@ -1,0 +1,135 @@
+// Declarations that have no body, from their first words on.
+
+ghost use Rattle.std.specs.Prelude.{◌≡◌, ◌≢◌, ◌+◌, ◌≤◌, List, length, max, IfOk, IfErr};
+ghost use Rattle.pearl_tree.specs.Standing.{HasWord};
+ghost use Rattle.pearl_tree.specs.Modules as modules;
+ghost use Rattle.pearl_tree.specs.WordCodes as w;
+ghost use Rattle.pearl_parse_expr.specs.declared.reading.Halt.{Halt};
+ghost use Rattle.pearl_parse_expr.specs.Stops as stops;
+
+use crate::list::list;
+use crate::name::bracketed_number;
+use crate::symbol::*;
+use crate::typing::{STRUCTS_MAX, sort_at, typing};
+use pearl_parse_expr::reading::{Halt, Reading};
+use pearl_parse_expr::standing::{is_symbol, name_at, place_at};
+use pearl_tree::declaration::{Declared, Spec};
+use pearl_tree::parts::Parts;
+use pearl_tree::token::Token;
+use pearl_tree::tree::Decl;
+use std::alloc::Global;
+
+/// `LENGTH ( FIXED | BIT | CHAR ) "(" number ")" ";"`
+pub fn length_of(tokens: &[Token], from: usize) -> Result<Reading<Decl>, Halt>
+    requires within { from ≤ length tokens.now }
+    requires word { HasWord tokens.now from w.LENGTH }
+    ensures spells { IfOk result (λ reading. modules.SpellsDecl tokens.now from reading.part reading.end) }
+    ensures sure { IfOk result (λ reading. stops.Exact modules.SpellsDecl tokens.now from reading.end reading.stop) }
+    ensures ahead { IfOk result (λ reading. stops.IsAhead tokens.now from reading.end reading.stop) }
+    ensures refused { IfErr result (λ halt. stops.IsHalted modules.SpellsDecl tokens.now from halt) }
+    ensures memory { IfErr result (λ halt. halt ≢ Halt.NoMemory) }
+{
+    let sort = match sort_at(tokens, from + 1) {
+        Some(sort) => sort,
+        None => return Err(Halt::Refused(from + 1)),
+    };
+    let number = match bracketed_number(tokens, from + 2) {
+        Ok(number) => number,
+        Err(stop) => return Err(Halt::Refused(stop)),
+    };
+    if !is_symbol(tokens, from + 5, SEMICOLON) {
+        return Err(Halt::Refused(from + 5));
+    }
+    Ok(Reading {
+        part: Decl::Length {
+            sort,
+            number,
+            place: place_at(tokens, from),
+        },
+        end: from + 6,
+        stop: from + 6,
+    })
+}
+
+/// `TYPE id type ";"`
+pub fn type_of(alloc: Global, tokens: &[Token], from: usize) -> Result<Reading<Decl>, Halt>
+    requires within { from ≤ length tokens.now }
+    requires word { HasWord tokens.now from w.TYPE }
+    ensures spells { IfOk result (λ reading. modules.SpellsDecl tokens.now from reading.part reading.end) }
+    ensures sure { IfOk result (λ reading. stops.Exact modules.SpellsDecl tokens.now from reading.end reading.stop) }
+    ensures ahead { IfOk result (λ reading. stops.IsAhead tokens.now from reading.end reading.stop) }
+    ensures refused { IfErr result (λ halt. stops.IsHalted modules.SpellsDecl tokens.now from halt) }
+{
+    let name = match name_at(tokens, from + 1) {
+        Some(name) => name,
+        None => return Err(Halt::Refused(from + 1)),
+    };
+    let typing = match typing(alloc, tokens, from + 2, STRUCTS_MAX) {
+        Ok(typing) => typing,
+        Err(halt) => return Err(halt),
+    };
+    if !is_symbol(tokens, typing.end, SEMICOLON) {
+        return Err(Halt::Refused(typing.stop));
+    }
+    Ok(Reading {
+        part: Decl::Type {
+            name,
+            typing: typing.part,
+            place: place_at(tokens, from),
+        },
+        end: typing.end + 1,
+        stop: typing.stop.max(typing.end + 1),
+    })
+}
+
+/// `DCL ( item | sema ) { "," ( item | sema ) } ";"`
+pub fn declare(alloc: Global, tokens: &[Token], from: usize) -> Result<Reading<Decl>, Halt>
+    requires within { from ≤ length tokens.now }
+    requires word { HasWord tokens.now from w.DCL }
+    ensures spells { IfOk result (λ reading. modules.SpellsDecl tokens.now from reading.part reading.end) }
+    ensures sure { IfOk result (λ reading. stops.Exact modules.SpellsDecl tokens.now from reading.end reading.stop) }
+    ensures ahead { IfOk result (λ reading. stops.IsAhead tokens.now from reading.end reading.stop) }
+    ensures refused { IfErr result (λ halt. stops.IsHalted modules.SpellsDecl tokens.now from halt) }
+{
+    let parts = match list::<Declared>(alloc, tokens, from + 1) {
+        Ok(parts) => parts,
+        Err(halt) => return Err(halt),
+    };
+    if !is_symbol(tokens, parts.end, SEMICOLON) {
+        return Err(Halt::Refused(parts.stop));
+    }
+    Ok(Reading {
+        part: Decl::Declare {
+            declared: Parts::new(parts.part),
+            place: place_at(tokens, from),
+        },
+        end: parts.end + 1,
+        stop: parts.stop.max(parts.end + 1),
+    })
+}
+
+/// `SPC spec { "," spec } ";"`
+pub fn specify(alloc: Global, tokens: &[Token], from: usize) -> Result<Reading<Decl>, Halt>
+    requires within { from ≤ length tokens.now }
+    requires word { HasWord tokens.now from w.SPC }
+    ensures spells { IfOk result (λ reading. modules.SpellsDecl tokens.now from reading.part reading.end) }
+    ensures sure { IfOk result (λ reading. stops.Exact modules.SpellsDecl tokens.now from reading.end reading.stop) }
+    ensures ahead { IfOk result (λ reading. stops.IsAhead tokens.now from reading.end reading.stop) }
+    ensures refused { IfErr result (λ halt. stops.IsHalted modules.SpellsDecl tokens.now from halt) }
+{
+    let parts = match list::<Spec>(alloc, tokens, from + 1) {
+        Ok(parts) => parts,
+        Err(halt) => return Err(halt),
+    };
+    if !is_symbol(tokens, parts.end, SEMICOLON) {
+        return Err(Halt::Refused(parts.stop));
+    }
+    Ok(Reading {
+        part: Decl::Specify {
+            specs: Parts::new(parts.part),
+            place: place_at(tokens, from),
+        },
+        end: parts.end + 1,
+        stop: parts.stop.max(parts.end + 1),
+    })
+}

@@ -1,0 +1,32 @@
+// A word that may stand.
+
+ghost use Rattle.std.specs.Prelude.{◌≡◌, ◌+◌, ◌≤◌, length};
+ghost use Rattle.pearl_tree.specs.Standing.{SpellsFlag};
+ghost use Rattle.pearl_parse_expr.specs.Stops as stops;
+ghost use Rattle.pearl_parse_decl.specs.Readings as spec;
+
+use pearl_parse_expr::reading::Reading;
+use pearl_parse_expr::standing::is_word;
+use pearl_tree::token::Token;
+
+/// `[ word ]`
+pub fn flag(tokens: &[Token], from: usize, word: u8) -> Reading<bool>
+    requires { from ≤ length tokens.now }
+    ensures spells { SpellsFlag tokens.now word from result.part result.end }
+    ensures sure { stops.Sure (λ tokens. SpellsFlag tokens word) (stops.is_word word) tokens.now from result.end result.stop }
+    ensures ahead { spec.IsOn tokens.now from result.end result.stop }
+{
+    if is_word(tokens, from, word) {
+        Reading {
+            part: true,
+            end: from + 1,
+            stop: from + 1,
+        }
+    } else {
+        Reading {
+            part: false,
+            end: from,
+            stop: from,
+        }
+    }
+}

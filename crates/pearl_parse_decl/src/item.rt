@@ -1,0 +1,179 @@
+// Variables and semaphores of a declaration.
+
+ghost use Rattle.std.specs.Prelude.{◌≡◌, ◌+◌, ◌≤◌, List, length, max, IfOk, IfErr, refl};
+ghost use Rattle.pearl_tree.specs.Standing.{HasWord};
+ghost use Rattle.pearl_tree.specs.Types as types;
+ghost use Rattle.pearl_tree.specs.Declarations as grammar;
+ghost use Rattle.pearl_tree.specs.WordCodes as w;
+ghost use Rattle.pearl_parse_expr.specs.Stops as stops;
+ghost use Rattle.pearl_parse_decl.specs.Readings as spec;
+
+use crate::flag::flag;
+use crate::list::{Part, behind, maybe_headed};
+use crate::name::names;
+use crate::typing::{STRUCTS_MAX, bounds, typing};
+use pearl_parse_expr::reading::{Halt, Reading};
+use pearl_parse_expr::standing::{is_word, place_at};
+use pearl_tables::word_code::{INIT, INV, PRESET, SEMA};
+use pearl_tree::declaration::{Declared, Item, Sema};
+use pearl_tree::literal::Const;
+use pearl_tree::name::{Names, Number};
+use pearl_tree::parts::Parts;
+use pearl_tree::token::Token;
+use std::alloc::Global;
+
+// An item whose names were read.
+fn item_behind(
+    alloc: Global,
+    tokens: &[Token],
+    from: usize,
+    names: Reading<Names>,
+) -> Result<Reading<Item>, Halt>
+    requires within { from ≤ length tokens.now }
+    requires spells { types.SpellsNames tokens.now from names.part names.end }
+    requires sure { stops.Exact types.SpellsNames tokens.now from names.end names.stop }
+    requires ahead { stops.IsAhead tokens.now from names.end names.stop }
+    ensures spells { IfOk result (λ reading. grammar.SpellsItem tokens.now from reading.part reading.end) }
+    ensures sure { IfOk result (λ reading. stops.Sure grammar.SpellsItem spec.extends_item tokens.now from reading.end reading.stop) }
+    ensures ahead { IfOk result (λ reading. stops.IsAhead tokens.now from reading.end reading.stop) }
+    ensures refused { IfErr result (λ halt. stops.IsHalted grammar.SpellsItem tokens.now from halt) }
+    ensures far { IfOk result (λ reading. names.stop ≤ reading.stop) }
+    ensures past { IfErr result (λ halt. spec.IsPast names.stop halt) }
+{
+    let bounds = match bounds(alloc, tokens, names.end) {
+        Ok(bounds) => bounds,
+        Err(halt) => return Err(halt),
+    };
+    let inv = flag(tokens, bounds.end, INV);
+    let before = names.stop.max(bounds.stop).max(inv.stop);
+    let typing = match typing(alloc, tokens, inv.end, STRUCTS_MAX) {
+        Ok(typing) => typing,
+        Err(halt) => return Err(behind(halt, before)),
+    };
+    let init = match maybe_headed::<Const>(alloc, tokens, typing.end, INIT) {
+        Ok(init) => init,
+        Err(halt) => return Err(halt),
+    };
+    Ok(Reading {
+        part: Item {
+            names: names.part,
+            bounds: bounds.part,
+            inv: inv.part,
+            typing: typing.part,
+            init: Parts::new(init.part),
+            place: place_at(tokens, from),
+        },
+        end: init.end,
+        stop: init.stop.max(typing.stop.max(before)),
+    })
+}
+
+/// `names [ bounds ] [ INV ] type [ INIT "(" const { "," const } ")" ]`
+pub fn item(alloc: Global, tokens: &[Token], from: usize) -> Result<Reading<Item>, Halt>
+    requires { from ≤ length tokens.now }
+    ensures spells { IfOk result (λ reading. grammar.SpellsItem tokens.now from reading.part reading.end) }
+    ensures sure { IfOk result (λ reading. stops.Sure grammar.SpellsItem spec.extends_item tokens.now from reading.end reading.stop) }
+    ensures ahead { IfOk result (λ reading. stops.IsAhead tokens.now from reading.end reading.stop) }
+    ensures refused { IfErr result (λ halt. stops.IsHalted grammar.SpellsItem tokens.now from halt) }
+{
+    match names(alloc, tokens, from) {
+        Ok(names) => item_behind(alloc, tokens, from, names),
+        Err(halt) => Err(halt),
+    }
+}
+
+// A semaphore whose names were read.
+fn sema_behind(
+    alloc: Global,
+    tokens: &[Token],
+    from: usize,
+    names: Reading<Names>,
+) -> Result<Reading<Sema>, Halt>
+    requires within { from ≤ length tokens.now }
+    requires spells { types.SpellsNames tokens.now from names.part names.end }
+    requires sure { stops.Exact types.SpellsNames tokens.now from names.end names.stop }
+    requires ahead { stops.IsAhead tokens.now from names.end names.stop }
+    ensures spells { IfOk result (λ reading. grammar.SpellsSema tokens.now from reading.part reading.end) }
+    ensures sure { IfOk result (λ reading. stops.Sure grammar.SpellsSema spec.extends_sema tokens.now from reading.end reading.stop) }
+    ensures ahead { IfOk result (λ reading. stops.IsAhead tokens.now from reading.end reading.stop) }
+    ensures refused { IfErr result (λ halt. stops.IsHalted grammar.SpellsSema tokens.now from halt) }
+    ensures far { IfOk result (λ reading. names.stop ≤ reading.stop) }
+    ensures past { IfErr result (λ halt. spec.IsPast names.stop halt) }
+{
+    if !is_word(tokens, names.end, SEMA) {
+        return Err(Halt::Refused(names.stop));
+    }
+    let preset = match maybe_headed::<Number>(alloc, tokens, names.end + 1, PRESET) {
+        Ok(preset) => preset,
+        Err(halt) => return Err(halt),
+    };
+    Ok(Reading {
+        part: Sema {
+            names: names.part,
+            preset: Parts::new(preset.part),
+            place: place_at(tokens, from),
+        },
+        end: preset.end,
+        stop: preset.stop.max(names.stop),
+    })
+}
+
+/// A variable or a semaphore, by what follows its names.
+pub fn declared(alloc: Global, tokens: &[Token], from: usize) -> Result<Reading<Declared>, Halt>
+    requires { from ≤ length tokens.now }
+    ensures spells { IfOk result (λ reading. grammar.SpellsDeclared tokens.now from reading.part reading.end) }
+    ensures sure { IfOk result (λ reading. stops.Sure grammar.SpellsDeclared spec.extends_declared tokens.now from reading.end reading.stop) }
+    ensures ahead { IfOk result (λ reading. stops.IsAhead tokens.now from reading.end reading.stop) }
+    ensures refused { IfErr result (λ halt. stops.IsHalted grammar.SpellsDeclared tokens.now from halt) }
+{
+    let names = match names(alloc, tokens, from) {
+        Ok(names) => names,
+        Err(halt) => return Err(halt),
+    };
+    if is_word(tokens, names.end, SEMA) {
+        return match sema_behind(alloc, tokens, from, names) {
+            Ok(sema) => Ok(Reading {
+                part: Declared::Sema(sema.part),
+                end: sema.end,
+                stop: sema.stop,
+            }),
+            Err(halt) => Err(halt),
+        };
+    }
+    match item_behind(alloc, tokens, from, names) {
+        Ok(item) => Ok(Reading {
+            part: Declared::Item(item.part),
+            end: item.end,
+            stop: item.stop,
+        }),
+        Err(halt) => Err(halt),
+    }
+}
+
+impl Part for Item {
+    ghost spelling = { grammar.SpellsItem };
+
+    ghost extends = { spec.extends_item };
+
+    fn read(alloc: Global, tokens: &[Token], from: usize) -> Result<Reading<Item>, Halt> {
+        item(alloc, tokens, from)
+    }
+
+    ghost stops_at_comma = { refl };
+
+    ghost stops_at_bracket = { refl };
+}
+
+impl Part for Declared {
+    ghost spelling = { grammar.SpellsDeclared };
+
+    ghost extends = { spec.extends_declared };
+
+    fn read(alloc: Global, tokens: &[Token], from: usize) -> Result<Reading<Declared>, Halt> {
+        declared(alloc, tokens, from)
+    }
+
+    ghost stops_at_comma = { refl };
+
+    ghost stops_at_bracket = { refl };
+}

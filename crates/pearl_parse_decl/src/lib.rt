@@ -1,0 +1,16 @@
+// Names, types, formats and declarations, read from the tokens of a source: all that has no statement in it.
+#![tactic(auto)]
+
+pub mod constant;
+pub mod declaration;
+pub mod flag;
+pub mod format;
+pub mod head;
+pub mod item;
+pub mod list;
+pub mod name;
+pub mod specification;
+pub mod symbol;
+#[cfg(test)]
+mod tests;
+pub mod typing;

@@ -1,0 +1,277 @@
+// Specifications of interrupts and dations, and devices.
+
+ghost use Rattle.std.specs.Prelude.{◌≡◌, ◌≢◌, ◌+◌, ◌<◌, ◌≤◌, List, None, true, false, codes, length, max, IfOk, IfErr, IfSome, refl};
+ghost use Rattle.pearl_tree.specs.Standing.{what_at, HasWord, HasId};
+ghost use Rattle.pearl_tree.specs.Types as types;
+ghost use Rattle.pearl_tree.specs.Declarations as grammar;
+ghost use Rattle.pearl_tree.specs.declared.declaration.Direction.{Direction};
+ghost use Rattle.pearl_tree.specs.WordCodes as w;
+ghost use Rattle.pearl_parse_expr.specs.declared.reading.Halt.{Halt};
+ghost use Rattle.pearl_parse_expr.specs.Stops as stops;
+ghost use Rattle.pearl_parse_decl.specs.Readings as spec;
+
+use crate::list::{Part, behind};
+use crate::name::{bracketed_number, names};
+use crate::symbol::*;
+use crate::typing::basic;
+use pearl_parse_expr::reading::{Halt, Reading};
+use pearl_parse_expr::standing::{is_symbol, is_word, name_at, place_at};
+use pearl_tables::word_code::{ALL, ALPHIC, BASIC, DATION, IN, INOUT, INTERRUPT, OUT};
+use pearl_tree::declaration::{Class, Device, DeviceWord, Direction, Spec};
+use pearl_tree::name::Names;
+use pearl_tree::token::{Token, What};
+use std::alloc::Global;
+
+fn direction_at(tokens: &[Token], at: usize) -> Option<Direction>
+    ensures some { IfSome result (λ direction. HasWord tokens.now at (grammar.direction_word direction)) }
+    ensures none { result ≡ None → (direction : Direction) → HasWord tokens.now at (grammar.direction_word direction) → ⊥ }
+    ensures within { IfSome result (λ _. at < length tokens.now) }
+{
+    if is_word(tokens, at, IN) {
+        return Some(Direction::In);
+    }
+    if is_word(tokens, at, OUT) {
+        return Some(Direction::Out);
+    }
+    if is_word(tokens, at, INOUT) {
+        return Some(Direction::InOut);
+    }
+    None
+}
+
+/// `ALPHIC | BASIC basic`
+fn class(tokens: &[Token], from: usize) -> Result<Reading<Class>, Halt>
+    requires { from ≤ length tokens.now }
+    ensures spells { IfOk result (λ reading. grammar.SpellsClass tokens.now from reading.part reading.end) }
+    ensures sure { IfOk result (λ reading. stops.Sure grammar.SpellsClass spec.by_bracket tokens.now from reading.end reading.stop) }
+    ensures ahead { IfOk result (λ reading. stops.IsAhead tokens.now from reading.end reading.stop) }
+    ensures refused { IfErr result (λ halt. stops.IsHalted grammar.SpellsClass tokens.now from halt) }
+    ensures memory { IfErr result (λ halt. halt ≢ Halt.NoMemory) }
+{
+    if is_word(tokens, from, ALPHIC) {
+        return Ok(Reading {
+            part: Class::Alphic {
+                place: place_at(tokens, from),
+            },
+            end: from + 1,
+            stop: from + 1,
+        });
+    }
+    if !is_word(tokens, from, BASIC) {
+        return Err(Halt::Refused(from));
+    }
+    match basic(tokens, from + 1) {
+        Ok(basic) => Ok(Reading {
+            part: Class::Basic {
+                basic: basic.part,
+                place: place_at(tokens, from),
+            },
+            end: basic.end,
+            stop: basic.stop,
+        }),
+        Err(halt) => Err(halt),
+    }
+}
+
+fn is_control_text(text: &[u8]) -> bool
+    ensures stands { result ≡ true → text.now ≡ codes "CONTROL" }
+    ensures none { result ≡ false → text.now ≡ codes "CONTROL" → ⊥ }
+{
+    match text {
+        b"CONTROL" => true,
+        _ => false,
+    }
+}
+
+fn is_control(tokens: &[Token], at: usize) -> bool
+    ensures stands { result ≡ true → HasId tokens.now at (codes "CONTROL") }
+    ensures none { result ≡ false → HasId tokens.now at (codes "CONTROL") → ⊥ }
+    ensures within { result ≡ true → at < length tokens.now }
+{
+    match tokens.get(at) {
+        Some(token) => match &token.what {
+            What::Id(text) => is_control_text(text),
+            _ => false,
+        },
+        None => false,
+    }
+}
+
+/// `[ "CONTROL" "(" ALL ")" ]`
+fn control(tokens: &[Token], from: usize) -> Reading<bool>
+    requires { from ≤ length tokens.now }
+    ensures spells { grammar.SpellsControl tokens.now from result.part result.end }
+    ensures sure { stops.Sure grammar.SpellsControl stops.is_name tokens.now from result.end result.stop }
+    ensures ahead { spec.IsOn tokens.now from result.end result.stop }
+{
+    if !is_control(tokens, from) {
+        return Reading {
+            part: false,
+            end: from,
+            stop: from,
+        };
+    }
+    if !is_symbol(tokens, from + 1, LEFT_ROUND) {
+        return Reading {
+            part: false,
+            end: from,
+            stop: from + 1,
+        };
+    }
+    if !is_word(tokens, from + 2, ALL) {
+        return Reading {
+            part: false,
+            end: from,
+            stop: from + 2,
+        };
+    }
+    if !is_symbol(tokens, from + 3, RIGHT_ROUND) {
+        return Reading {
+            part: false,
+            end: from,
+            stop: from + 3,
+        };
+    }
+    Reading {
+        part: true,
+        end: from + 4,
+        stop: from + 4,
+    }
+}
+
+// A dation whose names were read.
+fn dation_behind(
+    tokens: &[Token],
+    from: usize,
+    names: Reading<Names>,
+) -> Result<Reading<Spec>, Halt>
+    requires within { from ≤ length tokens.now }
+    requires spells { types.SpellsNames tokens.now from names.part names.end }
+    requires sure { stops.Exact types.SpellsNames tokens.now from names.end names.stop }
+    requires ahead { stops.IsAhead tokens.now from names.end names.stop }
+    requires word { HasWord tokens.now names.end w.DATION }
+    ensures spells { IfOk result (λ reading. grammar.SpellsSpec tokens.now from reading.part reading.end) }
+    ensures sure { IfOk result (λ reading. stops.Sure grammar.SpellsSpec spec.extends_spec tokens.now from reading.end reading.stop) }
+    ensures ahead { IfOk result (λ reading. stops.IsAhead tokens.now from reading.end reading.stop) }
+    ensures refused { IfErr result (λ halt. stops.IsHalted grammar.SpellsSpec tokens.now from halt) }
+    ensures memory { IfErr result (λ halt. halt ≢ Halt.NoMemory) }
+{
+    let direction = match direction_at(tokens, names.end + 1) {
+        Some(direction) => direction,
+        None => return Err(Halt::Refused(names.stop.max(names.end + 1))),
+    };
+    let before = names.stop.max(names.end + 1);
+    let class = match class(tokens, names.end + 2) {
+        Ok(class) => class,
+        Err(halt) => return Err(behind(halt, before)),
+    };
+    let control = control(tokens, class.end);
+    Ok(Reading {
+        part: Spec::Dation {
+            names: names.part,
+            direction,
+            class: class.part,
+            control: control.part,
+            place: place_at(tokens, from),
+        },
+        end: control.end,
+        stop: control.stop.max(class.stop.max(before)),
+    })
+}
+
+/// What is specified here: an interrupt or a dation.
+pub fn specified(alloc: Global, tokens: &[Token], from: usize) -> Result<Reading<Spec>, Halt>
+    requires { from ≤ length tokens.now }
+    ensures spells { IfOk result (λ reading. grammar.SpellsSpec tokens.now from reading.part reading.end) }
+    ensures sure { IfOk result (λ reading. stops.Sure grammar.SpellsSpec spec.extends_spec tokens.now from reading.end reading.stop) }
+    ensures ahead { IfOk result (λ reading. stops.IsAhead tokens.now from reading.end reading.stop) }
+    ensures refused { IfErr result (λ halt. stops.IsHalted grammar.SpellsSpec tokens.now from halt) }
+{
+    let names = match names(alloc, tokens, from) {
+        Ok(names) => names,
+        Err(halt) => return Err(halt),
+    };
+    if is_word(tokens, names.end, INTERRUPT) {
+        return Ok(Reading {
+            part: Spec::Interrupt {
+                names: names.part,
+                place: place_at(tokens, from),
+            },
+            end: names.end + 1,
+            stop: names.stop.max(names.end + 1),
+        });
+    }
+    if is_word(tokens, names.end, DATION) {
+        return dation_behind(tokens, from, names);
+    }
+    Err(Halt::Refused(names.stop))
+}
+
+impl Part for Spec {
+    ghost spelling = { grammar.SpellsSpec };
+
+    ghost extends = { spec.extends_spec };
+
+    fn read(alloc: Global, tokens: &[Token], from: usize) -> Result<Reading<Spec>, Halt> {
+        specified(alloc, tokens, from)
+    }
+
+    ghost stops_at_comma = { refl };
+
+    ghost stops_at_bracket = { refl };
+}
+
+fn device_word(tokens: &[Token], at: usize) -> Option<DeviceWord>
+    ensures some { IfSome result (λ word. grammar.IsDeviceWord tokens.now at word) }
+    ensures none { result ≡ None → spec.is_device_word (what_at tokens.now at) ≡ false }
+    ensures within { IfSome result (λ _. at < length tokens.now) }
+{
+    if is_word(tokens, at, INTERRUPT) {
+        return Some(DeviceWord::Interrupt {
+            place: place_at(tokens, at),
+        });
+    }
+    match name_at(tokens, at) {
+        Some(name) => Some(DeviceWord::Id(name)),
+        None => None,
+    }
+}
+
+/// `id ":" ( id | INTERRUPT ) "(" number ")" ";"`
+pub fn device(tokens: &[Token], from: usize) -> Result<Reading<Device>, Halt>
+    requires { from ≤ length tokens.now }
+    ensures spells { IfOk result (λ reading. grammar.SpellsDevice tokens.now from reading.part reading.end) }
+    ensures sure { IfOk result (λ reading. stops.Exact grammar.SpellsDevice tokens.now from reading.end reading.stop) }
+    ensures ahead { IfOk result (λ reading. stops.IsAhead tokens.now from reading.end reading.stop) }
+    ensures refused { IfErr result (λ halt. stops.IsHalted grammar.SpellsDevice tokens.now from halt) }
+    ensures memory { IfErr result (λ halt. halt ≢ Halt.NoMemory) }
+{
+    let name = match name_at(tokens, from) {
+        Some(name) => name,
+        None => return Err(Halt::Refused(from)),
+    };
+    if !is_symbol(tokens, from + 1, COLON) {
+        return Err(Halt::Refused(from + 1));
+    }
+    let word = match device_word(tokens, from + 2) {
+        Some(word) => word,
+        None => return Err(Halt::Refused(from + 2)),
+    };
+    let number = match bracketed_number(tokens, from + 3) {
+        Ok(number) => number,
+        Err(stop) => return Err(Halt::Refused(stop)),
+    };
+    if !is_symbol(tokens, from + 6, SEMICOLON) {
+        return Err(Halt::Refused(from + 6));
+    }
+    Ok(Reading {
+        part: Device {
+            name,
+            word,
+            number,
+            place: place_at(tokens, from),
+        },
+        end: from + 7,
+        stop: from + 7,
+    })
+}
