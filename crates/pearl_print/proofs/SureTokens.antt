@@ -1,5 +1,5 @@
 -- The tokens of a lawful tree are lawful where its numbers fit, and so are those of each part of one.
-use Rattle.std.proofs.Common.{ℕ, ◌-◌, ◌<◌, ◌/◌, ◌%◌, List, ◌∷◌, ◌++◌, All, Bool, true, false, [], Option, Some, None, IfSome, arith}
+use Rattle.std.proofs.Common.{◌≡◌, sym, subst, ℕ, ◌-◌, ◌<◌, ◌/◌, ◌%◌, List, ◌∷◌, ◌++◌, All, Bool, true, false, [], Option, Some, None, IfSome, arith}
 use Rattle.std.specs.List.{flat_map}
 use Rattle.std.proofs.lemmas.List.Elements.{All-nil}
 use Rattle.pearl_tree.specs.declared.parts.Parts.{Parts}
@@ -95,7 +95,9 @@ use Rattle.pearl_print.specs.Declarations.{device_word_tokens, device_tokens, pr
 use Rattle.pearl_print.specs.Schedules.{after_tokens, period_end_tokens, period_tokens, start_tokens, once_tokens}
 use Rattle.pearl_print.specs.Statements.{for_tokens, value_tokens, body_decl_tokens, loop_tokens, stmt_tokens, stmts_tokens, alternatives_tokens, otherwise_tokens, body_tokens}
 use Rattle.pearl_print.specs.Modules.{head_tokens, returns_tokens, task_body_tokens, decl_tokens, module_name_tokens, system_tokens, front_tokens, tokens_of}
-use Rattle.pearl_print.specs.Reading.{FitsHours, LawfulTokens}
+use Rattle.pearl_print.specs.Spelled.{text_of}
+use Rattle.pearl_print.specs.Reading.{FitsHours, Reads, LawfulTokens}
+use Rattle.pearl_print.proofs.LawfulRead.{lawful_text_reads}
 use Rattle.pearl_print.proofs.SureLists.{IsSure, Sure, none, one, ◌&◌, word_sure, symbol_sure, name_sure, number_sure, flag_sure, bracketed_number_sure, each_sure, listed_sure, bracketed_sure, maybe_bracketed_sure, maybe_headed_sure, maybe_sure, any_sure, free_sure, wide_sure}
 
 end_sure : Sure (symbol s.semicolon)
@@ -466,3 +468,8 @@ tree_sure tree is =
 -- the whole tree
 pub lawful_tokens : LawfulTokens
 lawful_tokens tree is fits k d lt = (tree_sure tree is).each k d lt (fits k d lt)
+
+-- a text that has the tokens of a lawful tree
+pub printed_reads : (tree : Tree) (text : List ℕ) → text ≡ text_of (tokens_of tree) → IsLawful tree → FitsHours tree → Reads text (tokens_of tree)
+printed_reads tree text spelled is fits =
+    subst (λ t. Reads t (tokens_of tree)) (sym spelled) (lawful_text_reads (tokens_of tree) (lawful_tokens tree is fits))
