@@ -9,3 +9,5 @@ pub mod TextsRead
 pub mod BitsRead
 pub mod ClocksRead
 pub mod LawfulRead
+pub mod SureLists
+pub mod SureTokens

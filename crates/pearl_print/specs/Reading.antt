@@ -1,12 +1,16 @@
 -- What the text of tokens is read as.
 use Rattle.std.specs.Prelude.{◌≡◌, ℕ, List, ◌++◌, length, map, Some, All}
 use Rattle.pearl_tree.specs.declared.token.What.{What}
+use Rattle.pearl_tree.specs.declared.token.What.TheVariants as what
 use Rattle.pearl_tree.specs.declared.token.Token.{Token}
-use Rattle.pearl_tree.specs.Tokens.{IsLawfulWhat}
+use Rattle.pearl_tree.specs.declared.tree.Tree.{Tree}
+use Rattle.pearl_tree.specs.Tokens.{IsNumberValue, IsLawfulWhat}
+use Rattle.pearl_tree.specs.Lawful.{IsLawful}
 use Rattle.pearl_lex.specs.Spelling.{space_len}
 use Rattle.pearl_lex.specs.Front.{front}
 use Rattle.pearl_lex.specs.Lexes.{Lexes}
 use Rattle.pearl_print.specs.Spelled.{spelled, gap, text_of}
+use Rattle.pearl_print.specs.Modules.{tokens_of}
 
 -- whatever comes behind the byte that follows it, the token begins the text, and is no blank or comment
 pub record IsReadBack (what : What) : Type 0 where
@@ -26,3 +30,17 @@ TextReads = (whats : List What) → All IsReadBack whats → Reads (text_of what
 -- the text of lawful tokens has exactly these tokens
 abbrev pub LawfulTextReads : Type 0
 LawfulTextReads = (whats : List What) → All IsLawfulWhat whats → Reads (text_of whats) whats
+
+-- a number that a source can spell
+abbrev pub FitsNumber : What → Type 0
+FitsNumber (what.Number value) = IsNumberValue value
+FitsNumber _ = Unit {0}
+
+-- each number among the tokens of a tree is one that a source can spell. Of a lawful tree this asks that no duration has
+-- 2^63 hours, once its minutes and seconds are carried into them.
+abbrev pub FitsHours : Tree → Type 0
+FitsHours tree = All FitsNumber (tokens_of tree)
+
+-- the tokens of a lawful tree are lawful where its hours fit
+abbrev pub LawfulTokens : Type 0
+LawfulTokens = (tree : Tree) → IsLawful tree → FitsHours tree → All IsLawfulWhat (tokens_of tree)
