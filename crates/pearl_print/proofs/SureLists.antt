@@ -37,7 +37,6 @@ pub one : (token : What) → IsSure token → Sure (token ∷ [])
 one token is = record { each = All-cons IsSure token [] is (All-nil IsSure) }
 
 infixl 5 ◌&◌
-
 pub ◌&◌ : {xs ys : List What} → Sure xs → Sure ys → Sure (xs ++ ys)
 ◌&◌ {xs} {ys} first second = record { each = All-append IsSure xs ys first.each second.each }
 
@@ -137,8 +136,8 @@ skip_sure : All (λ row. row.0 ≢ codes "SKIP") words → Sure (id (codes "SKIP
 skip_sure no_word = one (what.Id (record { items = codes "SKIP" })) (λ _. record {
   begins = inl (omega arith, omega arith);
   bytes =
-    All-cons IsIdByte 83 (75 ∷ 73 ∷ 80 ∷ []) (upper 83 (omega arith) (omega arith)) (All-cons IsIdByte 75 (73 ∷ 80 ∷ []) (upper 75 (omega arith) (omega arith))
-    (All-cons IsIdByte 73 (80 ∷ []) (upper 73 (omega arith) (omega arith)) (All-cons IsIdByte 80 [] (upper 80 (omega arith) (omega arith)) (All-nil IsIdByte))));
+      All-cons IsIdByte 83 (75 ∷ 73 ∷ 80 ∷ []) (upper 83 (omega arith) (omega arith)) (All-cons IsIdByte 75 (73 ∷ 80 ∷ []) (upper 75 (omega arith) (omega arith))
+      (All-cons IsIdByte 73 (80 ∷ []) (upper 73 (omega arith) (omega arith)) (All-cons IsIdByte 80 [] (upper 80 (omega arith) (omega arith)) (All-nil IsIdByte))));
   length = omega arith;
   no_word = no_word;
 })

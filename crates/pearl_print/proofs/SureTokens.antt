@@ -228,7 +228,7 @@ upper_sure int is = symbol_sure s.colon (omega arith) & int_sure int is
 
 bound_sure : (bound : Bound) → IsLawfulBound bound → Sure (bound_tokens bound)
 bound_sure bound is =
-    int_sure bound.first is.0 & maybe_sure (λ (int : Int) . IsLawfulNumber int.number) upper_tokens upper_sure bound.second is.1
+    int_sure bound.first is.0 & maybe_sure (λ (int : Int). IsLawfulNumber int.number) upper_tokens upper_sure bound.second is.1
 
 bounds_sure : (bounds : List Bound) → All IsLawfulBound bounds → Sure (bounds_tokens bounds)
 bounds_sure bounds all = maybe_bracketed_sure IsLawfulBound bound_tokens bound_sure bounds all
@@ -423,7 +423,7 @@ task_body_sure body is = end_sure & body_sure body is & word_sure w.END (omega a
 
 head_sure : (head : TaskHead) → IsLawfulTaskHead head → Sure (head_tokens head)
 head_sure (PrioFirst prio main) is =
-    maybe_sure (λ (prio : Prio) . IsLawfulNumber prio.number) prio_tokens prio_sure prio is & flag_sure w.MAIN main (omega arith)
+    maybe_sure (λ (prio : Prio). IsLawfulNumber prio.number) prio_tokens prio_sure prio is & flag_sure w.MAIN main (omega arith)
 head_sure (MainFirst prio) is = prio_sure prio is & word_sure w.MAIN (omega arith)
 
 returns_sure : (part : Basic) → IsLawfulBasic part → Sure (returns_tokens part)
@@ -458,7 +458,7 @@ system_sure devices all =
 
 front_sure : (tree : Tree) → IsLawful tree → Sure (front_tokens tree)
 front_sure tree is =
-    word_sure w.MODULE (omega arith) & maybe_sure IsLawfulModuleName module_name_tokens module_name_sure tree.name is.name & end_sure & maybe_sure (λ (devices : Parts Device) . All IsLawfulDevice devices.items.items) system_tokens system_sure tree.system is.system & word_sure w.PROBLEM (omega arith) & end_sure
+    word_sure w.MODULE (omega arith) & maybe_sure IsLawfulModuleName module_name_tokens module_name_sure tree.name is.name & end_sure & maybe_sure (λ (devices : Parts Device). All IsLawfulDevice devices.items.items) system_tokens system_sure tree.system is.system & word_sure w.PROBLEM (omega arith) & end_sure
 
 tree_sure : (tree : Tree) → IsLawful tree → Sure (tokens_of tree)
 unfolding tokens_of
