@@ -1,5 +1,5 @@
 -- Lists of parts that have lawful tokens.
-use Rattle.std.proofs.Common.{◌≡◌, ◌≢◌, ◌<◌, ◌≤◌, ◌⊎◌, inl, inr, ℕ, Bool, true, false, not, ◌&&◌, List, [], ◌∷◌, ◌++◌, All, Option, Some, None, IfSome, refl, arith, length, codes}
+use Rattle.std.proofs.Common.{◌≡◌, ◌≢◌, ◌<◌, ◌≤◌, inl, inr, ℕ, Bool, true, false, not, List, [], ◌∷◌, ◌++◌, All, Option, Some, None, IfSome, refl, arith, codes}
 use Rattle.std.specs.Bool.{Decides}
 use Rattle.std.specs.List.{flat_map, list_all}
 use Rattle.std.specs.Str.{bytes_eq}
@@ -17,7 +17,7 @@ use Rattle.pearl_tree.specs.Formats.{free_text, wide_text}
 use Rattle.pearl_tree.specs.Symbols as s
 use Rattle.pearl_tree.specs.Symbols.{symbol_count}
 use Rattle.pearl_tree.specs.WordCodes.{code_count, words}
-use Rattle.pearl_tree.specs.Tokens.{IsLetter, IsIdByte, BeginsWithLetter, IsId, IsLawfulWhat}
+use Rattle.pearl_tree.specs.Tokens.{IsIdByte, IsLawfulWhat}
 use Rattle.pearl_tree.specs.Lawful.{IsLawfulName, IsLawfulNumber}
 use Rattle.pearl_lex.proofs.Passes.{and_front, and_back}
 use Rattle.pearl_print.specs.Lists.{word, symbol, id, name_tokens, number_tokens, more, listed, bracketed, maybe_bracketed, maybe_headed, maybe, flag, bracketed_number}
@@ -32,7 +32,6 @@ pub one : (token : What) → IsLawfulWhat token → Sure (token ∷ [])
 one token is = record { each = All-cons IsLawfulWhat token [] is (All-nil IsLawfulWhat) }
 
 infixl 5 ◌&◌
-
 pub ◌&◌ : {xs ys : List What} → Sure xs → Sure ys → Sure (xs ++ ys)
 ◌&◌ {xs} {ys} first second = record { each = All-append IsLawfulWhat xs ys first.each second.each }
 
@@ -156,8 +155,8 @@ skip_sure : All (λ row. row.0 ≢ codes "SKIP") words → Sure (id (codes "SKIP
 skip_sure no_word = one (what.Id (record { items = codes "SKIP" })) (record {
   begins = inl (omega arith, omega arith);
   bytes =
-    All-cons IsIdByte 83 (75 ∷ 73 ∷ 80 ∷ []) (upper 83 (omega arith) (omega arith)) (All-cons IsIdByte 75 (73 ∷ 80 ∷ []) (upper 75 (omega arith) (omega arith))
-    (All-cons IsIdByte 73 (80 ∷ []) (upper 73 (omega arith) (omega arith)) (All-cons IsIdByte 80 [] (upper 80 (omega arith) (omega arith)) (All-nil IsIdByte))));
+      All-cons IsIdByte 83 (75 ∷ 73 ∷ 80 ∷ []) (upper 83 (omega arith) (omega arith)) (All-cons IsIdByte 75 (73 ∷ 80 ∷ []) (upper 75 (omega arith) (omega arith))
+      (All-cons IsIdByte 73 (80 ∷ []) (upper 73 (omega arith) (omega arith)) (All-cons IsIdByte 80 [] (upper 80 (omega arith) (omega arith)) (All-nil IsIdByte))));
   length = omega arith;
   no_word = no_word;
 })

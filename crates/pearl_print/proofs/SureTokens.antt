@@ -1,16 +1,10 @@
 -- The tokens of a lawful tree are lawful where its hours fit, and so are those of each part of one.
-use Rattle.std.proofs.Common.{◌≡◌, sym, subst, ℕ, ◌-◌, ◌<◌, ◌/◌, ◌%◌, List, ◌∷◌, ◌++◌, All, Bool, true, false, [], Option, Some, None, IfSome, arith}
+use Rattle.std.proofs.Common.{◌≡◌, sym, subst, ℕ, ◌-◌, ◌<◌, ◌/◌, ◌%◌, List, ◌∷◌, All, Bool, true, false, [], Option, Some, None, IfSome, arith}
 use Rattle.std.specs.List.{flat_map}
-use Rattle.std.proofs.lemmas.List.Elements.{All-nil}
 use Rattle.pearl_tree.specs.declared.parts.Parts.{Parts}
 use Rattle.pearl_tree.specs.declared.name.Name.{Name}
-use Rattle.pearl_tree.specs.declared.name.Number.{Number}
 use Rattle.pearl_tree.specs.declared.name.Names.{Names}
 use Rattle.pearl_tree.specs.declared.name.Names.TheVariants.{One, Several}
-use Rattle.pearl_tree.specs.declared.literal.Secs.{Secs}
-use Rattle.pearl_tree.specs.declared.literal.Secs.TheVariants as secs
-use Rattle.pearl_tree.specs.declared.literal.Duration.{Duration}
-use Rattle.pearl_tree.specs.declared.literal.Duration.TheVariants.{Hours, Minutes, Seconds}
 use Rattle.pearl_tree.specs.declared.literal.Literal.{Literal}
 use Rattle.pearl_tree.specs.declared.literal.Literal.TheVariants as literal
 use Rattle.pearl_tree.specs.declared.literal.Const.{Const}
@@ -57,7 +51,6 @@ use Rattle.pearl_tree.specs.declared.tree.ModuleName.TheVariants.{Bracketed, Bar
 use Rattle.pearl_tree.specs.declared.tree.Tree.{Tree}
 use Rattle.pearl_tree.specs.declared.typing.Int.{Int}
 use Rattle.pearl_tree.specs.declared.declaration.Prio.{Prio}
-use Rattle.pearl_tree.specs.declared.token.What.{What}
 use Rattle.pearl_tree.specs.declared.token.What.TheVariants as what
 use Rattle.pearl_tree.specs.declared.literal.Sign.{Sign}
 use Rattle.pearl_tree.specs.declared.literal.Sign.TheVariants as sign
@@ -81,20 +74,20 @@ use Rattle.pearl_tree.specs.declared.statement.InterruptWord.TheVariants.{Enable
 use Rattle.pearl_tree.specs.Symbols as s
 use Rattle.pearl_tree.specs.WordCodes as w
 use Rattle.pearl_tree.specs.WordCodes.{code_count}
-use Rattle.pearl_tree.specs.Tokens.{IsNumberValue, IsLawfulWhat}
+use Rattle.pearl_tree.specs.Tokens.{IsNumberValue}
 use Rattle.pearl_tree.specs.Expressions.{monad_what, side_word}
 use Rattle.pearl_tree.specs.Types.{sort_word}
 use Rattle.pearl_tree.specs.Declarations.{direction_word}
 use Rattle.pearl_tree.specs.Statements.{task_word, sema_word, interrupt_word}
-use Rattle.pearl_tree.specs.Lawful.{IsLawfulName, IsLawfulNumber, AreLawfulNames, IsLawfulSecs, IsLawfulDuration, IsLawfulLiteral, IsLawfulConst, HasLawfulTerms, IsLawfulPrimary, AreLawfulSelectors, IsLawfulSelector, AreLawfulSubscripts, IsLawfulExpr, IsLawfulRef, IsLawfulFmt, IsLawfulBound, IsLawfulBasic, HasLawfulTyping, AreLawfulFields, IsLawfulDeviceWord, IsLawfulDevice, IsLawfulItem, IsLawfulSema, IsLawfulDeclared, IsLawfulClass, IsLawfulSpec, IsLawfulParam, IsLawfulPeriodEnd, IsLawfulPeriod, IsLawfulStart, IsLawfulOnce, IsLawfulBodyDecl, IsLawfulStmt, AreLawfulStmts, AreLawfulBranches, IsLawfulOtherwise, IsLawfulBody, IsLawfulTaskHead, IsLawfulDecl, IsLawfulModuleName, IsLawful}
-use Rattle.pearl_print.specs.Lists.{word, symbol, name_tokens, number_tokens, maybe, listed, bracketed_number}
-use Rattle.pearl_print.specs.Expressions.{duration_milliseconds, carried, literal_tokens, sign_tokens, const_tokens, monadic_tokens, dyad_what, dyadic_tokens, expr_tokens, primary_tokens, selectors_tokens, selector_tokens, subscripts_tokens, more_subscripts_tokens, ref_tokens}
+use Rattle.pearl_tree.specs.Lawful.{IsLawfulName, IsLawfulNumber, AreLawfulNames, IsLawfulLiteral, IsLawfulConst, HasLawfulTerms, IsLawfulPrimary, AreLawfulSelectors, IsLawfulSelector, AreLawfulSubscripts, IsLawfulExpr, IsLawfulRef, IsLawfulFmt, IsLawfulBound, IsLawfulBasic, HasLawfulTyping, AreLawfulFields, IsLawfulDeviceWord, IsLawfulDevice, IsLawfulItem, IsLawfulSema, IsLawfulDeclared, IsLawfulClass, IsLawfulSpec, IsLawfulParam, IsLawfulPeriodEnd, IsLawfulPeriod, IsLawfulStart, IsLawfulOnce, IsLawfulBodyDecl, IsLawfulStmt, AreLawfulStmts, AreLawfulBranches, IsLawfulOtherwise, IsLawfulBody, IsLawfulTaskHead, IsLawfulDecl, IsLawfulModuleName, IsLawful}
+use Rattle.pearl_print.specs.Lists.{word, symbol, name_tokens, number_tokens, maybe, bracketed_number}
+use Rattle.pearl_print.specs.Expressions.{duration_milliseconds, carried, literal_tokens, sign_tokens, const_tokens, monadic_tokens, dyad_what, expr_tokens, primary_tokens, selectors_tokens, selector_tokens, subscripts_tokens, more_subscripts_tokens, ref_tokens}
 use Rattle.pearl_print.specs.Literals.{InExpr, InPrimary, InSelectors, InSelector, InSubscripts, InRef, InItem, InDeclared, InPeriodEnd, InPeriod, InStart, InOnce, InBodyDecl, InStmt, InStmts, InBranches, InOtherwise, InBody, InDecl}
 use Rattle.pearl_print.specs.Types.{names_tokens, minus_tokens, int_tokens, upper_tokens, bound_tokens, bounds_tokens, basic_tokens, typing_tokens, fields_tokens, more_fields_tokens}
 use Rattle.pearl_print.specs.Formats.{fmt_tokens, by_tokens}
 use Rattle.pearl_print.specs.Declarations.{device_word_tokens, device_tokens, prio_tokens, item_tokens, sema_tokens, declared_tokens, class_tokens, spec_tokens, param_tokens}
 use Rattle.pearl_print.specs.Schedules.{after_tokens, period_end_tokens, period_tokens, start_tokens, once_tokens}
-use Rattle.pearl_print.specs.Statements.{for_tokens, value_tokens, body_decl_tokens, loop_tokens, stmt_tokens, stmts_tokens, alternatives_tokens, otherwise_tokens, body_tokens}
+use Rattle.pearl_print.specs.Statements.{for_tokens, value_tokens, body_decl_tokens, stmt_tokens, stmts_tokens, alternatives_tokens, otherwise_tokens, body_tokens}
 use Rattle.pearl_print.specs.Modules.{head_tokens, returns_tokens, task_body_tokens, decl_tokens, module_name_tokens, system_tokens, front_tokens, tokens_of}
 use Rattle.pearl_print.specs.Spelled.{text_of}
 use Rattle.pearl_print.specs.Reading.{HasFittingHours, FitsHours, Reads, LawfulTokens}
@@ -233,7 +226,7 @@ upper_sure int is = symbol_sure s.colon (omega arith) & int_sure int is
 
 bound_sure : (bound : Bound) → IsLawfulBound bound → Sure (bound_tokens bound)
 bound_sure bound is =
-    int_sure bound.first is.0 & maybe_sure (λ (int : Int) . IsLawfulNumber int.number) upper_tokens upper_sure bound.second is.1
+    int_sure bound.first is.0 & maybe_sure (λ (int : Int). IsLawfulNumber int.number) upper_tokens upper_sure bound.second is.1
 
 bounds_sure : (bounds : List Bound) → All IsLawfulBound bounds → Sure (bounds_tokens bounds)
 bounds_sure bounds all = maybe_bracketed_sure IsLawfulBound bound_tokens bound_sure bounds all
@@ -451,7 +444,7 @@ task_body_sure body is fits = end_sure & body_sure body is fits & word_sure w.EN
 
 head_sure : (head : TaskHead) → IsLawfulTaskHead head → Sure (head_tokens head)
 head_sure (PrioFirst prio main) is =
-    maybe_sure (λ (prio : Prio) . IsLawfulNumber prio.number) prio_tokens prio_sure prio is & flag_sure w.MAIN main (omega arith)
+    maybe_sure (λ (prio : Prio). IsLawfulNumber prio.number) prio_tokens prio_sure prio is & flag_sure w.MAIN main (omega arith)
 head_sure (MainFirst prio) is = prio_sure prio is & word_sure w.MAIN (omega arith)
 
 returns_sure : (part : Basic) → IsLawfulBasic part → Sure (returns_tokens part)
@@ -492,7 +485,7 @@ system_sure devices all =
 front_sure : (tree : Tree) → IsLawful tree → Sure (front_tokens tree)
 front_sure tree is =
     word_sure w.MODULE (omega arith) & maybe_sure IsLawfulModuleName module_name_tokens module_name_sure tree.name is.name & end_sure &
-    maybe_sure (λ (devices : Parts Device) . All IsLawfulDevice devices.items.items) system_tokens system_sure tree.system is.system &
+    maybe_sure (λ (devices : Parts Device). All IsLawfulDevice devices.items.items) system_tokens system_sure tree.system is.system &
     word_sure w.PROBLEM (omega arith) & end_sure
 
 tree_sure : (tree : Tree) → IsLawful tree → FitsHours tree → Sure (tokens_of tree)
