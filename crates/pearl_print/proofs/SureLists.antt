@@ -1,5 +1,5 @@
--- Tokens that are lawful where the numbers among them fit, and lists of parts that have such tokens.
-use Rattle.std.proofs.Common.{◌≡◌, ◌≢◌, ◌<◌, ◌≤◌, ◌⊎◌, inl, inr, ℕ, Bool, true, false, not, ◌&&◌, List, [], ◌∷◌, ◌++◌, All, Option, Some, None, IfSome, refl, arith, length, codes}
+-- Lists of parts that have lawful tokens.
+use Rattle.std.proofs.Common.{◌≡◌, ◌≢◌, ◌<◌, ◌≤◌, inl, inr, ℕ, Bool, true, false, not, List, [], ◌∷◌, ◌++◌, All, Option, Some, None, IfSome, refl, arith, codes}
 use Rattle.std.specs.Bool.{Decides}
 use Rattle.std.specs.List.{flat_map, list_all}
 use Rattle.std.specs.Str.{bytes_eq}
@@ -17,40 +17,35 @@ use Rattle.pearl_tree.specs.Formats.{free_text, wide_text}
 use Rattle.pearl_tree.specs.Symbols as s
 use Rattle.pearl_tree.specs.Symbols.{symbol_count}
 use Rattle.pearl_tree.specs.WordCodes.{code_count, words}
-use Rattle.pearl_tree.specs.Tokens.{IsLetter, IsIdByte, BeginsWithLetter, IsId, IsLawfulWhat}
+use Rattle.pearl_tree.specs.Tokens.{IsIdByte, IsLawfulWhat}
 use Rattle.pearl_tree.specs.Lawful.{IsLawfulName, IsLawfulNumber}
 use Rattle.pearl_lex.proofs.Passes.{and_front, and_back}
-use Rattle.pearl_print.specs.Reading.{FitsNumber}
 use Rattle.pearl_print.specs.Lists.{word, symbol, id, name_tokens, number_tokens, more, listed, bracketed, maybe_bracketed, maybe_headed, maybe, flag, bracketed_number}
 
--- lawful where it fits
-abbrev pub IsSure : What → Type 0
-IsSure token = FitsNumber token → IsLawfulWhat token
-
 pub record Sure (whats : List What) : Type 0 where
-  pub each : All IsSure whats
+  pub each : All IsLawfulWhat whats
 
 pub none : Sure []
-none = record { each = All-nil IsSure }
+none = record { each = All-nil IsLawfulWhat }
 
-pub one : (token : What) → IsSure token → Sure (token ∷ [])
-one token is = record { each = All-cons IsSure token [] is (All-nil IsSure) }
+pub one : (token : What) → IsLawfulWhat token → Sure (token ∷ [])
+one token is = record { each = All-cons IsLawfulWhat token [] is (All-nil IsLawfulWhat) }
 
 infixl 5 ◌&◌
 pub ◌&◌ : {xs ys : List What} → Sure xs → Sure ys → Sure (xs ++ ys)
-◌&◌ {xs} {ys} first second = record { each = All-append IsSure xs ys first.each second.each }
+◌&◌ {xs} {ys} first second = record { each = All-append IsLawfulWhat xs ys first.each second.each }
 
 pub word_sure : (code : ℕ) → code < code_count → Sure (word code)
-word_sure code is = one (what.Word code) (λ _. is)
+word_sure code is = one (what.Word code) is
 
 pub symbol_sure : (code : ℕ) → code < symbol_count → Sure (symbol code)
-symbol_sure code is = one (what.Symbol code) (λ _. is)
+symbol_sure code is = one (what.Symbol code) is
 
 pub name_sure : (name : Name) → IsLawfulName name → Sure (name_tokens name)
-name_sure name is = one (what.Id name.text) (λ _. is)
+name_sure name is = one (what.Id name.text) is
 
 pub number_sure : (number : Number) → IsLawfulNumber number → Sure (number_tokens number)
-number_sure number is = one (what.Number number.value) (λ _. is)
+number_sure number is = one (what.Number number.value) is
 
 pub flag_sure : (code : ℕ) (told : Bool) → code < code_count → Sure (flag code told)
 flag_sure code false is = none
@@ -91,6 +86,30 @@ module _ {X : Type 0} (P : X → Type 0) (tokens : X → List What) (sure : (x :
   maybe_sure None is = none
   maybe_sure (Some x) is = sure x is
 
+-- each part of a list with two properties has such tokens
+module _ {X : Type 0} (P Q : X → Type 0) (tokens : X → List What) (sure : (x : X) → P x → Q x → Sure (tokens x)) where
+  each_one : (x : X) → P x × Q x → Sure (tokens x)
+  each_one x is = sure x is.0 is.1
+
+  both : (xs : List X) → All P xs → All Q xs → All (λ x. P x × Q x) xs
+  both xs first second k d lt = (first k d lt, second k d lt)
+
+  pub each_both : (xs : List X) → All P xs → All Q xs → Sure (flat_map tokens xs)
+  each_both xs first second = each_sure (λ x. P x × Q x) tokens each_one xs (both xs first second)
+
+  pub listed_both : (xs : List X) → All P xs → All Q xs → Sure (listed tokens xs)
+  listed_both xs first second = listed_sure (λ x. P x × Q x) tokens each_one xs (both xs first second)
+
+  pub maybe_bracketed_both : (xs : List X) → All P xs → All Q xs → Sure (maybe_bracketed tokens xs)
+  maybe_bracketed_both xs first second = maybe_bracketed_sure (λ x. P x × Q x) tokens each_one xs (both xs first second)
+
+  pub maybe_headed_both : (code : ℕ) (xs : List X) → code < code_count → All P xs → All Q xs → Sure (maybe_headed code tokens xs)
+  maybe_headed_both code xs is first second = maybe_headed_sure (λ x. P x × Q x) tokens each_one code xs is (both xs first second)
+
+  pub maybe_both : (part : Option X) → IfSome part P → IfSome part Q → Sure (maybe tokens part)
+  maybe_both None first second = none
+  maybe_both (Some x) first second = sure x first second
+
 -- every part has such tokens
 pub any_sure : {X : Type 0} (tokens : X → List What) → ((x : X) → Sure (tokens x)) → (xs : List X) → Sure (flat_map tokens xs)
 any_sure tokens sure [] = none
@@ -110,7 +129,7 @@ unlike text (row ∷ rows) e =
 
 -- an upper case letter
 pub letter_sure : (letter : ℕ) → 65 ≤ letter → letter ≤ 90 → All (λ row. row.0 ≢ letter ∷ []) words → Sure (id (letter ∷ []))
-letter_sure letter low high no_word = one (what.Id (record { items = letter ∷ [] })) (λ _. record {
+letter_sure letter low high no_word = one (what.Id (record { items = letter ∷ [] })) (record {
   begins = inl (low, high);
   bytes = All-cons IsIdByte letter [] (inl (inl (low, high))) (All-nil IsIdByte);
   length = omega arith;
@@ -122,7 +141,7 @@ is_B = inl (inl (omega arith, omega arith))
 
 -- B and a digit
 pub digit_sure : (digit : ℕ) → 48 ≤ digit → digit ≤ 57 → All (λ row. row.0 ≢ 66 ∷ digit ∷ []) words → Sure (id (66 ∷ digit ∷ []))
-digit_sure digit low high no_word = one (what.Id (record { items = 66 ∷ digit ∷ [] })) (λ _. record {
+digit_sure digit low high no_word = one (what.Id (record { items = 66 ∷ digit ∷ [] })) (record {
   begins = inl (omega arith, omega arith);
   bytes = All-cons IsIdByte 66 (digit ∷ []) is_B (All-cons IsIdByte digit [] (inr (inl (low, high))) (All-nil IsIdByte));
   length = omega arith;
@@ -133,7 +152,7 @@ upper : (letter : ℕ) → 65 ≤ letter → letter ≤ 90 → IsIdByte letter
 upper letter low high = inl (inl (low, high))
 
 skip_sure : All (λ row. row.0 ≢ codes "SKIP") words → Sure (id (codes "SKIP"))
-skip_sure no_word = one (what.Id (record { items = codes "SKIP" })) (λ _. record {
+skip_sure no_word = one (what.Id (record { items = codes "SKIP" })) (record {
   begins = inl (omega arith, omega arith);
   bytes =
       All-cons IsIdByte 83 (75 ∷ 73 ∷ 80 ∷ []) (upper 83 (omega arith) (omega arith)) (All-cons IsIdByte 75 (73 ∷ 80 ∷ []) (upper 75 (omega arith) (omega arith))

@@ -1,16 +1,10 @@
--- The tokens of a lawful tree are lawful where its numbers fit, and so are those of each part of one.
-use Rattle.std.proofs.Common.{◌≡◌, sym, subst, ℕ, ◌-◌, ◌<◌, ◌/◌, ◌%◌, List, ◌∷◌, ◌++◌, All, Bool, true, false, [], Option, Some, None, IfSome, arith}
+-- The tokens of a lawful tree are lawful where its hours fit, and so are those of each part of one.
+use Rattle.std.proofs.Common.{◌≡◌, sym, subst, ℕ, ◌-◌, ◌<◌, ◌/◌, ◌%◌, List, ◌∷◌, All, Bool, true, false, [], Option, Some, None, IfSome, arith}
 use Rattle.std.specs.List.{flat_map}
-use Rattle.std.proofs.lemmas.List.Elements.{All-nil}
 use Rattle.pearl_tree.specs.declared.parts.Parts.{Parts}
 use Rattle.pearl_tree.specs.declared.name.Name.{Name}
-use Rattle.pearl_tree.specs.declared.name.Number.{Number}
 use Rattle.pearl_tree.specs.declared.name.Names.{Names}
 use Rattle.pearl_tree.specs.declared.name.Names.TheVariants.{One, Several}
-use Rattle.pearl_tree.specs.declared.literal.Secs.{Secs}
-use Rattle.pearl_tree.specs.declared.literal.Secs.TheVariants as secs
-use Rattle.pearl_tree.specs.declared.literal.Duration.{Duration}
-use Rattle.pearl_tree.specs.declared.literal.Duration.TheVariants.{Hours, Minutes, Seconds}
 use Rattle.pearl_tree.specs.declared.literal.Literal.{Literal}
 use Rattle.pearl_tree.specs.declared.literal.Literal.TheVariants as literal
 use Rattle.pearl_tree.specs.declared.literal.Const.{Const}
@@ -57,7 +51,6 @@ use Rattle.pearl_tree.specs.declared.tree.ModuleName.TheVariants.{Bracketed, Bar
 use Rattle.pearl_tree.specs.declared.tree.Tree.{Tree}
 use Rattle.pearl_tree.specs.declared.typing.Int.{Int}
 use Rattle.pearl_tree.specs.declared.declaration.Prio.{Prio}
-use Rattle.pearl_tree.specs.declared.token.What.{What}
 use Rattle.pearl_tree.specs.declared.token.What.TheVariants as what
 use Rattle.pearl_tree.specs.declared.literal.Sign.{Sign}
 use Rattle.pearl_tree.specs.declared.literal.Sign.TheVariants as sign
@@ -81,24 +74,25 @@ use Rattle.pearl_tree.specs.declared.statement.InterruptWord.TheVariants.{Enable
 use Rattle.pearl_tree.specs.Symbols as s
 use Rattle.pearl_tree.specs.WordCodes as w
 use Rattle.pearl_tree.specs.WordCodes.{code_count}
-use Rattle.pearl_tree.specs.Tokens.{IsLawfulWhat}
+use Rattle.pearl_tree.specs.Tokens.{IsNumberValue}
 use Rattle.pearl_tree.specs.Expressions.{monad_what, side_word}
 use Rattle.pearl_tree.specs.Types.{sort_word}
 use Rattle.pearl_tree.specs.Declarations.{direction_word}
 use Rattle.pearl_tree.specs.Statements.{task_word, sema_word, interrupt_word}
-use Rattle.pearl_tree.specs.Lawful.{IsLawfulName, IsLawfulNumber, AreLawfulNames, IsLawfulSecs, IsLawfulDuration, IsLawfulLiteral, IsLawfulConst, HasLawfulTerms, IsLawfulPrimary, AreLawfulSelectors, IsLawfulSelector, AreLawfulSubscripts, IsLawfulExpr, IsLawfulRef, IsLawfulFmt, IsLawfulBound, IsLawfulBasic, HasLawfulTyping, AreLawfulFields, IsLawfulDeviceWord, IsLawfulDevice, IsLawfulItem, IsLawfulSema, IsLawfulDeclared, IsLawfulClass, IsLawfulSpec, IsLawfulParam, IsLawfulPeriodEnd, IsLawfulPeriod, IsLawfulStart, IsLawfulOnce, IsLawfulBodyDecl, IsLawfulStmt, AreLawfulStmts, AreLawfulBranches, IsLawfulOtherwise, IsLawfulBody, IsLawfulTaskHead, IsLawfulDecl, IsLawfulModuleName, IsLawful}
-use Rattle.pearl_print.specs.Lists.{word, symbol, name_tokens, number_tokens, maybe, listed, bracketed_number}
-use Rattle.pearl_print.specs.Expressions.{duration_milliseconds, carried, literal_tokens, sign_tokens, const_tokens, monadic_tokens, dyad_what, dyadic_tokens, expr_tokens, primary_tokens, selectors_tokens, selector_tokens, subscripts_tokens, more_subscripts_tokens, ref_tokens}
+use Rattle.pearl_tree.specs.Lawful.{IsLawfulName, IsLawfulNumber, AreLawfulNames, IsLawfulLiteral, IsLawfulConst, HasLawfulTerms, IsLawfulPrimary, AreLawfulSelectors, IsLawfulSelector, AreLawfulSubscripts, IsLawfulExpr, IsLawfulRef, IsLawfulFmt, IsLawfulBound, IsLawfulBasic, HasLawfulTyping, AreLawfulFields, IsLawfulDeviceWord, IsLawfulDevice, IsLawfulItem, IsLawfulSema, IsLawfulDeclared, IsLawfulClass, IsLawfulSpec, IsLawfulParam, IsLawfulPeriodEnd, IsLawfulPeriod, IsLawfulStart, IsLawfulOnce, IsLawfulBodyDecl, IsLawfulStmt, AreLawfulStmts, AreLawfulBranches, IsLawfulOtherwise, IsLawfulBody, IsLawfulTaskHead, IsLawfulDecl, IsLawfulModuleName, IsLawful}
+use Rattle.pearl_print.specs.Lists.{word, symbol, name_tokens, number_tokens, maybe, bracketed_number}
+use Rattle.pearl_print.specs.Expressions.{duration_milliseconds, carried, literal_tokens, sign_tokens, const_tokens, monadic_tokens, dyad_what, expr_tokens, primary_tokens, selectors_tokens, selector_tokens, subscripts_tokens, more_subscripts_tokens, ref_tokens}
+use Rattle.pearl_print.specs.Literals.{InExpr, InPrimary, InSelectors, InSelector, InSubscripts, InRef, InItem, InDeclared, InPeriodEnd, InPeriod, InStart, InOnce, InBodyDecl, InStmt, InStmts, InBranches, InOtherwise, InBody, InDecl}
 use Rattle.pearl_print.specs.Types.{names_tokens, minus_tokens, int_tokens, upper_tokens, bound_tokens, bounds_tokens, basic_tokens, typing_tokens, fields_tokens, more_fields_tokens}
 use Rattle.pearl_print.specs.Formats.{fmt_tokens, by_tokens}
 use Rattle.pearl_print.specs.Declarations.{device_word_tokens, device_tokens, prio_tokens, item_tokens, sema_tokens, declared_tokens, class_tokens, spec_tokens, param_tokens}
 use Rattle.pearl_print.specs.Schedules.{after_tokens, period_end_tokens, period_tokens, start_tokens, once_tokens}
-use Rattle.pearl_print.specs.Statements.{for_tokens, value_tokens, body_decl_tokens, loop_tokens, stmt_tokens, stmts_tokens, alternatives_tokens, otherwise_tokens, body_tokens}
+use Rattle.pearl_print.specs.Statements.{for_tokens, value_tokens, body_decl_tokens, stmt_tokens, stmts_tokens, alternatives_tokens, otherwise_tokens, body_tokens}
 use Rattle.pearl_print.specs.Modules.{head_tokens, returns_tokens, task_body_tokens, decl_tokens, module_name_tokens, system_tokens, front_tokens, tokens_of}
 use Rattle.pearl_print.specs.Spelled.{text_of}
-use Rattle.pearl_print.specs.Reading.{FitsHours, Reads, LawfulTokens}
+use Rattle.pearl_print.specs.Reading.{HasFittingHours, FitsHours, Reads, LawfulTokens}
 use Rattle.pearl_print.proofs.LawfulRead.{lawful_text_reads}
-use Rattle.pearl_print.proofs.SureLists.{IsSure, Sure, none, one, ◌&◌, word_sure, symbol_sure, name_sure, number_sure, flag_sure, bracketed_number_sure, each_sure, listed_sure, bracketed_sure, maybe_bracketed_sure, maybe_headed_sure, maybe_sure, any_sure, free_sure, wide_sure}
+use Rattle.pearl_print.proofs.SureLists.{Sure, none, one, ◌&◌, word_sure, symbol_sure, name_sure, number_sure, flag_sure, bracketed_number_sure, each_sure, listed_sure, bracketed_sure, maybe_bracketed_sure, maybe_headed_sure, maybe_sure, each_both, listed_both, maybe_bracketed_both, maybe_headed_both, maybe_both, any_sure, free_sure, wide_sure}
 
 end_sure : Sure (symbol s.semicolon)
 end_sure = symbol_sure s.semicolon (omega arith)
@@ -107,16 +101,18 @@ names_sure : (names : Names) → AreLawfulNames names → Sure (names_tokens nam
 names_sure (One name) is = name_sure name is
 names_sure (Several names place) is = bracketed_sure IsLawfulName name_tokens name_sure names.items.items is
 
-carried_sure : (ms : ℕ) → Sure (carried ms)
-carried_sure ms =
-    one (what.Number (ms / 3600000)) (λ fits. fits) & word_sure w.HRS (omega arith) & one (what.Number (ms / 60000 % 60)) (λ fits. fits) & word_sure w.MIN (omega arith) & one (what.Decimal (ms / 1000 % 60) (ms % 1000)) (λ _. (omega arith, omega arith)) & word_sure w.SEC (omega arith)
+carried_sure : (ms : ℕ) → IsNumberValue (ms / 3600000) → Sure (carried ms)
+carried_sure ms fits =
+    one (what.Number (ms / 3600000)) fits & word_sure w.HRS (omega arith) & one (what.Number (ms / 60000 % 60)) (omega arith) &
+    word_sure w.MIN (omega arith) & one (what.Decimal (ms / 1000 % 60) (ms % 1000)) (omega arith, omega arith) &
+    word_sure w.SEC (omega arith)
 
-literal_sure : (part : Literal) → IsLawfulLiteral part → Sure (literal_tokens part)
-literal_sure (literal.Number number) is = number_sure number is
-literal_sure (literal.Bits len value place) is = one (what.Bits len value) (λ _. is)
-literal_sure (literal.Text text place) is = one (what.Text text) (λ _. is)
-literal_sure (literal.Clock milliseconds place) is = one (what.Clock milliseconds) (λ _. is)
-literal_sure (literal.Duration duration) is = carried_sure (duration_milliseconds duration)
+literal_sure : (part : Literal) → IsLawfulLiteral part → HasFittingHours part → Sure (literal_tokens part)
+literal_sure (literal.Number number) is fits = number_sure number is
+literal_sure (literal.Bits len value place) is fits = one (what.Bits len value) is
+literal_sure (literal.Text text place) is fits = one (what.Text text) is
+literal_sure (literal.Clock milliseconds place) is fits = one (what.Clock milliseconds) is
+literal_sure (literal.Duration duration) is fits = carried_sure (duration_milliseconds duration) fits
 
 sign_sure : (part : Sign) → Sure (sign_tokens part)
 sign_sure sign.Plus = symbol_sure s.plus (omega arith)
@@ -126,8 +122,8 @@ maybe_sign : (part : Option Sign) → Sure (maybe sign_tokens part)
 maybe_sign None = none
 maybe_sign (Some part) = sign_sure part
 
-const_sure : (constant : Const) → IsLawfulConst constant → Sure (const_tokens constant)
-const_sure constant is = maybe_sign constant.sign & literal_sure constant.literal is
+const_sure : (constant : Const) → IsLawfulConst constant → HasFittingHours constant.literal → Sure (const_tokens constant)
+const_sure constant is fits = maybe_sign constant.sign & literal_sure constant.literal is fits
 
 monad_sure : (part : Monad) → Sure (monad_what part ∷ [])
 monad_sure monad.Plus = symbol_sure s.plus (omega arith)
@@ -164,48 +160,50 @@ side_sure Lower = word_sure w.LWB (omega arith)
 side_sure Upper = word_sure w.UPB (omega arith)
 
 mutual
-  expr_sure : (depth : ℕ) (expr : Expr) → HasLawfulTerms depth expr → Sure (expr_tokens expr)
-  expr_sure depth (Operand' monadics part place) is =
-      any_sure monadic_tokens monadic_sure monadics.items.items & primary_sure depth part is.1
-  expr_sure depth (Dyadic' _ left dyadic _ right place) is =
-      expr_sure depth left is.0 & dyad_sure dyadic.operator & expr_sure depth right is.1
+  expr_sure : (depth : ℕ) (expr : Expr) → HasLawfulTerms depth expr → InExpr HasFittingHours expr → Sure (expr_tokens expr)
+  expr_sure depth (Operand' monadics part place) is fits =
+      any_sure monadic_tokens monadic_sure monadics.items.items & primary_sure depth part is.1 fits
+  expr_sure depth (Dyadic' _ left dyadic _ right place) is fits =
+      expr_sure depth left is.0 fits.0 & dyad_sure dyadic.operator & expr_sure depth right is.1 fits.1
 
-  primary_sure : (depth : ℕ) (part : Primary) → IsLawfulPrimary depth part → Sure (primary_tokens part)
-  primary_sure depth (primary.Literal part) is = literal_sure part is
-  primary_sure depth (primary.Ref' name _ selectors place) is = name_sure name is.0 & selectors_sure depth _ selectors is.1
-  primary_sure depth (primary.Group' _ inner place) is =
-      symbol_sure s.left_round (omega arith) & expr_sure (depth - 1) inner is.1.0 & symbol_sure s.right_round (omega arith)
-  primary_sure depth (primary.Now place) is = word_sure w.NOW (omega arith)
-  primary_sure depth (primary.Try name place) is = word_sure w.TRY (omega arith) & name_sure name is
-  primary_sure depth (primary.Limit' dimension side name _ selectors ref_place place) is =
-      maybe_sure IsLawfulNumber number_tokens number_sure dimension is.0 & side_sure side & (name_sure name is.1.0 & selectors_sure depth _ selectors is.1.1)
+  primary_sure : (depth : ℕ) (part : Primary) → IsLawfulPrimary depth part → InPrimary HasFittingHours part → Sure (primary_tokens part)
+  primary_sure depth (primary.Literal part) is fits = literal_sure part is fits
+  primary_sure depth (primary.Ref' name _ selectors place) is fits = name_sure name is.0 & selectors_sure depth _ selectors is.1 fits
+  primary_sure depth (primary.Group' _ inner place) is fits =
+      symbol_sure s.left_round (omega arith) & expr_sure (depth - 1) inner is.1.0 fits & symbol_sure s.right_round (omega arith)
+  primary_sure depth (primary.Now place) is fits = word_sure w.NOW (omega arith)
+  primary_sure depth (primary.Try name place) is fits = word_sure w.TRY (omega arith) & name_sure name is
+  primary_sure depth (primary.Limit' dimension side name _ selectors ref_place place) is fits =
+      maybe_sure IsLawfulNumber number_tokens number_sure dimension is.0 & side_sure side & (name_sure name is.1.0 &
+      selectors_sure depth _ selectors is.1.1 fits)
 
-  selectors_sure : (depth : ℕ) (n : _) (row : Row_of-Selector n) → AreLawfulSelectors depth row → Sure (selectors_tokens row)
-  selectors_sure depth _ end_of-Selector is = none
-  selectors_sure depth _ (more_of-Selector selector rest) is =
-      selector_sure depth selector is.0 & selectors_sure depth _ rest is.1
+  selectors_sure : (depth : ℕ) (n : _) (row : Row_of-Selector n) → AreLawfulSelectors depth row → InSelectors HasFittingHours row → Sure (selectors_tokens row)
+  selectors_sure depth _ end_of-Selector is fits = none
+  selectors_sure depth _ (more_of-Selector selector rest) is fits =
+      selector_sure depth selector is.0 fits.0 & selectors_sure depth _ rest is.1 fits.1
 
-  selector_sure : (depth : ℕ) (selector : Selector) → IsLawfulSelector depth selector → Sure (selector_tokens selector)
-  selector_sure depth (Subscripts' _ subscripts place) is =
-      symbol_sure s.left_round (omega arith) & subscripts_sure (depth - 1) _ subscripts is.1 & symbol_sure s.right_round (omega arith)
-  selector_sure depth (Component name place) is = symbol_sure s.period (omega arith) & name_sure name is
+  selector_sure : (depth : ℕ) (selector : Selector) → IsLawfulSelector depth selector → InSelector HasFittingHours selector → Sure (selector_tokens selector)
+  selector_sure depth (Subscripts' _ subscripts place) is fits =
+      symbol_sure s.left_round (omega arith) & subscripts_sure (depth - 1) _ subscripts is.1 fits & symbol_sure s.right_round (omega arith)
+  selector_sure depth (Component name place) is fits = symbol_sure s.period (omega arith) & name_sure name is
 
-  subscripts_sure : (depth : ℕ) (n : _) (row : Row_of-Expr n) → AreLawfulSubscripts depth row → Sure (subscripts_tokens row)
-  subscripts_sure depth _ end_of-Expr is = none
-  subscripts_sure depth _ (more_of-Expr expr rest) is =
-      expr_sure depth expr is.0.0 & more_subscripts_sure depth _ rest is.1
+  subscripts_sure : (depth : ℕ) (n : _) (row : Row_of-Expr n) → AreLawfulSubscripts depth row → InSubscripts HasFittingHours row → Sure (subscripts_tokens row)
+  subscripts_sure depth _ end_of-Expr is fits = none
+  subscripts_sure depth _ (more_of-Expr expr rest) is fits =
+      expr_sure depth expr is.0.0 fits.0 & more_subscripts_sure depth _ rest is.1 fits.1
 
-  more_subscripts_sure : (depth : ℕ) (n : _) (row : Row_of-Expr n) → AreLawfulSubscripts depth row → Sure (more_subscripts_tokens row)
-  more_subscripts_sure depth _ end_of-Expr is = none
-  more_subscripts_sure depth _ (more_of-Expr expr rest) is =
-      (symbol_sure s.comma (omega arith) & expr_sure depth expr is.0.0) & more_subscripts_sure depth _ rest is.1
+  more_subscripts_sure : (depth : ℕ) (n : _) (row : Row_of-Expr n) → AreLawfulSubscripts depth row → InSubscripts HasFittingHours row → Sure (more_subscripts_tokens row)
+  more_subscripts_sure depth _ end_of-Expr is fits = none
+  more_subscripts_sure depth _ (more_of-Expr expr rest) is fits =
+      (symbol_sure s.comma (omega arith) & expr_sure depth expr is.0.0 fits.0) & more_subscripts_sure depth _ rest is.1 fits.1
 
-whole_sure : (expr : Expr) → IsLawfulExpr expr → Sure (expr_tokens expr)
-whole_sure expr is = expr_sure 32 expr is.0
+whole_sure : (expr : Expr) → IsLawfulExpr expr → InExpr HasFittingHours expr → Sure (expr_tokens expr)
+whole_sure expr is fits = expr_sure 32 expr is.0 fits
 
-ref_sure : (reference : Ref) → IsLawfulRef reference → Sure (ref_tokens reference)
-ref_sure reference is =
-    name_sure reference.name is.0 & each_sure (IsLawfulSelector 33) selector_tokens (selector_sure 33) reference.selectors.items.items is.1
+ref_sure : (reference : Ref) → IsLawfulRef reference → InRef HasFittingHours reference → Sure (ref_tokens reference)
+ref_sure reference is fits =
+    name_sure reference.name is.0 &
+    each_both (IsLawfulSelector 33) (InSelector HasFittingHours) selector_tokens (selector_sure 33) reference.selectors.items.items is.1 fits
 
 fmt_sure : (fmt : Fmt) → IsLawfulFmt fmt → Sure (fmt_tokens fmt)
 fmt_sure (Free code width place) is =
@@ -248,7 +246,8 @@ mutual
   typing_sure : (depth : ℕ) (part : Typing) → HasLawfulTyping depth part → Sure (typing_tokens part)
   typing_sure depth (typing.Basic part) is = basic_sure part is
   typing_sure depth (typing.Struct' _ fields place) is =
-      word_sure w.STRUCT (omega arith) & symbol_sure s.left_square (omega arith) & fields_sure (depth - 1) _ fields is.1 & symbol_sure s.right_square (omega arith)
+      word_sure w.STRUCT (omega arith) & symbol_sure s.left_square (omega arith) & fields_sure (depth - 1) _ fields is.1 &
+      symbol_sure s.right_square (omega arith)
   typing_sure depth (typing.Named name) is = name_sure name is
 
   fields_sure : (depth : ℕ) (n : _) (row : Row_of-Field n) → AreLawfulFields depth row → Sure (fields_tokens row)
@@ -259,7 +258,8 @@ mutual
   more_fields_sure : (depth : ℕ) (n : _) (row : Row_of-Field n) → AreLawfulFields depth row → Sure (more_fields_tokens row)
   more_fields_sure depth _ end_of-Field is = none
   more_fields_sure depth _ (more_of-Field names bounds part place rest) is =
-      (symbol_sure s.comma (omega arith) & names_sure names is.0.0 & bounds_sure bounds.items.items is.0.1 & typing_sure depth part is.0.2) & more_fields_sure depth _ rest is.1
+      (symbol_sure s.comma (omega arith) & names_sure names is.0.0 & bounds_sure bounds.items.items is.0.1 &
+      typing_sure depth part is.0.2) & more_fields_sure depth _ rest is.1
 
 device_word_sure : (part : DeviceWord) → IsLawfulDeviceWord part → Sure (device_word_tokens part)
 device_word_sure (device.Id name) is = name_sure name is
@@ -267,22 +267,26 @@ device_word_sure (device.Interrupt place) is = word_sure w.INTERRUPT (omega arit
 
 device_sure : (part : Device) → IsLawfulDevice part → Sure (device_tokens part)
 device_sure part is =
-    name_sure part.name is.0 & symbol_sure s.colon (omega arith) & device_word_sure part.word is.1 & bracketed_number_sure part.number is.2 & end_sure
+    name_sure part.name is.0 & symbol_sure s.colon (omega arith) & device_word_sure part.word is.1 &
+    bracketed_number_sure part.number is.2 & end_sure
 
 prio_sure : (prio : Prio) → IsLawfulNumber prio.number → Sure (prio_tokens prio)
 prio_sure prio is = word_sure w.PRIO (omega arith) & number_sure prio.number is
 
-item_sure : (item : Item) → IsLawfulItem item → Sure (item_tokens item)
-item_sure item is =
-    names_sure item.names is.0 & bounds_sure item.bounds.items.items is.1 & flag_sure w.INV item.inv (omega arith) & typing_sure 8 item.typing is.2 & maybe_headed_sure IsLawfulConst const_tokens const_sure w.INIT item.init.items.items (omega arith) is.3
+item_sure : (item : Item) → IsLawfulItem item → InItem HasFittingHours item → Sure (item_tokens item)
+item_sure item is fits =
+    names_sure item.names is.0 & bounds_sure item.bounds.items.items is.1 & flag_sure w.INV item.inv (omega arith) &
+    typing_sure 8 item.typing is.2 &
+    maybe_headed_both IsLawfulConst (λ (constant : Const). HasFittingHours constant.literal) const_tokens const_sure w.INIT item.init.items.items (omega arith) is.3 fits
 
 sema_sure : (sema : Sema) → IsLawfulSema sema → Sure (sema_tokens sema)
 sema_sure sema is =
-    names_sure sema.names is.0 & word_sure w.SEMA (omega arith) & maybe_headed_sure IsLawfulNumber number_tokens number_sure w.PRESET sema.preset.items.items (omega arith) is.1
+    names_sure sema.names is.0 & word_sure w.SEMA (omega arith) &
+    maybe_headed_sure IsLawfulNumber number_tokens number_sure w.PRESET sema.preset.items.items (omega arith) is.1
 
-declared_sure : (part : Declared) → IsLawfulDeclared part → Sure (declared_tokens part)
-declared_sure (declared.Item item) is = item_sure item is
-declared_sure (declared.Sema sema) is = sema_sure sema is
+declared_sure : (part : Declared) → IsLawfulDeclared part → InDeclared HasFittingHours part → Sure (declared_tokens part)
+declared_sure (declared.Item item) is fits = item_sure item is fits
+declared_sure (declared.Sema sema) is fits = sema_sure sema is
 
 class_sure : (part : Class) → IsLawfulClass part → Sure (class_tokens part)
 class_sure (class.Alphic place) is = word_sure w.ALPHIC (omega arith)
@@ -302,48 +306,52 @@ param_sure : (param : Param) → IsLawfulParam param → Sure (param_tokens para
 param_sure param is =
     names_sure param.names is.0 & basic_sure param.basic is.1 & flag_sure w.IDENT param.ident (omega arith)
 
-after_sure : (code : ℕ) → code < code_count → (expr : Expr) → IsLawfulExpr expr → Sure (after_tokens code expr)
-after_sure code low expr is = word_sure code low & whole_sure expr is
+after_sure : (code : ℕ) → code < code_count → (expr : Expr) → IsLawfulExpr expr → InExpr HasFittingHours expr → Sure (after_tokens code expr)
+after_sure code low expr is fits = word_sure code low & whole_sure expr is fits
 
-maybe_after : (code : ℕ) → code < code_count → (part : Option Expr) → IfSome part IsLawfulExpr → Sure (maybe (after_tokens code) part)
-maybe_after code low part is = maybe_sure IsLawfulExpr (after_tokens code) (after_sure code low) part is
+maybe_after : (code : ℕ) → code < code_count → (part : Option Expr) → IfSome part IsLawfulExpr → IfSome part (InExpr HasFittingHours) → Sure (maybe (after_tokens code) part)
+maybe_after code low part is fits = maybe_both IsLawfulExpr (InExpr HasFittingHours) (after_tokens code) (after_sure code low) part is fits
 
-period_end_sure : (part : PeriodEnd) → IsLawfulPeriodEnd part → Sure (period_end_tokens part)
-period_end_sure (Until time place) is = after_sure w.UNTIL (omega arith) time is
-period_end_sure (During duration place) is = after_sure w.DURING (omega arith) duration is
+period_end_sure : (part : PeriodEnd) → IsLawfulPeriodEnd part → InPeriodEnd HasFittingHours part → Sure (period_end_tokens part)
+period_end_sure (Until time place) is fits = after_sure w.UNTIL (omega arith) time is fits
+period_end_sure (During duration place) is fits = after_sure w.DURING (omega arith) duration is fits
 
-period_sure : (part : Period) → IsLawfulPeriod part → Sure (period_tokens part)
-period_sure part is =
-    after_sure w.ALL (omega arith) part.duration is.0 & maybe_sure IsLawfulPeriodEnd period_end_tokens period_end_sure part.end is.1
+period_sure : (part : Period) → IsLawfulPeriod part → InPeriod HasFittingHours part → Sure (period_tokens part)
+period_sure part is fits =
+    after_sure w.ALL (omega arith) part.duration is.0 fits.0 &
+    maybe_both IsLawfulPeriodEnd (InPeriodEnd HasFittingHours) period_end_tokens period_end_sure part.end is.1 fits.1
 
-maybe_period : (part : Option Period) → IfSome part IsLawfulPeriod → Sure (maybe period_tokens part)
-maybe_period part is = maybe_sure IsLawfulPeriod period_tokens period_sure part is
+maybe_period : (part : Option Period) → IfSome part IsLawfulPeriod → IfSome part (InPeriod HasFittingHours) → Sure (maybe period_tokens part)
+maybe_period part is fits = maybe_both IsLawfulPeriod (InPeriod HasFittingHours) period_tokens period_sure part is fits
 
-start_sure : (part : Start) → IsLawfulStart part → Sure (start_tokens part)
-start_sure (start.At time period place) is = after_sure w.AT (omega arith) time is.0 & maybe_period period is.1
-start_sure (start.After duration period place) is = after_sure w.AFTER (omega arith) duration is.0 & maybe_period period is.1
-start_sure (start.When interrupt after period place) is =
-    word_sure w.WHEN (omega arith) & name_sure interrupt is.0 & maybe_after w.AFTER (omega arith) after is.1 & maybe_period period is.2
-start_sure (start.All period) is = period_sure period is
+start_sure : (part : Start) → IsLawfulStart part → InStart HasFittingHours part → Sure (start_tokens part)
+start_sure (start.At time period place) is fits = after_sure w.AT (omega arith) time is.0 fits.0 & maybe_period period is.1 fits.1
+start_sure (start.After duration period place) is fits =
+    after_sure w.AFTER (omega arith) duration is.0 fits.0 & maybe_period period is.1 fits.1
+start_sure (start.When interrupt after period place) is fits =
+    word_sure w.WHEN (omega arith) & name_sure interrupt is.0 & maybe_after w.AFTER (omega arith) after is.1 fits.0 &
+    maybe_period period is.2 fits.1
+start_sure (start.All period) is fits = period_sure period is fits
 
-once_sure : (part : Once) → IsLawfulOnce part → Sure (once_tokens part)
-once_sure (once.At time place) is = after_sure w.AT (omega arith) time is
-once_sure (once.After duration place) is = after_sure w.AFTER (omega arith) duration is
-once_sure (once.When interrupt place) is = word_sure w.WHEN (omega arith) & name_sure interrupt is
+once_sure : (part : Once) → IsLawfulOnce part → InOnce HasFittingHours part → Sure (once_tokens part)
+once_sure (once.At time place) is fits = after_sure w.AT (omega arith) time is fits
+once_sure (once.After duration place) is fits = after_sure w.AFTER (omega arith) duration is fits
+once_sure (once.When interrupt place) is fits = word_sure w.WHEN (omega arith) & name_sure interrupt is
 
 for_sure : (name : Name) → IsLawfulName name → Sure (for_tokens name)
 for_sure name is = word_sure w.FOR (omega arith) & name_sure name is
 
-value_sure : (expr : Expr) → IsLawfulExpr expr → Sure (value_tokens expr)
-value_sure expr is =
-    symbol_sure s.left_round (omega arith) & whole_sure expr is & symbol_sure s.right_round (omega arith)
+value_sure : (expr : Expr) → IsLawfulExpr expr → InExpr HasFittingHours expr → Sure (value_tokens expr)
+value_sure expr is fits =
+    symbol_sure s.left_round (omega arith) & whole_sure expr is fits & symbol_sure s.right_round (omega arith)
 
-body_decl_sure : (part : BodyDecl) → IsLawfulBodyDecl part → Sure (body_decl_tokens part)
-body_decl_sure part is =
-    word_sure w.DCL (omega arith) & listed_sure IsLawfulItem item_tokens item_sure part.items.items.items is & end_sure
+body_decl_sure : (part : BodyDecl) → IsLawfulBodyDecl part → InBodyDecl HasFittingHours part → Sure (body_decl_tokens part)
+body_decl_sure part is fits =
+    word_sure w.DCL (omega arith) &
+    listed_both IsLawfulItem (InItem HasFittingHours) item_tokens item_sure part.items.items.items is fits & end_sure
 
-decls_sure : (parts : List BodyDecl) → All IsLawfulBodyDecl parts → Sure (flat_map body_decl_tokens parts)
-decls_sure parts all = each_sure IsLawfulBodyDecl body_decl_tokens body_decl_sure parts all
+decls_sure : (parts : List BodyDecl) → All IsLawfulBodyDecl parts → All (InBodyDecl HasFittingHours) parts → Sure (flat_map body_decl_tokens parts)
+decls_sure parts all fits = each_both IsLawfulBodyDecl (InBodyDecl HasFittingHours) body_decl_tokens body_decl_sure parts all fits
 
 task_word_sure : (code : TaskWord) → Sure (word (task_word code))
 task_word_sure Suspend = word_sure w.SUSPEND (omega arith)
@@ -360,66 +368,79 @@ interrupt_word_sure Disable = word_sure w.DISABLE (omega arith)
 interrupt_word_sure Trigger = word_sure w.TRIGGER (omega arith)
 
 mutual
-  stmt_sure : (depth : ℕ) (statement : Stmt) → IsLawfulStmt depth statement → Sure (stmt_tokens statement)
-  stmt_sure depth (Empty place) is = end_sure
-  stmt_sure depth (Assign target value place) is =
-      ref_sure target is.0 & symbol_sure s.becomes (omega arith) & whole_sure value is.1 & end_sure
-  stmt_sure depth (Call call name arguments place) is =
-      word_sure w.CALL (omega arith) & name_sure name is.0 & maybe_bracketed_sure IsLawfulExpr expr_tokens whole_sure arguments.items.items is.1 & end_sure
-  stmt_sure depth (If' condition _ statements otherwise place) is =
-      after_sure w.IF (omega arith) condition is.1 & word_sure w.THEN (omega arith) & stmts_sure (depth - 1) _ statements is.2 & otherwise_sure (depth - 1) w.ELSE (omega arith) otherwise is.3 & (word_sure w.FIN (omega arith) & end_sure)
-  stmt_sure depth (Case' selector _ alternatives otherwise place) is =
-      after_sure w.CASE (omega arith) selector is.1 & alternatives_sure (depth - 1) _ alternatives is.2 & otherwise_sure (depth - 1) w.OUT (omega arith) otherwise is.3 & (word_sure w.FIN (omega arith) & end_sure)
-  stmt_sure depth (Repeat' control begin step end condition declarations _ statements body_place place) is =
-      (maybe_sure IsLawfulName for_tokens for_sure control is.1 & maybe_after w.FROM (omega arith) begin is.2 &
-      maybe_after w.BY (omega arith) step is.3 & maybe_after w.TO (omega arith) end is.4 & maybe_after w.WHILE (omega arith) condition is.5) &
-      (word_sure w.REPEAT (omega arith) & (decls_sure declarations.items.items is.6.0 & stmts_sure (depth - 1) _ statements is.6.1) &
+  stmt_sure : (depth : ℕ) (statement : Stmt) → IsLawfulStmt depth statement → InStmt HasFittingHours statement → Sure (stmt_tokens statement)
+  stmt_sure depth (Empty place) is fits = end_sure
+  stmt_sure depth (Assign target value place) is fits =
+      ref_sure target is.0 fits.0 & symbol_sure s.becomes (omega arith) & whole_sure value is.1 fits.1 & end_sure
+  stmt_sure depth (Call call name arguments place) is fits =
+      word_sure w.CALL (omega arith) & name_sure name is.0 &
+      maybe_bracketed_both IsLawfulExpr (InExpr HasFittingHours) expr_tokens whole_sure arguments.items.items is.1 fits & end_sure
+  stmt_sure depth (If' condition _ statements otherwise place) is fits =
+      after_sure w.IF (omega arith) condition is.1 fits.0 & word_sure w.THEN (omega arith) &
+      stmts_sure (depth - 1) _ statements is.2 fits.1 & otherwise_sure (depth - 1) w.ELSE (omega arith) otherwise is.3 fits.2 &
+      (word_sure w.FIN (omega arith) & end_sure)
+  stmt_sure depth (Case' selector _ alternatives otherwise place) is fits =
+      after_sure w.CASE (omega arith) selector is.1 fits.0 & alternatives_sure (depth - 1) _ alternatives is.2 fits.1 &
+      otherwise_sure (depth - 1) w.OUT (omega arith) otherwise is.3 fits.2 & (word_sure w.FIN (omega arith) & end_sure)
+  stmt_sure depth (Repeat' control begin step end condition declarations _ statements body_place place) is fits =
+      (maybe_sure IsLawfulName for_tokens for_sure control is.1 & maybe_after w.FROM (omega arith) begin is.2 fits.0 &
+      maybe_after w.BY (omega arith) step is.3 fits.1 & maybe_after w.TO (omega arith) end is.4 fits.2 &
+      maybe_after w.WHILE (omega arith) condition is.5 fits.3) &
+      (word_sure w.REPEAT (omega arith) & (decls_sure declarations.items.items is.6.0 fits.4.0 &
+      stmts_sure (depth - 1) _ statements is.6.1 fits.4.1) &
       (word_sure w.END (omega arith) & end_sure))
-  stmt_sure depth (Exit place) is = word_sure w.EXIT (omega arith) & end_sure
-  stmt_sure depth (Begin' declarations _ statements body_place place) is =
-      word_sure w.BEGIN (omega arith) & (decls_sure declarations.items.items is.1.0 & stmts_sure (depth - 1) _ statements is.1.1) &
+  stmt_sure depth (Exit place) is fits = word_sure w.EXIT (omega arith) & end_sure
+  stmt_sure depth (Begin' declarations _ statements body_place place) is fits =
+      word_sure w.BEGIN (omega arith) & (decls_sure declarations.items.items is.1.0 fits.0 &
+      stmts_sure (depth - 1) _ statements is.1.1 fits.1) &
       (word_sure w.END (omega arith) & end_sure)
-  stmt_sure depth (Return value place) is =
-      word_sure w.RETURN (omega arith) & maybe_sure IsLawfulExpr value_tokens value_sure value is & end_sure
-  stmt_sure depth (Activate start task priority place) is =
-      maybe_sure IsLawfulStart start_tokens start_sure start is.0 & word_sure w.ACTIVATE (omega arith) & name_sure task is.1 & maybe_after w.PRIO (omega arith) priority is.2 & end_sure
-  stmt_sure depth (Continue once task place) is =
-      maybe_sure IsLawfulOnce once_tokens once_sure once is.0 & word_sure w.CONTINUE (omega arith) & name_sure task is.1 & end_sure
-  stmt_sure depth (Resume once place) is = once_sure once is & word_sure w.RESUME (omega arith) & end_sure
-  stmt_sure depth (OnTask code task place) is =
+  stmt_sure depth (Return value place) is fits =
+      word_sure w.RETURN (omega arith) & maybe_both IsLawfulExpr (InExpr HasFittingHours) value_tokens value_sure value is fits & end_sure
+  stmt_sure depth (Activate start task priority place) is fits =
+      maybe_both IsLawfulStart (InStart HasFittingHours) start_tokens start_sure start is.0 fits.0 & word_sure w.ACTIVATE (omega arith) &
+      name_sure task is.1 & maybe_after w.PRIO (omega arith) priority is.2 fits.1 & end_sure
+  stmt_sure depth (Continue once task place) is fits =
+      maybe_both IsLawfulOnce (InOnce HasFittingHours) once_tokens once_sure once is.0 fits & word_sure w.CONTINUE (omega arith) &
+      name_sure task is.1 & end_sure
+  stmt_sure depth (Resume once place) is fits = once_sure once is fits & word_sure w.RESUME (omega arith) & end_sure
+  stmt_sure depth (OnTask code task place) is fits =
       task_word_sure code & maybe_sure IsLawfulName name_tokens name_sure task is & end_sure
-  stmt_sure depth (OnSemas code names place) is =
+  stmt_sure depth (OnSemas code names place) is fits =
       sema_word_sure code & listed_sure IsLawfulName name_tokens name_sure names.items.items is & end_sure
-  stmt_sure depth (OnInterrupt code name place) is = interrupt_word_sure code & name_sure name is & end_sure
-  stmt_sure depth (Put values dation formats place) is =
-      word_sure w.PUT (omega arith) & listed_sure IsLawfulExpr expr_tokens whole_sure values.items.items is.0 & word_sure w.TO (omega arith) & by_sure dation formats is.1 is.2
-  stmt_sure depth (Get targets dation formats place) is =
-      word_sure w.GET (omega arith) & listed_sure IsLawfulRef ref_tokens ref_sure targets.items.items is.0 & word_sure w.FROM (omega arith) & by_sure dation formats is.1 is.2
-  stmt_sure depth (Send value dation place) is =
-      after_sure w.SEND (omega arith) value is.0 & word_sure w.TO (omega arith) & name_sure dation is.1 & end_sure
-  stmt_sure depth (Take target dation place) is =
-      word_sure w.TAKE (omega arith) & ref_sure target is.0 & word_sure w.FROM (omega arith) & name_sure dation is.1 & end_sure
+  stmt_sure depth (OnInterrupt code name place) is fits = interrupt_word_sure code & name_sure name is & end_sure
+  stmt_sure depth (Put values dation formats place) is fits =
+      word_sure w.PUT (omega arith) &
+      listed_both IsLawfulExpr (InExpr HasFittingHours) expr_tokens whole_sure values.items.items is.0 fits &
+      word_sure w.TO (omega arith) & by_sure dation formats is.1 is.2
+  stmt_sure depth (Get targets dation formats place) is fits =
+      word_sure w.GET (omega arith) & listed_both IsLawfulRef (InRef HasFittingHours) ref_tokens ref_sure targets.items.items is.0 fits &
+      word_sure w.FROM (omega arith) & by_sure dation formats is.1 is.2
+  stmt_sure depth (Send value dation place) is fits =
+      after_sure w.SEND (omega arith) value is.0 fits & word_sure w.TO (omega arith) & name_sure dation is.1 & end_sure
+  stmt_sure depth (Take target dation place) is fits =
+      word_sure w.TAKE (omega arith) & ref_sure target is.0 fits & word_sure w.FROM (omega arith) & name_sure dation is.1 & end_sure
 
-  stmts_sure : (depth : ℕ) (n : _) (row : Row_of-Stmt n) → AreLawfulStmts depth row → Sure (stmts_tokens row)
-  stmts_sure depth _ end_of-Stmt is = none
-  stmts_sure depth _ (more_of-Stmt statement rest) is = stmt_sure depth statement is.0 & stmts_sure depth _ rest is.1
+  stmts_sure : (depth : ℕ) (n : _) (row : Row_of-Stmt n) → AreLawfulStmts depth row → InStmts HasFittingHours row → Sure (stmts_tokens row)
+  stmts_sure depth _ end_of-Stmt is fits = none
+  stmts_sure depth _ (more_of-Stmt statement rest) is fits = stmt_sure depth statement is.0 fits.0 & stmts_sure depth _ rest is.1 fits.1
 
-  alternatives_sure : (depth : ℕ) (n : _) (row : Row_of-Branch n) → AreLawfulBranches depth row → Sure (alternatives_tokens row)
-  alternatives_sure depth _ end_of-Branch is = none
-  alternatives_sure depth _ (more_of-Branch _ statements place rest) is =
-      (word_sure w.ALT (omega arith) & stmts_sure depth _ statements is.0) & alternatives_sure depth _ rest is.1
+  alternatives_sure : (depth : ℕ) (n : _) (row : Row_of-Branch n) → AreLawfulBranches depth row → InBranches HasFittingHours row → Sure (alternatives_tokens row)
+  alternatives_sure depth _ end_of-Branch is fits = none
+  alternatives_sure depth _ (more_of-Branch _ statements place rest) is fits =
+      (word_sure w.ALT (omega arith) & stmts_sure depth _ statements is.0 fits.0) & alternatives_sure depth _ rest is.1 fits.1
 
-  otherwise_sure : (depth code : ℕ) → code < code_count → (otherwise : Held-Stmt-If-2) → IsLawfulOtherwise depth otherwise →
+  otherwise_sure : (depth code : ℕ) → code < code_count → (otherwise : Held-Stmt-If-2) → IsLawfulOtherwise depth otherwise → InOtherwise HasFittingHours otherwise →
       Sure (otherwise_tokens code otherwise)
-  otherwise_sure depth code low None' is = none
-  otherwise_sure depth code low (Some' _ statements place) is = word_sure code low & stmts_sure depth _ statements is
+  otherwise_sure depth code low None' is fits = none
+  otherwise_sure depth code low (Some' _ statements place) is fits = word_sure code low & stmts_sure depth _ statements is fits
 
-body_sure : (body : Body) → IsLawfulBody body → Sure (body_tokens body)
-body_sure body is =
-    decls_sure body.declarations.items.items is.0 & each_sure (IsLawfulStmt 32) stmt_tokens (stmt_sure 32) body.statements.items.items is.1
+body_sure : (body : Body) → IsLawfulBody body → InBody HasFittingHours body → Sure (body_tokens body)
+body_sure body is fits =
+    decls_sure body.declarations.items.items is.0 fits.0 &
+    each_both (IsLawfulStmt 32) (InStmt HasFittingHours) stmt_tokens (stmt_sure 32) body.statements.items.items is.1 fits.1
 
-task_body_sure : (body : Body) → IsLawfulBody body → Sure (task_body_tokens body)
-task_body_sure body is = end_sure & body_sure body is & word_sure w.END (omega arith) & end_sure
+task_body_sure : (body : Body) → IsLawfulBody body → InBody HasFittingHours body → Sure (task_body_tokens body)
+task_body_sure body is fits = end_sure & body_sure body is fits & word_sure w.END (omega arith) & end_sure
 
 head_sure : (head : TaskHead) → IsLawfulTaskHead head → Sure (head_tokens head)
 head_sure (PrioFirst prio main) is =
@@ -428,21 +449,26 @@ head_sure (MainFirst prio) is = prio_sure prio is & word_sure w.MAIN (omega arit
 
 returns_sure : (part : Basic) → IsLawfulBasic part → Sure (returns_tokens part)
 returns_sure part is =
-    word_sure w.RETURNS (omega arith) & symbol_sure s.left_round (omega arith) & basic_sure part is & symbol_sure s.right_round (omega arith)
+    word_sure w.RETURNS (omega arith) & symbol_sure s.left_round (omega arith) & basic_sure part is &
+    symbol_sure s.right_round (omega arith)
 
-decl_sure : (part : Decl) → IsLawfulDecl part → Sure (decl_tokens part)
-decl_sure (decl.Length sort number place) is =
+decl_sure : (part : Decl) → IsLawfulDecl part → InDecl HasFittingHours part → Sure (decl_tokens part)
+decl_sure (decl.Length sort number place) is fits =
     word_sure w.LENGTH (omega arith) & sort_sure sort & bracketed_number_sure number is & end_sure
-decl_sure (decl.Type name part place) is =
+decl_sure (decl.Type name part place) is fits =
     word_sure w.TYPE (omega arith) & name_sure name is.0 & typing_sure 8 part is.1 & end_sure
-decl_sure (decl.Declare parts place) is =
-    word_sure w.DCL (omega arith) & listed_sure IsLawfulDeclared declared_tokens declared_sure parts.items.items is & end_sure
-decl_sure (decl.Specify specs place) is =
+decl_sure (decl.Declare parts place) is fits =
+    word_sure w.DCL (omega arith) &
+    listed_both IsLawfulDeclared (InDeclared HasFittingHours) declared_tokens declared_sure parts.items.items is fits & end_sure
+decl_sure (decl.Specify specs place) is fits =
     word_sure w.SPC (omega arith) & listed_sure IsLawfulSpec spec_tokens spec_sure specs.items.items is & end_sure
-decl_sure (decl.Task name head body place) is =
-    name_sure name is.0 & symbol_sure s.colon (omega arith) & word_sure w.TASK (omega arith) & head_sure head is.1 & task_body_sure body is.2
-decl_sure (decl.Proc name params returns body place) is =
-    name_sure name is.0 & symbol_sure s.colon (omega arith) & word_sure w.PROC (omega arith) & maybe_bracketed_sure IsLawfulParam param_tokens param_sure params.items.items is.1 & maybe_sure IsLawfulBasic returns_tokens returns_sure returns is.2 & task_body_sure body is.3
+decl_sure (decl.Task name head body place) is fits =
+    name_sure name is.0 & symbol_sure s.colon (omega arith) & word_sure w.TASK (omega arith) & head_sure head is.1 &
+    task_body_sure body is.2 fits
+decl_sure (decl.Proc name params returns body place) is fits =
+    name_sure name is.0 & symbol_sure s.colon (omega arith) & word_sure w.PROC (omega arith) &
+    maybe_bracketed_sure IsLawfulParam param_tokens param_sure params.items.items is.1 &
+    maybe_sure IsLawfulBasic returns_tokens returns_sure returns is.2 & task_body_sure body is.3 fits
 
 bracketed_name_sure : (name : Name) → IsLawfulName name → Sure (module_name_tokens (Bracketed name))
 bracketed_name_sure name is =
@@ -458,16 +484,20 @@ system_sure devices all =
 
 front_sure : (tree : Tree) → IsLawful tree → Sure (front_tokens tree)
 front_sure tree is =
-    word_sure w.MODULE (omega arith) & maybe_sure IsLawfulModuleName module_name_tokens module_name_sure tree.name is.name & end_sure & maybe_sure (λ (devices : Parts Device). All IsLawfulDevice devices.items.items) system_tokens system_sure tree.system is.system & word_sure w.PROBLEM (omega arith) & end_sure
+    word_sure w.MODULE (omega arith) & maybe_sure IsLawfulModuleName module_name_tokens module_name_sure tree.name is.name & end_sure &
+    maybe_sure (λ (devices : Parts Device). All IsLawfulDevice devices.items.items) system_tokens system_sure tree.system is.system &
+    word_sure w.PROBLEM (omega arith) & end_sure
 
-tree_sure : (tree : Tree) → IsLawful tree → Sure (tokens_of tree)
+tree_sure : (tree : Tree) → IsLawful tree → FitsHours tree → Sure (tokens_of tree)
 unfolding tokens_of
-tree_sure tree is =
-    front_sure tree is & each_sure IsLawfulDecl decl_tokens decl_sure tree.declarations.items.items is.declarations & word_sure w.MODEND (omega arith) & end_sure
+tree_sure tree is fits =
+    front_sure tree is &
+    each_both IsLawfulDecl (InDecl HasFittingHours) decl_tokens decl_sure tree.declarations.items.items is.declarations fits &
+    word_sure w.MODEND (omega arith) & end_sure
 
 -- the whole tree
 pub lawful_tokens : LawfulTokens
-lawful_tokens tree is fits k d lt = (tree_sure tree is).each k d lt (fits k d lt)
+lawful_tokens tree is fits = (tree_sure tree is fits).each
 
 -- a text that has the tokens of a lawful tree
 pub printed_reads : (tree : Tree) (text : List ℕ) → text ≡ text_of (tokens_of tree) → IsLawful tree → FitsHours tree → Reads text (tokens_of tree)

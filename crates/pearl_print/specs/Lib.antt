@@ -1,6 +1,7 @@
 pub mod Spelled
 pub mod Lists
 pub mod Expressions
+pub mod Literals
 pub mod Types
 pub mod Formats
 pub mod Declarations

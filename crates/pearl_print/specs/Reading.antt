@@ -1,7 +1,8 @@
 -- What the text of tokens is read as.
-use Rattle.std.specs.Prelude.{◌≡◌, ℕ, List, ◌++◌, length, map, Some, All}
+use Rattle.std.specs.Prelude.{◌≡◌, ℕ, ◌/◌, List, ◌++◌, length, map, Some, All}
 use Rattle.pearl_tree.specs.declared.token.What.{What}
-use Rattle.pearl_tree.specs.declared.token.What.TheVariants as what
+use Rattle.pearl_tree.specs.declared.literal.Literal.{Literal}
+use Rattle.pearl_tree.specs.declared.literal.Literal.TheVariants as literal
 use Rattle.pearl_tree.specs.declared.token.Token.{Token}
 use Rattle.pearl_tree.specs.declared.tree.Tree.{Tree}
 use Rattle.pearl_tree.specs.Tokens.{IsNumberValue, IsLawfulWhat}
@@ -10,7 +11,9 @@ use Rattle.pearl_lex.specs.Spelling.{space_len}
 use Rattle.pearl_lex.specs.Front.{front}
 use Rattle.pearl_lex.specs.Lexes.{Lexes}
 use Rattle.pearl_print.specs.Spelled.{spelled, gap, text_of}
+use Rattle.pearl_print.specs.Expressions.{duration_milliseconds}
 use Rattle.pearl_print.specs.Modules.{tokens_of}
+use Rattle.pearl_print.specs.Literals.{EachLiteral}
 
 -- whatever comes behind the byte that follows it, the token begins the text, and is no blank or comment
 pub record IsReadBack (what : What) : Type 0 where
@@ -31,15 +34,14 @@ TextReads = (whats : List What) → All IsReadBack whats → Reads (text_of what
 abbrev pub LawfulTextReads : Type 0
 LawfulTextReads = (whats : List What) → All IsLawfulWhat whats → Reads (text_of whats) whats
 
--- a number that a source can spell
-abbrev pub FitsNumber : What → Type 0
-FitsNumber (what.Number value) = IsNumberValue value
-FitsNumber _ = Unit {0}
+-- a duration has less than 2^63 hours, once its minutes and seconds are carried into them
+abbrev pub HasFittingHours : Literal → Type 0
+HasFittingHours (literal.Duration duration) = IsNumberValue (duration_milliseconds duration / 3600000)
+HasFittingHours _ = Unit {0}
 
--- each number among the tokens of a tree is one that a source can spell. Of a lawful tree this asks that no duration has
--- 2^63 hours, once its minutes and seconds are carried into them.
+-- so has each duration of a tree
 abbrev pub FitsHours : Tree → Type 0
-FitsHours tree = All FitsNumber (tokens_of tree)
+FitsHours tree = EachLiteral HasFittingHours tree
 
 -- the tokens of a lawful tree are lawful where its hours fit
 abbrev pub LawfulTokens : Type 0

@@ -7,7 +7,7 @@ pub fn text_reads()
     ensures { LawfulTextReads }
 {}
 
-/// The tokens of a lawful tree are lawful, as long as its hours fit.
+/// The tokens of a lawful tree are lawful, unless a duration in it has 2^63 hours or more.
 pub fn lawful_tokens()
     ensures { LawfulTokens }
 {}

@@ -11,8 +11,8 @@ use pearl_tree::tree::Tree;
 use std::alloc::{AllocError as NoMemory, Global};
 
 /// The canonical text of a tree: one blank between two tokens, and a line end after each `;`. Of words and symbols that
-/// mean the same it has those that the grammar names, and of operators the symbols. The text of a lawful tree has exactly
-/// these tokens again.
+/// mean the same it has those that the grammar names, and of operators the symbols. The text of a lawful tree is read
+/// as exactly these tokens, unless a duration in it has 2^63 hours or more.
 pub fn print(alloc: Global, tree: &Tree) -> Result<Vec<u8>, NoMemory>
     ensures spells { IfOk result (λ text. text.items ≡ text_of (tokens_of tree.now)) }
     ensures reads { IsLawful tree.now → FitsHours tree.now → IfOk result (λ text. Reads text.items (tokens_of tree.now)) }
