@@ -17,7 +17,7 @@ use Rattle.pearl_parse_expr.specs.declared.fault.ParseFault.TheVariants as fault
 use Rattle.pearl_parse_expr.specs.declared.reading.Halt.{Halt}
 use Rattle.pearl_parse_expr.specs.declared.reading.Halt.TheVariants.{Refused, NoMemory}
 use Rattle.pearl_tree.specs.Following.{lengthens_operand, lengthens_expr}
-use Rattle.pearl_tree.specs.Stops.{BeginAlike, NoneGoesOn}
+use Rattle.pearl_tree.specs.Stops.{BeginAlike}
 use Rattle.pearl_tree.specs.Symbols as s
 use Rattle.pearl_tree.specs.WordCodes as w
 
@@ -152,6 +152,11 @@ SpellsSubscriptsList tokens depth = SpellsList tokens (SpellsExpr tokens depth)
 -- where the token stands; past the end a place that no token has
 abbrev pub stop_place : List Token → ℕ → ℕ
 stop_place tokens stop = unwrap_or (place_at tokens stop) (2 ^ 32 - 1)
+
+-- no expression that begins at number `from` goes on past number k, whatever tokens stand behind it
+abbrev pub NoneGoesOn : List Token → ℕ → ℕ → Type 0
+NoneGoesOn tokens from k =
+    (expr : Expr) (to : ℕ) (others : List Token) → BeginAlike tokens others k → SpellsWhole others from expr to → to ≤ k
 
 -- the place of a token with which, up to and with it, no expression goes on from `from`
 pub record IsStop (tokens : List Token) (from place : ℕ) : Type 0 where
