@@ -1,0 +1,157 @@
+-- Lists with commas: what other tokens can spell that begin as these do, read up to some part.
+use Rattle.std.proofs.Common.{◌≡◌, ℕ, ◌+◌, ◌<◌, ◌≤◌, Bool, true, false, List, [], ◌∷◌, Option, Some, ◌⊎◌, inl, inr, refl, sym, ap, subst, ◌∙◌, arith}
+use Rattle.pearl_tree.specs.declared.token.What.{What}
+use Rattle.pearl_tree.specs.declared.token.What.TheVariants as what
+use Rattle.pearl_tree.specs.declared.token.Token.{Token}
+use Rattle.pearl_tree.specs.Standing.{Spelling, what_at, HasWord, HasSymbol, SpellsMore, SpellsList, SpellsBracketed, SpellsMaybeBracketed, SpellsMaybeHeaded}
+use Rattle.pearl_tree.specs.Symbols as s
+use Rattle.pearl_tree.specs.Stops.{BeginAlike}
+use Rattle.pearl_parse_expr.specs.Stops.{Sure, Stuck, Exact, EndsEarly, is_symbol, is_word}
+use Rattle.pearl_parse_decl.specs.Readings.{by_bracket, by_comma}
+use Rattle.pearl_parse_expr.proofs.Primaries.{clash}
+use Rattle.pearl_parse_expr.proofs.Parts.{shorter, or_first, or_second}
+
+-- where no token goes on with the part, it ends where it was read to
+pub settled : (extends : Option What → Bool) (others : List Token) (end m : ℕ) →
+    (m ≡ end) ⊎ EndsEarly extends others end m → extends (what_at others m) ≡ false → m ≡ end
+settled extends others end m (inl same) never = same
+settled extends others end m (inr early) never = absurd (clash _ early.1 never)
+
+pub first_of : {X : Type 0} (tokens : List Token) (spells : Spelling X) (from : ℕ) (xs : List X) (to : ℕ) → SpellsList tokens spells from xs to →
+    (x : X) × (m : ℕ) × spells from x m
+first_of tokens spells from [] to h = absurd h
+first_of tokens spells from (x ∷ xs) to h = (x, h.0, h.1)
+
+module _ {X : Type 0} (spells : List Token → Spelling X) (extends : Option What → Bool) where
+  -- a list from `from` ends early, or goes through `end`
+  abbrev pub ListGoes : List Token → ℕ → ℕ → ℕ → Type 0
+  ListGoes tokens from end stop =
+      (others : List Token) → BeginAlike tokens others stop → (xs : List X) (to : ℕ) → SpellsList others (spells others) from xs to →
+      EndsEarly (by_comma extends) others end to ⊎ ((ys : List X) × SpellsMore others (spells others) end ys to)
+
+  module _ (no_comma : extends (Some (what.Symbol s.comma)) ≡ false) where
+    -- behind one more part
+    after_part : (others : List Token) (end m to : ℕ) (ys : List X) → SpellsMore others (spells others) m ys to →
+        (m ≡ end) ⊎ EndsEarly extends others end m →
+        EndsEarly (by_comma extends) others end to ⊎ ((ys : List X) × SpellsMore others (spells others) end ys to)
+    after_part others end m to ys h (inl same) = inr (ys, subst (λ k. SpellsMore others (spells others) k ys to) same h)
+    after_part others end m to [] h (inr early) =
+        inl (omega (arith, h, early.0), subst (λ k. by_comma extends (what_at others k) ≡ true) (sym h) (or_first (extends (what_at others m)) (is_symbol s.comma (what_at others m)) early.1))
+    after_part others end m to (y ∷ ys) h (inr early) = absurd (clash _ early.1 (ap extends h.1 ∙ no_comma))
+
+    begins : (others : List Token) (from end : ℕ) →
+        ((x : X) (to : ℕ) → spells others from x to → (to ≡ end) ⊎ EndsEarly extends others end to) →
+        (xs : List X) (to : ℕ) → SpellsList others (spells others) from xs to →
+        EndsEarly (by_comma extends) others end to ⊎ ((ys : List X) × SpellsMore others (spells others) end ys to)
+    begins others from end sure [] to h = absurd h
+    begins others from end sure (x ∷ xs) to h = after_part others end h.0 to xs h.2 (sure x h.0 h.1)
+
+    pub list_begins : (tokens : List Token) (from end stop : ℕ) → Sure spells extends tokens from end stop → ListGoes tokens from end stop
+    list_begins tokens from end stop sure = λ others agree xs to h. begins others from end (λ x to h. sure others agree x to h) xs to h
+
+    step : (others : List Token) (end next to : ℕ) → end < next → HasSymbol others end s.comma →
+        ((x : X) (to : ℕ) → spells others (end + 1) x to → (to ≡ next) ⊎ EndsEarly extends others next to) →
+        EndsEarly (by_comma extends) others end to ⊎ ((ys : List X) × SpellsMore others (spells others) end ys to) →
+        EndsEarly (by_comma extends) others next to ⊎ ((ys : List X) × SpellsMore others (spells others) next ys to)
+    step others end next to ahead comma sure (inl early) = inl (omega (arith, early.0), early.1)
+    step others end next to ahead comma sure (inr ([], h)) =
+        inl (omega (arith, h), subst (λ k. by_comma extends (what_at others k) ≡ true) (sym h) (or_second (extends (what_at others end)) (is_symbol s.comma (what_at others end)) (ap (is_symbol s.comma) comma)))
+    step others end next to ahead comma sure (inr (y ∷ ys, h)) = after_part others next h.0 to ys h.3 (sure y h.0 h.2)
+
+    pub list_next : (tokens : List Token) (from end stop next last new : ℕ) → ListGoes tokens from end stop → end ≤ stop → end < next →
+        stop ≤ new → last ≤ new → HasSymbol tokens end s.comma → Sure spells extends tokens (end + 1) next last → ListGoes tokens from next new
+    list_next tokens from end stop next last new go near ahead below reach comma sure = λ others agree xs to h.
+        step others end next to ahead (sym (agree end (omega arith)) ∙ comma)
+        (λ x to h. sure others (shorter tokens others last new reach agree) x to h)
+        (go others (shorter tokens others stop new below agree) xs to h)
+
+  ends : (others : List Token) (end to : ℕ) → (HasSymbol others end s.comma → (x : X) (to : ℕ) → spells others (end + 1) x to → ⊥) →
+      EndsEarly (by_comma extends) others end to ⊎ ((ys : List X) × SpellsMore others (spells others) end ys to) →
+      (to ≡ end) ⊎ EndsEarly (by_comma extends) others end to
+  ends others end to stuck (inl early) = inr early
+  ends others end to stuck (inr ([], h)) = inl h
+  ends others end to stuck (inr (y ∷ ys, h)) = absurd (stuck h.1 y h.0 h.2)
+
+  pub list_ends : (tokens : List Token) (from end stop : ℕ) → ListGoes tokens from end stop → end ≤ stop →
+      is_symbol s.comma (what_at tokens end) ≡ false →
+      Sure (λ tokens. SpellsList tokens (spells tokens)) (by_comma extends) tokens from end stop
+  list_ends tokens from end stop go near no_comma = λ others agree xs to h.
+      ends others end to
+      (λ comma x to h. clash _ (ap (is_symbol s.comma) comma) (ap (is_symbol s.comma) (sym (agree end near)) ∙ no_comma))
+      (go others agree xs to h)
+
+  pub list_is_stuck : (tokens : List Token) (from end stop last new : ℕ) → ListGoes tokens from end stop → stop ≤ new → last ≤ new →
+      Stuck spells tokens (end + 1) last →
+      Sure (λ tokens. SpellsList tokens (spells tokens)) (by_comma extends) tokens from end new
+  list_is_stuck tokens from end stop last new go below reach stuck = λ others agree xs to h.
+      ends others end to
+      (λ comma x to h. stuck others (shorter tokens others last new reach agree) x to h)
+      (go others (shorter tokens others stop new below agree) xs to h)
+
+  -- the bracket that closes a list stands at one place
+  module _ (no_bracket : extends (Some (what.Symbol s.right_round)) ≡ false) where
+    closes : (others : List Token) (from end : ℕ) →
+        ((xs : List X) (to : ℕ) → SpellsList others (spells others) (from + 1) xs to → (to ≡ end) ⊎ EndsEarly (by_comma extends) others end to) →
+        (xs : List X) (to : ℕ) → SpellsBracketed others (spells others) from xs to → HasSymbol others end s.right_round × (to ≡ end + 1)
+    closes others from end sure xs to h =
+        let none : by_comma extends (what_at others h.0) ≡ false = rw (h.3, no_bracket) refl in
+        let same = settled (by_comma extends) others end h.0 (sure xs h.0 h.2) none in
+        (subst (λ k. HasSymbol others k s.right_round) same h.3, omega (arith, same, h.4))
+
+    pub bracketed_is_exact : (tokens : List Token) (from end stop new : ℕ) → stop ≤ new →
+        Sure (λ tokens. SpellsList tokens (spells tokens)) (by_comma extends) tokens (from + 1) end stop →
+        Exact (λ tokens. SpellsBracketed tokens (spells tokens)) tokens from (end + 1) new
+    bracketed_is_exact tokens from end stop new below sure = λ others agree xs to h.
+        (closes others from end (λ xs to h. sure others (shorter tokens others stop new below agree) xs to h) xs to h).1
+
+    pub bracketed_is_open : (tokens : List Token) (from end stop : ℕ) → end ≤ stop →
+        Sure (λ tokens. SpellsList tokens (spells tokens)) (by_comma extends) tokens (from + 1) end stop →
+        is_symbol s.right_round (what_at tokens end) ≡ false →
+        Stuck (λ tokens. SpellsBracketed tokens (spells tokens)) tokens from stop
+    bracketed_is_open tokens from end stop below sure unclosed = λ others agree xs to h.
+        let closed = closes others from end (λ xs to h. sure others agree xs to h) xs to h in
+        clash _ (ap (is_symbol s.right_round) closed.0) (ap (is_symbol s.right_round) (sym (agree end below)) ∙ unclosed)
+
+  -- [ "(" part { "," part } ")" ]
+  pub maybe_is_sure : (tokens : List Token) (from end stop : ℕ) → from < end → from ≤ stop → HasSymbol tokens from s.left_round →
+      Exact (λ tokens. SpellsBracketed tokens (spells tokens)) tokens from end stop →
+      Sure (λ tokens. SpellsMaybeBracketed tokens (spells tokens)) by_bracket tokens from end stop
+  maybe_is_sure tokens from end stop ahead near bracket exact = λ others agree xs to h.
+      by others (sym (agree from near) ∙ bracket) (λ xs to h. exact others agree xs to h) xs to h
+    where
+      by : (others : List Token) → HasSymbol others from s.left_round →
+          ((xs : List X) (to : ℕ) → SpellsBracketed others (spells others) from xs to → to ≡ end) →
+          (xs : List X) (to : ℕ) → SpellsMaybeBracketed others (spells others) from xs to → (to ≡ end) ⊎ EndsEarly by_bracket others end to
+      by others bracket one [] to h = inr (omega (arith, h, ahead), subst (λ k. by_bracket (what_at others k) ≡ true) (sym h) (ap by_bracket bracket))
+      by others bracket one (x ∷ xs) to h = inl (one (x ∷ xs) to h)
+
+  pub maybe_is_none : (tokens : List Token) (from stop : ℕ) → Stuck (λ tokens. SpellsBracketed tokens (spells tokens)) tokens from stop →
+      Sure (λ tokens. SpellsMaybeBracketed tokens (spells tokens)) by_bracket tokens from from stop
+  maybe_is_none tokens from stop stuck = λ others agree xs to h. by others (λ xs to h. stuck others agree xs to h) xs to h
+    where
+      by : (others : List Token) → ((xs : List X) (to : ℕ) → SpellsBracketed others (spells others) from xs to → ⊥) →
+          (xs : List X) (to : ℕ) → SpellsMaybeBracketed others (spells others) from xs to → (to ≡ from) ⊎ EndsEarly by_bracket others from to
+      by others none [] to h = inl h
+      by others none (x ∷ xs) to h = absurd (none (x ∷ xs) to h)
+
+  -- [ word "(" part { "," part } ")" ]
+  pub headed_is_sure : (tokens : List Token) (from word end stop : ℕ) → from < end → from ≤ stop → is_word word (what_at tokens from) ≡ true →
+      Exact (λ tokens. SpellsBracketed tokens (spells tokens)) tokens (from + 1) end stop →
+      Sure (λ tokens. SpellsMaybeHeaded tokens word (spells tokens)) (is_word word) tokens from end stop
+  headed_is_sure tokens from word end stop ahead near stands exact = λ others agree xs to h.
+      by others (ap (is_word word) (sym (agree from near)) ∙ stands) (λ xs to h. exact others agree xs to h) xs to h
+    where
+      by : (others : List Token) → is_word word (what_at others from) ≡ true →
+          ((xs : List X) (to : ℕ) → SpellsBracketed others (spells others) (from + 1) xs to → to ≡ end) →
+          (xs : List X) (to : ℕ) → SpellsMaybeHeaded others word (spells others) from xs to → (to ≡ end) ⊎ EndsEarly (is_word word) others end to
+      by others stands one [] to h = inr (omega (arith, h, ahead), subst (λ k. is_word word (what_at others k) ≡ true) (sym h) stands)
+      by others stands one (x ∷ xs) to h = inl (one (x ∷ xs) to h.1)
+
+  pub headed_is_none : (tokens : List Token) (from word stop : ℕ) → Stuck (λ tokens. SpellsBracketed tokens (spells tokens)) tokens (from + 1) stop →
+      Sure (λ tokens. SpellsMaybeHeaded tokens word (spells tokens)) (is_word word) tokens from from stop
+  headed_is_none tokens from word stop stuck = λ others agree xs to h. by others (λ xs to h. stuck others agree xs to h) xs to h
+    where
+      by : (others : List Token) → ((xs : List X) (to : ℕ) → SpellsBracketed others (spells others) (from + 1) xs to → ⊥) →
+          (xs : List X) (to : ℕ) → SpellsMaybeHeaded others word (spells others) from xs to → (to ≡ from) ⊎ EndsEarly (is_word word) others from to
+      by others none [] to h = inl h
+      by others none (x ∷ xs) to h = absurd (none (x ∷ xs) to h.1)

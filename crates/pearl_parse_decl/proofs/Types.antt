@@ -1,0 +1,115 @@
+-- What other tokens can spell at names and types, by the first token.
+use Rattle.std.proofs.Common.{◌≡◌, ℕ, ◌+◌, ◌-◌, ◌<◌, ◌≤◌, Bool, true, false, List, [], ◌∷◌, Option, Some, ◌⊎◌, inl, inr, refl, sym, ap, subst, ◌∙◌, arith}
+use mathlib.Core.Former.{Count}
+use Rattle.pearl_tree.specs.declared.name.Name.{Name}
+use Rattle.pearl_tree.specs.declared.name.Names.{Names}
+use Rattle.pearl_tree.specs.declared.name.Names.TheVariants.{One, Several}
+use Rattle.pearl_tree.specs.declared.typing.Basic.{Basic}
+use Rattle.pearl_tree.specs.declared.typing.Basic.TheVariants as basic
+use Rattle.pearl_tree.specs.declared.typing.Field.{Field}
+use Rattle.pearl_tree.specs.declared.typing.Sort.TheVariants.{Fixed, Bit, Char}
+use Rattle.pearl_tree.specs.declared.typing.Typing.{Typing, Row_of-Field, end_of-Field, more_of-Field, items-the_row-Field}
+use Rattle.pearl_tree.specs.declared.typing.Typing as typing
+use Rattle.pearl_tree.specs.declared.token.What.TheVariants as what
+use Rattle.pearl_tree.specs.declared.token.Token.{Token}
+use Rattle.pearl_tree.specs.Standing.{what_at, HasWord, HasSymbol, SpellsName, SpellsMore, SpellsList, SpellsBracketed}
+use Rattle.pearl_tree.specs.Types.{SpellsNames, SpellsBounds, SpellsBasic, SpellsTyping, SpellsFields, SpellsMoreFields, SpellsField}
+use Rattle.pearl_tree.specs.Symbols as s
+use Rattle.pearl_tree.specs.WordCodes as w
+use Rattle.pearl_tree.specs.Stops.{BeginAlike}
+use Rattle.pearl_parse_expr.specs.Stops.{Sure, Stuck, Exact, EndsEarly, is_symbol, is_word, is_name}
+use Rattle.pearl_parse_decl.specs.Readings.{by_bracket, by_comma}
+use Rattle.pearl_parse_expr.proofs.Primaries.{clash}
+use Rattle.pearl_parse_expr.proofs.Parts.{shorter}
+use Rattle.pearl_parse_decl.proofs.Lists.{settled}
+
+module _ (tokens : List Token) where
+  pub only_several : (from : ℕ) → is_name (what_at tokens from) ≡ false → (x : Names) (to : ℕ) → SpellsNames tokens from x to →
+      (list : List Name) × SpellsBracketed tokens (SpellsName tokens) from list to
+  only_several from no_name (One name) to h = absurd (clash _ (ap is_name h.0.0) no_name)
+  only_several from no_name (Several names place) to h = (names.items.items, h.1)
+
+  basic_head : (from : ℕ) (x : Basic) (to : ℕ) → SpellsBasic tokens from x to → by_bracket (what_at tokens from) ≡ false
+  basic_head from (basic.Sized sort number place) to h = ap by_bracket h.1
+  basic_head from (basic.Clock place) to h = ap by_bracket h.1
+  basic_head from (basic.Duration place) to h = ap by_bracket h.1
+
+  -- no type begins with a bracket
+  pub typing_head : (depth from : ℕ) (x : Typing) (to : ℕ) → SpellsTyping tokens depth from x to → by_bracket (what_at tokens from) ≡ false
+  typing_head depth from (typing.Basic part) to h = basic_head from part to h
+  typing_head depth from (typing.Struct' _ fields place) to h = ap by_bracket h.2
+  typing_head depth from (typing.Named name) to h = ap by_bracket h.0.0
+
+  pub only_basic : (depth from : ℕ) → is_name (what_at tokens from) ≡ false → is_word w.STRUCT (what_at tokens from) ≡ false →
+      (x : Typing) (to : ℕ) → SpellsTyping tokens depth from x to → (part : Basic) × SpellsBasic tokens from part to
+  only_basic depth from no_name no_struct (typing.Basic part) to h = (part, h)
+  only_basic depth from no_name no_struct (typing.Struct' _ fields place) to h = absurd (clash _ (ap (is_word w.STRUCT) h.2) no_struct)
+  only_basic depth from no_name no_struct (typing.Named name) to h = absurd (clash _ (ap is_name h.0.0) no_name)
+
+  basic_no_name : (from : ℕ) (x : Basic) (to : ℕ) → SpellsBasic tokens from x to → is_name (what_at tokens from) ≡ false
+  basic_no_name from (basic.Sized sort number place) to h = ap is_name h.1
+  basic_no_name from (basic.Clock place) to h = ap is_name h.1
+  basic_no_name from (basic.Duration place) to h = ap is_name h.1
+
+  pub only_name : (depth from : ℕ) → is_name (what_at tokens from) ≡ true → (x : Typing) (to : ℕ) → SpellsTyping tokens depth from x to → to ≡ from + 1
+  only_name depth from name (typing.Basic part) to h = absurd (clash _ name (basic_no_name from part to h))
+  only_name depth from name (typing.Struct' _ fields place) to h = absurd (clash _ name (ap is_name h.2))
+  only_name depth from name (typing.Named part) to h = h.1
+
+  basic_no_struct : (from : ℕ) (x : Basic) (to : ℕ) → SpellsBasic tokens from x to → is_word w.STRUCT (what_at tokens from) ≡ false
+  basic_no_struct from (basic.Sized Fixed number place) to h = ap (is_word w.STRUCT) h.1
+  basic_no_struct from (basic.Sized Bit number place) to h = ap (is_word w.STRUCT) h.1
+  basic_no_struct from (basic.Sized Char number place) to h = ap (is_word w.STRUCT) h.1
+  basic_no_struct from (basic.Clock place) to h = ap (is_word w.STRUCT) h.1
+  basic_no_struct from (basic.Duration place) to h = ap (is_word w.STRUCT) h.1
+
+  more_fields : (depth from : ℕ) (n : _) (row : Row_of-Field n) (to : ℕ) →
+      SpellsMoreFields tokens depth from row to → SpellsMore tokens (SpellsField tokens depth) from (items-the_row-Field n row) to
+  more_fields depth from _ end_of-Field to h = h
+  more_fields depth from _ (more_of-Field names bounds part place rest) to h = (h.0, h.1, h.2, more_fields depth h.0 _ rest to h.3)
+
+  fields_list : (depth from : ℕ) (n : _) (row : Row_of-Field n) (to : ℕ) →
+      SpellsFields tokens depth from row to → SpellsList tokens (SpellsField tokens depth) from (items-the_row-Field n row) to
+  fields_list depth from _ end_of-Field to h = h
+  fields_list depth from _ (more_of-Field names bounds part place rest) to h = (h.0, h.1, more_fields depth h.0 _ rest to h.2)
+
+  abbrev fields_of : Typing → (n : Count) × Row_of-Field n
+  fields_of (typing.Struct' _ row _) = (_, row)
+  fields_of _ = (_, end_of-Field)
+
+  pub only_struct : (depth from : ℕ) → HasWord tokens from w.STRUCT → (x : Typing) (to : ℕ) → SpellsTyping tokens depth from x to →
+      (0 < depth) × HasSymbol tokens (from + 1) s.left_square ×
+      ((list : List Field) × (m : ℕ) × SpellsList tokens (SpellsField tokens (depth - 1)) (from + 2) list m × HasSymbol tokens m s.right_square × (to ≡ m + 1))
+  only_struct depth from word (typing.Basic part) to h = absurd (clash _ (ap (is_word w.STRUCT) word) (basic_no_struct from part to h))
+  only_struct depth from word (typing.Struct' n fields place) to h =
+      let row = fields_of (typing.Struct' n fields place) in
+      (h.3, h.4, (items-the_row-Field row.0 row.1, h.0, fields_list (depth - 1) (from + 2) row.0 row.1 h.0 h.5, h.6, h.7))
+  only_struct depth from word (typing.Named name) to h = absurd (clash _ (ap is_name h.0.0) (ap is_name word))
+
+-- the bracket that closes a STRUCT stands at one place
+module _ (tokens : List Token) (depth from end stop : ℕ) (word : HasWord tokens from w.STRUCT) (near : from ≤ stop)
+    (sure : Sure (λ tokens. SpellsList tokens (SpellsField tokens (depth - 1))) (by_comma by_bracket) tokens (from + 2) end stop) where
+  closes : (others : List Token) → BeginAlike tokens others stop → (x : Typing) (to : ℕ) → SpellsTyping others depth from x to →
+      HasSymbol others end s.right_square × (to ≡ end + 1)
+  closes others agree x to h =
+      let read = (only_struct others depth from (sym (agree from near) ∙ word) x to h).2 in
+      let none : by_comma by_bracket (what_at others read.1) ≡ false = ap (by_comma by_bracket) read.3 in
+      let same = settled (by_comma by_bracket) others end read.1 (sure others agree read.0 read.1 read.2) none in
+      (subst (λ k. HasSymbol others k s.right_square) same read.3, omega (arith, same, read.4))
+
+  pub struct_is_sure : (new : ℕ) → stop ≤ new → Sure (λ tokens. SpellsTyping tokens depth) by_bracket tokens from (end + 1) new
+  struct_is_sure new below = λ others agree x to h. inl (closes others (shorter tokens others stop new below agree) x to h).1
+
+  pub struct_is_open : end ≤ stop → is_symbol s.right_square (what_at tokens end) ≡ false → Stuck (λ tokens. SpellsTyping tokens depth) tokens from stop
+  struct_is_open below unclosed = λ others agree x to h.
+      clash _ (ap (is_symbol s.right_square) (closes others agree x to h).0) (ap (is_symbol s.right_square) (sym (agree end below)) ∙ unclosed)
+
+-- behind the names and the bounds that were read the type of a field begins
+pub field_typing : (tokens others : List Token) (depth from a b stop_a stop_b stop : ℕ) → stop_a ≤ stop → stop_b ≤ stop →
+    Exact SpellsNames tokens from a stop_a → Sure SpellsBounds by_bracket tokens a b stop_b → BeginAlike tokens others stop →
+    (x : Field) (to : ℕ) → SpellsField others depth from x to → SpellsTyping others depth b x.typing to
+field_typing tokens others depth from a b stop_a stop_b stop below_a below_b exact sure agree x to h =
+    let first = exact others (shorter tokens others stop_a stop below_a agree) x.names h.0 h.3 in
+    let next = sure others (shorter tokens others stop_b stop below_b agree) x.bounds h.1 (subst (λ k. SpellsBounds others k x.bounds h.1) first h.4) in
+    let second = settled by_bracket others b h.1 next (typing_head others depth h.1 x.typing to h.5) in
+    subst (λ k. SpellsTyping others depth k x.typing to) second h.5

@@ -1,0 +1,175 @@
+use Rattle.std.proofs.Common.{◌≡◌, ◌+◌, ◌-◌, ◌<◌, ◌≤◌, length, [], ◌∷◌, ◌++◌, inl, refl, sym, ap, subst, ◌∙◌, arith}
+use Rattle.pearl_tree.specs.Standing.{SpellsList}
+use Rattle.pearl_tree.specs.Types as grammar
+use Rattle.pearl_tree.specs.WordCodes as w
+use Rattle.pearl_tree.specs.Symbols as s
+use Rattle.pearl_tree.proofs.TypeLists.{spells_struct}
+use Rattle.pearl_parse_expr.specs.Stops as stops
+use Rattle.pearl_parse_expr.proofs.Lists.{list_one_more}
+use Rattle.pearl_parse_expr.proofs.Halts.{halted, stuck_of}
+use Rattle.pearl_parse_expr.proofs.Primaries.{clash, word_within}
+use Rattle.pearl_parse_expr.proofs.Parts.{shorter}
+use Rattle.pearl_parse_decl.specs.Readings.{by_bracket}
+use Rattle.pearl_parse_decl.proofs.Behind.{halted_behind}
+use Rattle.pearl_parse_decl.proofs.Lists.{list_begins, list_next, list_ends, list_is_stuck, first_of}
+use Rattle.pearl_parse_decl.proofs.Types.{only_basic, only_struct, only_name, struct_is_sure, struct_is_open, field_typing}
+use Rattle.pearl_parse_decl.proofs.typing.+typing.Goals as goal
+
+pub field-returns-in-Err-typing-clause-refused : goal.field-returns-in-Err-typing-clause-refused
+field-returns-in-Err-typing-clause-refused t c =
+    let tokens = c.args.tokens.now in
+    let depth = c.args.depth in
+    let names = c.in-Ok.names in
+    let bounds = c.in-Ok-bounds.bounds in
+    let stop = c.max-stop.result in
+    let below : names.stop ≤ stop = omega (arith, c.max-stop.ensures) in
+    let reach : bounds.stop ≤ stop = omega (arith, c.max-stop.ensures) in
+    let within : stop ≤ length tokens = omega (arith, c.max-stop.ensures, c.in-Ok.ensures.ahead, c.in-Ok-bounds.ensures.ahead) in
+    let on : c.args.from ≤ bounds.end = omega (arith, c.in-Ok.ensures.ahead, c.in-Ok-bounds.ensures.ahead) in
+    subst (λ halt. stops.IsHalted (λ tokens. grammar.SpellsField tokens depth) tokens c.args.from halt) (sym c.behind.ensures)
+    (halted_behind (λ tokens. grammar.SpellsTyping tokens depth) (λ tokens. grammar.SpellsField tokens depth) tokens c.args.from bounds.end stop c.in-Err-typing.halt on within
+    (λ others agree x to h. (x.typing, to, field_typing tokens others depth c.args.from names.end bounds.end names.stop bounds.stop stop below reach
+    c.in-Ok.ensures.sure c.in-Ok-bounds.ensures.sure agree x to h))
+    c.in-Err-typing.ensures.refused)
+
+pub field-returns-clause-sure : goal.field-returns-clause-sure
+field-returns-clause-sure t c = λ others agree x to h.
+    let tokens = c.args.tokens.now in
+    let depth = c.args.depth in
+    let names = c.in-Ok.names in
+    let bounds = c.in-Ok-bounds.bounds in
+    let typing = c.in-Ok-typing.typing in
+    let stop = c.max.result in
+    let below : names.stop ≤ stop = omega (arith, c.max.ensures, c.max-stop.ensures) in
+    let reach : bounds.stop ≤ stop = omega (arith, c.max.ensures, c.max-stop.ensures) in
+    let last : typing.stop ≤ stop = omega (arith, c.max.ensures) in
+    c.in-Ok-typing.ensures.sure others (shorter tokens others typing.stop stop last agree) x.typing to
+    (field_typing tokens others depth c.args.from names.end bounds.end names.stop bounds.stop stop below reach c.in-Ok.ensures.sure c.in-Ok-bounds.ensures.sure agree x to h)
+
+pub fields-returns-in-Err-clause-refused : goal.fields-returns-in-Err-clause-refused
+fields-returns-in-Err-clause-refused t c =
+    halted (λ tokens. grammar.SpellsField tokens c.args.depth) (λ tokens. SpellsList tokens (grammar.SpellsField tokens c.args.depth)) c.args.tokens.now c.args.from c.args.from c.in-Err.halt
+    (omega arith)
+    (λ others stop near agree x to h. first_of others (grammar.SpellsField others c.args.depth) c.args.from x to h)
+    c.in-Err.ensures.refused
+
+pub fields-each-init : goal.fields-each-init
+fields-each-init t c =
+    let first = c.in-Ok.first in
+    record {
+      spells = subst (λ xs. SpellsList c.args.tokens.now (grammar.SpellsField c.args.tokens.now c.args.depth) c.args.from xs first.end)
+          (sym (c.in_ok-append.ensures.more ∙ ap (λ xs. xs ++ first.part ∷ []) c.new-list.ensures.items))
+          (first.end, c.in-Ok.ensures.spells, refl);
+      goes = list_begins (λ tokens. grammar.SpellsField tokens c.args.depth) by_bracket refl c.args.tokens.now c.args.from first.end first.stop c.in-Ok.ensures.sure;
+      ahead = c.in-Ok.ensures.ahead;
+    }
+
+pub fields-each-preserved : goal.fields-each-preserved
+fields-each-preserved t c =
+    let tokens = c.args.tokens.now in
+    let depth = c.args.depth in
+    let next = c.in-Ok-field.next in
+    let read = c.in-Ok-field.ensures in
+    let comma = c.each-test.ensures.stands refl in
+    let near : c.each.end ≤ c.each.stop = omega (arith, c.each.invariant.ahead) in
+    let ahead : c.each.end < next.end = omega (arith, read.ahead) in
+    let below : c.each.stop ≤ c.max-stop.result = omega (arith, c.max-stop.ensures) in
+    let reach : next.stop ≤ c.max-stop.result = omega (arith, c.max-stop.ensures) in
+    record {
+      spells = subst (λ xs. SpellsList tokens (grammar.SpellsField tokens depth) c.args.from xs next.end) (sym c.in_ok-append-in-Ok-field.ensures.more)
+          (list_one_more tokens (grammar.SpellsField tokens depth) c.each.list.items c.args.from c.each.end next.end next.part c.each.invariant.spells comma read.spells);
+      goes = list_next (λ tokens. grammar.SpellsField tokens depth) by_bracket refl tokens c.args.from c.each.end c.each.stop next.end next.stop c.max-stop.result c.each.invariant.goes near ahead below reach comma read.sure;
+      ahead = (omega (arith, c.each.invariant.ahead, read.ahead), omega (arith, read.ahead), omega (arith, c.each.invariant.ahead, read.ahead, c.max-stop.ensures));
+    }
+
+pub fields-returns-in-Refused-clause-sure : goal.fields-returns-in-Refused-clause-sure
+fields-returns-in-Refused-clause-sure t c =
+    let stuck = stuck_of (λ tokens. grammar.SpellsField tokens c.args.depth) c.args.tokens.now (c.each.end + 1) c.in-Refused.at c.in-Err-field.halt c.in-Refused.is c.in-Err-field.ensures.refused in
+    let below : c.each.stop ≤ c.max.result = omega (arith, c.max.ensures) in
+    let reach : c.in-Refused.at ≤ c.max.result = omega (arith, c.max.ensures) in
+    list_is_stuck (λ tokens. grammar.SpellsField tokens c.args.depth) by_bracket c.args.tokens.now c.args.from c.each.end c.each.stop c.in-Refused.at c.max.result c.each.invariant.goes below reach stuck.0
+
+pub fields-returns-clause-sure : goal.fields-returns-clause-sure
+fields-returns-clause-sure t c =
+    let near : c.each.end ≤ c.each.stop = omega (arith, c.each.invariant.ahead) in
+    list_ends (λ tokens. grammar.SpellsField tokens c.args.depth) by_bracket c.args.tokens.now c.args.from c.each.end c.each.stop c.each.invariant.goes near (sym c.each-test.ensures.value)
+
+pub structure-returns-then-depth-eq0-clause-refused : goal.structure-returns-then-depth-eq0-clause-refused
+structure-returns-then-depth-eq0-clause-refused t c = (
+  λ others agree x to h. omega (arith, (only_struct others c.args.depth c.args.from (sym (agree c.args.from (omega arith)) ∙ c.requires.word) x to h).0),
+  omega arith,
+  c.requires.within,
+)
+
+pub structure-returns-then-not-is_symbol-clause-refused : goal.structure-returns-then-not-is_symbol-clause-refused
+structure-returns-then-not-is_symbol-clause-refused t c = (
+  λ others agree x to h. clash _
+      (ap (stops.is_symbol s.left_square) (only_struct others c.args.depth c.args.from (sym (agree c.args.from (omega arith)) ∙ c.requires.word) x to h).1)
+      (ap (stops.is_symbol s.left_square) (sym (agree (c.args.from + 1) (omega arith))) ∙ sym c.if-not-is_symbol.ensures.value),
+  omega arith,
+  omega (arith, word_within c.args.tokens.now c.args.from w.STRUCT c.requires.word),
+)
+
+pub structure-returns-in-Err-clause-refused : goal.structure-returns-in-Err-clause-refused
+structure-returns-in-Err-clause-refused t c =
+    halted (λ tokens. SpellsList tokens (grammar.SpellsField tokens (c.args.depth - 1))) (λ tokens. grammar.SpellsTyping tokens c.args.depth) c.args.tokens.now c.args.from (c.args.from + 2) c.in-Err.halt
+    (omega arith)
+    (λ others stop near agree x to h.
+    let read = (only_struct others c.args.depth c.args.from (sym (agree c.args.from (omega arith)) ∙ c.requires.word) x to h).2 in
+    (read.0, read.1, read.2))
+    c.in-Err.ensures.refused
+
+pub structure-returns-then-not-is_symbol-2-clause-refused : goal.structure-returns-then-not-is_symbol-2-clause-refused
+structure-returns-then-not-is_symbol-2-clause-refused t c =
+    let inner = c.in-Ok.inner in
+    let near : c.args.from ≤ inner.stop = omega (arith, c.in-Ok.ensures.ahead) in
+    let below : inner.end ≤ inner.stop = omega (arith, c.in-Ok.ensures.ahead) in (
+      struct_is_open c.args.tokens.now c.args.depth c.args.from inner.end inner.stop c.requires.word near c.in-Ok.ensures.sure below (sym c.if-not-is_symbol-2.ensures.value),
+      near,
+      omega (arith, c.in-Ok.ensures.ahead),
+    )
+
+pub structure-returns-clause-spells : goal.structure-returns-clause-spells
+structure-returns-clause-spells t c =
+    let inner = c.in-Ok.inner in
+    let tokens = c.args.tokens.now in
+    let depth = c.args.depth in
+    let from = c.args.from in
+    let deep : 0 < depth = omega (arith, c.if-depth-eq0.false) in
+    subst (λ X. X) (sym (spells_struct tokens depth from c.new.result c.place_at.result (inner.end + 1))) (
+      inner.end,
+      c.place_at.ensures,
+      c.requires.word,
+      deep,
+      c.if-not-is_symbol.ensures.stands refl,
+      subst (λ xs. SpellsList tokens (grammar.SpellsField tokens (depth - 1)) (from + 2) xs.items inner.end) (sym c.new.ensures) c.in-Ok.ensures.spells,
+      c.if-not-is_symbol-2.ensures.stands refl,
+      refl,
+    )
+
+pub structure-returns-clause-sure : goal.structure-returns-clause-sure
+structure-returns-clause-sure t c =
+    let inner = c.in-Ok.inner in
+    let near : c.args.from ≤ inner.stop = omega (arith, c.in-Ok.ensures.ahead) in
+    let below : inner.stop ≤ c.max.result = omega (arith, c.max.ensures) in
+    struct_is_sure c.args.tokens.now c.args.depth c.args.from inner.end inner.stop c.requires.word near c.in-Ok.ensures.sure c.max.result below
+
+pub typing-returns-in-Some-clause-sure : goal.typing-returns-in-Some-clause-sure
+typing-returns-in-Some-clause-sure t c = λ others agree x to h.
+    inl (only_name others c.args.depth c.args.from (ap stops.is_name (sym (agree c.args.from (omega arith)) ∙ c.in-Some.ensures.some.0)) x to h)
+
+pub typing-returns-in-Ok-clause-sure : goal.typing-returns-in-Ok-clause-sure
+typing-returns-in-Ok-clause-sure t c = λ others agree x to h.
+    let near : c.args.from ≤ c.in-Ok.basic.stop = omega (arith, c.in-Ok.ensures.ahead) in
+    let here = sym (agree c.args.from near) in
+    let read = only_basic others c.args.depth c.args.from (ap stops.is_name here ∙ c.in-None.ensures.none refl) (ap (stops.is_word w.STRUCT) here ∙ sym c.if-is_word.ensures.value) x to h in
+    c.in-Ok.ensures.sure others agree read.0 to read.1
+
+pub typing-returns-in-Err-clause-refused : goal.typing-returns-in-Err-clause-refused
+typing-returns-in-Err-clause-refused t c =
+    halted grammar.SpellsBasic (λ tokens. grammar.SpellsTyping tokens c.args.depth) c.args.tokens.now c.args.from c.args.from c.in-Err.halt (omega arith)
+    (λ others stop near agree x to h.
+    let here = sym (agree c.args.from near) in
+    let read = only_basic others c.args.depth c.args.from (ap stops.is_name here ∙ c.in-None.ensures.none refl) (ap (stops.is_word w.STRUCT) here ∙ sym c.if-is_word.ensures.value) x to h in
+    (read.0, to, read.1))
+    c.in-Err.ensures.refused

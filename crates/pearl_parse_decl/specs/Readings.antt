@@ -1,0 +1,52 @@
+-- With which tokens a part goes on that could end before them, and what is told of a part that is not read.
+use Rattle.std.specs.Prelude.{◌≡◌, ℕ, ◌≤◌, ◌||◌, max, Bool, false, List, length, Option}
+use Rattle.pearl_tree.specs.declared.token.What.{What}
+use Rattle.pearl_tree.specs.declared.token.Token.{Token}
+use Rattle.pearl_tree.specs.Symbols as s
+use Rattle.pearl_tree.specs.WordCodes as w
+use Rattle.pearl_parse_expr.specs.declared.reading.Halt.{Halt}
+use Rattle.pearl_parse_expr.specs.declared.reading.Halt.TheVariants.{Refused, NoMemory}
+use Rattle.pearl_parse_expr.specs.Stops.{is_name, is_symbol, is_word}
+
+-- a part that has one end
+abbrev pub never : Option What → Bool
+never token = false
+
+-- a part behind which `"(" number ")"` may stand
+abbrev pub by_bracket : Option What → Bool
+by_bracket = is_symbol s.left_round
+
+abbrev pub by_colon : Option What → Bool
+by_colon = is_symbol s.colon
+
+-- part { "," part }
+abbrev pub by_comma : (Option What → Bool) → Option What → Bool
+by_comma extends token = extends token || is_symbol s.comma token
+
+abbrev pub extends_item : Option What → Bool
+extends_item token = by_bracket token || is_word w.INIT token
+
+abbrev pub extends_sema : Option What → Bool
+extends_sema = is_word w.PRESET
+
+abbrev pub extends_declared : Option What → Bool
+extends_declared token = extends_item token || extends_sema token
+
+-- the id may be CONTROL
+abbrev pub extends_spec : Option What → Bool
+extends_spec token = by_bracket token || is_name token
+
+abbrev pub extends_param : Option What → Bool
+extends_param token = by_bracket token || is_word w.IDENT token
+
+abbrev pub extends_head : Option What → Bool
+extends_head token = is_word w.PRIO token || is_word w.MAIN token
+
+-- what is read may be empty
+abbrev pub IsOn : List Token → ℕ → ℕ → ℕ → Type 0
+IsOn tokens from end stop = (from ≤ end) × (end ≤ stop) × (stop ≤ length tokens)
+
+-- a part is refused where another one before it was stopped
+abbrev pub behind : Halt → ℕ → Halt
+behind NoMemory stop = NoMemory
+behind (Refused at) stop = Refused (max at stop)

@@ -1,0 +1,125 @@
+// Items of formats.
+
+ghost use Rattle.std.specs.Prelude.{◌≡◌, ◌+◌, ◌<◌, ◌≤◌, List, Some, None, length, IfOk, IfErr, IfSome, refl};
+ghost use Rattle.pearl_tree.specs.Standing.{what_at, HasId, HasSymbol, SpellsMaybe, SpellsBracketedNumber};
+ghost use Rattle.pearl_tree.specs.Formats as grammar;
+ghost use Rattle.pearl_tree.specs.declared.format.FreeCode.{FreeCode};
+ghost use Rattle.pearl_tree.specs.declared.format.WideCode.{WideCode};
+ghost use Rattle.pearl_parse_expr.specs.Stops as stops;
+ghost use Rattle.pearl_parse_decl.specs.Readings as spec;
+
+use crate::list::Part;
+use crate::name::{bracketed_number, maybe_number};
+use pearl_parse_expr::reading::{Halt, Reading};
+use pearl_parse_expr::standing::place_at;
+use pearl_tree::format::{Fmt, FreeCode, WideCode};
+use pearl_tree::token::{Token, What};
+use std::alloc::Global;
+
+fn free_code(text: &[u8]) -> Option<FreeCode>
+    ensures some { IfSome result (λ code. text.now ≡ grammar.free_text code) }
+    ensures none { result ≡ None → (code : FreeCode) → text.now ≡ grammar.free_text code → ⊥ }
+{
+    match text {
+        b"A" => Some(FreeCode::A),
+        b"B" => Some(FreeCode::B),
+        b"B1" => Some(FreeCode::B1),
+        b"B2" => Some(FreeCode::B2),
+        b"B3" => Some(FreeCode::B3),
+        b"B4" => Some(FreeCode::B4),
+        b"X" => Some(FreeCode::X),
+        b"SKIP" => Some(FreeCode::Skip),
+        _ => None,
+    }
+}
+
+fn wide_code(text: &[u8]) -> Option<WideCode>
+    ensures some { IfSome result (λ code. text.now ≡ grammar.wide_text code) }
+    ensures none { result ≡ None → (code : WideCode) → text.now ≡ grammar.wide_text code → ⊥ }
+{
+    match text {
+        b"F" => Some(WideCode::F),
+        b"T" => Some(WideCode::T),
+        b"D" => Some(WideCode::D),
+        _ => None,
+    }
+}
+
+fn free_at(tokens: &[Token], at: usize) -> Option<FreeCode>
+    ensures some { IfSome result (λ code. HasId tokens.now at (grammar.free_text code)) }
+    ensures none { result ≡ None → (code : FreeCode) → HasId tokens.now at (grammar.free_text code) → ⊥ }
+    ensures within { IfSome result (λ _. at < length tokens.now) }
+{
+    match tokens.get(at) {
+        Some(token) => match &token.what {
+            What::Id(text) => free_code(text),
+            _ => None,
+        },
+        None => None,
+    }
+}
+
+fn wide_at(tokens: &[Token], at: usize) -> Option<WideCode>
+    ensures some { IfSome result (λ code. HasId tokens.now at (grammar.wide_text code)) }
+    ensures none { result ≡ None → (code : WideCode) → HasId tokens.now at (grammar.wide_text code) → ⊥ }
+    ensures within { IfSome result (λ _. at < length tokens.now) }
+{
+    match tokens.get(at) {
+        Some(token) => match &token.what {
+            What::Id(text) => wide_code(text),
+            _ => None,
+        },
+        None => None,
+    }
+}
+
+/// The item of a format that begins here.
+pub fn fmt(tokens: &[Token], from: usize) -> Result<Reading<Fmt>, Halt>
+    requires { from ≤ length tokens.now }
+    ensures spells { IfOk result (λ reading. grammar.SpellsFmt tokens.now from reading.part reading.end) }
+    ensures sure { IfOk result (λ reading. stops.Sure grammar.SpellsFmt spec.by_bracket tokens.now from reading.end reading.stop) }
+    ensures ahead { IfOk result (λ reading. stops.IsAhead tokens.now from reading.end reading.stop) }
+    ensures refused { IfErr result (λ halt. stops.IsHalted grammar.SpellsFmt tokens.now from halt) }
+{
+    if let Some(code) = free_at(tokens, from) {
+        let width = maybe_number(tokens, from + 1);
+        return Ok(Reading {
+            part: Fmt::Free {
+                code,
+                width: width.part,
+                place: place_at(tokens, from),
+            },
+            end: width.end,
+            stop: width.stop,
+        });
+    }
+    match wide_at(tokens, from) {
+        Some(code) => match bracketed_number(tokens, from + 1) {
+            Ok(width) => Ok(Reading {
+                part: Fmt::Wide {
+                    code,
+                    width,
+                    place: place_at(tokens, from),
+                },
+                end: from + 4,
+                stop: from + 4,
+            }),
+            Err(stop) => Err(Halt::Refused(stop)),
+        },
+        None => Err(Halt::Refused(from)),
+    }
+}
+
+impl Part for Fmt {
+    ghost spelling = { grammar.SpellsFmt };
+
+    ghost extends = { spec.by_bracket };
+
+    fn read(_alloc: Global, tokens: &[Token], from: usize) -> Result<Reading<Fmt>, Halt> {
+        fmt(tokens, from)
+    }
+
+    ghost stops_at_comma = { refl };
+
+    ghost stops_at_bracket = { refl };
+}

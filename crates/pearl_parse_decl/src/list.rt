@@ -1,0 +1,190 @@
+// Lists of parts with commas between them.
+
+ghost use Rattle.std.specs.Prelude.{◌≡◌, ℕ, ◌+◌, ◌<◌, ◌≤◌, List, Bool, Option, Some, length, IfOk, IfErr, false};
+ghost use Rattle.pearl_tree.specs.declared.token.Token.{Token};
+ghost use Rattle.pearl_tree.specs.declared.token.What.{What};
+ghost use Rattle.pearl_tree.specs.declared.token.What.TheVariants as what;
+ghost use Rattle.pearl_tree.specs.Standing.{Spelling, HasWord, HasSymbol, SpellsList, SpellsBracketed, SpellsMaybeBracketed, SpellsMaybeHeaded};
+ghost use Rattle.pearl_tree.specs.Symbols as s;
+ghost use Rattle.pearl_parse_expr.specs.declared.reading.Halt.{Halt};
+ghost use Rattle.pearl_parse_expr.specs.Stops as stops;
+ghost use Rattle.pearl_parse_decl.specs.Readings as spec;
+
+use crate::symbol::*;
+use pearl_parse_expr::reading::{Halt, Reading, append};
+use pearl_parse_expr::standing::{is_symbol, is_word};
+use pearl_tree::token::Token;
+use std::alloc::Global;
+
+/// What is read by the tokens from a place on.
+pub trait Part: Drop {
+    // The tokens that a part spells.
+    ghost spelling: { List Token → Spelling Self };
+
+    // The tokens that go on with a part that could end before them.
+    ghost extends: { Option What → Bool };
+
+    /// The longest part that begins here.
+    fn read(alloc: Global, tokens: &[Token], from: usize) -> Result<Reading<Self>, Halt>
+        requires { from ≤ length tokens.now }
+        ensures spells { IfOk result (λ reading. spelling tokens.now from reading.part reading.end) }
+        ensures sure { IfOk result (λ reading. stops.Sure spelling extends tokens.now from reading.end reading.stop) }
+        ensures ahead { IfOk result (λ reading. stops.IsAhead tokens.now from reading.end reading.stop) }
+        ensures refused { IfErr result (λ halt. stops.IsHalted spelling tokens.now from halt) };
+
+    // Behind a part a comma or a closing bracket may stand.
+    ghost stops_at_comma: { extends (Some (what.Symbol s.comma)) ≡ false };
+
+    ghost stops_at_bracket: { extends (Some (what.Symbol s.right_round)) ≡ false };
+}
+
+/// The same want of memory, or the later one of two tokens.
+pub fn behind(halt: Halt, stop: usize) -> Halt
+    ensures { result ≡ spec.behind halt stop }
+{
+    match halt {
+        Halt::Refused(at) => Halt::Refused(at.max(stop)),
+        Halt::NoMemory => Halt::NoMemory,
+    }
+}
+
+/// The longest `part { "," part }` that begins here.
+pub fn list<P: Part>(
+    alloc: Global,
+    tokens: &[Token],
+    from: usize,
+) -> Result<Reading<Vec<P>>, Halt>
+    requires { from ≤ length tokens.now }
+    ensures spells { IfOk result (λ reading. SpellsList tokens.now (P.spelling tokens.now) from reading.part.items reading.end) }
+    ensures sure { IfOk result (λ reading. stops.Sure (λ tokens. SpellsList tokens (P.spelling tokens)) (spec.by_comma P.extends) tokens.now from reading.end reading.stop) }
+    ensures ahead { IfOk result (λ reading. stops.IsAhead tokens.now from reading.end reading.stop) }
+    ensures refused { IfErr result (λ halt. stops.IsHalted (λ tokens. SpellsList tokens (P.spelling tokens)) tokens.now from halt) }
+{
+    let first = match P::read(alloc, tokens, from) {
+        Ok(first) => first,
+        Err(halt) => return Err(halt),
+    };
+    let mut list = Vec::new(alloc);
+    append(&mut list, first.part)?;
+    let mut end = first.end;
+    let mut stop = first.stop;
+    'each: while is_symbol(tokens, end, COMMA) {
+        match P::read(alloc, tokens, end + 1) {
+            Ok(next) => {
+                append(&mut list, next.part)?;
+                end = next.end;
+                stop = stop.max(next.stop);
+            }
+            Err(halt) => match halt {
+                Halt::Refused(at) => {
+                    return Ok(Reading {
+                        part: list,
+                        end,
+                        stop: stop.max(at),
+                    });
+                }
+                Halt::NoMemory => return Err(Halt::NoMemory),
+            },
+        }
+    }
+    Ok(Reading {
+        part: list,
+        end,
+        stop,
+    })
+}
+
+/// `"(" part { "," part } ")"`
+pub fn bracketed<P: Part>(
+    alloc: Global,
+    tokens: &[Token],
+    from: usize,
+) -> Result<Reading<Vec<P>>, Halt>
+    requires { from ≤ length tokens.now }
+    ensures spells { IfOk result (λ reading. SpellsBracketed tokens.now (P.spelling tokens.now) from reading.part.items reading.end) }
+    ensures sure { IfOk result (λ reading. stops.Exact (λ tokens. SpellsBracketed tokens (P.spelling tokens)) tokens.now from reading.end reading.stop) }
+    ensures ahead { IfOk result (λ reading. stops.IsAhead tokens.now from reading.end reading.stop) }
+    ensures refused { IfErr result (λ halt. stops.IsHalted (λ tokens. SpellsBracketed tokens (P.spelling tokens)) tokens.now from halt) }
+{
+    if !is_symbol(tokens, from, LEFT_ROUND) {
+        return Err(Halt::Refused(from));
+    }
+    let inner = match list(alloc, tokens, from + 1) {
+        Ok(inner) => inner,
+        Err(halt) => return Err(halt),
+    };
+    if !is_symbol(tokens, inner.end, RIGHT_ROUND) {
+        return Err(Halt::Refused(inner.stop));
+    }
+    Ok(Reading {
+        part: inner.part,
+        end: inner.end + 1,
+        stop: inner.stop.max(inner.end + 1),
+    })
+}
+
+/// `[ "(" part { "," part } ")" ]`: without brackets, or where no list in brackets begins, nothing is read.
+pub fn maybe_bracketed<P: Part>(
+    alloc: Global,
+    tokens: &[Token],
+    from: usize,
+) -> Result<Reading<Vec<P>>, Halt>
+    requires { from ≤ length tokens.now }
+    ensures spells { IfOk result (λ reading. SpellsMaybeBracketed tokens.now (P.spelling tokens.now) from reading.part.items reading.end) }
+    ensures sure { IfOk result (λ reading. stops.Sure (λ tokens. SpellsMaybeBracketed tokens (P.spelling tokens)) spec.by_bracket tokens.now from reading.end reading.stop) }
+    ensures ahead { IfOk result (λ reading. spec.IsOn tokens.now from reading.end reading.stop) }
+    ensures refused { IfErr result (λ halt. halt ≡ Halt.NoMemory) }
+{
+    match bracketed(alloc, tokens, from) {
+        Ok(list) => Ok(Reading {
+            part: list.part,
+            end: list.end,
+            stop: list.stop,
+        }),
+        Err(halt) => match halt {
+            Halt::Refused(stop) => Ok(Reading {
+                part: Vec::new(alloc),
+                end: from,
+                stop,
+            }),
+            Halt::NoMemory => Err(Halt::NoMemory),
+        },
+    }
+}
+
+/// `[ word "(" part { "," part } ")" ]`: without the word, or where no list in brackets follows it, nothing is read.
+pub fn maybe_headed<P: Part>(
+    alloc: Global,
+    tokens: &[Token],
+    from: usize,
+    word: u8,
+) -> Result<Reading<Vec<P>>, Halt>
+    requires { from ≤ length tokens.now }
+    ensures spells { IfOk result (λ reading. SpellsMaybeHeaded tokens.now word (P.spelling tokens.now) from reading.part.items reading.end) }
+    ensures sure { IfOk result (λ reading. stops.Sure (λ tokens. SpellsMaybeHeaded tokens word (P.spelling tokens)) (stops.is_word word) tokens.now from reading.end reading.stop) }
+    ensures ahead { IfOk result (λ reading. spec.IsOn tokens.now from reading.end reading.stop) }
+    ensures refused { IfErr result (λ halt. halt ≡ Halt.NoMemory) }
+{
+    if !is_word(tokens, from, word) {
+        return Ok(Reading {
+            part: Vec::new(alloc),
+            end: from,
+            stop: from,
+        });
+    }
+    match bracketed(alloc, tokens, from + 1) {
+        Ok(list) => Ok(Reading {
+            part: list.part,
+            end: list.end,
+            stop: list.stop,
+        }),
+        Err(halt) => match halt {
+            Halt::Refused(stop) => Ok(Reading {
+                part: Vec::new(alloc),
+                end: from,
+                stop,
+            }),
+            Halt::NoMemory => Err(Halt::NoMemory),
+        },
+    }
+}

@@ -1,0 +1,152 @@
+// Names, and numbers in brackets.
+
+ghost use Rattle.std.specs.Prelude.{◌≡◌, ◌+◌, ◌<◌, ◌≤◌, ◌⊎◌, List, Some, None, length, IfOk, IfErr, IfSome, refl};
+ghost use Rattle.pearl_tree.specs.Standing.{what_at, HasSymbol, SpellsName, SpellsNumber, SpellsMaybe, SpellsBracketedNumber};
+ghost use Rattle.pearl_tree.specs.Types as grammar;
+ghost use Rattle.pearl_parse_expr.specs.Stops as stops;
+ghost use Rattle.pearl_parse_decl.specs.Readings as spec;
+
+use crate::list::{Part, bracketed};
+use crate::symbol::*;
+use pearl_parse_expr::reading::{Halt, Reading};
+use pearl_parse_expr::standing::{is_symbol, name_at, number_at, place_at};
+use pearl_tree::name::{Name, Names, Number};
+use pearl_tree::parts::Parts;
+use pearl_tree::token::Token;
+use std::alloc::Global;
+
+/// The name that stands here.
+pub fn name(tokens: &[Token], from: usize) -> Result<Reading<Name>, Halt>
+    requires { from ≤ length tokens.now }
+    ensures spells { IfOk result (λ reading. SpellsName tokens.now from reading.part reading.end) }
+    ensures sure { IfOk result (λ reading. stops.Exact SpellsName tokens.now from reading.end reading.stop) }
+    ensures ahead { IfOk result (λ reading. stops.IsAhead tokens.now from reading.end reading.stop) }
+    ensures refused { IfErr result (λ halt. stops.IsHalted SpellsName tokens.now from halt) }
+{
+    match name_at(tokens, from) {
+        Some(part) => Ok(Reading {
+            part,
+            end: from + 1,
+            stop: from + 1,
+        }),
+        None => Err(Halt::Refused(from)),
+    }
+}
+
+/// The number that stands here.
+pub fn number(tokens: &[Token], from: usize) -> Result<Reading<Number>, Halt>
+    requires { from ≤ length tokens.now }
+    ensures spells { IfOk result (λ reading. SpellsNumber tokens.now from reading.part reading.end) }
+    ensures sure { IfOk result (λ reading. stops.Exact SpellsNumber tokens.now from reading.end reading.stop) }
+    ensures ahead { IfOk result (λ reading. stops.IsAhead tokens.now from reading.end reading.stop) }
+    ensures refused { IfErr result (λ halt. stops.IsHalted SpellsNumber tokens.now from halt) }
+{
+    match number_at(tokens, from) {
+        Some(part) => Ok(Reading {
+            part,
+            end: from + 1,
+            stop: from + 1,
+        }),
+        None => Err(Halt::Refused(from)),
+    }
+}
+
+impl Part for Name {
+    ghost spelling = { SpellsName };
+
+    ghost extends = { spec.never };
+
+    fn read(_alloc: Global, tokens: &[Token], from: usize) -> Result<Reading<Name>, Halt> {
+        name(tokens, from)
+    }
+
+    ghost stops_at_comma = { refl };
+
+    ghost stops_at_bracket = { refl };
+}
+
+impl Part for Number {
+    ghost spelling = { SpellsNumber };
+
+    ghost extends = { spec.never };
+
+    fn read(_alloc: Global, tokens: &[Token], from: usize) -> Result<Reading<Number>, Halt> {
+        number(tokens, from)
+    }
+
+    ghost stops_at_comma = { refl };
+
+    ghost stops_at_bracket = { refl };
+}
+
+/// The number that stands here in brackets, or the number of a token with which none does.
+pub fn bracketed_number(tokens: &[Token], from: usize) -> Result<Number, usize>
+    requires { from ≤ length tokens.now }
+    ensures spells { IfOk result (λ part. SpellsBracketedNumber tokens.now from part (from + 3)) }
+    ensures within { IfOk result (λ _. from + 3 ≤ length tokens.now) }
+    ensures refused { IfErr result (λ stop. stops.Stuck SpellsBracketedNumber tokens.now from stop) }
+    ensures held { IfErr result (λ stop. (from ≤ stop) × (stop ≤ length tokens.now)) }
+{
+    if !is_symbol(tokens, from, LEFT_ROUND) {
+        return Err(from);
+    }
+    match number_at(tokens, from + 1) {
+        Some(number) => {
+            if is_symbol(tokens, from + 2, RIGHT_ROUND) {
+                Ok(number)
+            } else {
+                Err(from + 2)
+            }
+        }
+        None => Err(from + 1),
+    }
+}
+
+/// The number that stands here in brackets, if one does.
+pub fn maybe_number(tokens: &[Token], from: usize) -> Reading<Option<Number>>
+    requires { from ≤ length tokens.now }
+    ensures spells { SpellsMaybe (SpellsBracketedNumber tokens.now) from result.part result.end }
+    ensures sure { stops.Sure (λ tokens. SpellsMaybe (SpellsBracketedNumber tokens)) spec.by_bracket tokens.now from result.end result.stop }
+    ensures ahead { spec.IsOn tokens.now from result.end result.stop }
+{
+    match bracketed_number(tokens, from) {
+        Ok(number) => Reading {
+            part: Some(number),
+            end: from + 3,
+            stop: from + 3,
+        },
+        Err(stop) => Reading {
+            part: None,
+            end: from,
+            stop,
+        },
+    }
+}
+
+/// `id | "(" id { "," id } ")"`
+pub fn names(alloc: Global, tokens: &[Token], from: usize) -> Result<Reading<Names>, Halt>
+    requires { from ≤ length tokens.now }
+    ensures spells { IfOk result (λ reading. grammar.SpellsNames tokens.now from reading.part reading.end) }
+    ensures sure { IfOk result (λ reading. stops.Exact grammar.SpellsNames tokens.now from reading.end reading.stop) }
+    ensures ahead { IfOk result (λ reading. stops.IsAhead tokens.now from reading.end reading.stop) }
+    ensures refused { IfErr result (λ halt. stops.IsHalted grammar.SpellsNames tokens.now from halt) }
+{
+    match name_at(tokens, from) {
+        Some(name) => Ok(Reading {
+            part: Names::One(name),
+            end: from + 1,
+            stop: from + 1,
+        }),
+        None => match bracketed(alloc, tokens, from) {
+            Ok(list) => Ok(Reading {
+                part: Names::Several {
+                    names: Parts::new(list.part),
+                    place: place_at(tokens, from),
+                },
+                end: list.end,
+                stop: list.stop,
+            }),
+            Err(halt) => Err(halt),
+        },
+    }
+}

@@ -1,0 +1,358 @@
+// Bounds and types.
+
+ghost use Rattle.std.specs.Prelude.{◌≡◌, ℕ, ◌+◌, ◌-◌, ◌<◌, ◌≤◌, List, Bool, Option, Some, None, length, max, IfOk, IfErr, IfSome, refl, true, false};
+ghost use Rattle.pearl_tree.specs.Standing.{what_at, HasWord, HasSymbol, SpellsMaybe, SpellsMaybeBracketed, SpellsList};
+ghost use Rattle.pearl_tree.specs.Types as grammar;
+ghost use Rattle.pearl_tree.specs.declared.typing.Sort.{Sort};
+ghost use Rattle.pearl_tree.specs.declared.typing.Field.{Field};
+ghost use Rattle.pearl_tree.specs.Symbols as s;
+ghost use Rattle.pearl_tree.specs.WordCodes as w;
+ghost use Rattle.pearl_parse_expr.specs.declared.reading.Halt.{Halt};
+ghost use Rattle.pearl_parse_expr.specs.Stops as stops;
+ghost use Rattle.pearl_parse_decl.specs.Readings as spec;
+
+use crate::list::{Part, behind, maybe_bracketed};
+use crate::name::{maybe_number, names};
+use crate::symbol::*;
+use pearl_parse_expr::reading::{Halt, Reading, append};
+use pearl_parse_expr::standing::{is_symbol, is_word, name_at, number_at, place_at};
+use pearl_tables::word_code::{BIT, CHARACTER, CLOCK, DURATION, FIXED, STRUCT};
+use pearl_tree::name::Name;
+use pearl_tree::parts::Parts;
+use pearl_tree::token::Token;
+use pearl_tree::typing::{Basic, Bound, Field, Int, Sort, Typing};
+use std::alloc::Global;
+
+/// How many STRUCTs may stand within one another.
+pub const STRUCTS_MAX: u8 = 8;
+
+/// `[ "-" ] number`, or the number of a token with which none begins.
+pub fn int(tokens: &[Token], from: usize) -> Result<Reading<Int>, usize>
+    requires { from ≤ length tokens.now }
+    ensures spells { IfOk result (λ reading. grammar.SpellsInt tokens.now from reading.part reading.end) }
+    ensures sure { IfOk result (λ reading. stops.Exact grammar.SpellsInt tokens.now from reading.end reading.stop) }
+    ensures ahead { IfOk result (λ reading. stops.IsAhead tokens.now from reading.end reading.stop) }
+    ensures refused { IfErr result (λ stop. stops.Stuck grammar.SpellsInt tokens.now from stop) }
+    ensures held { IfErr result (λ stop. (from ≤ stop) × (stop ≤ length tokens.now)) }
+{
+    if let Some(number) = number_at(tokens, from) {
+        return Ok(Reading {
+            part: Int {
+                minus: false,
+                number,
+                place: number.place,
+            },
+            end: from + 1,
+            stop: from + 1,
+        });
+    }
+    if !is_symbol(tokens, from, MINUS) {
+        return Err(from);
+    }
+    match number_at(tokens, from + 1) {
+        Some(number) => Ok(Reading {
+            part: Int {
+                minus: true,
+                number,
+                place: place_at(tokens, from),
+            },
+            end: from + 2,
+            stop: from + 2,
+        }),
+        None => Err(from + 1),
+    }
+}
+
+// `[ ":" int ]`
+fn upper(tokens: &[Token], from: usize) -> Reading<Option<Int>>
+    requires { from ≤ length tokens.now }
+    ensures spells { SpellsMaybe (grammar.SpellsUpper tokens.now) from result.part result.end }
+    ensures sure { stops.Sure (λ tokens. SpellsMaybe (grammar.SpellsUpper tokens)) spec.by_colon tokens.now from result.end result.stop }
+    ensures ahead { spec.IsOn tokens.now from result.end result.stop }
+{
+    if !is_symbol(tokens, from, COLON) {
+        return Reading {
+            part: None,
+            end: from,
+            stop: from,
+        };
+    }
+    match int(tokens, from + 1) {
+        Ok(int) => Reading {
+            part: Some(int.part),
+            end: int.end,
+            stop: int.stop,
+        },
+        Err(stop) => Reading {
+            part: None,
+            end: from,
+            stop,
+        },
+    }
+}
+
+/// `int [ ":" int ]`
+pub fn bound(tokens: &[Token], from: usize) -> Result<Reading<Bound>, Halt>
+    requires { from ≤ length tokens.now }
+    ensures spells { IfOk result (λ reading. grammar.SpellsBound tokens.now from reading.part reading.end) }
+    ensures sure { IfOk result (λ reading. stops.Sure grammar.SpellsBound spec.by_colon tokens.now from reading.end reading.stop) }
+    ensures ahead { IfOk result (λ reading. stops.IsAhead tokens.now from reading.end reading.stop) }
+    ensures refused { IfErr result (λ halt. stops.IsHalted grammar.SpellsBound tokens.now from halt) }
+{
+    let first = match int(tokens, from) {
+        Ok(first) => first,
+        Err(stop) => return Err(Halt::Refused(stop)),
+    };
+    let second = upper(tokens, first.end);
+    Ok(Reading {
+        part: Bound {
+            first: first.part,
+            second: second.part,
+            place: first.part.place,
+        },
+        end: second.end,
+        stop: second.stop.max(first.stop),
+    })
+}
+
+impl Part for Bound {
+    ghost spelling = { grammar.SpellsBound };
+
+    ghost extends = { spec.by_colon };
+
+    fn read(_alloc: Global, tokens: &[Token], from: usize) -> Result<Reading<Bound>, Halt> {
+        bound(tokens, from)
+    }
+
+    ghost stops_at_comma = { refl };
+
+    ghost stops_at_bracket = { refl };
+}
+
+/// The bounds that begin here, if any do.
+pub fn bounds(alloc: Global, tokens: &[Token], from: usize) -> Result<Reading<Parts<Bound>>, Halt>
+    requires { from ≤ length tokens.now }
+    ensures spells { IfOk result (λ reading. grammar.SpellsBounds tokens.now from reading.part reading.end) }
+    ensures sure { IfOk result (λ reading. stops.Sure grammar.SpellsBounds spec.by_bracket tokens.now from reading.end reading.stop) }
+    ensures ahead { IfOk result (λ reading. spec.IsOn tokens.now from reading.end reading.stop) }
+    ensures refused { IfErr result (λ halt. halt ≡ Halt.NoMemory) }
+{
+    match maybe_bracketed(alloc, tokens, from) {
+        Ok(list) => Ok(Reading {
+            part: Parts::new(list.part),
+            end: list.end,
+            stop: list.stop,
+        }),
+        Err(halt) => Err(halt),
+    }
+}
+
+/// FIXED, BIT or CHAR.
+pub fn sort_at(tokens: &[Token], at: usize) -> Option<Sort>
+    ensures some { IfSome result (λ sort. HasWord tokens.now at (grammar.sort_word sort)) }
+    ensures none { result ≡ None → (sort : Sort) → HasWord tokens.now at (grammar.sort_word sort) → ⊥ }
+    ensures within { IfSome result (λ _. at < length tokens.now) }
+{
+    if is_word(tokens, at, FIXED) {
+        return Some(Sort::Fixed);
+    }
+    if is_word(tokens, at, BIT) {
+        return Some(Sort::Bit);
+    }
+    if is_word(tokens, at, CHARACTER) {
+        return Some(Sort::Char);
+    }
+    None
+}
+
+/// The basic type that begins here.
+pub fn basic(tokens: &[Token], from: usize) -> Result<Reading<Basic>, Halt>
+    requires { from ≤ length tokens.now }
+    ensures spells { IfOk result (λ reading. grammar.SpellsBasic tokens.now from reading.part reading.end) }
+    ensures sure { IfOk result (λ reading. stops.Sure grammar.SpellsBasic spec.by_bracket tokens.now from reading.end reading.stop) }
+    ensures ahead { IfOk result (λ reading. stops.IsAhead tokens.now from reading.end reading.stop) }
+    ensures refused { IfErr result (λ halt. stops.IsHalted grammar.SpellsBasic tokens.now from halt) }
+{
+    if let Some(sort) = sort_at(tokens, from) {
+        let number = maybe_number(tokens, from + 1);
+        return Ok(Reading {
+            part: Basic::Sized {
+                sort,
+                number: number.part,
+                place: place_at(tokens, from),
+            },
+            end: number.end,
+            stop: number.stop,
+        });
+    }
+    if is_word(tokens, from, CLOCK) {
+        return Ok(Reading {
+            part: Basic::Clock {
+                place: place_at(tokens, from),
+            },
+            end: from + 1,
+            stop: from + 1,
+        });
+    }
+    if is_word(tokens, from, DURATION) {
+        return Ok(Reading {
+            part: Basic::Duration {
+                place: place_at(tokens, from),
+            },
+            end: from + 1,
+            stop: from + 1,
+        });
+    }
+    Err(Halt::Refused(from))
+}
+
+/// The type that begins here, with at most `depth` STRUCTs within one another.
+#[cycle(typing)]
+pub fn typing(
+    alloc: Global,
+    tokens: &[Token],
+    from: usize,
+    depth: u8,
+) -> Result<Reading<Typing>, Halt>
+    requires { from ≤ length tokens.now }
+    ensures spells { IfOk result (λ reading. grammar.SpellsTyping tokens.now depth from reading.part reading.end) }
+    ensures sure { IfOk result (λ reading. stops.Sure (λ tokens. grammar.SpellsTyping tokens depth) spec.by_bracket tokens.now from reading.end reading.stop) }
+    ensures ahead { IfOk result (λ reading. stops.IsAhead tokens.now from reading.end reading.stop) }
+    ensures refused { IfErr result (λ halt. stops.IsHalted (λ tokens. grammar.SpellsTyping tokens depth) tokens.now from halt) }
+{
+    if is_word(tokens, from, STRUCT) {
+        return structure(alloc, tokens, from, depth);
+    }
+    match name_at(tokens, from) {
+        Some(name) => Ok(Reading {
+            part: Typing::Named(name),
+            end: from + 1,
+            stop: from + 1,
+        }),
+        None => match basic(tokens, from) {
+            Ok(basic) => Ok(Reading {
+                part: Typing::Basic(basic.part),
+                end: basic.end,
+                stop: basic.stop,
+            }),
+            Err(halt) => Err(halt),
+        },
+    }
+}
+
+#[cycle(typing)]
+fn structure(
+    alloc: Global,
+    tokens: &[Token],
+    from: usize,
+    depth: u8,
+) -> Result<Reading<Typing>, Halt>
+    requires within { from ≤ length tokens.now }
+    requires word { HasWord tokens.now from w.STRUCT }
+    ensures spells { IfOk result (λ reading. grammar.SpellsTyping tokens.now depth from reading.part reading.end) }
+    ensures sure { IfOk result (λ reading. stops.Sure (λ tokens. grammar.SpellsTyping tokens depth) spec.by_bracket tokens.now from reading.end reading.stop) }
+    ensures ahead { IfOk result (λ reading. stops.IsAhead tokens.now from reading.end reading.stop) }
+    ensures refused { IfErr result (λ halt. stops.IsHalted (λ tokens. grammar.SpellsTyping tokens depth) tokens.now from halt) }
+{
+    if depth == 0 {
+        return Err(Halt::Refused(from));
+    }
+    if !is_symbol(tokens, from + 1, LEFT_SQUARE) {
+        return Err(Halt::Refused(from + 1));
+    }
+    let inner = match fields(alloc, tokens, from + 2, depth - 1) {
+        Ok(inner) => inner,
+        Err(halt) => return Err(halt),
+    };
+    if !is_symbol(tokens, inner.end, RIGHT_SQUARE) {
+        return Err(Halt::Refused(inner.stop));
+    }
+    Ok(Reading {
+        part: Typing::Struct {
+            fields: Parts::new(inner.part),
+            place: place_at(tokens, from),
+        },
+        end: inner.end + 1,
+        stop: inner.stop.max(inner.end + 1),
+    })
+}
+
+#[cycle(typing)]
+fn fields(
+    alloc: Global,
+    tokens: &[Token],
+    from: usize,
+    depth: u8,
+) -> Result<Reading<Vec<Field>>, Halt>
+    requires { from ≤ length tokens.now }
+    ensures spells { IfOk result (λ reading. SpellsList tokens.now (grammar.SpellsField tokens.now depth) from reading.part.items reading.end) }
+    ensures sure { IfOk result (λ reading. stops.Sure (λ tokens. SpellsList tokens (grammar.SpellsField tokens depth)) (spec.by_comma spec.by_bracket) tokens.now from reading.end reading.stop) }
+    ensures ahead { IfOk result (λ reading. stops.IsAhead tokens.now from reading.end reading.stop) }
+    ensures refused { IfErr result (λ halt. stops.IsHalted (λ tokens. SpellsList tokens (grammar.SpellsField tokens depth)) tokens.now from halt) }
+{
+    let first = match field(alloc, tokens, from, depth) {
+        Ok(first) => first,
+        Err(halt) => return Err(halt),
+    };
+    let mut list = Vec::new(alloc);
+    append(&mut list, first.part)?;
+    let mut end = first.end;
+    let mut stop = first.stop;
+    'each: while is_symbol(tokens, end, COMMA) {
+        match field(alloc, tokens, end + 1, depth) {
+            Ok(next) => {
+                append(&mut list, next.part)?;
+                end = next.end;
+                stop = stop.max(next.stop);
+            }
+            Err(halt) => match halt {
+                Halt::Refused(at) => {
+                    return Ok(Reading {
+                        part: list,
+                        end,
+                        stop: stop.max(at),
+                    });
+                }
+                Halt::NoMemory => return Err(Halt::NoMemory),
+            },
+        }
+    }
+    Ok(Reading {
+        part: list,
+        end,
+        stop,
+    })
+}
+
+#[cycle(typing)]
+fn field(alloc: Global, tokens: &[Token], from: usize, depth: u8) -> Result<Reading<Field>, Halt>
+    requires { from ≤ length tokens.now }
+    ensures spells { IfOk result (λ reading. grammar.SpellsField tokens.now depth from reading.part reading.end) }
+    ensures sure { IfOk result (λ reading. stops.Sure (λ tokens. grammar.SpellsField tokens depth) spec.by_bracket tokens.now from reading.end reading.stop) }
+    ensures ahead { IfOk result (λ reading. stops.IsAhead tokens.now from reading.end reading.stop) }
+    ensures refused { IfErr result (λ halt. stops.IsHalted (λ tokens. grammar.SpellsField tokens depth) tokens.now from halt) }
+{
+    let names = match names(alloc, tokens, from) {
+        Ok(names) => names,
+        Err(halt) => return Err(halt),
+    };
+    let bounds = match bounds(alloc, tokens, names.end) {
+        Ok(bounds) => bounds,
+        Err(halt) => return Err(halt),
+    };
+    let stop = names.stop.max(bounds.stop);
+    let typing = match typing(alloc, tokens, bounds.end, depth) {
+        Ok(typing) => typing,
+        Err(halt) => return Err(behind(halt, stop)),
+    };
+    Ok(Reading {
+        part: Field {
+            names: names.part,
+            bounds: bounds.part,
+            typing: typing.part,
+            place: place_at(tokens, from),
+        },
+        end: typing.end,
+        stop: typing.stop.max(stop),
+    })
+}
