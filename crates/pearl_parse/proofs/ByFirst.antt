@@ -1,5 +1,5 @@
 -- The kinds of statements by their first tokens.
-use Rattle.std.proofs.Common.{◌≡◌, ℕ, ◌+◌, Bool, true, false, List, Option, Some, None, T, eqb, refl, sym, ap, subst, ◌∙◌, arith}
+use Rattle.std.proofs.Common.{◌≡◌, ℕ, true, false, List, Option, Some, None, T, eqb, refl, sym, ap, subst, ◌∙◌}
 use Rattle.std.proofs.Math.Facts.{yes_eqb}
 use Rattle.pearl_tree.specs.declared.name.Name.{Name}
 use Rattle.pearl_tree.specs.declared.expression.Expr.{Expr}
@@ -14,7 +14,7 @@ use Rattle.pearl_tree.specs.declared.statement.Stmt.{Stmt, Empty, Assign, Call, 
 use Rattle.pearl_tree.specs.declared.token.What.{What}
 use Rattle.pearl_tree.specs.declared.token.What.TheVariants as what
 use Rattle.pearl_tree.specs.declared.token.Token.{Token}
-use Rattle.pearl_tree.specs.Standing.{HasWord, HasSymbol, IsName, SpellsMaybe, what_at}
+use Rattle.pearl_tree.specs.Standing.{HasWord, IsName, SpellsMaybe, what_at}
 use Rattle.pearl_tree.specs.Statements.{SpellsAfter, SpellsFor, SpellsStart, SpellsOnce, SpellsStmt}
 use Rattle.pearl_tree.specs.Symbols as s
 use Rattle.pearl_tree.specs.WordCodes as w

@@ -1,15 +1,13 @@
 -- What is left of a statement behind its first token.
-use Rattle.std.proofs.Common.{◌≡◌, ℕ, ◌+◌, true, List, Option, Some, None, T, eqb, refl, sym, ap, subst, ◌∙◌, arith}
-use Rattle.pearl_tree.specs.declared.expression.Selector.{Selector}
+use Rattle.std.proofs.Common.{◌≡◌, ℕ, ◌+◌, true, List, Some, None, T, eqb, refl, sym, ap, subst, ◌∙◌, arith}
 use Rattle.pearl_tree.specs.declared.statement.TaskWord.{TaskWord}
 use Rattle.pearl_tree.specs.declared.statement.TaskWord.TheVariants.{Suspend, Terminate, Prevent}
 use Rattle.pearl_tree.specs.declared.statement.InterruptWord.{InterruptWord}
 use Rattle.pearl_tree.specs.declared.statement.InterruptWord.TheVariants.{Enable, Disable, Trigger}
 use Rattle.pearl_tree.specs.declared.statement.Stmt.{Stmt, Exit, OnTask, OnInterrupt, Send, Take}
-use Rattle.pearl_tree.specs.declared.token.What.{What}
 use Rattle.pearl_tree.specs.declared.token.What.TheVariants as what
 use Rattle.pearl_tree.specs.declared.token.Token.{Token}
-use Rattle.pearl_tree.specs.Standing.{what_at, HasWord, HasSymbol, SpellsMaybe, SpellsName}
+use Rattle.pearl_tree.specs.Standing.{what_at, HasWord, HasSymbol, SpellsName}
 use Rattle.pearl_tree.specs.Expressions.{SpellsWhole}
 use Rattle.pearl_tree.specs.Statements.{SpellsStmt, task_word, interrupt_word}
 use Rattle.pearl_tree.specs.Symbols as s

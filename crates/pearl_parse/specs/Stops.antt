@@ -1,15 +1,17 @@
 -- What statements that begin alike have in common: which token goes on with a part, and with which none goes on.
-use Rattle.std.specs.Prelude.{if◌then◌else◌, ◌≡◌, ℕ, ◌+◌, ◌<◌, ◌≤◌, ◌==◌, ◌||◌, Bool, true, false, List, [], ◌∷◌, length, max, Option, Some, None, is_some}
+use Rattle.std.specs.Prelude.{◌≡◌, ℕ, ◌+◌, ◌≤◌, ◌==◌, ◌||◌, Bool, true, false, List, [], ◌∷◌, length, max, Option, Some, None}
 use Rattle.pearl_tree.specs.declared.token.What.{What}
 use Rattle.pearl_tree.specs.declared.token.What.TheVariants as what
 use Rattle.pearl_tree.specs.declared.token.Token.{Token}
-use Rattle.pearl_tree.specs.Standing.{Spelling, what_at}
+use Rattle.pearl_tree.specs.Standing.{Spelling, what_at, HasWord, HasSymbol, IsName, SpellsName, SpellsList}
 use Rattle.pearl_parse_expr.specs.declared.reading.Halt.{Halt}
 use Rattle.pearl_parse_expr.specs.declared.reading.Halt.TheVariants.{Refused, NoMemory}
-use Rattle.pearl_parse_expr.specs.Stops.{Stuck, SpellsNamed, is_symbol, is_word, extends_expression}
+use Rattle.pearl_parse_expr.specs.Stops.{Stuck, SpellsNamed}
 use Rattle.pearl_tree.specs.declared.expression.Selector.{Selector}
-use Rattle.pearl_tree.specs.declared.expression.Expr.{Expr}
-use Rattle.pearl_tree.specs.Statements.{SpellsAfter}
+use Rattle.pearl_tree.specs.Statements.{SpellsMaybeList}
+use Rattle.pearl_tree.specs.Formats.{SpellsFmt}
+use Rattle.pearl_tree.specs.declared.name.Name.{Name}
+use Rattle.pearl_tree.specs.declared.format.Fmt.{Fmt}
 use Rattle.pearl_tree.specs.Symbols as s
 use Rattle.pearl_tree.specs.WordCodes as w
 
@@ -37,9 +39,24 @@ abbrev pub SpellsOptional : {X : Type 0} → (Option What → Bool) → (List To
 SpellsOptional begins spells tokens from None to = (to ≡ from) × (begins (what_at tokens from) ≡ false)
 SpellsOptional begins spells tokens from (Some x) to = spells tokens from x to
 
--- a token that goes on with parts between commas that could end before it
-abbrev pub or_comma : (Option What → Bool) → Option What → Bool
-or_comma extends token = extends token || is_symbol s.comma token
+-- [ part { "," part } ] word
+abbrev pub SpellsBefore : {X : Type 0} → ℕ → (List Token → Spelling X) → List Token → Spelling (List X)
+SpellsBefore word spells tokens from xs to =
+    (m : ℕ) × SpellsMaybeList tokens (spells tokens) from xs m × HasWord tokens m word × (to ≡ m + 1)
+
+-- id { "," id }
+abbrev pub SpellsNameList : List Token → Spelling (List Name)
+SpellsNameList tokens = SpellsList tokens (SpellsName tokens)
+
+-- fmt { "," fmt } ";"
+abbrev pub SpellsFormats : List Token → Spelling (List Fmt)
+SpellsFormats tokens from formats to =
+    (m : ℕ) × SpellsList tokens (SpellsFmt tokens) from formats m × HasSymbol tokens m s.semicolon × (to ≡ m + 1)
+
+-- id BY fmt { "," fmt } ";"
+abbrev pub SpellsStation : List Token → Spelling (Name × List Fmt)
+SpellsStation tokens from station to =
+    IsName tokens from station.0 × HasWord tokens (from + 1) w.BY × SpellsFormats tokens (from + 2) station.1 to
 
 -- the words with which a statement begins
 abbrev pub statement_words : List ℕ

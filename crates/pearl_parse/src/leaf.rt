@@ -6,7 +6,8 @@ ghost use Rattle.pearl_tree.specs.Statements.{SpellsStmt, task_word, sema_word, 
 ghost use Rattle.pearl_tree.specs.WordCodes as w;
 ghost use Rattle.pearl_parse_expr.specs.Stops.{Exact, IsAhead, IsHalted};
 
-use crate::step::{SEMICOLON, expr, maybe_name, name, own_reference, symbol, word as word_here};
+use crate::list::own_reference;
+use crate::step::{SEMICOLON, expr, maybe_name, name, symbol, word as word_here};
 use pearl_parse_expr::reading::{Halt, Reading};
 use pearl_parse_expr::standing::place_at;
 use pearl_tables::word_code::*;
@@ -114,7 +115,7 @@ pub fn take(alloc: Global, tokens: &[Token], from: usize) -> Result<Reading<Stmt
     ensures ahead { IfOk result (λ reading. IsAhead tokens.now from reading.end reading.stop) }
     ensures refused { IfErr result (λ halt. (depth : ℕ) → IsHalted (λ tokens. SpellsStmt tokens depth) tokens.now from halt) }
 {
-    let target = own_reference(alloc, tokens, from + 1, from)?;
+    let target = own_reference(alloc, tokens, from + 1)?;
     word_here(tokens, target.end, target.stop, FROM)?;
     let dation = name(tokens, target.end + 1, target.stop)?;
     symbol(tokens, target.end + 2, target.stop, SEMICOLON)?;

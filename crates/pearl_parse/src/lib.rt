@@ -1,5 +1,9 @@
 // Statements, bodies and modules, read from the tokens of a source.
 #![tactic(auto)]
 
+mod call;
 mod leaf;
+mod list;
+mod schedule;
 mod step;
+mod transfer;

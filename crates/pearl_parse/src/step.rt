@@ -3,15 +3,15 @@
 
 ghost use Rattle.std.specs.Prelude.{◌≡◌, ◌+◌, ◌<◌, ◌≤◌, length, max, IfOk, IfErr, OnOk};
 ghost use Rattle.pearl_tree.specs.Standing.{HasWord, HasSymbol, IsName, SpellsName, SpellsMaybe, SpellsList};
-ghost use Rattle.pearl_tree.specs.Expressions.{SpellsWhole, SpellsOwnRef};
+ghost use Rattle.pearl_tree.specs.Expressions.{SpellsWhole};
 ghost use Rattle.pearl_tree.specs.Statements.{SpellsAfter};
-ghost use Rattle.pearl_parse_expr.specs.Stops.{Sure, Exact, extends_expression, extends_operand, is_word, is_symbol, is_name};
+ghost use Rattle.pearl_parse_expr.specs.Stops.{Sure, Exact, extends_expression, is_word, is_symbol, is_name};
 ghost use Rattle.pearl_parse.specs.Stops as spec;
 
-use pearl_parse_expr::expression::{BRACKETS_MAX, level, reference};
+use pearl_parse_expr::expression::{BRACKETS_MAX, level};
 use pearl_parse_expr::reading::{Halt, Reading};
 use pearl_parse_expr::standing::{is_symbol, is_word, name_at};
-use pearl_tree::expression::{Expr, Ref};
+use pearl_tree::expression::Expr;
 use pearl_tree::name::Name;
 use pearl_tree::token::Token;
 use std::alloc::Global;
@@ -64,33 +64,6 @@ pub fn expr(alloc: Global, tokens: &[Token], from: usize, low: usize) -> Result<
     ensures refused { IfErr result (λ halt. spec.IsStopped SpellsWhole tokens.now from low halt) }
 {
     match level(alloc, tokens, from, BRACKETS_MAX) {
-        Ok(read) => Ok(Reading {
-            part: read.part,
-            end: read.end,
-            stop: read.stop.max(low),
-        }),
-        Err(halt) => match halt {
-            Halt::Refused(stop) => Err(Halt::Refused(stop.max(low))),
-            Halt::NoMemory => Err(Halt::NoMemory),
-        },
-    }
-}
-
-/// The longest reference, with a bracket more than within an expression.
-pub fn own_reference(
-    alloc: Global,
-    tokens: &[Token],
-    from: usize,
-    low: usize,
-) -> Result<Reading<Ref>, Halt>
-    requires from { from ≤ length tokens.now }
-    requires low { low ≤ length tokens.now }
-    ensures spells { IfOk result (λ reading. SpellsOwnRef tokens.now from reading.part reading.end) }
-    ensures sure { IfOk result (λ reading. Sure spec.SpellsOwnNamed extends_operand tokens.now from reading.end reading.stop) }
-    ensures on { IfOk result (λ reading. spec.IsOn tokens.now (from + 1) low reading.end reading.stop) }
-    ensures refused { IfErr result (λ halt. spec.IsStopped spec.SpellsOwnNamed tokens.now from low halt) }
-{
-    match reference(alloc, tokens, from, BRACKETS_MAX + 1) {
         Ok(read) => Ok(Reading {
             part: read.part,
             end: read.end,

@@ -1,4 +1,4 @@
-use Rattle.std.proofs.Common.{◌+◌, ◌≤◌, length, refl, ap, arith}
+use Rattle.std.proofs.Common.{◌+◌, ap, arith}
 use Rattle.pearl_tree.specs.Standing.{SpellsName}
 use Rattle.pearl_tree.specs.Symbols as s
 use Rattle.pearl_parse_expr.specs.Stops.{is_symbol, is_name}
