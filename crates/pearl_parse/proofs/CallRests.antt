@@ -55,10 +55,11 @@ module _ (others : List Token) (from : ℕ) where
       absurd (clash _ (ap (is_symbol s.semicolon) (subst (λ k. HasSymbol others k s.semicolon) h.1 h.2)) (ap (is_symbol s.semicolon) bracket))
   bracketed_end end bracket sure (x ∷ xs) to h =
       let inner = h.1 in
-      let same : inner.0 ≡ end = settled (by_comma extends_expression) others end inner.0 (sure (x ∷ xs) inner.0 inner.2) (ap (by_comma extends_expression) inner.3) in
-      (subst (λ k. HasSymbol others k s.right_round) same inner.3,
-      subst (λ k. HasSymbol others k s.semicolon) (inner.4 ∙ ap (λ k. k + 1) same) h.2,
-      omega (arith, same, inner.4, h.3))
+      let same : inner.0 ≡ end = settled (by_comma extends_expression) others end inner.0 (sure (x ∷ xs) inner.0 inner.2) (ap (by_comma extends_expression) inner.3) in (
+        subst (λ k. HasSymbol others k s.right_round) same inner.3,
+        subst (λ k. HasSymbol others k s.semicolon) (inner.4 ∙ ap (λ k. k + 1) same) h.2,
+        omega (arith, same, inner.4, h.3),
+      )
 
 module _ (tokens : List Token) (from : ℕ) where
   pub arguments_go : (end stop new : ℕ) → HasSymbol tokens from s.left_round → from ≤ new → stop ≤ new →
@@ -176,9 +177,10 @@ module _ (tokens : List Token) (depth from : ℕ) where
       by : (others : List Token) (a : Stmt) (to : ℕ) → HasWord others from w.CALL → T (eqb (group a) 1) → SpellsStmt others depth from a to → call_rest others (from + 1) to
       by others (Assign target x p) to word e h = absurd (clash _ (ap is_name h.3.1.0) (ap is_name word))
       by others (Call false name xs p) to word e h = absurd (clash _ (ap is_name (subst (λ k. IsName others k name) h.3 h.4).0) (ap is_name word))
-      by others (Call true name xs p) to word e h =
-          (ap is_name (subst (λ k. IsName others k name) h.3.1 h.4).0,
-          (xs.items.items, to, (h.1, subst (λ k. SpellsMaybeBracketed others (SpellsWhole others) (k + 1) xs.items.items h.1) h.3.1 h.5, h.6, h.7), refl))
+      by others (Call true name xs p) to word e h = (
+        ap is_name (subst (λ k. IsName others k name) h.3.1 h.4).0,
+        (xs.items.items, to, (h.1, subst (λ k. SpellsMaybeBracketed others (SpellsWhole others) (k + 1) xs.items.items h.1) h.3.1 h.5, h.6, h.7), refl),
+      )
       by others a to word e h = absurd e
 
   pub call_goes_on : HasWord tokens from w.CALL → Goes (Spelled depth) tokens from arguments_rest (from + 2) from

@@ -21,7 +21,7 @@ use Rattle.pearl_parse_expr.specs.Stops.{Sure, extends_expression, is_name, is_w
 use Rattle.pearl_parse_expr.proofs.Parts.{shorter}
 use Rattle.pearl_parse_decl.proofs.Lists.{settled}
 use Rattle.pearl_parse.specs.Stops.{IsStopped}
-use Rattle.pearl_parse.specs.Schedules.{SpellsOptionalEnd, SpellsLongPeriod, SpellsOptionalPriority, SpellsActivation}
+use Rattle.pearl_parse.specs.Schedules.{SpellsOptionalEnd, SpellsLongPeriod, SpellsOptionalPeriod, SpellsOptionalPriority, SpellsActivation, SpellsBegun}
 use Rattle.pearl_parse.proofs.ByFirst.{group, of_kind}
 use Rattle.pearl_parse.proofs.Steps.{Rest, Ends, Then, Goes}
 use Rattle.pearl_parse.proofs.LeafRests.{Spelled, exit_rest}
@@ -48,6 +48,9 @@ module _ (tokens : List Token) (from : ℕ) where
     omega (arith, h.2, behind),
     h.3,
   )
+
+  pub begun_goes : (stop : ℕ) → Goes SpellsBegun tokens from (Then SpellsOptionalPeriod activation_rest) from stop
+  begun_goes stop = λ others agree x to h. (x.0, h.0, h.1, (x.1, to, h.2, refl))
 
   pub activation_goes : (stop : ℕ) → Goes SpellsActivation tokens from priority_rest (from + 2) stop
   activation_goes stop = λ others agree x to h. (x.1, h.0, h.3, (h.4, h.5))

@@ -59,9 +59,17 @@ module _ (tokens : List Token) (depth from : ℕ) where
       by : (others : List Token) (a : Stmt) (to : ℕ) → T (eqb (group a) 13) → SpellsStmt others depth from a to → put_rest others (from + 1) to
       by others (Put xs d fs p) to e h =
           let two : h.0 + 2 ≡ h.0 + 1 + 1 = omega arith in
-          let three : h.0 + 3 ≡ h.0 + 1 + 2 = omega arith in
-          (xs.items.items, h.0 + 1, (h.0, h.4, h.5, refl), ((d, fs.items.items), to,
-          (h.6, subst (λ k. HasWord others k w.BY) two h.7, (h.1, subst (λ k. SpellsList others (SpellsFmt others) k fs.items.items h.1) three h.8, h.9, h.10)), refl))
+          let three : h.0 + 3 ≡ h.0 + 1 + 2 = omega arith in (
+            xs.items.items,
+            h.0 + 1,
+            (h.0, h.4, h.5, refl),
+            (
+              (d, fs.items.items),
+              to,
+              (h.6, subst (λ k. HasWord others k w.BY) two h.7, (h.1, subst (λ k. SpellsList others (SpellsFmt others) k fs.items.items h.1) three h.8, h.9, h.10)),
+              refl,
+            ),
+          )
       by others a to e h = absurd e
 
   pub get_goes : HasWord tokens from w.GET → Goes (Spelled depth) tokens from get_rest (from + 1) from
@@ -70,7 +78,15 @@ module _ (tokens : List Token) (depth from : ℕ) where
       by : (others : List Token) (a : Stmt) (to : ℕ) → T (eqb (group a) 14) → SpellsStmt others depth from a to → get_rest others (from + 1) to
       by others (Get xs d fs p) to e h =
           let two : h.0 + 2 ≡ h.0 + 1 + 1 = omega arith in
-          let three : h.0 + 3 ≡ h.0 + 1 + 2 = omega arith in
-          (xs.items.items, h.0 + 1, (h.0, h.4, h.5, refl), ((d, fs.items.items), to,
-          (h.6, subst (λ k. HasWord others k w.BY) two h.7, (h.1, subst (λ k. SpellsList others (SpellsFmt others) k fs.items.items h.1) three h.8, h.9, h.10)), refl))
+          let three : h.0 + 3 ≡ h.0 + 1 + 2 = omega arith in (
+            xs.items.items,
+            h.0 + 1,
+            (h.0, h.4, h.5, refl),
+            (
+              (d, fs.items.items),
+              to,
+              (h.6, subst (λ k. HasWord others k w.BY) two h.7, (h.1, subst (λ k. SpellsList others (SpellsFmt others) k fs.items.items h.1) three h.8, h.9, h.10)),
+              refl,
+            ),
+          )
       by others a to e h = absurd e

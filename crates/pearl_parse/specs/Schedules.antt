@@ -6,8 +6,8 @@ use Rattle.pearl_tree.specs.declared.statement.PeriodEnd.{PeriodEnd}
 use Rattle.pearl_tree.specs.declared.statement.Period.{Period}
 use Rattle.pearl_tree.specs.declared.token.What.{What}
 use Rattle.pearl_tree.specs.declared.token.Token.{Token}
-use Rattle.pearl_tree.specs.Standing.{Spelling, what_at, IsAt, HasWord, HasSymbol, IsName}
-use Rattle.pearl_tree.specs.Statements.{SpellsAfter, SpellsPeriodEnd}
+use Rattle.pearl_tree.specs.Standing.{Spelling, what_at, IsAt, HasWord, HasSymbol, IsName, SpellsMaybe}
+use Rattle.pearl_tree.specs.Statements.{SpellsAfter, SpellsPeriodEnd, SpellsPeriod}
 use Rattle.pearl_tree.specs.Symbols as s
 use Rattle.pearl_tree.specs.WordCodes as w
 use Rattle.pearl_parse_expr.specs.Stops.{extends_expression, is_word}
@@ -40,3 +40,13 @@ abbrev pub SpellsActivation : List Token → Spelling (Name × Option Expr)
 SpellsActivation tokens from part to =
     (m : ℕ) × HasWord tokens from w.ACTIVATE × IsName tokens (from + 1) part.0 ×
     SpellsOptionalPriority tokens (from + 2) part.1 m × HasSymbol tokens m s.semicolon × (to ≡ m + 1)
+
+-- [ ALL expr [ UNTIL expr | DURING expr ] ] ACTIVATE id [ PRIO expr ] ";"
+abbrev pub SpellsBegun : List Token → Spelling (Option Period × (Name × Option Expr))
+SpellsBegun tokens from part to =
+    (m : ℕ) × SpellsOptionalPeriod tokens from part.0 m × SpellsActivation tokens m part.1 to
+
+-- the same, as the rules of the grammar say it
+abbrev pub HasBegun : List Token → ℕ → Option Period → Name → Option Expr → ℕ → Type 0
+HasBegun tokens from period task priority to =
+    (m : ℕ) × SpellsMaybe (SpellsPeriod tokens) from period m × SpellsActivation tokens m (task, priority) to

@@ -22,6 +22,7 @@ use pearl_tree::token::Token;
 use std::alloc::Global;
 
 const BECOMES: u8 = 8;
+
 const EQUALS: u8 = 9;
 
 /// `"(" expr ")"`
@@ -43,11 +44,7 @@ fn value(alloc: Global, tokens: &[Token], from: usize) -> Result<Reading<Expr>, 
 }
 
 /// `[ "(" expr ")" ]`
-fn maybe_value(
-    alloc: Global,
-    tokens: &[Token],
-    from: usize,
-) -> Result<Reading<Option<Expr>>, Halt>
+fn maybe_value(alloc: Global, tokens: &[Token], from: usize) -> Result<Reading<Option<Expr>>, Halt>
     requires within { from ≤ length tokens.now }
     ensures spells { IfOk result (λ reading. SpellsMaybe (SpellsValue tokens.now) from reading.part reading.end) }
     ensures sure { IfOk result (λ reading. Exact calls.SpellsOptionalValue tokens.now from reading.end reading.stop) }

@@ -67,12 +67,7 @@ fn maybe_end(
 }
 
 /// `ALL expr [ UNTIL expr | DURING expr ]`
-fn period(
-    alloc: Global,
-    tokens: &[Token],
-    from: usize,
-    low: usize,
-) -> Result<Reading<Period>, Halt>
+fn period(alloc: Global, tokens: &[Token], from: usize, low: usize) -> Result<Reading<Period>, Halt>
     requires from { from < length tokens.now }
     requires low { low ≤ length tokens.now }
     requires word { HasWord tokens.now from w.ALL }
@@ -129,12 +124,72 @@ pub fn activate(
     })
 }
 
-/// `ACTIVATE id [ PRIO expr ] ";"` with no start before it
-pub fn plain_activation(
+/// `[ ALL expr [ UNTIL expr | DURING expr ] ]`
+fn maybe_period(
     alloc: Global,
     tokens: &[Token],
     from: usize,
-) -> Result<Reading<Stmt>, Halt>
+    low: usize,
+) -> Result<Reading<Option<Period>>, Halt>
+    requires from { from ≤ length tokens.now }
+    requires low { low ≤ length tokens.now }
+    ensures spells { IfOk result (λ reading. SpellsMaybe (SpellsPeriod tokens.now) from reading.part reading.end) }
+    ensures sure { IfOk result (λ reading. Sure schedules.SpellsOptionalPeriod extends_expression tokens.now from reading.end reading.stop) }
+    ensures on { IfOk result (λ reading. spec.IsOn tokens.now from low reading.end reading.stop) }
+    ensures refused { IfErr result (λ halt. spec.IsStopped schedules.SpellsOptionalPeriod tokens.now from low halt) }
+{
+    if !is_word(tokens, from, ALL) {
+        return Ok(Reading {
+            part: None,
+            end: from,
+            stop: from.max(low),
+        });
+    }
+    match period(alloc, tokens, from, low) {
+        Ok(read) => Ok(Reading {
+            part: Some(read.part),
+            end: read.end,
+            stop: read.stop,
+        }),
+        Err(halt) => Err(halt),
+    }
+}
+
+/// An activation with the period before it.
+#[derive(Drop)]
+pub struct Begun {
+    pub period: Option<Period>,
+    pub activation: Activation,
+}
+
+/// `[ ALL expr [ UNTIL expr | DURING expr ] ] ACTIVATE id [ PRIO expr ] ";"`
+pub fn begin(
+    alloc: Global,
+    tokens: &[Token],
+    from: usize,
+    low: usize,
+) -> Result<Reading<Begun>, Halt>
+    requires from { from ≤ length tokens.now }
+    requires low { (from ≤ low) × (low ≤ length tokens.now) }
+    ensures spells { IfOk result (λ reading. schedules.HasBegun tokens.now from reading.part.period reading.part.activation.task reading.part.activation.priority reading.end) }
+    ensures sure { IfOk result (λ reading. Exact schedules.SpellsBegun tokens.now from reading.end reading.stop) }
+    ensures on { IfOk result (λ reading. spec.IsOn tokens.now (from + 1) low reading.end reading.stop) }
+    ensures refused { IfErr result (λ halt. spec.IsStopped schedules.SpellsBegun tokens.now from low halt) }
+{
+    let period = maybe_period(alloc, tokens, from, low)?;
+    let activation = activate(alloc, tokens, period.end, period.stop)?;
+    Ok(Reading {
+        part: Begun {
+            period: period.part,
+            activation: activation.part,
+        },
+        end: activation.end,
+        stop: activation.stop,
+    })
+}
+
+/// `ACTIVATE id [ PRIO expr ] ";"` with no start before it
+pub fn plain_activation(alloc: Global, tokens: &[Token], from: usize) -> Result<Reading<Stmt>, Halt>
     requires within { from < length tokens.now }
     requires word { HasWord tokens.now from w.ACTIVATE }
     ensures spells { IfOk result (λ reading. (depth : ℕ) → SpellsStmt tokens.now depth from reading.part reading.end) }
