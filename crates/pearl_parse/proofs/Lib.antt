@@ -5,3 +5,4 @@ pub mod Before
 pub mod TransferRests
 pub mod CallRests
 pub mod ScheduleRests
+pub mod TimedRests

@@ -1,5 +1,5 @@
 -- Which tokens the parts of scheduled statements spell, where a token that may begin a part does.
-use Rattle.std.specs.Prelude.{◌≡◌, ℕ, ◌+◌, ◌||◌, Bool, false, List, Option}
+use Rattle.std.specs.Prelude.{◌≡◌, ℕ, ◌+◌, ◌||◌, Bool, true, false, List, Option}
 use Rattle.pearl_tree.specs.declared.name.Name.{Name}
 use Rattle.pearl_tree.specs.declared.expression.Expr.{Expr}
 use Rattle.pearl_tree.specs.declared.statement.PeriodEnd.{PeriodEnd}
@@ -50,3 +50,8 @@ SpellsBegun tokens from part to =
 abbrev pub HasBegun : List Token → ℕ → Option Period → Name → Option Expr → ℕ → Type 0
 HasBegun tokens from period task priority to =
     (m : ℕ) × SpellsMaybe (SpellsPeriod tokens) from period m × SpellsActivation tokens m (task, priority) to
+
+-- AFTER, or AT
+abbrev pub time_word : Bool → ℕ
+time_word true = w.AFTER
+time_word false = w.AT

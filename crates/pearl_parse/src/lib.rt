@@ -6,4 +6,5 @@ mod leaf;
 mod list;
 mod schedule;
 mod step;
+mod timed;
 mod transfer;
