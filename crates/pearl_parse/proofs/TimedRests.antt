@@ -23,7 +23,7 @@ use Rattle.pearl_parse_expr.specs.declared.reading.Halt.{Halt}
 use Rattle.pearl_parse_expr.specs.Stops.{Sure, IsHalted, extends_expression, is_name, is_word}
 use Rattle.pearl_parse_expr.proofs.Primaries.{clash}
 use Rattle.pearl_parse.specs.Stops.{IsStopped}
-use Rattle.pearl_parse.specs.Schedules.{begins_end, time_word, SpellsOptionalEnd, SpellsOptionalPeriod, SpellsBegun}
+use Rattle.pearl_parse.specs.Schedules.{begins_end, time_word, SpellsOptionalEnd, SpellsOptionalPeriod, SpellsLongPeriod, SpellsActivation, SpellsBegun}
 use Rattle.pearl_parse.proofs.ByFirst.{group, of_kind}
 use Rattle.pearl_parse.proofs.Steps.{Rest, Ends, Then, Avoids, Goes, past, no_part}
 use Rattle.pearl_parse.proofs.LeafRests.{Spelled}
@@ -120,6 +120,35 @@ module _ (others : List Token) where
           let read = after_once later from a h.0 (same from (once_word others a) (time_word later) (once_begins others from a h.0 h.2) here) h.2 in
           (read.0, h.0, read.1, inr (inl (h.3, h.4, h.5)))
       by a e h = absurd e
+
+abbrev pub period_rest : Rest
+period_rest = Then SpellsLongPeriod (Then SpellsActivation Ends)
+
+module _ (others : List Token) where
+  only_periodic : (depth from : ℕ) → HasWord others from w.ALL → (a : Stmt) (to : ℕ) → SpellsStmt others depth from a to → period_rest others from to
+  only_periodic depth from here a to h = by a (of_kind others depth from 9 (what.Word w.ALL) here refl a to h) h
+    where
+      once_apart : (a : Once) → T (eqb (once_word others a) w.ALL) → ⊥
+      once_apart (once.At _ _) e = absurd e
+      once_apart (once.After _ _) e = absurd e
+      once_apart (once.When _ _) e = absurd e
+
+      started : (a : Start) (m : ℕ) → T (eqb (start_word others a) w.ALL) → SpellsStart others from a m → HasWord others m w.ACTIVATE → (u : Period) × SpellsLongPeriod others from u m
+      started (start.All u) m e h i = let last = optional_end others h.0 u.end m h.3 i in (u, (h.0, h.1, h.2, last.0, last.1))
+      started a m e h i = absurd e
+
+      by : (a : Stmt) → T (eqb (group a) 9) → SpellsStmt others depth from a to → period_rest others from to
+      by (Activate None n x p) e h = absurd (omega (arith, same_word others from w.ACTIVATE w.ALL (subst (λ k. HasWord others k w.ACTIVATE) h.3 h.4) here))
+      by (Activate (Some a) n y p) e h =
+          let read = started a h.0 (same others from (start_word others a) w.ALL (start_begins others from a h.0 h.3) here) h.3 h.4 in
+          (read.0, h.0, read.1, ((n, y), to, (h.1, h.4, h.5, priority_optional others (h.0 + 2) y h.1 h.6 h.7, h.7, h.8), refl))
+      by (Continue None n p) e h = absurd (omega (arith, same_word others from w.CONTINUE w.ALL (subst (λ k. HasWord others k w.CONTINUE) h.2 h.3) here))
+      by (Continue (Some a) n p) e h = absurd (once_apart a (same others from (once_word others a) w.ALL (once_begins others from a h.0 h.2) here))
+      by (Resume a p) e h = absurd (once_apart a (same others from (once_word others a) w.ALL (once_begins others from a h.0 h.2) here))
+      by a e h = absurd e
+
+pub periodic_goes : (tokens : List Token) (depth from : ℕ) → HasWord tokens from w.ALL → Goes (Spelled depth) tokens from period_rest from from
+periodic_goes tokens depth from here = λ others agree a to h. only_periodic others depth from (sym (agree from (omega arith)) ∙ here) a to h
 
 pub avoids_time : Avoids extends_expression after_time
 avoids_time others at to (inl h) = ap extends_expression h.0

@@ -14,7 +14,7 @@ use pearl_parse_expr::standing::{is_word, place_at};
 use pearl_tables::word_code::*;
 use pearl_tree::expression::Expr;
 use pearl_tree::name::Name;
-use pearl_tree::statement::{Period, PeriodEnd, Stmt};
+use pearl_tree::statement::{Period, PeriodEnd, Start, Stmt};
 use pearl_tree::token::Token;
 use std::alloc::Global;
 
@@ -229,5 +229,28 @@ pub fn plain_continuation(tokens: &[Token], from: usize) -> Result<Reading<Stmt>
         },
         end: from + 3,
         stop: from + 3,
+    })
+}
+
+/// `ALL expr [ UNTIL expr | DURING expr ] ACTIVATE id [ PRIO expr ] ";"`
+pub fn periodic(alloc: Global, tokens: &[Token], from: usize) -> Result<Reading<Stmt>, Halt>
+    requires within { from < length tokens.now }
+    requires word { HasWord tokens.now from w.ALL }
+    ensures spells { IfOk result (λ reading. (depth : ℕ) → SpellsStmt tokens.now depth from reading.part reading.end) }
+    ensures sure { IfOk result (λ reading. (depth : ℕ) → Exact (λ tokens. SpellsStmt tokens depth) tokens.now from reading.end reading.stop) }
+    ensures ahead { IfOk result (λ reading. IsAhead tokens.now from reading.end reading.stop) }
+    ensures refused { IfErr result (λ halt. (depth : ℕ) → IsHalted (λ tokens. SpellsStmt tokens depth) tokens.now from halt) }
+{
+    let period = period(alloc, tokens, from, from)?;
+    let activation = activate(alloc, tokens, period.end, period.stop)?;
+    Ok(Reading {
+        part: Stmt::Activate {
+            start: Some(Start::All(period.part)),
+            task: activation.part.task,
+            priority: activation.part.priority,
+            place: place_at(tokens, from),
+        },
+        end: activation.end,
+        stop: activation.stop,
     })
 }
