@@ -6,3 +6,4 @@ pub mod TransferRests
 pub mod CallRests
 pub mod ScheduleRests
 pub mod TimedRests
+pub mod WhenRests

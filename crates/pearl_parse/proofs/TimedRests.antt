@@ -92,7 +92,7 @@ module _ (others : List Token) where
   after_once true from (once.After x p) to e h = (x, h.1)
   after_once later from a to e h = absurd e
 
-  same : (from a b : ℕ) → HasWord others from a → HasWord others from b → T (eqb a b)
+  pub same : (from a b : ℕ) → HasWord others from a → HasWord others from b → T (eqb a b)
   same from a b h g = yes_eqb (same_word others from a b h g)
 
   only_timed : (later : Bool) (depth from : ℕ) → HasWord others from (time_word later) → (a : Stmt) (to : ℕ) → SpellsStmt others depth from a to → timed_rest later others from to

@@ -55,3 +55,7 @@ HasBegun tokens from period task priority to =
 abbrev pub time_word : Bool → ℕ
 time_word true = w.AFTER
 time_word false = w.AT
+
+-- [ AFTER expr ]
+abbrev pub SpellsOptionalAfter : List Token → Spelling (Option Expr)
+SpellsOptionalAfter = SpellsOptional (is_word w.AFTER) (λ tokens. SpellsAfter tokens w.AFTER)

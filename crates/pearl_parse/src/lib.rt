@@ -2,6 +2,7 @@
 #![tactic(auto)]
 
 mod call;
+mod interrupt;
 mod leaf;
 mod list;
 mod schedule;
