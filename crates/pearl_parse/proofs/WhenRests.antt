@@ -1,5 +1,5 @@
 -- What is left of a statement behind WHEN.
-use Rattle.std.proofs.Common.{◌≡◌, ℕ, ◌+◌, ◌≤◌, true, false, List, Option, Some, None, ◌⊎◌, inl, inr, T, eqb, refl, sym, ap, subst, ◌∙◌, arith}
+use Rattle.std.proofs.Common.{◌≡◌, ℕ, ◌+◌, true, false, List, Option, Some, None, ◌⊎◌, inl, inr, T, eqb, refl, sym, ap, subst, ◌∙◌, arith}
 use Rattle.pearl_tree.specs.declared.expression.Expr.{Expr}
 use Rattle.pearl_tree.specs.declared.statement.Period.{Period}
 use Rattle.pearl_tree.specs.declared.statement.Start.{Start}
@@ -9,16 +9,16 @@ use Rattle.pearl_tree.specs.declared.statement.Once.TheVariants as once
 use Rattle.pearl_tree.specs.declared.statement.Stmt.{Stmt, Activate, Continue, Resume}
 use Rattle.pearl_tree.specs.declared.token.What.TheVariants as what
 use Rattle.pearl_tree.specs.declared.token.Token.{Token}
-use Rattle.pearl_tree.specs.Standing.{HasWord, HasSymbol, IsName, SpellsMaybe, what_at}
+use Rattle.pearl_tree.specs.Standing.{HasWord, SpellsMaybe, what_at}
 use Rattle.pearl_tree.specs.Statements.{SpellsAfter, SpellsStmt, SpellsStart, SpellsOnce}
 use Rattle.pearl_tree.specs.WordCodes as w
 use Rattle.pearl_tree.proofs.Meeting.{same_word}
 use Rattle.pearl_tree.proofs.OneSchedule.{start_word, start_begins, once_word, once_begins}
 use Rattle.pearl_parse_expr.specs.Stops.{extends_expression, is_name, is_word}
 use Rattle.pearl_parse_expr.proofs.Primaries.{clash}
-use Rattle.pearl_parse.specs.Schedules.{SpellsOptionalAfter, SpellsOptionalPeriod, SpellsBegun}
+use Rattle.pearl_parse.specs.Schedules.{SpellsOptionalAfter, SpellsOptionalPeriod}
 use Rattle.pearl_parse.proofs.ByFirst.{group, of_kind}
-use Rattle.pearl_parse.proofs.Steps.{Rest, Ends, Then, Avoids, Goes}
+use Rattle.pearl_parse.proofs.Steps.{Rest, Then, Avoids, Goes}
 use Rattle.pearl_parse.proofs.LeafRests.{Spelled}
 use Rattle.pearl_parse.proofs.ScheduleRests.{continue_rest, priority_optional}
 use Rattle.pearl_parse.proofs.TimedRests.{continued, resumed, resume_rest, begun_rest, optional_period, same}

@@ -7,5 +7,7 @@ mod leaf;
 mod list;
 mod schedule;
 mod step;
+#[cfg(test)]
+mod tests;
 mod timed;
 mod transfer;

@@ -1,11 +1,11 @@
-use Rattle.std.proofs.Common.{◌+◌, ◌≤◌, length, refl, ap, sym, arith}
+use Rattle.std.proofs.Common.{◌+◌, ap, sym, arith}
 use Rattle.pearl_tree.specs.Expressions.{SpellsWhole}
 use Rattle.pearl_tree.specs.Symbols as s
 use Rattle.pearl_parse_expr.specs.Stops.{extends_expression, is_symbol}
 use Rattle.pearl_parse.specs.Calls.{SpellsArguments}
 use Rattle.pearl_parse.proofs.Steps.{Ends, err_told, past, past_exact, missing, no_part, ends}
 use Rattle.pearl_parse.proofs.LeafRests.{Spelled, exit_rest}
-use Rattle.pearl_parse.proofs.CallRests.{value_rest, arguments_rest, assign_goes, named_call_goes, no_named}
+use Rattle.pearl_parse.proofs.CallRests.{assign_goes, named_call_goes, no_named}
 use Rattle.pearl_parse.proofs.call.named.Goals as goal
 
 pub returns-in_err-target-clause-refused : goal.returns-in_err-target-clause-refused

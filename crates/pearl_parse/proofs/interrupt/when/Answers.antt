@@ -1,7 +1,6 @@
-use Rattle.std.proofs.Common.{◌≡◌, true, ◌+◌, ◌≤◌, length, refl, sym, ap, subst, arith}
+use Rattle.std.proofs.Common.{◌≡◌, true, ◌+◌, refl, sym, ap, subst, arith}
 use Rattle.pearl_tree.specs.Standing.{HasSymbol, what_at}
 use Rattle.pearl_tree.specs.Symbols as s
-use Rattle.pearl_tree.specs.WordCodes as w
 use Rattle.pearl_parse_expr.specs.Stops.{extends_expression, is_symbol, is_name}
 use Rattle.pearl_parse.specs.Schedules.{SpellsOptionalAfter, SpellsBegun}
 use Rattle.pearl_parse.proofs.Steps.{Ends, err_told, past, past_exact, missing, no_part, ends}

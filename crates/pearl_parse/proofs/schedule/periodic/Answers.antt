@@ -1,4 +1,4 @@
-use Rattle.std.proofs.Common.{◌+◌, ◌≤◌, length, ap, arith}
+use Rattle.std.proofs.Common.{ap, arith}
 use Rattle.pearl_parse_expr.specs.Stops.{extends_expression}
 use Rattle.pearl_parse.specs.Schedules.{SpellsLongPeriod, SpellsActivation}
 use Rattle.pearl_parse.proofs.Steps.{Ends, err_told, past, past_exact, no_part}

@@ -1,6 +1,5 @@
-use Rattle.std.proofs.Common.{◌+◌, ◌≤◌, length, refl, sym, ap, arith}
+use Rattle.std.proofs.Common.{◌+◌, refl, sym, ap, arith}
 use Rattle.pearl_tree.specs.Symbols as s
-use Rattle.pearl_tree.specs.WordCodes as w
 use Rattle.pearl_parse_expr.specs.Stops.{is_symbol, is_name}
 use Rattle.pearl_parse.specs.Schedules.{SpellsBegun}
 use Rattle.pearl_parse.proofs.Steps.{Ends, err_told, past_exact, missing, no_part, ends}
