@@ -1,0 +1,121 @@
+-- What is left of a period or an activation behind its first tokens.
+use Rattle.std.proofs.Common.{◌≡◌, ℕ, ◌+◌, ◌≤◌, true, List, Option, Some, None, T, eqb, refl, sym, ap, subst, ◌∙◌, arith}
+use Rattle.std.proofs.Math.Facts.{yes_eqb}
+use Rattle.pearl_tree.specs.declared.expression.Expr.{Expr}
+use Rattle.pearl_tree.specs.declared.statement.Start.{Start}
+use Rattle.pearl_tree.specs.declared.statement.Start.TheVariants as start
+use Rattle.pearl_tree.specs.declared.statement.Once.{Once}
+use Rattle.pearl_tree.specs.declared.statement.Once.TheVariants as once
+use Rattle.pearl_tree.specs.declared.statement.Stmt.{Stmt, Activate, Continue, Resume}
+use Rattle.pearl_tree.specs.declared.token.What.TheVariants as what
+use Rattle.pearl_tree.specs.declared.token.Token.{Token}
+use Rattle.pearl_tree.specs.Standing.{HasWord, HasSymbol, IsName, SpellsMaybe, what_at}
+use Rattle.pearl_tree.specs.Statements.{SpellsAfter, SpellsStmt, SpellsStart, SpellsOnce}
+use Rattle.pearl_tree.specs.Symbols as s
+use Rattle.pearl_tree.specs.WordCodes as w
+use Rattle.pearl_tree.proofs.Meeting.{same_word}
+use Rattle.pearl_tree.proofs.OneSchedule.{start_word, start_begins, once_word, once_begins}
+use Rattle.pearl_parse_expr.specs.declared.reading.Halt.{Halt}
+use Rattle.pearl_parse_expr.specs.declared.reading.Halt.TheVariants.{Refused, NoMemory}
+use Rattle.pearl_parse_expr.specs.Stops.{Sure, extends_expression, is_name, is_word}
+use Rattle.pearl_parse_expr.proofs.Parts.{shorter}
+use Rattle.pearl_parse_decl.proofs.Lists.{settled}
+use Rattle.pearl_parse.specs.Stops.{IsStopped}
+use Rattle.pearl_parse.specs.Schedules.{SpellsOptionalEnd, SpellsLongPeriod, SpellsOptionalPeriod, SpellsOptionalPriority, SpellsActivation, SpellsBegun}
+use Rattle.pearl_parse.proofs.ByFirst.{group, of_kind}
+use Rattle.pearl_parse.proofs.Steps.{Rest, Ends, Then, Goes}
+use Rattle.pearl_parse.proofs.LeafRests.{Spelled, exit_rest}
+
+abbrev pub priority_rest : Rest
+priority_rest = Then SpellsOptionalPriority exit_rest
+
+abbrev pub activation_rest : Rest
+activation_rest = Then SpellsActivation Ends
+
+-- CONTINUE id ";"
+abbrev pub continue_rest : Rest
+continue_rest others at to = (is_name (what_at others (at + 1)) ≡ true) × HasSymbol others (at + 2) s.semicolon × (to ≡ at + 3)
+
+module _ (tokens : List Token) (from : ℕ) where
+  pub period_stopped : (low end stop : ℕ) (halt : Halt) → Sure (λ tokens. SpellsAfter tokens w.ALL) extends_expression tokens from end stop → from ≤ end → low ≤ stop →
+      IsStopped SpellsOptionalEnd tokens end stop halt → IsStopped SpellsLongPeriod tokens from low halt
+  period_stopped low end stop NoMemory sure ahead behind h = tt
+  period_stopped low end stop (Refused k) sure ahead behind h = (
+    λ others agree x to read.
+        let same = settled extends_expression others end read.0 (sure others (shorter tokens others stop k h.2 agree) x.duration read.0 read.2) read.3 in
+        h.0 others agree x.end to (subst (λ m. SpellsOptionalEnd others m x.end to) same read.4),
+    omega (arith, h.1, ahead),
+    omega (arith, h.2, behind),
+    h.3,
+  )
+
+  pub begun_goes : (stop : ℕ) → Goes SpellsBegun tokens from (Then SpellsOptionalPeriod activation_rest) from stop
+  begun_goes stop = λ others agree x to h. (x.0, h.0, h.1, (x.1, to, h.2, refl))
+
+  pub activation_goes : (stop : ℕ) → Goes SpellsActivation tokens from priority_rest (from + 2) stop
+  activation_goes stop = λ others agree x to h. (x.1, h.0, h.3, (h.4, h.5))
+
+module _ (others : List Token) where
+  pub priority_optional : (k : ℕ) (x : Option Expr) (b : ℕ) → SpellsMaybe (SpellsAfter others w.PRIO) k x b → HasSymbol others b s.semicolon → SpellsOptionalPriority others k x b
+  priority_optional k None b h i = (h, ap (is_word w.PRIO) (subst (λ k. HasSymbol others k s.semicolon) h i))
+  priority_optional k (Some x) b h i = h
+
+  no_start : (from word : ℕ) (a : Start) (to : ℕ) → HasWord others from word → ((a : Start) → T (eqb (start_word others a) word) → ⊥) → SpellsStart others from a to → ⊥
+  no_start from word a to here apart h = apart a (yes_eqb (same_word others from (start_word others a) word (start_begins others from a to h) here))
+
+  no_once : (from word : ℕ) (a : Once) (to : ℕ) → HasWord others from word → ((a : Once) → T (eqb (once_word others a) word) → ⊥) → SpellsOnce others from a to → ⊥
+  no_once from word a to here apart h = apart a (yes_eqb (same_word others from (once_word others a) word (once_begins others from a to h) here))
+
+  start_no_activate : (a : Start) → T (eqb (start_word others a) w.ACTIVATE) → ⊥
+  start_no_activate (start.At _ _ _) e = absurd e
+  start_no_activate (start.After _ _ _) e = absurd e
+  start_no_activate (start.When _ _ _ _) e = absurd e
+  start_no_activate (start.All _) e = absurd e
+
+  start_no_continue : (a : Start) → T (eqb (start_word others a) w.CONTINUE) → ⊥
+  start_no_continue (start.At _ _ _) e = absurd e
+  start_no_continue (start.After _ _ _) e = absurd e
+  start_no_continue (start.When _ _ _ _) e = absurd e
+  start_no_continue (start.All _) e = absurd e
+
+  once_no_activate : (a : Once) → T (eqb (once_word others a) w.ACTIVATE) → ⊥
+  once_no_activate (once.At _ _) e = absurd e
+  once_no_activate (once.After _ _) e = absurd e
+  once_no_activate (once.When _ _) e = absurd e
+
+  once_no_continue : (a : Once) → T (eqb (once_word others a) w.CONTINUE) → ⊥
+  once_no_continue (once.At _ _) e = absurd e
+  once_no_continue (once.After _ _) e = absurd e
+  once_no_continue (once.When _ _) e = absurd e
+
+  pub only_activation : (depth from : ℕ) → HasWord others from w.ACTIVATE → (a : Stmt) (to : ℕ) → SpellsStmt others depth from a to → activation_rest others from to
+  only_activation depth from here a to h = by a (of_kind others depth from 9 (what.Word w.ACTIVATE) here refl a to h) h
+    where
+      by : (a : Stmt) → T (eqb (group a) 9) → SpellsStmt others depth from a to → activation_rest others from to
+      by (Activate None n x p) e h =
+          let optional = priority_optional (h.0 + 2) x h.1 h.6 h.7 in
+          ((n, x), to, (h.1, here, subst (λ k. IsName others (k + 1) n) h.3 h.5, subst (λ k. SpellsOptionalPriority others (k + 2) x h.1) h.3 optional, h.7, h.8), refl)
+      by (Activate (Some x) n y p) e h = absurd (no_start from w.ACTIVATE x h.0 here start_no_activate h.3)
+      by (Continue None n p) e h = absurd (omega (arith, same_word others from w.CONTINUE w.ACTIVATE (subst (λ k. HasWord others k w.CONTINUE) h.2 h.3) here))
+      by (Continue (Some x) n p) e h = absurd (no_once from w.ACTIVATE x h.0 here once_no_activate h.2)
+      by (Resume x p) e h = absurd (no_once from w.ACTIVATE x h.0 here once_no_activate h.2)
+      by a e h = absurd e
+
+  pub only_continuation : (depth from : ℕ) → HasWord others from w.CONTINUE → (a : Stmt) (to : ℕ) → SpellsStmt others depth from a to → continue_rest others from to
+  only_continuation depth from here a to h = by a (of_kind others depth from 9 (what.Word w.CONTINUE) here refl a to h) h
+    where
+      by : (a : Stmt) → T (eqb (group a) 9) → SpellsStmt others depth from a to → continue_rest others from to
+      by (Activate None n x p) e h = absurd (omega (arith, same_word others from w.ACTIVATE w.CONTINUE (subst (λ k. HasWord others k w.ACTIVATE) h.3 h.4) here))
+      by (Activate (Some x) n y p) e h = absurd (no_start from w.CONTINUE x h.0 here start_no_continue h.3)
+      by (Continue None n p) e h =
+          (ap is_name (subst (λ k. IsName others (k + 1) n) h.2 h.4).0, subst (λ k. HasSymbol others (k + 2) s.semicolon) h.2 h.5, h.6 ∙ ap (λ k. k + 3) h.2)
+      by (Continue (Some x) n p) e h = absurd (no_once from w.CONTINUE x h.0 here once_no_continue h.2)
+      by (Resume x p) e h = absurd (no_once from w.CONTINUE x h.0 here once_no_continue h.2)
+      by a e h = absurd e
+
+module _ (tokens : List Token) (depth from : ℕ) where
+  pub activate_goes : HasWord tokens from w.ACTIVATE → Goes (Spelled depth) tokens from activation_rest from from
+  activate_goes here = λ others agree a to h. only_activation others depth from (sym (agree from (omega arith)) ∙ here) a to h
+
+  pub continue_goes : HasWord tokens from w.CONTINUE → Goes (Spelled depth) tokens from continue_rest from from
+  continue_goes here = λ others agree a to h. only_continuation others depth from (sym (agree from (omega arith)) ∙ here) a to h

@@ -1,0 +1,37 @@
+use Rattle.std.proofs.Common.{◌+◌, ap, arith}
+use Rattle.pearl_tree.specs.Symbols as s
+use Rattle.pearl_parse_expr.specs.Stops.{is_symbol}
+use Rattle.pearl_parse.specs.Calls.{SpellsOptionalValue}
+use Rattle.pearl_parse.proofs.Steps.{err_told, past_exact, missing, no_first, ends}
+use Rattle.pearl_parse.proofs.LeafRests.{Spelled, exit_rest}
+use Rattle.pearl_parse.proofs.CallRests.{return_goes}
+use Rattle.pearl_parse.proofs.call.return_.Goals as goal
+
+pub returns-in_err-value-clause-refused : goal.returns-in_err-value-clause-refused
+returns-in_err-value-clause-refused c =
+    let tokens = c.args.tokens.now in
+    let from = c.args.from in
+    err_told _ _ c.in_err-value.field-0.0 c.from_residual.result c.from_residual.ensures (λ e is. is)
+    (λ depth. no_first (Spelled depth) tokens from SpellsOptionalValue exit_rest (from + 1) from c.in_err-value.field-0.0 (return_goes tokens depth from c.requires.word)
+    (omega arith) (omega arith) c.in_err-value.ensures.refused)
+
+pub returns-in_err-symbol-clause-refused : goal.returns-in_err-symbol-clause-refused
+returns-in_err-symbol-clause-refused c =
+    let tokens = c.args.tokens.now in
+    let from = c.args.from in
+    let value = c.in_ok-value.value in
+    let read = c.in_ok-value.ensures in
+    err_told _ _ c.in_err-symbol.field-0.0 c.from_residual-in_err-symbol.result c.from_residual-in_err-symbol.ensures (λ e is. is)
+    (λ depth.
+    let go = past_exact (Spelled depth) tokens from SpellsOptionalValue exit_rest (from + 1) from value.end value.stop (return_goes tokens depth from c.requires.word) (omega (arith, read.on)) read.sure in
+    missing (Spelled depth) tokens from (is_symbol s.semicolon) exit_rest value.end value.stop value.end c.in_err-symbol.field-0.0 go
+    (λ others to h. ap (is_symbol s.semicolon) h.0) (omega (arith, read.on)) (omega (arith, read.on)) (omega (arith, read.on)) c.in_err-symbol.ensures.missing)
+
+pub returns-clause-sure : goal.returns-clause-sure
+returns-clause-sure c = λ depth.
+    let tokens = c.args.tokens.now in
+    let from = c.args.from in
+    let value = c.in_ok-value.value in
+    let read = c.in_ok-value.ensures in
+    let go = past_exact (Spelled depth) tokens from SpellsOptionalValue exit_rest (from + 1) from value.end value.stop (return_goes tokens depth from c.requires.word) (omega (arith, read.on)) read.sure in
+    ends (Spelled depth) tokens from exit_rest value.end value.stop c.max.result (value.end + 1) go (omega (arith, c.max.ensures)) (λ others to h. h.1)

@@ -1,0 +1,89 @@
+use Rattle.std.proofs.Common.{◌≡◌, true, ◌+◌, refl, sym, ap, subst, arith}
+use Rattle.pearl_tree.specs.Standing.{HasSymbol, what_at}
+use Rattle.pearl_tree.specs.Symbols as s
+use Rattle.pearl_parse_expr.specs.Stops.{extends_expression, is_symbol, is_name}
+use Rattle.pearl_parse.specs.Schedules.{SpellsOptionalAfter, SpellsBegun}
+use Rattle.pearl_parse.proofs.Steps.{Ends, err_told, past, past_exact, missing, no_part, ends}
+use Rattle.pearl_parse.proofs.LeafRests.{Spelled}
+use Rattle.pearl_parse.proofs.ScheduleRests.{continue_rest}
+use Rattle.pearl_parse.proofs.TimedRests.{resume_rest, begun_rest}
+use Rattle.pearl_parse.proofs.WhenRests.{when_rest, avoids_begun, when_goes, when_continues, when_resumes, when_begins}
+use Rattle.pearl_parse.proofs.interrupt.when.Goals as goal
+
+pub returns-in_err-interrupt-clause-refused : goal.returns-in_err-interrupt-clause-refused
+returns-in_err-interrupt-clause-refused c =
+    let tokens = c.args.tokens.now in
+    let from = c.args.from in
+    err_told _ _ c.in_err-interrupt.field-0.0 c.from_residual.result c.from_residual.ensures (λ e is. is)
+    (λ depth. missing (Spelled depth) tokens from is_name when_rest (from + 1) from (from + 1) c.in_err-interrupt.field-0.0 (when_goes tokens depth from c.requires.word)
+    (λ others to h. h.0) (omega arith) (omega (arith, c.requires.within)) (omega (arith, c.requires.within)) c.in_err-interrupt.ensures.missing)
+
+pub returns-in_err-task-clause-refused : goal.returns-in_err-task-clause-refused
+returns-in_err-task-clause-refused c =
+    let tokens = c.args.tokens.now in
+    let from = c.args.from in
+    err_told _ _ c.in_err-task.field-0.0 c.from_residual-in_err-task.result c.from_residual-in_err-task.ensures (λ e is. is)
+    (λ depth. missing (Spelled depth) tokens from is_name continue_rest (from + 2) (from + 2) (from + 3) c.in_err-task.field-0.0 (when_continues tokens depth from c.requires.word (c.if-is_word.ensures.stands refl))
+    (λ others to h. subst (λ k. is_name (what_at others k) ≡ true) (omega arith) h.0) (omega arith) (omega (arith, c.if-is_word.ensures.within refl)) (omega (arith, c.in_ok-interrupt.ensures.within)) c.in_err-task.ensures.missing)
+
+pub returns-in_err-symbol-clause-refused : goal.returns-in_err-symbol-clause-refused
+returns-in_err-symbol-clause-refused c =
+    let tokens = c.args.tokens.now in
+    let from = c.args.from in
+    err_told _ _ c.in_err-symbol.field-0.0 c.from_residual-in_err-symbol.result c.from_residual-in_err-symbol.ensures (λ e is. is)
+    (λ depth. missing (Spelled depth) tokens from (is_symbol s.semicolon) continue_rest (from + 2) (from + 2) (from + 4) c.in_err-symbol.field-0.0 (when_continues tokens depth from c.requires.word (c.if-is_word.ensures.stands refl))
+    (λ others to h. ap (is_symbol s.semicolon) (subst (λ k. HasSymbol others k s.semicolon) (omega arith) h.1)) (omega arith) (omega (arith, c.in_ok-task.ensures.within)) (omega (arith, c.in_ok-interrupt.ensures.within)) c.in_err-symbol.ensures.missing)
+
+pub returns-then-is_word-clause-sure : goal.returns-then-is_word-clause-sure
+returns-then-is_word-clause-sure c = λ depth.
+    let tokens = c.args.tokens.now in
+    let from = c.args.from in
+    ends (Spelled depth) tokens from continue_rest (from + 2) (from + 2) (from + 5) (from + 5)
+    (when_continues tokens depth from c.requires.word (c.if-is_word.ensures.stands refl)) (omega arith) (λ others to h. omega (arith, h.2))
+
+pub returns-in_err-symbol-2-clause-refused : goal.returns-in_err-symbol-2-clause-refused
+returns-in_err-symbol-2-clause-refused c =
+    let tokens = c.args.tokens.now in
+    let from = c.args.from in
+    err_told _ _ c.in_err-symbol-2.field-0.0 c.from_residual-in_err-symbol-2.result c.from_residual-in_err-symbol-2.ensures (λ e is. is)
+    (λ depth. missing (Spelled depth) tokens from (is_symbol s.semicolon) resume_rest (from + 2) (from + 2) (from + 3) c.in_err-symbol-2.field-0.0 (when_resumes tokens depth from c.requires.word (c.if-is_word-2.ensures.stands refl))
+    (λ others to h. ap (is_symbol s.semicolon) (subst (λ k. HasSymbol others k s.semicolon) (omega arith) h.0)) (omega arith) (omega (arith, c.if-is_word-2.ensures.within refl)) (omega (arith, c.in_ok-interrupt.ensures.within)) c.in_err-symbol-2.ensures.missing)
+
+pub returns-then-is_word-2-clause-sure : goal.returns-then-is_word-2-clause-sure
+returns-then-is_word-2-clause-sure c = λ depth.
+    let tokens = c.args.tokens.now in
+    let from = c.args.from in
+    ends (Spelled depth) tokens from resume_rest (from + 2) (from + 2) (from + 4) (from + 4)
+    (when_resumes tokens depth from c.requires.word (c.if-is_word-2.ensures.stands refl)) (omega arith) (λ others to h. omega (arith, h.1))
+
+pub returns-in_err-after-clause-refused : goal.returns-in_err-after-clause-refused
+returns-in_err-after-clause-refused c =
+    let tokens = c.args.tokens.now in
+    let from = c.args.from in
+    err_told _ _ c.in_err-after.field-0.0 c.from_residual-in_err-after.result c.from_residual-in_err-after.ensures (λ e is. is)
+    (λ depth. no_part (Spelled depth) tokens from SpellsOptionalAfter begun_rest (from + 2) (from + 2) c.in_err-after.field-0.0
+    (when_begins tokens depth from c.requires.word (sym c.if-is_word.ensures.value) (sym c.if-is_word-2.ensures.value)) (omega arith) c.in_err-after.ensures.refused)
+
+pub returns-in_err-begun-clause-refused : goal.returns-in_err-begun-clause-refused
+returns-in_err-begun-clause-refused c =
+    let tokens = c.args.tokens.now in
+    let from = c.args.from in
+    let after = c.in_ok-after.after in
+    let read = c.in_ok-after.ensures in
+    err_told _ _ c.in_err-begun.field-0.0 c.from_residual-in_err-begun.result c.from_residual-in_err-begun.ensures (λ e is. is)
+    (λ depth.
+    let go = past (Spelled depth) tokens from SpellsOptionalAfter extends_expression begun_rest (from + 2) (from + 2) after.end after.stop
+    (when_begins tokens depth from c.requires.word (sym c.if-is_word.ensures.value) (sym c.if-is_word-2.ensures.value)) read.on.2 read.sure avoids_begun in
+    no_part (Spelled depth) tokens from SpellsBegun Ends after.end after.stop c.in_err-begun.field-0.0 go (omega (arith, read.on)) c.in_err-begun.ensures.refused)
+
+pub returns-clause-sure : goal.returns-clause-sure
+returns-clause-sure c = λ depth.
+    let tokens = c.args.tokens.now in
+    let from = c.args.from in
+    let after = c.in_ok-after.after in
+    let read = c.in_ok-after.ensures in
+    let begun = c.in_ok-begun.begun in
+    let last = c.in_ok-begun.ensures in
+    let go = past (Spelled depth) tokens from SpellsOptionalAfter extends_expression begun_rest (from + 2) (from + 2) after.end after.stop
+    (when_begins tokens depth from c.requires.word (sym c.if-is_word.ensures.value) (sym c.if-is_word-2.ensures.value)) read.on.2 read.sure avoids_begun in
+    past_exact (Spelled depth) tokens from SpellsBegun Ends after.end after.stop begun.end begun.stop go last.on.2 last.sure

@@ -1,0 +1,20 @@
+use Rattle.std.proofs.Common.{◌+◌, ap, arith}
+use Rattle.pearl_tree.specs.Symbols as s
+use Rattle.pearl_parse_expr.specs.Stops.{is_symbol}
+use Rattle.pearl_parse.proofs.Steps.{err_told, missing, ends}
+use Rattle.pearl_parse.proofs.LeafRests.{Spelled, exit_rest, exit_goes}
+use Rattle.pearl_parse.proofs.leaf.exit.Goals as goal
+
+pub returns-in_err-symbol-clause-refused : goal.returns-in_err-symbol-clause-refused
+returns-in_err-symbol-clause-refused c =
+    let tokens = c.args.tokens.now in
+    let from = c.args.from in
+    err_told _ _ c.in_err-symbol.field-0.0 c.from_residual.result c.from_residual.ensures (λ e is. is)
+    (λ depth. missing (Spelled depth) tokens from (is_symbol s.semicolon) exit_rest (from + 1) from (from + 1) c.in_err-symbol.field-0.0 (exit_goes tokens depth from c.requires.word)
+    (λ others to h. ap (is_symbol s.semicolon) h.0) (omega arith) (omega (arith, c.requires.within)) (omega (arith, c.requires.within)) c.in_err-symbol.ensures.missing)
+
+pub returns-clause-sure : goal.returns-clause-sure
+returns-clause-sure c = λ depth.
+    let tokens = c.args.tokens.now in
+    let from = c.args.from in
+    ends (Spelled depth) tokens from exit_rest (from + 1) from (from + 2) (from + 2) (exit_goes tokens depth from c.requires.word) (omega arith) (λ others to h. omega (arith, h.1))

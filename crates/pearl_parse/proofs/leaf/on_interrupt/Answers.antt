@@ -1,0 +1,29 @@
+use Rattle.std.proofs.Common.{◌+◌, ap, subst, arith}
+use Rattle.pearl_tree.specs.Standing.{HasSymbol}
+use Rattle.pearl_tree.specs.Symbols as s
+use Rattle.pearl_parse_expr.specs.Stops.{is_symbol, is_name}
+use Rattle.pearl_parse.proofs.Steps.{err_told, missing, ends}
+use Rattle.pearl_parse.proofs.LeafRests.{Spelled, interrupt_rest, interrupt_goes}
+use Rattle.pearl_parse.proofs.leaf.on_interrupt.Goals as goal
+
+pub returns-in_err-interrupt-clause-refused : goal.returns-in_err-interrupt-clause-refused
+returns-in_err-interrupt-clause-refused c =
+    let tokens = c.args.tokens.now in
+    let from = c.args.from in
+    err_told _ _ c.in_err-interrupt.field-0.0 c.from_residual.result c.from_residual.ensures (λ e is. is)
+    (λ depth. missing (Spelled depth) tokens from is_name interrupt_rest (from + 1) from (from + 1) c.in_err-interrupt.field-0.0 (interrupt_goes tokens depth from c.args.word c.requires.word)
+    (λ others to h. h.0) (omega arith) (omega (arith, c.requires.within)) (omega (arith, c.requires.within)) c.in_err-interrupt.ensures.missing)
+
+pub returns-in_err-symbol-clause-refused : goal.returns-in_err-symbol-clause-refused
+returns-in_err-symbol-clause-refused c =
+    let tokens = c.args.tokens.now in
+    let from = c.args.from in
+    err_told _ _ c.in_err-symbol.field-0.0 c.from_residual-in_err-symbol.result c.from_residual-in_err-symbol.ensures (λ e is. is)
+    (λ depth. missing (Spelled depth) tokens from (is_symbol s.semicolon) interrupt_rest (from + 1) from (from + 2) c.in_err-symbol.field-0.0 (interrupt_goes tokens depth from c.args.word c.requires.word)
+    (λ others to h. ap (is_symbol s.semicolon) (subst (λ k. HasSymbol others k s.semicolon) (omega arith) h.1)) (omega arith) (omega (arith, c.in_ok-interrupt.ensures.within)) (omega (arith, c.requires.within)) c.in_err-symbol.ensures.missing)
+
+pub returns-clause-sure : goal.returns-clause-sure
+returns-clause-sure c = λ depth.
+    let tokens = c.args.tokens.now in
+    let from = c.args.from in
+    ends (Spelled depth) tokens from interrupt_rest (from + 1) from (from + 3) (from + 3) (interrupt_goes tokens depth from c.args.word c.requires.word) (omega arith) (λ others to h. omega (arith, h.2))

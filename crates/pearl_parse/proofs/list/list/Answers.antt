@@ -1,0 +1,46 @@
+use Rattle.std.proofs.Common.{◌+◌, ◌<◌, ◌≤◌, [], ◌∷◌, ◌++◌, refl, sym, ap, subst, ◌∙◌, arith}
+use Rattle.pearl_tree.specs.Standing.{SpellsList}
+use Rattle.pearl_parse_expr.proofs.Lists.{list_one_more}
+use Rattle.pearl_parse_expr.proofs.Halts.{stuck_of}
+use Rattle.pearl_parse_decl.proofs.Lists.{list_begins, list_next, list_ends, list_is_stuck}
+use Rattle.pearl_parse.proofs.list.list.Goals as goal
+
+pub each-init : goal.each-init
+each-init g c =
+    let first = c.in-Ok.first in
+    record {
+      spells = subst (λ xs. SpellsList c.args.tokens.now (g.P.Listed.spelling c.args.tokens.now) c.args.from xs first.end)
+          (sym (c.in_ok-append.ensures.more ∙ ap (λ xs. xs ++ first.part ∷ []) c.new-list.ensures.items))
+          (first.end, c.in-Ok.ensures.spells, refl);
+      goes = list_begins g.P.Listed.spelling g.P.Listed.extends g.met.P.Listed.stops_at_comma c.args.tokens.now c.args.from first.end first.stop c.in-Ok.ensures.sure;
+      ahead = c.in-Ok.ensures.ahead;
+    }
+
+pub each-preserved : goal.each-preserved
+each-preserved g c =
+    let tokens = c.args.tokens.now in
+    let next = c.in-Ok-read.next in
+    let read = c.in-Ok-read.ensures in
+    let comma = c.each-test.ensures.stands refl in
+    let near : c.each.end ≤ c.each.stop = omega (arith, c.each.invariant.ahead) in
+    let ahead : c.each.end < next.end = omega (arith, read.ahead) in
+    let below : c.each.stop ≤ c.max-stop.result = omega (arith, c.max-stop.ensures) in
+    let reach : next.stop ≤ c.max-stop.result = omega (arith, c.max-stop.ensures) in
+    record {
+      spells = subst (λ xs. SpellsList tokens (g.P.Listed.spelling tokens) c.args.from xs next.end) (sym c.in_ok-append-in-Ok-read.ensures.more)
+          (list_one_more tokens (g.P.Listed.spelling tokens) c.each.list.items c.args.from c.each.end next.end next.part c.each.invariant.spells comma read.spells);
+      goes = list_next g.P.Listed.spelling g.P.Listed.extends g.met.P.Listed.stops_at_comma tokens c.args.from c.each.end c.each.stop next.end next.stop c.max-stop.result c.each.invariant.goes near ahead below reach comma read.sure;
+      ahead = (omega (arith, c.each.invariant.ahead, read.ahead), omega (arith, read.ahead), omega (arith, c.each.invariant.ahead, read.ahead, c.max-stop.ensures));
+    }
+
+pub returns-in-Refused-clause-sure : goal.returns-in-Refused-clause-sure
+returns-in-Refused-clause-sure g c =
+    let stuck = stuck_of g.P.Listed.spelling c.args.tokens.now (c.each.end + 1) c.in-Refused.at c.in-Err-read.halt c.in-Refused.is c.in-Err-read.ensures.refused in
+    let below : c.each.stop ≤ c.max.result = omega (arith, c.max.ensures) in
+    let reach : c.in-Refused.at ≤ c.max.result = omega (arith, c.max.ensures) in
+    list_is_stuck g.P.Listed.spelling g.P.Listed.extends c.args.tokens.now c.args.from c.each.end c.each.stop c.in-Refused.at c.max.result c.each.invariant.goes below reach stuck.0
+
+pub returns-clause-sure : goal.returns-clause-sure
+returns-clause-sure g c =
+    let near : c.each.end ≤ c.each.stop = omega (arith, c.each.invariant.ahead) in
+    list_ends g.P.Listed.spelling g.P.Listed.extends c.args.tokens.now c.args.from c.each.end c.each.stop c.each.invariant.goes near (sym c.each-test.ensures.value)

@@ -1,0 +1,15 @@
+use Rattle.std.proofs.Common.{◌-◌, length}
+use Rattle.pearl_tree.specs.Standing.{SpellsList}
+use Rattle.pearl_parse_expr.specs.Stops.{IsAhead}
+use Rattle.pearl_parse_decl.proofs.Lists.{ListGoes}
+use Rattle.pearl_parse.proofs.list.list.Given as goal
+
+abbrev pub invariant-each : goal.invariant-each
+invariant-each g l = record {
+  spells : SpellsList l.tokens (g.P.Listed.spelling l.tokens) l.from l.list.items l.end;
+  goes : ListGoes g.P.Listed.spelling g.P.Listed.extends l.tokens l.from l.end l.stop;
+  ahead : IsAhead l.tokens l.from l.end l.stop;
+}
+
+abbrev pub decreases-each : goal.decreases-each
+decreases-each g l = length l.tokens - l.end

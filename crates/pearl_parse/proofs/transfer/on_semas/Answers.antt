@@ -1,0 +1,38 @@
+use Rattle.std.proofs.Common.{◌+◌, ap, arith}
+use Rattle.pearl_tree.specs.Symbols as s
+use Rattle.pearl_parse_expr.specs.Stops.{is_symbol}
+use Rattle.pearl_parse_decl.specs.Readings.{by_comma, never}
+use Rattle.pearl_parse.specs.Stops.{SpellsNameList}
+use Rattle.pearl_parse.proofs.Steps.{err_told, past, missing, no_first, ends}
+use Rattle.pearl_parse.proofs.LeafRests.{Spelled, exit_rest}
+use Rattle.pearl_parse.proofs.TransferRests.{semas_goes}
+use Rattle.pearl_parse.proofs.transfer.on_semas.Goals as goal
+
+pub returns-in_err-names-clause-refused : goal.returns-in_err-names-clause-refused
+returns-in_err-names-clause-refused c =
+    let tokens = c.args.tokens.now in
+    let from = c.args.from in
+    err_told _ _ c.in_err-names.field-0.0 c.from_residual.result c.from_residual.ensures (λ e is. is)
+    (λ depth. no_first (Spelled depth) tokens from SpellsNameList exit_rest (from + 1) from c.in_err-names.field-0.0 (semas_goes tokens depth from c.args.word c.requires.word)
+    (omega arith) (omega arith) c.in_err-names.ensures.refused)
+
+pub returns-in_err-symbol-clause-refused : goal.returns-in_err-symbol-clause-refused
+returns-in_err-symbol-clause-refused c =
+    let tokens = c.args.tokens.now in
+    let from = c.args.from in
+    let names = c.in_ok-names.names in
+    let read = c.in_ok-names.ensures in
+    err_told _ _ c.in_err-symbol.field-0.0 c.from_residual-in_err-symbol.result c.from_residual-in_err-symbol.ensures (λ e is. is)
+    (λ depth.
+    let go = past (Spelled depth) tokens from SpellsNameList (by_comma never) exit_rest (from + 1) from names.end names.stop (semas_goes tokens depth from c.args.word c.requires.word) (omega (arith, read.ahead)) read.sure (λ others at to h. ap (by_comma never) h.0) in
+    missing (Spelled depth) tokens from (is_symbol s.semicolon) exit_rest names.end names.stop names.end c.in_err-symbol.field-0.0 go
+    (λ others to h. ap (is_symbol s.semicolon) h.0) (omega (arith, read.ahead)) (omega (arith, read.ahead)) (omega (arith, read.ahead)) c.in_err-symbol.ensures.missing)
+
+pub returns-clause-sure : goal.returns-clause-sure
+returns-clause-sure c = λ depth.
+    let tokens = c.args.tokens.now in
+    let from = c.args.from in
+    let names = c.in_ok-names.names in
+    let read = c.in_ok-names.ensures in
+    let go = past (Spelled depth) tokens from SpellsNameList (by_comma never) exit_rest (from + 1) from names.end names.stop (semas_goes tokens depth from c.args.word c.requires.word) (omega (arith, read.ahead)) read.sure (λ others at to h. ap (by_comma never) h.0) in
+    ends (Spelled depth) tokens from exit_rest names.end names.stop c.max.result (names.end + 1) go (omega (arith, c.max.ensures)) (λ others to h. h.1)

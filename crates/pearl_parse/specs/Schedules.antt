@@ -1,0 +1,61 @@
+-- Which tokens the parts of scheduled statements spell, where a token that may begin a part does.
+use Rattle.std.specs.Prelude.{◌≡◌, ℕ, ◌+◌, ◌||◌, Bool, true, false, List, Option}
+use Rattle.pearl_tree.specs.declared.name.Name.{Name}
+use Rattle.pearl_tree.specs.declared.expression.Expr.{Expr}
+use Rattle.pearl_tree.specs.declared.statement.PeriodEnd.{PeriodEnd}
+use Rattle.pearl_tree.specs.declared.statement.Period.{Period}
+use Rattle.pearl_tree.specs.declared.token.What.{What}
+use Rattle.pearl_tree.specs.declared.token.Token.{Token}
+use Rattle.pearl_tree.specs.Standing.{Spelling, what_at, IsAt, HasWord, HasSymbol, IsName, SpellsMaybe}
+use Rattle.pearl_tree.specs.Statements.{SpellsAfter, SpellsPeriodEnd, SpellsPeriod}
+use Rattle.pearl_tree.specs.Symbols as s
+use Rattle.pearl_tree.specs.WordCodes as w
+use Rattle.pearl_parse_expr.specs.Stops.{extends_expression, is_word}
+use Rattle.pearl_parse.specs.Stops.{SpellsOptional}
+
+-- UNTIL or DURING
+abbrev pub begins_end : Option What → Bool
+begins_end token = is_word w.UNTIL token || is_word w.DURING token
+
+-- [ UNTIL expr | DURING expr ]
+abbrev pub SpellsOptionalEnd : List Token → Spelling (Option PeriodEnd)
+SpellsOptionalEnd = SpellsOptional begins_end SpellsPeriodEnd
+
+-- ALL expr [ UNTIL expr | DURING expr ], where no token behind the first expression goes on with it
+abbrev pub SpellsLongPeriod : List Token → Spelling Period
+SpellsLongPeriod tokens from period to =
+    (m : ℕ) × IsAt tokens from period.place × SpellsAfter tokens w.ALL from period.duration m ×
+    (extends_expression (what_at tokens m) ≡ false) × SpellsOptionalEnd tokens m period.end to
+
+-- [ ALL expr [ UNTIL expr | DURING expr ] ]
+abbrev pub SpellsOptionalPeriod : List Token → Spelling (Option Period)
+SpellsOptionalPeriod = SpellsOptional (is_word w.ALL) SpellsLongPeriod
+
+-- [ PRIO expr ]
+abbrev pub SpellsOptionalPriority : List Token → Spelling (Option Expr)
+SpellsOptionalPriority = SpellsOptional (is_word w.PRIO) (λ tokens. SpellsAfter tokens w.PRIO)
+
+-- ACTIVATE id [ PRIO expr ] ";"
+abbrev pub SpellsActivation : List Token → Spelling (Name × Option Expr)
+SpellsActivation tokens from part to =
+    (m : ℕ) × HasWord tokens from w.ACTIVATE × IsName tokens (from + 1) part.0 ×
+    SpellsOptionalPriority tokens (from + 2) part.1 m × HasSymbol tokens m s.semicolon × (to ≡ m + 1)
+
+-- [ ALL expr [ UNTIL expr | DURING expr ] ] ACTIVATE id [ PRIO expr ] ";"
+abbrev pub SpellsBegun : List Token → Spelling (Option Period × (Name × Option Expr))
+SpellsBegun tokens from part to =
+    (m : ℕ) × SpellsOptionalPeriod tokens from part.0 m × SpellsActivation tokens m part.1 to
+
+-- the same, as the rules of the grammar say it
+abbrev pub HasBegun : List Token → ℕ → Option Period → Name → Option Expr → ℕ → Type 0
+HasBegun tokens from period task priority to =
+    (m : ℕ) × SpellsMaybe (SpellsPeriod tokens) from period m × SpellsActivation tokens m (task, priority) to
+
+-- AFTER, or AT
+abbrev pub time_word : Bool → ℕ
+time_word true = w.AFTER
+time_word false = w.AT
+
+-- [ AFTER expr ]
+abbrev pub SpellsOptionalAfter : List Token → Spelling (Option Expr)
+SpellsOptionalAfter = SpellsOptional (is_word w.AFTER) (λ tokens. SpellsAfter tokens w.AFTER)

@@ -1,0 +1,77 @@
+-- What statements that begin alike have in common: which token goes on with a part, and with which none goes on.
+use Rattle.std.specs.Prelude.{◌≡◌, ℕ, ◌+◌, ◌≤◌, ◌==◌, ◌||◌, Bool, true, false, List, [], ◌∷◌, length, max, Option, Some, None}
+use Rattle.pearl_tree.specs.declared.token.What.{What}
+use Rattle.pearl_tree.specs.declared.token.What.TheVariants as what
+use Rattle.pearl_tree.specs.declared.token.Token.{Token}
+use Rattle.pearl_tree.specs.Standing.{Spelling, what_at, HasWord, HasSymbol, IsName, SpellsName, SpellsList}
+use Rattle.pearl_parse_expr.specs.declared.reading.Halt.{Halt}
+use Rattle.pearl_parse_expr.specs.declared.reading.Halt.TheVariants.{Refused, NoMemory}
+use Rattle.pearl_parse_expr.specs.Stops.{Stuck, SpellsNamed}
+use Rattle.pearl_tree.specs.declared.expression.Selector.{Selector}
+use Rattle.pearl_tree.specs.Statements.{SpellsMaybeList}
+use Rattle.pearl_tree.specs.Formats.{SpellsFmt}
+use Rattle.pearl_tree.specs.declared.name.Name.{Name}
+use Rattle.pearl_tree.specs.declared.format.Fmt.{Fmt}
+use Rattle.pearl_tree.specs.Symbols as s
+use Rattle.pearl_tree.specs.WordCodes as w
+
+-- a part that begins at `from` and may be empty was read, and was stopped within the tokens and no earlier than at `low`
+abbrev pub IsOn : List Token → ℕ → ℕ → ℕ → ℕ → Type 0
+IsOn tokens from low end stop = (from ≤ end) × (end ≤ stop) × (low ≤ stop) × (stop ≤ length tokens)
+
+-- nothing was read: for want of memory, or since with this token, no earlier one than at `low`, none begins
+abbrev pub IsStopped : {X : Type 0} → (List Token → Spelling X) → List Token → ℕ → ℕ → Halt → Type 0
+IsStopped {X} spells tokens from low NoMemory = Unit {0}
+IsStopped {X} spells tokens from low (Refused stop) =
+    Stuck spells tokens from stop × (from ≤ stop) × (low ≤ stop) × (stop ≤ length tokens)
+
+-- why a token is not there: it is refused at its number, or at `stop` where that is greater
+abbrev pub IsMissing : List Token → (Option What → Bool) → ℕ → ℕ → Halt → Type 0
+IsMissing tokens wanted at stop NoMemory = ⊥
+IsMissing tokens wanted at stop (Refused k) = (wanted (what_at tokens at) ≡ false) × (k ≡ max stop at)
+
+-- a reference of a statement, by what follows its id
+abbrev pub SpellsOwnNamed : List Token → Spelling (List Selector)
+SpellsOwnNamed tokens = SpellsNamed tokens 33
+
+-- [ part ], where a token that may begin one does
+abbrev pub SpellsOptional : {X : Type 0} → (Option What → Bool) → (List Token → Spelling X) → List Token → Spelling (Option X)
+SpellsOptional begins spells tokens from None to = (to ≡ from) × (begins (what_at tokens from) ≡ false)
+SpellsOptional begins spells tokens from (Some x) to = spells tokens from x to
+
+-- [ part { "," part } ] word
+abbrev pub SpellsBefore : {X : Type 0} → ℕ → (List Token → Spelling X) → List Token → Spelling (List X)
+SpellsBefore word spells tokens from xs to =
+    (m : ℕ) × SpellsMaybeList tokens (spells tokens) from xs m × HasWord tokens m word × (to ≡ m + 1)
+
+-- id { "," id }
+abbrev pub SpellsNameList : List Token → Spelling (List Name)
+SpellsNameList tokens = SpellsList tokens (SpellsName tokens)
+
+-- fmt { "," fmt } ";"
+abbrev pub SpellsFormats : List Token → Spelling (List Fmt)
+SpellsFormats tokens from formats to =
+    (m : ℕ) × SpellsList tokens (SpellsFmt tokens) from formats m × HasSymbol tokens m s.semicolon × (to ≡ m + 1)
+
+-- id BY fmt { "," fmt } ";"
+abbrev pub SpellsStation : List Token → Spelling (Name × List Fmt)
+SpellsStation tokens from station to =
+    IsName tokens from station.0 × HasWord tokens (from + 1) w.BY × SpellsFormats tokens (from + 2) station.1 to
+
+-- the words with which a statement begins
+abbrev pub statement_words : List ℕ
+statement_words =
+    w.CALL ∷ w.IF ∷ w.CASE ∷ w.FOR ∷ w.FROM ∷ w.BY ∷ w.TO ∷ w.WHILE ∷ w.REPEAT ∷ w.EXIT ∷ w.BEGIN ∷ w.RETURN ∷ w.AT ∷ w.AFTER ∷
+    w.WHEN ∷ w.ALL ∷ w.ACTIVATE ∷ w.CONTINUE ∷ w.SUSPEND ∷ w.TERMINATE ∷ w.PREVENT ∷ w.REQUEST ∷ w.RELEASE ∷ w.ENABLE ∷
+    w.DISABLE ∷ w.TRIGGER ∷ w.PUT ∷ w.GET ∷ w.SEND ∷ w.TAKE ∷ []
+
+abbrev pub is_among : List ℕ → ℕ → Bool
+is_among [] code = false
+is_among (word ∷ words) code = (code == word) || is_among words code
+
+-- the first token of a statement
+abbrev pub begins_statement : Option What → Bool
+begins_statement (Some (what.Symbol symbol)) = symbol == s.semicolon
+begins_statement (Some (what.Id _)) = true
+begins_statement (Some (what.Word code)) = is_among statement_words code
+begins_statement _ = false

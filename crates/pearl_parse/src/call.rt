@@ -1,0 +1,201 @@
+// Assignments, calls and returns.
+
+ghost use Rattle.std.specs.Prelude.{◌≡◌, ◌+◌, ◌<◌, ◌≤◌, ℕ, length, IfOk, IfErr, true};
+ghost use Rattle.pearl_tree.specs.Standing.{what_at, HasWord, HasSymbol, SpellsMaybeBracketed, SpellsMaybe};
+ghost use Rattle.pearl_tree.specs.Expressions.{SpellsWhole};
+ghost use Rattle.pearl_tree.specs.Statements.{SpellsStmt, SpellsValue, HasBecomes};
+ghost use Rattle.pearl_tree.specs.WordCodes as w;
+ghost use Rattle.pearl_tree.specs.Symbols as s;
+ghost use Rattle.pearl_parse_expr.specs.Stops.{Exact, IsAhead, IsHalted, is_name, is_symbol};
+ghost use Rattle.pearl_parse.specs.Stops as spec;
+ghost use Rattle.pearl_parse.specs.Calls as calls;
+
+use crate::list::{list, own_reference};
+use crate::step::{SEMICOLON, expr, name, symbol};
+use pearl_parse_expr::reading::{Halt, Reading};
+use pearl_parse_expr::standing::{is_symbol, place_at};
+use pearl_parse_expr::symbol::{LEFT_ROUND, RIGHT_ROUND};
+use pearl_tree::expression::Expr;
+use pearl_tree::parts::Parts;
+use pearl_tree::statement::Stmt;
+use pearl_tree::token::Token;
+use std::alloc::Global;
+
+const BECOMES: u8 = 8;
+
+const EQUALS: u8 = 9;
+
+/// `"(" expr ")"`
+fn value(alloc: Global, tokens: &[Token], from: usize) -> Result<Reading<Expr>, Halt>
+    requires within { from < length tokens.now }
+    requires bracket { HasSymbol tokens.now from s.left_round }
+    ensures spells { IfOk result (λ reading. SpellsValue tokens.now from reading.part reading.end) }
+    ensures sure { IfOk result (λ reading. Exact SpellsValue tokens.now from reading.end reading.stop) }
+    ensures ahead { IfOk result (λ reading. IsAhead tokens.now from reading.end reading.stop) }
+    ensures refused { IfErr result (λ halt. IsHalted SpellsValue tokens.now from halt) }
+{
+    let value = expr(alloc, tokens, from + 1, from)?;
+    symbol(tokens, value.end, value.stop, RIGHT_ROUND)?;
+    Ok(Reading {
+        part: value.part,
+        end: value.end + 1,
+        stop: value.stop.max(value.end + 1),
+    })
+}
+
+/// `[ "(" expr ")" ]`
+fn maybe_value(alloc: Global, tokens: &[Token], from: usize) -> Result<Reading<Option<Expr>>, Halt>
+    requires within { from ≤ length tokens.now }
+    ensures spells { IfOk result (λ reading. SpellsMaybe (SpellsValue tokens.now) from reading.part reading.end) }
+    ensures sure { IfOk result (λ reading. Exact calls.SpellsOptionalValue tokens.now from reading.end reading.stop) }
+    ensures on { IfOk result (λ reading. spec.IsOn tokens.now from from reading.end reading.stop) }
+    ensures refused { IfErr result (λ halt. IsHalted calls.SpellsOptionalValue tokens.now from halt) }
+{
+    if !is_symbol(tokens, from, LEFT_ROUND) {
+        return Ok(Reading {
+            part: None,
+            end: from,
+            stop: from,
+        });
+    }
+    match value(alloc, tokens, from) {
+        Ok(read) => Ok(Reading {
+            part: Some(read.part),
+            end: read.end,
+            stop: read.stop,
+        }),
+        Err(halt) => Err(halt),
+    }
+}
+
+/// `RETURN [ "(" expr ")" ] ";"`
+pub fn return_(alloc: Global, tokens: &[Token], from: usize) -> Result<Reading<Stmt>, Halt>
+    requires within { from < length tokens.now }
+    requires word { HasWord tokens.now from w.RETURN }
+    ensures spells { IfOk result (λ reading. (depth : ℕ) → SpellsStmt tokens.now depth from reading.part reading.end) }
+    ensures sure { IfOk result (λ reading. (depth : ℕ) → Exact (λ tokens. SpellsStmt tokens depth) tokens.now from reading.end reading.stop) }
+    ensures ahead { IfOk result (λ reading. IsAhead tokens.now from reading.end reading.stop) }
+    ensures refused { IfErr result (λ halt. (depth : ℕ) → IsHalted (λ tokens. SpellsStmt tokens depth) tokens.now from halt) }
+{
+    let value = maybe_value(alloc, tokens, from + 1)?;
+    symbol(tokens, value.end, value.stop, SEMICOLON)?;
+    Ok(Reading {
+        part: Stmt::Return {
+            value: value.part,
+            place: place_at(tokens, from),
+        },
+        end: value.end + 1,
+        stop: value.stop.max(value.end + 1),
+    })
+}
+
+/// `[ "(" expr { "," expr } ")" ] ";"`
+fn arguments(
+    alloc: Global,
+    tokens: &[Token],
+    from: usize,
+    low: usize,
+) -> Result<Reading<Vec<Expr>>, Halt>
+    requires from { from ≤ length tokens.now }
+    requires low { low ≤ length tokens.now }
+    ensures spells { IfOk result (λ reading. calls.SpellsArguments tokens.now from reading.part.items reading.end) }
+    ensures sure { IfOk result (λ reading. Exact calls.SpellsArguments tokens.now from reading.end reading.stop) }
+    ensures on { IfOk result (λ reading. spec.IsOn tokens.now (from + 1) low reading.end reading.stop) }
+    ensures refused { IfErr result (λ halt. spec.IsStopped calls.SpellsArguments tokens.now from low halt) }
+{
+    if !is_symbol(tokens, from, LEFT_ROUND) {
+        symbol(tokens, from, low, SEMICOLON)?;
+        return Ok(Reading {
+            part: Vec::new(alloc),
+            end: from + 1,
+            stop: low.max(from + 1),
+        });
+    }
+    match list(alloc, tokens, from + 1) {
+        Ok(list) => {
+            symbol(tokens, list.end, list.stop.max(low), RIGHT_ROUND)?;
+            symbol(tokens, list.end + 1, list.stop.max(low), SEMICOLON)?;
+            Ok(Reading {
+                part: list.part,
+                end: list.end + 2,
+                stop: list.stop.max(low).max(list.end + 2),
+            })
+        }
+        Err(halt) => match halt {
+            Halt::Refused(stop) => Err(Halt::Refused(stop.max(low))),
+            Halt::NoMemory => Err(Halt::NoMemory),
+        },
+    }
+}
+
+/// `CALL id [ "(" expr { "," expr } ")" ] ";"`
+pub fn call(alloc: Global, tokens: &[Token], from: usize) -> Result<Reading<Stmt>, Halt>
+    requires within { from < length tokens.now }
+    requires word { HasWord tokens.now from w.CALL }
+    ensures spells { IfOk result (λ reading. (depth : ℕ) → SpellsStmt tokens.now depth from reading.part reading.end) }
+    ensures sure { IfOk result (λ reading. (depth : ℕ) → Exact (λ tokens. SpellsStmt tokens depth) tokens.now from reading.end reading.stop) }
+    ensures ahead { IfOk result (λ reading. IsAhead tokens.now from reading.end reading.stop) }
+    ensures refused { IfErr result (λ halt. (depth : ℕ) → IsHalted (λ tokens. SpellsStmt tokens depth) tokens.now from halt) }
+{
+    let called = name(tokens, from + 1, from)?;
+    let arguments = arguments(alloc, tokens, from + 2, from)?;
+    Ok(Reading {
+        part: Stmt::Call {
+            call: true,
+            name: called,
+            arguments: Parts::new(arguments.part),
+            place: place_at(tokens, from),
+        },
+        end: arguments.end,
+        stop: arguments.stop,
+    })
+}
+
+// Whether the token is `:=` or `=`.
+fn becomes(tokens: &[Token], at: usize) -> bool
+    ensures value { result ≡ calls.is_becomes (what_at tokens.now at) }
+    ensures stands { result ≡ true → HasBecomes tokens.now at }
+    ensures within { result ≡ true → at < length tokens.now }
+{
+    if is_symbol(tokens, at, BECOMES) {
+        return true;
+    }
+    is_symbol(tokens, at, EQUALS)
+}
+
+/// `ref ":=" expr ";"`, or `id [ "(" expr { "," expr } ")" ] ";"`: a reference is read, and the token behind it decides.
+pub fn named(alloc: Global, tokens: &[Token], from: usize) -> Result<Reading<Stmt>, Halt>
+    requires within { from < length tokens.now }
+    requires name { is_name (what_at tokens.now from) ≡ true }
+    ensures spells { IfOk result (λ reading. (depth : ℕ) → SpellsStmt tokens.now depth from reading.part reading.end) }
+    ensures sure { IfOk result (λ reading. (depth : ℕ) → Exact (λ tokens. SpellsStmt tokens depth) tokens.now from reading.end reading.stop) }
+    ensures ahead { IfOk result (λ reading. IsAhead tokens.now from reading.end reading.stop) }
+    ensures refused { IfErr result (λ halt. (depth : ℕ) → IsHalted (λ tokens. SpellsStmt tokens depth) tokens.now from halt) }
+{
+    let target = own_reference(alloc, tokens, from)?;
+    if becomes(tokens, target.end) {
+        let value = expr(alloc, tokens, target.end + 1, target.stop)?;
+        symbol(tokens, value.end, value.stop, SEMICOLON)?;
+        return Ok(Reading {
+            part: Stmt::Assign {
+                target: target.part,
+                value: value.part,
+                place: place_at(tokens, from),
+            },
+            end: value.end + 1,
+            stop: value.stop.max(value.end + 1),
+        });
+    }
+    let called = name(tokens, from, target.stop)?;
+    let arguments = arguments(alloc, tokens, from + 1, target.stop)?;
+    Ok(Reading {
+        part: Stmt::Call {
+            call: false,
+            name: called,
+            arguments: Parts::new(arguments.part),
+            place: place_at(tokens, from),
+        },
+        end: arguments.end,
+        stop: arguments.stop,
+    })
+}

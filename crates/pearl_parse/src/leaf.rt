@@ -1,0 +1,131 @@
+// Statements without expressions, and those that send and take.
+
+ghost use Rattle.std.specs.Prelude.{◌≡◌, ◌+◌, ◌<◌, ◌≤◌, ℕ, length, IfOk, IfErr};
+ghost use Rattle.pearl_tree.specs.Standing.{HasWord};
+ghost use Rattle.pearl_tree.specs.Statements.{SpellsStmt, task_word, sema_word, interrupt_word};
+ghost use Rattle.pearl_tree.specs.WordCodes as w;
+ghost use Rattle.pearl_parse_expr.specs.Stops.{Exact, IsAhead, IsHalted};
+
+use crate::list::own_reference;
+use crate::step::{SEMICOLON, expr, maybe_name, name, symbol, word as word_here};
+use pearl_parse_expr::reading::{Halt, Reading};
+use pearl_parse_expr::standing::place_at;
+use pearl_tables::word_code::*;
+use pearl_tree::statement::{InterruptWord, Stmt, TaskWord};
+use pearl_tree::token::Token;
+use std::alloc::Global;
+
+/// `EXIT ";"`
+pub fn exit(tokens: &[Token], from: usize) -> Result<Reading<Stmt>, Halt>
+    requires within { from < length tokens.now }
+    requires word { HasWord tokens.now from w.EXIT }
+    ensures spells { IfOk result (λ reading. (depth : ℕ) → SpellsStmt tokens.now depth from reading.part reading.end) }
+    ensures sure { IfOk result (λ reading. (depth : ℕ) → Exact (λ tokens. SpellsStmt tokens depth) tokens.now from reading.end reading.stop) }
+    ensures ahead { IfOk result (λ reading. IsAhead tokens.now from reading.end reading.stop) }
+    ensures refused { IfErr result (λ halt. (depth : ℕ) → IsHalted (λ tokens. SpellsStmt tokens depth) tokens.now from halt) }
+{
+    symbol(tokens, from + 1, from, SEMICOLON)?;
+    Ok(Reading {
+        part: Stmt::Exit {
+            place: place_at(tokens, from),
+        },
+        end: from + 2,
+        stop: from + 2,
+    })
+}
+
+/// `( SUSPEND | TERMINATE | PREVENT ) [ id ] ";"`
+pub fn on_task(tokens: &[Token], from: usize, word: TaskWord) -> Result<Reading<Stmt>, Halt>
+    requires within { from < length tokens.now }
+    requires word { HasWord tokens.now from (task_word word) }
+    ensures spells { IfOk result (λ reading. (depth : ℕ) → SpellsStmt tokens.now depth from reading.part reading.end) }
+    ensures sure { IfOk result (λ reading. (depth : ℕ) → Exact (λ tokens. SpellsStmt tokens depth) tokens.now from reading.end reading.stop) }
+    ensures ahead { IfOk result (λ reading. IsAhead tokens.now from reading.end reading.stop) }
+    ensures refused { IfErr result (λ halt. (depth : ℕ) → IsHalted (λ tokens. SpellsStmt tokens depth) tokens.now from halt) }
+{
+    let task = maybe_name(tokens, from + 1);
+    symbol(tokens, task.end, task.stop, SEMICOLON)?;
+    Ok(Reading {
+        part: Stmt::OnTask {
+            word,
+            task: task.part,
+            place: place_at(tokens, from),
+        },
+        end: task.end + 1,
+        stop: task.stop.max(task.end + 1),
+    })
+}
+
+/// `( ENABLE | DISABLE | TRIGGER ) id ";"`
+pub fn on_interrupt(
+    tokens: &[Token],
+    from: usize,
+    word: InterruptWord,
+) -> Result<Reading<Stmt>, Halt>
+    requires within { from < length tokens.now }
+    requires word { HasWord tokens.now from (interrupt_word word) }
+    ensures spells { IfOk result (λ reading. (depth : ℕ) → SpellsStmt tokens.now depth from reading.part reading.end) }
+    ensures sure { IfOk result (λ reading. (depth : ℕ) → Exact (λ tokens. SpellsStmt tokens depth) tokens.now from reading.end reading.stop) }
+    ensures ahead { IfOk result (λ reading. IsAhead tokens.now from reading.end reading.stop) }
+    ensures refused { IfErr result (λ halt. (depth : ℕ) → IsHalted (λ tokens. SpellsStmt tokens depth) tokens.now from halt) }
+{
+    let interrupt = name(tokens, from + 1, from)?;
+    symbol(tokens, from + 2, from, SEMICOLON)?;
+    Ok(Reading {
+        part: Stmt::OnInterrupt {
+            word,
+            name: interrupt,
+            place: place_at(tokens, from),
+        },
+        end: from + 3,
+        stop: from + 3,
+    })
+}
+
+/// `SEND expr TO id ";"`
+pub fn send(alloc: Global, tokens: &[Token], from: usize) -> Result<Reading<Stmt>, Halt>
+    requires within { from < length tokens.now }
+    requires word { HasWord tokens.now from w.SEND }
+    ensures spells { IfOk result (λ reading. (depth : ℕ) → SpellsStmt tokens.now depth from reading.part reading.end) }
+    ensures sure { IfOk result (λ reading. (depth : ℕ) → Exact (λ tokens. SpellsStmt tokens depth) tokens.now from reading.end reading.stop) }
+    ensures ahead { IfOk result (λ reading. IsAhead tokens.now from reading.end reading.stop) }
+    ensures refused { IfErr result (λ halt. (depth : ℕ) → IsHalted (λ tokens. SpellsStmt tokens depth) tokens.now from halt) }
+{
+    let value = expr(alloc, tokens, from + 1, from)?;
+    word_here(tokens, value.end, value.stop, TO)?;
+    let dation = name(tokens, value.end + 1, value.stop)?;
+    symbol(tokens, value.end + 2, value.stop, SEMICOLON)?;
+    Ok(Reading {
+        part: Stmt::Send {
+            value: value.part,
+            dation,
+            place: place_at(tokens, from),
+        },
+        end: value.end + 3,
+        stop: value.stop.max(value.end + 3),
+    })
+}
+
+/// `TAKE ref FROM id ";"`
+pub fn take(alloc: Global, tokens: &[Token], from: usize) -> Result<Reading<Stmt>, Halt>
+    requires within { from < length tokens.now }
+    requires word { HasWord tokens.now from w.TAKE }
+    ensures spells { IfOk result (λ reading. (depth : ℕ) → SpellsStmt tokens.now depth from reading.part reading.end) }
+    ensures sure { IfOk result (λ reading. (depth : ℕ) → Exact (λ tokens. SpellsStmt tokens depth) tokens.now from reading.end reading.stop) }
+    ensures ahead { IfOk result (λ reading. IsAhead tokens.now from reading.end reading.stop) }
+    ensures refused { IfErr result (λ halt. (depth : ℕ) → IsHalted (λ tokens. SpellsStmt tokens depth) tokens.now from halt) }
+{
+    let target = own_reference(alloc, tokens, from + 1)?;
+    word_here(tokens, target.end, target.stop, FROM)?;
+    let dation = name(tokens, target.end + 1, target.stop)?;
+    symbol(tokens, target.end + 2, target.stop, SEMICOLON)?;
+    Ok(Reading {
+        part: Stmt::Take {
+            target: target.part,
+            dation,
+            place: place_at(tokens, from),
+        },
+        end: target.end + 3,
+        stop: target.stop.max(target.end + 3),
+    })
+}

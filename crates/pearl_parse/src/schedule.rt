@@ -1,0 +1,256 @@
+// Periods and activations.
+
+ghost use Rattle.std.specs.Prelude.{◌≡◌, ℕ, ◌+◌, ◌<◌, ◌≤◌, length, IfOk, IfErr};
+ghost use Rattle.pearl_tree.specs.Standing.{HasWord, SpellsMaybe};
+ghost use Rattle.pearl_tree.specs.Statements.{SpellsPeriodEnd, SpellsPeriod, SpellsStmt};
+ghost use Rattle.pearl_tree.specs.WordCodes as w;
+ghost use Rattle.pearl_parse_expr.specs.Stops.{Sure, Exact, IsAhead, IsHalted, extends_expression};
+ghost use Rattle.pearl_parse.specs.Stops as spec;
+ghost use Rattle.pearl_parse.specs.Schedules as schedules;
+
+use crate::step::{SEMICOLON, after, maybe_after, name, symbol, word};
+use pearl_parse_expr::reading::{Halt, Reading};
+use pearl_parse_expr::standing::{is_word, place_at};
+use pearl_tables::word_code::*;
+use pearl_tree::expression::Expr;
+use pearl_tree::name::Name;
+use pearl_tree::statement::{Period, PeriodEnd, Start, Stmt};
+use pearl_tree::token::Token;
+use std::alloc::Global;
+
+/// `[ UNTIL expr | DURING expr ]`
+fn maybe_end(
+    alloc: Global,
+    tokens: &[Token],
+    from: usize,
+    low: usize,
+) -> Result<Reading<Option<PeriodEnd>>, Halt>
+    requires from { from ≤ length tokens.now }
+    requires low { low ≤ length tokens.now }
+    ensures spells { IfOk result (λ reading. SpellsMaybe (SpellsPeriodEnd tokens.now) from reading.part reading.end) }
+    ensures optional { IfOk result (λ reading. schedules.SpellsOptionalEnd tokens.now from reading.part reading.end) }
+    ensures sure { IfOk result (λ reading. Sure schedules.SpellsOptionalEnd extends_expression tokens.now from reading.end reading.stop) }
+    ensures on { IfOk result (λ reading. spec.IsOn tokens.now from low reading.end reading.stop) }
+    ensures refused { IfErr result (λ halt. spec.IsStopped schedules.SpellsOptionalEnd tokens.now from low halt) }
+{
+    if is_word(tokens, from, UNTIL) {
+        return match after(alloc, tokens, from, low, UNTIL) {
+            Ok(time) => Ok(Reading {
+                part: Some(PeriodEnd::Until {
+                    time: time.part,
+                    place: place_at(tokens, from),
+                }),
+                end: time.end,
+                stop: time.stop,
+            }),
+            Err(halt) => Err(halt),
+        };
+    }
+    if is_word(tokens, from, DURING) {
+        return match after(alloc, tokens, from, low, DURING) {
+            Ok(duration) => Ok(Reading {
+                part: Some(PeriodEnd::During {
+                    duration: duration.part,
+                    place: place_at(tokens, from),
+                }),
+                end: duration.end,
+                stop: duration.stop,
+            }),
+            Err(halt) => Err(halt),
+        };
+    }
+    Ok(Reading {
+        part: None,
+        end: from,
+        stop: from.max(low),
+    })
+}
+
+/// `ALL expr [ UNTIL expr | DURING expr ]`
+fn period(alloc: Global, tokens: &[Token], from: usize, low: usize) -> Result<Reading<Period>, Halt>
+    requires from { from < length tokens.now }
+    requires low { low ≤ length tokens.now }
+    requires word { HasWord tokens.now from w.ALL }
+    ensures spells { IfOk result (λ reading. SpellsPeriod tokens.now from reading.part reading.end) }
+    ensures sure { IfOk result (λ reading. Sure schedules.SpellsLongPeriod extends_expression tokens.now from reading.end reading.stop) }
+    ensures on { IfOk result (λ reading. spec.IsOn tokens.now (from + 1) low reading.end reading.stop) }
+    ensures refused { IfErr result (λ halt. spec.IsStopped schedules.SpellsLongPeriod tokens.now from low halt) }
+{
+    let duration = after(alloc, tokens, from, low, ALL)?;
+    let end = maybe_end(alloc, tokens, duration.end, duration.stop)?;
+    Ok(Reading {
+        part: Period {
+            duration: duration.part,
+            end: end.part,
+            place: place_at(tokens, from),
+        },
+        end: end.end,
+        stop: end.stop,
+    })
+}
+
+/// What an activation names.
+#[derive(Drop)]
+pub struct Activation {
+    pub task: Name,
+    pub priority: Option<Expr>,
+}
+
+/// `ACTIVATE id [ PRIO expr ] ";"`
+pub fn activate(
+    alloc: Global,
+    tokens: &[Token],
+    from: usize,
+    low: usize,
+) -> Result<Reading<Activation>, Halt>
+    requires from { from ≤ length tokens.now }
+    requires low { (from ≤ low) × (low ≤ length tokens.now) }
+    ensures spells { IfOk result (λ reading. schedules.SpellsActivation tokens.now from (reading.part.task, reading.part.priority) reading.end) }
+    ensures sure { IfOk result (λ reading. Exact schedules.SpellsActivation tokens.now from reading.end reading.stop) }
+    ensures on { IfOk result (λ reading. spec.IsOn tokens.now (from + 1) low reading.end reading.stop) }
+    ensures refused { IfErr result (λ halt. spec.IsStopped schedules.SpellsActivation tokens.now from low halt) }
+{
+    word(tokens, from, low, ACTIVATE)?;
+    let task = name(tokens, from + 1, low)?;
+    let priority = maybe_after(alloc, tokens, from + 2, low, PRIORITY)?;
+    symbol(tokens, priority.end, priority.stop, SEMICOLON)?;
+    Ok(Reading {
+        part: Activation {
+            task,
+            priority: priority.part,
+        },
+        end: priority.end + 1,
+        stop: priority.stop.max(priority.end + 1),
+    })
+}
+
+/// `[ ALL expr [ UNTIL expr | DURING expr ] ]`
+fn maybe_period(
+    alloc: Global,
+    tokens: &[Token],
+    from: usize,
+    low: usize,
+) -> Result<Reading<Option<Period>>, Halt>
+    requires from { from ≤ length tokens.now }
+    requires low { low ≤ length tokens.now }
+    ensures spells { IfOk result (λ reading. SpellsMaybe (SpellsPeriod tokens.now) from reading.part reading.end) }
+    ensures sure { IfOk result (λ reading. Sure schedules.SpellsOptionalPeriod extends_expression tokens.now from reading.end reading.stop) }
+    ensures on { IfOk result (λ reading. spec.IsOn tokens.now from low reading.end reading.stop) }
+    ensures refused { IfErr result (λ halt. spec.IsStopped schedules.SpellsOptionalPeriod tokens.now from low halt) }
+{
+    if !is_word(tokens, from, ALL) {
+        return Ok(Reading {
+            part: None,
+            end: from,
+            stop: from.max(low),
+        });
+    }
+    match period(alloc, tokens, from, low) {
+        Ok(read) => Ok(Reading {
+            part: Some(read.part),
+            end: read.end,
+            stop: read.stop,
+        }),
+        Err(halt) => Err(halt),
+    }
+}
+
+/// An activation with the period before it.
+#[derive(Drop)]
+pub struct Begun {
+    pub period: Option<Period>,
+    pub activation: Activation,
+}
+
+/// `[ ALL expr [ UNTIL expr | DURING expr ] ] ACTIVATE id [ PRIO expr ] ";"`
+pub fn begin(
+    alloc: Global,
+    tokens: &[Token],
+    from: usize,
+    low: usize,
+) -> Result<Reading<Begun>, Halt>
+    requires from { from ≤ length tokens.now }
+    requires low { (from ≤ low) × (low ≤ length tokens.now) }
+    ensures spells { IfOk result (λ reading. schedules.HasBegun tokens.now from reading.part.period reading.part.activation.task reading.part.activation.priority reading.end) }
+    ensures sure { IfOk result (λ reading. Exact schedules.SpellsBegun tokens.now from reading.end reading.stop) }
+    ensures on { IfOk result (λ reading. spec.IsOn tokens.now (from + 1) low reading.end reading.stop) }
+    ensures refused { IfErr result (λ halt. spec.IsStopped schedules.SpellsBegun tokens.now from low halt) }
+{
+    let period = maybe_period(alloc, tokens, from, low)?;
+    let activation = activate(alloc, tokens, period.end, period.stop)?;
+    Ok(Reading {
+        part: Begun {
+            period: period.part,
+            activation: activation.part,
+        },
+        end: activation.end,
+        stop: activation.stop,
+    })
+}
+
+/// `ACTIVATE id [ PRIO expr ] ";"` with no start before it
+pub fn plain_activation(alloc: Global, tokens: &[Token], from: usize) -> Result<Reading<Stmt>, Halt>
+    requires within { from < length tokens.now }
+    requires word { HasWord tokens.now from w.ACTIVATE }
+    ensures spells { IfOk result (λ reading. (depth : ℕ) → SpellsStmt tokens.now depth from reading.part reading.end) }
+    ensures sure { IfOk result (λ reading. (depth : ℕ) → Exact (λ tokens. SpellsStmt tokens depth) tokens.now from reading.end reading.stop) }
+    ensures ahead { IfOk result (λ reading. IsAhead tokens.now from reading.end reading.stop) }
+    ensures refused { IfErr result (λ halt. (depth : ℕ) → IsHalted (λ tokens. SpellsStmt tokens depth) tokens.now from halt) }
+{
+    let activation = activate(alloc, tokens, from, from)?;
+    Ok(Reading {
+        part: Stmt::Activate {
+            start: None,
+            task: activation.part.task,
+            priority: activation.part.priority,
+            place: place_at(tokens, from),
+        },
+        end: activation.end,
+        stop: activation.stop,
+    })
+}
+
+/// `CONTINUE id ";"` with no time before it
+pub fn plain_continuation(tokens: &[Token], from: usize) -> Result<Reading<Stmt>, Halt>
+    requires within { from < length tokens.now }
+    requires word { HasWord tokens.now from w.CONTINUE }
+    ensures spells { IfOk result (λ reading. (depth : ℕ) → SpellsStmt tokens.now depth from reading.part reading.end) }
+    ensures sure { IfOk result (λ reading. (depth : ℕ) → Exact (λ tokens. SpellsStmt tokens depth) tokens.now from reading.end reading.stop) }
+    ensures ahead { IfOk result (λ reading. IsAhead tokens.now from reading.end reading.stop) }
+    ensures refused { IfErr result (λ halt. (depth : ℕ) → IsHalted (λ tokens. SpellsStmt tokens depth) tokens.now from halt) }
+{
+    let task = name(tokens, from + 1, from)?;
+    symbol(tokens, from + 2, from, SEMICOLON)?;
+    Ok(Reading {
+        part: Stmt::Continue {
+            once: None,
+            task,
+            place: place_at(tokens, from),
+        },
+        end: from + 3,
+        stop: from + 3,
+    })
+}
+
+/// `ALL expr [ UNTIL expr | DURING expr ] ACTIVATE id [ PRIO expr ] ";"`
+pub fn periodic(alloc: Global, tokens: &[Token], from: usize) -> Result<Reading<Stmt>, Halt>
+    requires within { from < length tokens.now }
+    requires word { HasWord tokens.now from w.ALL }
+    ensures spells { IfOk result (λ reading. (depth : ℕ) → SpellsStmt tokens.now depth from reading.part reading.end) }
+    ensures sure { IfOk result (λ reading. (depth : ℕ) → Exact (λ tokens. SpellsStmt tokens depth) tokens.now from reading.end reading.stop) }
+    ensures ahead { IfOk result (λ reading. IsAhead tokens.now from reading.end reading.stop) }
+    ensures refused { IfErr result (λ halt. (depth : ℕ) → IsHalted (λ tokens. SpellsStmt tokens depth) tokens.now from halt) }
+{
+    let period = period(alloc, tokens, from, from)?;
+    let activation = activate(alloc, tokens, period.end, period.stop)?;
+    Ok(Reading {
+        part: Stmt::Activate {
+            start: Some(Start::All(period.part)),
+            task: activation.part.task,
+            priority: activation.part.priority,
+            place: place_at(tokens, from),
+        },
+        end: activation.end,
+        stop: activation.stop,
+    })
+}

@@ -1,0 +1,108 @@
+// Statements that begin with AT or AFTER.
+
+ghost use Rattle.std.specs.Prelude.{◌≡◌, ℕ, ◌+◌, ◌<◌, ◌≤◌, List, length, IfOk, IfErr};
+ghost use Rattle.pearl_tree.specs.declared.token.Token.{Token};
+ghost use Rattle.pearl_tree.specs.Standing.{IsAt, HasWord, SpellsMaybe};
+ghost use Rattle.pearl_tree.specs.Statements.{SpellsAfter, SpellsPeriod, SpellsStart, SpellsOnce, SpellsStmt};
+ghost use Rattle.pearl_parse_expr.specs.Stops.{Exact, IsAhead, IsHalted};
+ghost use Rattle.pearl_parse.specs.Schedules as schedules;
+
+use crate::schedule::begin;
+use crate::step::{SEMICOLON, after, name, symbol};
+use pearl_parse_expr::reading::{Halt, Reading};
+use pearl_parse_expr::standing::{is_word, place_at};
+use pearl_tables::word_code::*;
+use pearl_tree::expression::Expr;
+use pearl_tree::statement::{Once, Period, Start, Stmt};
+use pearl_tree::token::Token;
+use std::alloc::Global;
+
+fn time_word(later: bool) -> u8
+    ensures { result ≡ schedules.time_word later }
+{
+    if later { AFTER } else { AT }
+}
+
+fn start_of(later: bool, time: Expr, period: Option<Period>, place: u32) -> Start
+    ensures { (tokens : List Token) (from m to : ℕ) → IsAt tokens from place → SpellsAfter tokens (schedules.time_word later) from time m → SpellsMaybe (SpellsPeriod tokens) m period to → SpellsStart tokens from result to }
+{
+    if later {
+        Start::After {
+            duration: time,
+            period,
+            place,
+        }
+    } else {
+        Start::At {
+            time,
+            period,
+            place,
+        }
+    }
+}
+
+fn once_of(later: bool, time: Expr, place: u32) -> Once
+    ensures { (tokens : List Token) (from to : ℕ) → IsAt tokens from place → SpellsAfter tokens (schedules.time_word later) from time to → SpellsOnce tokens from result to }
+{
+    if later {
+        Once::After {
+            duration: time,
+            place,
+        }
+    } else {
+        Once::At { time, place }
+    }
+}
+
+/// `( AT | AFTER ) expr`, and behind it `[ all ] ACTIVATE id [ PRIO expr ] ";"`, `CONTINUE id ";"` or `RESUME ";"`
+pub fn timed(
+    alloc: Global,
+    tokens: &[Token],
+    from: usize,
+    later: bool,
+) -> Result<Reading<Stmt>, Halt>
+    requires within { from < length tokens.now }
+    requires word { HasWord tokens.now from (schedules.time_word later) }
+    ensures spells { IfOk result (λ reading. (depth : ℕ) → SpellsStmt tokens.now depth from reading.part reading.end) }
+    ensures sure { IfOk result (λ reading. (depth : ℕ) → Exact (λ tokens. SpellsStmt tokens depth) tokens.now from reading.end reading.stop) }
+    ensures ahead { IfOk result (λ reading. IsAhead tokens.now from reading.end reading.stop) }
+    ensures refused { IfErr result (λ halt. (depth : ℕ) → IsHalted (λ tokens. SpellsStmt tokens depth) tokens.now from halt) }
+{
+    let time = after(alloc, tokens, from, from, time_word(later))?;
+    let place = place_at(tokens, from);
+    if is_word(tokens, time.end, CONTINUE) {
+        let task = name(tokens, time.end + 1, time.stop)?;
+        symbol(tokens, time.end + 2, time.stop, SEMICOLON)?;
+        return Ok(Reading {
+            part: Stmt::Continue {
+                once: Some(once_of(later, time.part, place)),
+                task,
+                place,
+            },
+            end: time.end + 3,
+            stop: time.stop.max(time.end + 3),
+        });
+    }
+    if is_word(tokens, time.end, RESUME) {
+        symbol(tokens, time.end + 1, time.stop, SEMICOLON)?;
+        return Ok(Reading {
+            part: Stmt::Resume {
+                once: once_of(later, time.part, place),
+                place,
+            },
+            end: time.end + 2,
+            stop: time.stop.max(time.end + 2),
+        });
+    }
+    let begun = begin(alloc, tokens, time.end, time.stop)?;
+    Ok(Reading {
+        part: Stmt::Activate {
+            start: Some(start_of(later, time.part, begun.part.period, place)),
+            task: begun.part.activation.task,
+            priority: begun.part.activation.priority,
+            place,
+        },
+        end: begun.end,
+        stop: begun.stop,
+    })
+}

@@ -1,0 +1,173 @@
+// Statements with lists: semaphores, PUT and GET.
+
+ghost use Rattle.std.specs.Prelude.{◌≡◌, ◌+◌, ◌<◌, ◌≤◌, ℕ, length, IfOk, IfErr};
+ghost use Rattle.pearl_tree.specs.Standing.{HasWord, SpellsList, SpellsName};
+ghost use Rattle.pearl_tree.specs.Formats.{SpellsFmt};
+ghost use Rattle.pearl_tree.specs.Statements.{SpellsStmt, sema_word};
+ghost use Rattle.pearl_tree.specs.WordCodes as w;
+ghost use Rattle.pearl_parse_expr.specs.Stops.{Sure, Exact, IsAhead, IsHalted};
+ghost use Rattle.pearl_parse_decl.specs.Readings.{by_comma, never};
+ghost use Rattle.pearl_parse.specs.Stops as spec;
+
+use crate::list::before;
+use crate::step::{SEMICOLON, name, symbol, word as word_here};
+use pearl_parse_decl::list::list;
+use pearl_parse_expr::reading::{Halt, Reading};
+use pearl_parse_expr::standing::{is_symbol, place_at};
+use pearl_tables::word_code::*;
+use pearl_tree::format::Fmt;
+use pearl_tree::name::Name;
+use pearl_tree::parts::Parts;
+use pearl_tree::statement::{SemaWord, Stmt};
+use pearl_tree::token::Token;
+use std::alloc::Global;
+
+/// `id { "," id }`
+fn name_list(alloc: Global, tokens: &[Token], from: usize) -> Result<Reading<Vec<Name>>, Halt>
+    requires { from ≤ length tokens.now }
+    ensures spells { IfOk result (λ reading. SpellsList tokens.now (SpellsName tokens.now) from reading.part.items reading.end) }
+    ensures sure { IfOk result (λ reading. Sure spec.SpellsNameList (by_comma never) tokens.now from reading.end reading.stop) }
+    ensures ahead { IfOk result (λ reading. IsAhead tokens.now from reading.end reading.stop) }
+    ensures refused { IfErr result (λ halt. IsHalted spec.SpellsNameList tokens.now from halt) }
+{
+    list(alloc, tokens, from)
+}
+
+/// `( REQUEST | RELEASE ) id { "," id } ";"`
+pub fn on_semas(
+    alloc: Global,
+    tokens: &[Token],
+    from: usize,
+    word: SemaWord,
+) -> Result<Reading<Stmt>, Halt>
+    requires within { from < length tokens.now }
+    requires word { HasWord tokens.now from (sema_word word) }
+    ensures spells { IfOk result (λ reading. (depth : ℕ) → SpellsStmt tokens.now depth from reading.part reading.end) }
+    ensures sure { IfOk result (λ reading. (depth : ℕ) → Exact (λ tokens. SpellsStmt tokens depth) tokens.now from reading.end reading.stop) }
+    ensures ahead { IfOk result (λ reading. IsAhead tokens.now from reading.end reading.stop) }
+    ensures refused { IfErr result (λ halt. (depth : ℕ) → IsHalted (λ tokens. SpellsStmt tokens depth) tokens.now from halt) }
+{
+    let names = name_list(alloc, tokens, from + 1)?;
+    symbol(tokens, names.end, names.stop, SEMICOLON)?;
+    Ok(Reading {
+        part: Stmt::OnSemas {
+            word,
+            names: Parts::new(names.part),
+            place: place_at(tokens, from),
+        },
+        end: names.end + 1,
+        stop: names.stop.max(names.end + 1),
+    })
+}
+
+/// The formats of a transfer, and the semicolon behind them.
+fn formats(
+    alloc: Global,
+    tokens: &[Token],
+    from: usize,
+    low: usize,
+) -> Result<Reading<Vec<Fmt>>, Halt>
+    requires from { from ≤ length tokens.now }
+    requires low { low ≤ length tokens.now }
+    ensures spells { IfOk result (λ reading. spec.SpellsFormats tokens.now from reading.part.items reading.end) }
+    ensures sure { IfOk result (λ reading. Exact spec.SpellsFormats tokens.now from reading.end reading.stop) }
+    ensures on { IfOk result (λ reading. spec.IsOn tokens.now (from + 1) low reading.end reading.stop) }
+    ensures refused { IfErr result (λ halt. spec.IsStopped spec.SpellsFormats tokens.now from low halt) }
+{
+    match list(alloc, tokens, from) {
+        Ok(list) => {
+            if !is_symbol(tokens, list.end, SEMICOLON) {
+                return Err(Halt::Refused(list.stop.max(low)));
+            }
+            Ok(Reading {
+                part: list.part,
+                end: list.end + 1,
+                stop: list.stop.max(low).max(list.end + 1),
+            })
+        }
+        Err(halt) => match halt {
+            Halt::Refused(stop) => Err(Halt::Refused(stop.max(low))),
+            Halt::NoMemory => Err(Halt::NoMemory),
+        },
+    }
+}
+
+/// What stands behind TO or FROM.
+#[derive(Drop)]
+struct Transfer {
+    dation: Name,
+    formats: Vec<Fmt>,
+}
+
+/// `id BY fmt { "," fmt } ";"`
+fn station(
+    alloc: Global,
+    tokens: &[Token],
+    from: usize,
+    low: usize,
+) -> Result<Reading<Transfer>, Halt>
+    requires from { from ≤ length tokens.now }
+    requires low { low ≤ length tokens.now }
+    ensures spells { IfOk result (λ reading. spec.SpellsStation tokens.now from (reading.part.dation, reading.part.formats.items) reading.end) }
+    ensures sure { IfOk result (λ reading. Exact spec.SpellsStation tokens.now from reading.end reading.stop) }
+    ensures on { IfOk result (λ reading. spec.IsOn tokens.now (from + 1) low reading.end reading.stop) }
+    ensures refused { IfErr result (λ halt. spec.IsStopped spec.SpellsStation tokens.now from low halt) }
+{
+    let dation = name(tokens, from, low)?;
+    word_here(tokens, from + 1, low, BY)?;
+    let formats = formats(alloc, tokens, from + 2, low)?;
+    Ok(Reading {
+        part: Transfer {
+            dation,
+            formats: formats.part,
+        },
+        end: formats.end,
+        stop: formats.stop,
+    })
+}
+
+/// `PUT [ expr { "," expr } ] TO id BY fmt { "," fmt } ";"`
+pub fn put(alloc: Global, tokens: &[Token], from: usize) -> Result<Reading<Stmt>, Halt>
+    requires within { from < length tokens.now }
+    requires word { HasWord tokens.now from w.PUT }
+    ensures spells { IfOk result (λ reading. (depth : ℕ) → SpellsStmt tokens.now depth from reading.part reading.end) }
+    ensures sure { IfOk result (λ reading. (depth : ℕ) → Exact (λ tokens. SpellsStmt tokens depth) tokens.now from reading.end reading.stop) }
+    ensures ahead { IfOk result (λ reading. IsAhead tokens.now from reading.end reading.stop) }
+    ensures refused { IfErr result (λ halt. (depth : ℕ) → IsHalted (λ tokens. SpellsStmt tokens depth) tokens.now from halt) }
+{
+    let values = before(alloc, tokens, from + 1, TO)?;
+    let station = station(alloc, tokens, values.end, values.stop)?;
+    Ok(Reading {
+        part: Stmt::Put {
+            values: Parts::new(values.part),
+            dation: station.part.dation,
+            formats: Parts::new(station.part.formats),
+            place: place_at(tokens, from),
+        },
+        end: station.end,
+        stop: station.stop,
+    })
+}
+
+/// `GET [ ref { "," ref } ] FROM id BY fmt { "," fmt } ";"`
+pub fn get(alloc: Global, tokens: &[Token], from: usize) -> Result<Reading<Stmt>, Halt>
+    requires within { from < length tokens.now }
+    requires word { HasWord tokens.now from w.GET }
+    ensures spells { IfOk result (λ reading. (depth : ℕ) → SpellsStmt tokens.now depth from reading.part reading.end) }
+    ensures sure { IfOk result (λ reading. (depth : ℕ) → Exact (λ tokens. SpellsStmt tokens depth) tokens.now from reading.end reading.stop) }
+    ensures ahead { IfOk result (λ reading. IsAhead tokens.now from reading.end reading.stop) }
+    ensures refused { IfErr result (λ halt. (depth : ℕ) → IsHalted (λ tokens. SpellsStmt tokens depth) tokens.now from halt) }
+{
+    let targets = before(alloc, tokens, from + 1, FROM)?;
+    let station = station(alloc, tokens, targets.end, targets.stop)?;
+    Ok(Reading {
+        part: Stmt::Get {
+            targets: Parts::new(targets.part),
+            dation: station.part.dation,
+            formats: Parts::new(station.part.formats),
+            place: place_at(tokens, from),
+        },
+        end: station.end,
+        stop: station.stop,
+    })
+}
