@@ -1,5 +1,6 @@
 pub mod Steps
 pub mod ByFirst
+pub mod Repetitions
 pub mod LeafRests
 pub mod Before
 pub mod TransferRests
@@ -7,3 +8,13 @@ pub mod CallRests
 pub mod ScheduleRests
 pub mod TimedRests
 pub mod WhenRests
+pub mod Words
+pub mod Firsts
+pub mod RowLists
+pub mod NestedRests
+pub mod LoopRests
+pub mod Choices
+pub mod Blocks
+pub mod BlockRests
+pub mod UnitRests
+pub mod ModuleRests

@@ -1,6 +1,6 @@
 -- What is left of a part, once its first tokens are read: however the tokens behind a stop are replaced, whatever part
 -- begins where this one does goes on as it does.
-use Rattle.std.proofs.Common.{rules, ◌==◌, ◌≡◌, ℕ, ◌==◌, ◌≤◌, ◌⊎◌, inl, inr, Bool, true, false, List, length, Option, Some, None, Result, Ok, Err, IfErr, sym, ap, subst, ◌∙◌, arith}
+use Rattle.std.proofs.Common.{rules, ◌==◌, ◌≡◌, ◌≢◌, ℕ, ◌≤◌, ◌⊎◌, inl, inr, Bool, true, false, List, length, Option, Some, None, Result, Ok, Err, IfErr, sym, ap, subst, ◌∙◌, arith}
 use Rattle.std.specs.Result.{IsErr, IsErrAnd}
 use Rattle.pearl_tree.specs.declared.token.What.{What}
 use Rattle.pearl_tree.specs.declared.token.Token.{Token}
@@ -168,3 +168,8 @@ module _ {Y : Type 0} (begins : Option What → Bool) (spells : List Token → S
 pub exact_is_sure : {Y : Type 0} (spells : List Token → Spelling Y) (extends : Option What → Bool) (tokens : List Token) (from end stop : ℕ) →
     Exact spells tokens from end stop → Sure spells extends tokens from end stop
 exact_is_sure spells extends tokens from end stop exact = λ others agree x to h. inl (exact others agree x to h)
+
+-- a token that is not there is no want of memory
+pub missing_is_refused : (tokens : List Token) (wanted : Option What → Bool) (at stop : ℕ) (halt : Halt) → IsMissing tokens wanted at stop halt → halt ≢ NoMemory
+missing_is_refused tokens wanted at stop NoMemory h is = h
+missing_is_refused tokens wanted at stop (Refused k) h is = let e = is in cc e

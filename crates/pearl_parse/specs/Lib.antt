@@ -1,3 +1,7 @@
 pub mod Stops
 pub mod Calls
 pub mod Schedules
+pub mod Bodies
+pub mod Firsts
+pub mod Modules
+pub mod Refusals

@@ -10,8 +10,9 @@ ghost use Rattle.pearl_parse_expr.specs.Stops.{Exact, IsAhead, IsHalted, is_name
 ghost use Rattle.pearl_parse.specs.Stops as spec;
 ghost use Rattle.pearl_parse.specs.Calls as calls;
 
-use crate::list::{list, own_reference};
 use crate::step::{SEMICOLON, expr, name, symbol};
+use pearl_parse_decl::expression::own_reference;
+use pearl_parse_decl::list::list;
 use pearl_parse_expr::reading::{Halt, Reading};
 use pearl_parse_expr::standing::{is_symbol, place_at};
 use pearl_parse_expr::symbol::{LEFT_ROUND, RIGHT_ROUND};

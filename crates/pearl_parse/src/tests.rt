@@ -1,22 +1,14 @@
-// Statements that were worked out by hand.
+// Statements that hold no others, worked out by hand.
 
-use crate::call::{call, named, return_};
-use crate::interrupt::when;
-use crate::leaf::{exit, on_interrupt, on_task, send, take};
-use crate::schedule::{periodic, plain_activation, plain_continuation};
-use crate::timed::timed;
-use crate::transfer::{get, on_semas, put};
+use crate::statement::{NESTED_MAX, statement};
 use pearl_lex::lexer::tokens;
-use pearl_parse_expr::reading::{Halt, Reading};
-use pearl_parse_expr::standing::{is_name, is_word};
-use pearl_tables::word_code::*;
-use pearl_tree::statement::{InterruptWord, SemaWord, Stmt, TaskWord};
-use pearl_tree::token::Token;
+use pearl_parse_expr::reading::Halt;
 use std::alloc::Global;
 use std::fmt;
 
 // Each source is one statement.
-const READ: [&[u8]; 33] = [
+const READ: [&[u8]; 34] = [
+    b";",
     b"EXIT;",
     b"SUSPEND;",
     b"TERMINATE t;",
@@ -53,7 +45,10 @@ const READ: [&[u8]; 33] = [
 ];
 
 // Each source with which no statement begins, with the number of the token that refuses.
-const REFUSED: [(&[u8], usize); 16] = [
+const REFUSED: [(&[u8], usize); 19] = [
+    (b"", 0),
+    (b"ELSE;", 0),
+    (b"1;", 0),
     (b"EXIT t;", 1),
     (b"SUSPEND t u;", 2),
     (b"ENABLE;", 1),
@@ -72,90 +67,12 @@ const REFUSED: [(&[u8], usize); 16] = [
     (b"CONTINUE t PRIO 1;", 2),
 ];
 
-fn scheduled(alloc: Global, tokens: &[Token]) -> Result<Reading<Stmt>, Halt> {
-    if is_word(tokens, 0, ACTIVATE) {
-        return plain_activation(alloc, tokens, 0);
-    }
-    if is_word(tokens, 0, CONTINUE) {
-        return plain_continuation(tokens, 0);
-    }
-    if is_word(tokens, 0, ALL) {
-        return periodic(alloc, tokens, 0);
-    }
-    if is_word(tokens, 0, AT) {
-        return timed(alloc, tokens, 0, false);
-    }
-    if is_word(tokens, 0, AFTER) {
-        return timed(alloc, tokens, 0, true);
-    }
-    if is_word(tokens, 0, WHEN) {
-        return when(alloc, tokens, 0);
-    }
-    Err(Halt::Refused(0))
-}
-
-fn ordering(alloc: Global, tokens: &[Token]) -> Result<Reading<Stmt>, Halt> {
-    if is_word(tokens, 0, SUSPEND) {
-        return on_task(tokens, 0, TaskWord::Suspend);
-    }
-    if is_word(tokens, 0, TERMINATE) {
-        return on_task(tokens, 0, TaskWord::Terminate);
-    }
-    if is_word(tokens, 0, PREVENT) {
-        return on_task(tokens, 0, TaskWord::Prevent);
-    }
-    if is_word(tokens, 0, ENABLE) {
-        return on_interrupt(tokens, 0, InterruptWord::Enable);
-    }
-    if is_word(tokens, 0, DISABLE) {
-        return on_interrupt(tokens, 0, InterruptWord::Disable);
-    }
-    if is_word(tokens, 0, TRIGGER) {
-        return on_interrupt(tokens, 0, InterruptWord::Trigger);
-    }
-    if is_word(tokens, 0, REQUEST) {
-        return on_semas(alloc, tokens, 0, SemaWord::Request);
-    }
-    if is_word(tokens, 0, RELEASE) {
-        return on_semas(alloc, tokens, 0, SemaWord::Release);
-    }
-    scheduled(alloc, tokens)
-}
-
-fn statement(alloc: Global, tokens: &[Token]) -> Result<Reading<Stmt>, Halt> {
-    if is_word(tokens, 0, EXIT) {
-        return exit(tokens, 0);
-    }
-    if is_word(tokens, 0, RETURN) {
-        return return_(alloc, tokens, 0);
-    }
-    if is_word(tokens, 0, CALL) {
-        return call(alloc, tokens, 0);
-    }
-    if is_word(tokens, 0, SEND) {
-        return send(alloc, tokens, 0);
-    }
-    if is_word(tokens, 0, TAKE) {
-        return take(alloc, tokens, 0);
-    }
-    if is_word(tokens, 0, PUT) {
-        return put(alloc, tokens, 0);
-    }
-    if is_word(tokens, 0, GET) {
-        return get(alloc, tokens, 0);
-    }
-    if tokens.len() > 0 && is_name(tokens, 0) {
-        return named(alloc, tokens, 0);
-    }
-    ordering(alloc, tokens)
-}
-
-fn reads(alloc: Global, source: &[u8]) -> bool {
+pub fn reads(alloc: Global, source: &[u8]) -> bool {
     if source.len() > 1000 {
         return false;
     }
     match tokens(alloc, source) {
-        Ok(tokens) => match statement(alloc, tokens.as_slice()) {
+        Ok(tokens) => match statement(alloc, tokens.as_slice(), 0, NESTED_MAX) {
             Ok(read) => read.end == tokens.len(),
             Err(_) => false,
         },
@@ -163,12 +80,12 @@ fn reads(alloc: Global, source: &[u8]) -> bool {
     }
 }
 
-fn refuses(alloc: Global, source: &[u8], stop: usize) -> bool {
+pub fn refuses(alloc: Global, source: &[u8], stop: usize) -> bool {
     if source.len() > 1000 {
         return false;
     }
     match tokens(alloc, source) {
-        Ok(tokens) => match statement(alloc, tokens.as_slice()) {
+        Ok(tokens) => match statement(alloc, tokens.as_slice(), 0, NESTED_MAX) {
             Ok(_) => false,
             Err(halt) => match halt {
                 Halt::Refused(at) => at == stop,

@@ -3,6 +3,7 @@
 
 pub mod constant;
 pub mod declaration;
+pub mod expression;
 pub mod flag;
 pub mod format;
 pub mod head;

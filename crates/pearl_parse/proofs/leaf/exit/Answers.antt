@@ -1,7 +1,7 @@
 use Rattle.std.proofs.Common.{◌+◌, ap, arith}
 use Rattle.pearl_tree.specs.Symbols as s
 use Rattle.pearl_parse_expr.specs.Stops.{is_symbol}
-use Rattle.pearl_parse.proofs.Steps.{err_told, missing, ends}
+use Rattle.pearl_parse.proofs.Steps.{err_told, missing_is_refused, missing, ends}
 use Rattle.pearl_parse.proofs.LeafRests.{Spelled, exit_rest, exit_goes}
 use Rattle.pearl_parse.proofs.leaf.exit.Goals as goal
 
@@ -18,3 +18,8 @@ returns-clause-sure c = λ depth.
     let tokens = c.args.tokens.now in
     let from = c.args.from in
     ends (Spelled depth) tokens from exit_rest (from + 1) from (from + 2) (from + 2) (exit_goes tokens depth from c.requires.word) (omega arith) (λ others to h. omega (arith, h.1))
+
+pub returns-in_err-symbol-clause-memory : goal.returns-in_err-symbol-clause-memory
+returns-in_err-symbol-clause-memory c =
+    err_told _ _ c.in_err-symbol.field-0.0 c.from_residual.result c.from_residual.ensures (λ e is. is)
+    (missing_is_refused c.args.tokens.now (is_symbol s.semicolon) (c.args.from + 1) c.args.from c.in_err-symbol.field-0.0 c.in_err-symbol.ensures.missing)

@@ -1,0 +1,59 @@
+use Rattle.std.proofs.Common.{◌+◌, ap, arith}
+use Rattle.pearl_tree.specs.Symbols as s
+use Rattle.pearl_tree.specs.WordCodes as w
+use Rattle.pearl_parse_expr.specs.Stops.{is_symbol, is_word}
+use Rattle.pearl_parse.specs.Modules.{SpellsOptionalName, SpellsHead}
+use Rattle.pearl_parse.proofs.Steps.{err_told, missing_is_refused, past_exact, missing, no_first, ends}
+use Rattle.pearl_parse.proofs.LeafRests.{exit_rest}
+use Rattle.pearl_parse.proofs.ModuleRests.{head_rest, head_goes, name_goes}
+use Rattle.pearl_parse.proofs.module.head.Goals as goal
+
+pub returns-in_err-word-clause-refused : goal.returns-in_err-word-clause-refused
+returns-in_err-word-clause-refused c =
+    let tokens = c.args.tokens.now in
+    let from = c.args.from in
+    err_told _ _ c.in_err-word.field-0.0 c.from_residual.result c.from_residual.ensures (λ e is. is)
+    (missing SpellsHead tokens from (is_word w.MODULE) head_rest from from from c.in_err-word.field-0.0 (head_goes tokens from)
+    (λ others to h. ap (is_word w.MODULE) h.0) (omega arith) c.requires c.requires c.in_err-word.ensures.missing)
+
+pub returns-in_err-name-clause-refused : goal.returns-in_err-name-clause-refused
+returns-in_err-name-clause-refused c =
+    let tokens = c.args.tokens.now in
+    let from = c.args.from in
+    err_told _ _ c.in_err-name.field-0.0 c.from_residual-in_err-name.result c.from_residual-in_err-name.ensures (λ e is. is)
+    (no_first SpellsHead tokens from SpellsOptionalName exit_rest (from + 1) from c.in_err-name.field-0.0 (name_goes tokens from) (omega arith) (omega arith) c.in_err-name.ensures.refused)
+
+pub returns-in_err-symbol-clause-refused : goal.returns-in_err-symbol-clause-refused
+returns-in_err-symbol-clause-refused c =
+    let tokens = c.args.tokens.now in
+    let from = c.args.from in
+    let name = c.in_ok-name.name in
+    let read = c.in_ok-name.ensures in
+    let go = past_exact SpellsHead tokens from SpellsOptionalName exit_rest (from + 1) from name.end name.stop (name_goes tokens from) (omega (arith, read.on)) read.sure in
+    err_told _ _ c.in_err-symbol.field-0.0 c.from_residual-in_err-symbol.result c.from_residual-in_err-symbol.ensures (λ e is. is)
+    (missing SpellsHead tokens from (is_symbol s.semicolon) exit_rest name.end name.stop name.end c.in_err-symbol.field-0.0 go
+    (λ others to h. ap (is_symbol s.semicolon) h.0) (omega (arith, read.on)) (omega (arith, read.on)) read.on.3 c.in_err-symbol.ensures.missing)
+
+pub returns-clause-sure : goal.returns-clause-sure
+returns-clause-sure c =
+    let tokens = c.args.tokens.now in
+    let from = c.args.from in
+    let name = c.in_ok-name.name in
+    let read = c.in_ok-name.ensures in
+    let go = past_exact SpellsHead tokens from SpellsOptionalName exit_rest (from + 1) from name.end name.stop (name_goes tokens from) (omega (arith, read.on)) read.sure in
+    ends SpellsHead tokens from exit_rest name.end name.stop (name.end + 1) (name.end + 1) go (omega (arith, read.close)) (λ others to h. h.1)
+
+pub returns-in_err-word-clause-memory : goal.returns-in_err-word-clause-memory
+returns-in_err-word-clause-memory c =
+    err_told _ _ c.in_err-word.field-0.0 c.from_residual.result c.from_residual.ensures (λ e is. is)
+    (missing_is_refused c.args.tokens.now (is_word w.MODULE) c.args.from c.args.from c.in_err-word.field-0.0 c.in_err-word.ensures.missing)
+
+pub returns-in_err-name-clause-memory : goal.returns-in_err-name-clause-memory
+returns-in_err-name-clause-memory c =
+    err_told _ _ c.in_err-name.field-0.0 c.from_residual-in_err-name.result c.from_residual-in_err-name.ensures (λ e is. is) c.in_err-name.ensures.memory
+
+pub returns-in_err-symbol-clause-memory : goal.returns-in_err-symbol-clause-memory
+returns-in_err-symbol-clause-memory c =
+    let name = c.in_ok-name.name in
+    err_told _ _ c.in_err-symbol.field-0.0 c.from_residual-in_err-symbol.result c.from_residual-in_err-symbol.ensures (λ e is. is)
+    (missing_is_refused c.args.tokens.now (is_symbol s.semicolon) name.end name.stop c.in_err-symbol.field-0.0 c.in_err-symbol.ensures.missing)

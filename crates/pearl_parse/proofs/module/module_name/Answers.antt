@@ -1,0 +1,59 @@
+use Rattle.std.proofs.Common.{◌+◌, refl, sym, ap, arith}
+use Rattle.pearl_tree.specs.Standing.{what_at}
+use Rattle.pearl_tree.specs.Modules.{SpellsModuleName}
+use Rattle.pearl_tree.specs.Symbols as s
+use Rattle.pearl_parse_expr.specs.Stops.{is_name, is_symbol}
+use Rattle.pearl_parse.specs.Modules.{begins_module_name, SpellsOptionalName}
+use Rattle.pearl_parse.proofs.Steps.{err_told, missing_is_refused, missing, ends, optional_is_none}
+use Rattle.pearl_parse.proofs.ModuleRests.{bracketed_rest, bracketed_goes, bracket_closes, bare_is_exact, name_begins, no_name}
+use Rattle.pearl_parse.proofs.module.module_name.Goals as goal
+
+pub returns-in_err-name-clause-refused : goal.returns-in_err-name-clause-refused
+returns-in_err-name-clause-refused c =
+    let tokens = c.args.tokens.now in
+    let from = c.args.from in
+    let within = c.if-is_symbol.ensures.within refl in
+    err_told _ _ c.in_err-name.field-0.0 c.from_residual.result c.from_residual.ensures (λ e is. is)
+    (missing SpellsOptionalName tokens from is_name bracketed_rest (from + 1) from (from + 1) c.in_err-name.field-0.0 (bracketed_goes tokens from (c.if-is_symbol.ensures.stands refl))
+    (λ others to h. h.0) (omega arith) (omega (arith, within)) c.requires c.in_err-name.ensures.missing)
+
+pub returns-in_err-symbol-clause-refused : goal.returns-in_err-symbol-clause-refused
+returns-in_err-symbol-clause-refused c =
+    let tokens = c.args.tokens.now in
+    let from = c.args.from in
+    let two = c.in_ok-name.ensures.within in
+    err_told _ _ c.in_err-symbol.field-0.0 c.from_residual-in_err-symbol.result c.from_residual-in_err-symbol.ensures (λ e is. is)
+    (missing SpellsOptionalName tokens from (is_symbol s.right_round) bracketed_rest (from + 1) from (from + 2) c.in_err-symbol.field-0.0 (bracketed_goes tokens from (c.if-is_symbol.ensures.stands refl))
+    (λ others to h. bracket_closes others from to h) (omega arith) (omega (arith, two)) c.requires c.in_err-symbol.ensures.missing)
+
+pub returns-then-is_symbol-clause-sure : goal.returns-then-is_symbol-clause-sure
+returns-then-is_symbol-clause-sure c =
+    let tokens = c.args.tokens.now in
+    let from = c.args.from in
+    ends SpellsOptionalName tokens from bracketed_rest (from + 1) from (from + 3) (from + 3) (bracketed_goes tokens from (c.if-is_symbol.ensures.stands refl)) (omega arith)
+    (λ others to h. omega (arith, h.2))
+
+pub returns-in-Some-clause-sure : goal.returns-in-Some-clause-sure
+returns-in-Some-clause-sure c =
+    bare_is_exact c.args.tokens.now c.args.from (sym c.if-is_symbol.ensures.value) (ap is_name c.in-Some.ensures.some.0)
+
+pub returns-in-None-clause-spells : goal.returns-in-None-clause-spells
+returns-in-None-clause-spells c =
+    (refl, no_name (what_at c.args.tokens.now c.args.from) (sym c.if-is_symbol.ensures.value) (c.name_at.ensures.none c.in-None.is))
+
+pub returns-in-None-clause-sure : goal.returns-in-None-clause-sure
+returns-in-None-clause-sure c =
+    let tokens = c.args.tokens.now in
+    let from = c.args.from in
+    optional_is_none begins_module_name SpellsModuleName tokens from from
+    (no_name (what_at tokens from) (sym c.if-is_symbol.ensures.value) (c.name_at.ensures.none c.in-None.is)) (omega arith) (λ others x to h. name_begins others from x to h)
+
+pub returns-in_err-name-clause-memory : goal.returns-in_err-name-clause-memory
+returns-in_err-name-clause-memory c =
+    err_told _ _ c.in_err-name.field-0.0 c.from_residual.result c.from_residual.ensures (λ e is. is)
+    (missing_is_refused c.args.tokens.now is_name (c.args.from + 1) c.args.from c.in_err-name.field-0.0 c.in_err-name.ensures.missing)
+
+pub returns-in_err-symbol-clause-memory : goal.returns-in_err-symbol-clause-memory
+returns-in_err-symbol-clause-memory c =
+    err_told _ _ c.in_err-symbol.field-0.0 c.from_residual-in_err-symbol.result c.from_residual-in_err-symbol.ensures (λ e is. is)
+    (missing_is_refused c.args.tokens.now (is_symbol s.right_round) (c.args.from + 2) c.args.from c.in_err-symbol.field-0.0 c.in_err-symbol.ensures.missing)

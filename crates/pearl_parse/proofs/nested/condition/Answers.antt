@@ -1,0 +1,36 @@
+use Rattle.std.proofs.Common.{◌+◌, ap, arith}
+use Rattle.pearl_tree.specs.Statements.{SpellsAfter}
+use Rattle.pearl_tree.specs.WordCodes as w
+use Rattle.pearl_parse_expr.specs.Stops.{extends_expression, is_word}
+use Rattle.pearl_parse.specs.Bodies.{SpellsCondition}
+use Rattle.pearl_parse.proofs.Steps.{err_told, past, missing, no_part, ends}
+use Rattle.pearl_parse.proofs.NestedRests.{then_word, condition_goes}
+use Rattle.pearl_parse.proofs.nested.condition.Goals as goal
+
+pub returns-in_err-condition-clause-refused : goal.returns-in_err-condition-clause-refused
+returns-in_err-condition-clause-refused c =
+    let tokens = c.args.tokens.now in
+    let from = c.args.from in
+    err_told _ _ c.in_err-condition.field-0.0 c.from_residual.result c.from_residual.ensures (λ e is. is)
+    (no_part SpellsCondition tokens from (λ tokens. SpellsAfter tokens w.IF) then_word from from c.in_err-condition.field-0.0 (condition_goes tokens from)
+    (omega arith) c.in_err-condition.ensures.refused)
+
+pub returns-in_err-word-clause-refused : goal.returns-in_err-word-clause-refused
+returns-in_err-word-clause-refused c =
+    let tokens = c.args.tokens.now in
+    let from = c.args.from in
+    let condition = c.in_ok-condition.condition in
+    let read = c.in_ok-condition.ensures in
+    err_told _ _ c.in_err-word.field-0.0 c.from_residual-in_err-word.result c.from_residual-in_err-word.ensures (λ e is. is)
+    (let go = past SpellsCondition tokens from (λ tokens. SpellsAfter tokens w.IF) extends_expression then_word from from condition.end condition.stop (condition_goes tokens from) read.on.2 read.sure (λ others at to h. ap extends_expression h.0) in
+    missing SpellsCondition tokens from (is_word w.THEN) then_word condition.end condition.stop condition.end c.in_err-word.field-0.0 go
+    (λ others to h. ap (is_word w.THEN) h.0) (omega (arith, read.on)) (omega (arith, read.on)) (omega (arith, read.on)) c.in_err-word.ensures.missing)
+
+pub returns-clause-sure : goal.returns-clause-sure
+returns-clause-sure c =
+    let tokens = c.args.tokens.now in
+    let from = c.args.from in
+    let condition = c.in_ok-condition.condition in
+    let read = c.in_ok-condition.ensures in
+    let go = past SpellsCondition tokens from (λ tokens. SpellsAfter tokens w.IF) extends_expression then_word from from condition.end condition.stop (condition_goes tokens from) read.on.2 read.sure (λ others at to h. ap extends_expression h.0) in
+    ends SpellsCondition tokens from then_word condition.end condition.stop c.max.result (condition.end + 1) go (omega (arith, c.max.ensures)) (λ others to h. h.1)

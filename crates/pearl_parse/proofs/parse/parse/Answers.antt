@@ -1,0 +1,18 @@
+use Rattle.std.proofs.Common.{length, refl}
+use Rattle.pearl_tree.proofs.SpelledLawful.{spelled_lawful}
+use Rattle.pearl_parse_expr.proofs.Halts.{stuck_of}
+use Rattle.pearl_parse.specs.Modules.{SpellsSource}
+use Rattle.pearl_parse.proofs.parse.parse.Goals as goal
+
+pub returns-in-Ok-clause-lawful : goal.returns-in-Ok-clause-lawful
+returns-in-Ok-clause-lawful c = λ lawful. spelled_lawful c.in-Ok.tree c.args.tokens.now lawful c.in-Ok.ensures.spells
+
+pub returns-in-Refused-clause-refused : goal.returns-in-Refused-clause-refused
+returns-in-Refused-clause-refused c =
+    let stuck = stuck_of SpellsSource c.args.tokens.now 0 c.in-Refused.stop c.in-Err.halt c.in-Refused.is c.in-Err.ensures.refused in
+    record {
+      token = c.in-Refused.stop;
+      within = stuck.2;
+      stands = c.place_or_end.ensures;
+      none = λ tree others agree h. stuck.0 others agree tree (length others) (h.spells, refl);
+    }

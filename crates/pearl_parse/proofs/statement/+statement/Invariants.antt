@@ -1,0 +1,59 @@
+use Rattle.std.proofs.Common.{◌+◌, ◌-◌, ◌*◌, length}
+use Rattle.pearl_tree.specs.Standing.{SpellsEach}
+use Rattle.pearl_tree.specs.Statements.{SpellsStmt, SpellsBranch}
+use Rattle.pearl_tree.specs.WordCodes as w
+use Rattle.pearl_parse.specs.Stops.{IsOn, begins_statement}
+use Rattle.pearl_parse.specs.Bodies.{SpellsStatements}
+use Rattle.pearl_parse.proofs.Repetitions.{EachGoes}
+use Rattle.pearl_parse.proofs.Choices.{ChoicesGo}
+use Rattle.pearl_parse.proofs.statement.+statement.Given as goal
+
+abbrev pub decreases-maybe_branch : goal.decreases-maybe_branch
+decreases-maybe_branch l = 6 * l.depth + 4
+
+abbrev pub decreases-alternatives : goal.decreases-alternatives
+decreases-alternatives l = 6 * l.depth + 4
+
+abbrev pub decreases-branch : goal.decreases-branch
+decreases-branch l = 6 * l.depth + 3
+
+abbrev pub decreases-body : goal.decreases-body
+decreases-body l = 6 * l.depth + 3
+
+abbrev pub decreases-statements : goal.decreases-statements
+decreases-statements l = 6 * l.depth + 2
+
+abbrev pub decreases-statement : goal.decreases-statement
+decreases-statement l = 6 * l.depth + 1
+
+abbrev pub decreases-if_ : goal.decreases-if_
+decreases-if_ l = 6 * l.depth
+
+abbrev pub decreases-case : goal.decreases-case
+decreases-case l = 6 * l.depth
+
+abbrev pub decreases-repeat : goal.decreases-repeat
+decreases-repeat l = 6 * l.depth
+
+abbrev pub decreases-begin : goal.decreases-begin
+decreases-begin l = 6 * l.depth
+
+abbrev pub invariant-statements-each : goal.invariant-statements-each
+invariant-statements-each l = record {
+  spells : SpellsStatements l.depth l.tokens l.from l.list.items l.end;
+  goes : EachGoes (λ tokens. SpellsStmt tokens l.depth) begins_statement l.tokens l.from l.end l.stop;
+  on : IsOn l.tokens l.from l.low l.end l.stop;
+}
+
+abbrev pub decreases-statements-each : goal.decreases-statements-each
+decreases-statements-each l = length l.tokens - l.end
+
+abbrev pub invariant-alternatives-each : goal.invariant-alternatives-each
+invariant-alternatives-each l = record {
+  spells : SpellsEach (SpellsBranch l.tokens l.depth w.ALT) l.from l.list.items l.end;
+  goes : ChoicesGo l.tokens l.depth l.from l.end l.stop;
+  on : IsOn l.tokens l.from l.low l.end l.stop;
+}
+
+abbrev pub decreases-alternatives-each : goal.decreases-alternatives-each
+decreases-alternatives-each l = length l.tokens - l.end

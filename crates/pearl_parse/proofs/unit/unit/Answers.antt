@@ -1,0 +1,25 @@
+use Rattle.std.proofs.Common.{◌+◌, sym, ap, arith}
+use Rattle.pearl_tree.specs.Modules.{SpellsDecl}
+use Rattle.pearl_tree.specs.Symbols as s
+use Rattle.pearl_tree.specs.WordCodes as w
+use Rattle.pearl_parse_expr.specs.Stops.{is_name, is_symbol, is_word}
+use Rattle.pearl_parse.proofs.Steps.{err_told, missing}
+use Rattle.pearl_parse.proofs.UnitRests.{unit_rest, word_rest, unit_goes, word_goes}
+use Rattle.pearl_parse.proofs.unit.unit.Goals as goal
+
+pub returns-in_err-symbol-clause-refused : goal.returns-in_err-symbol-clause-refused
+returns-in_err-symbol-clause-refused c =
+    let tokens = c.args.tokens.now in
+    let from = c.args.from in
+    err_told _ _ c.in_err-symbol.field-0.0 c.from_residual.result c.from_residual.ensures (λ e is. is)
+    (missing SpellsDecl tokens from (is_symbol s.colon) unit_rest (from + 1) from (from + 1) c.in_err-symbol.field-0.0 (unit_goes tokens from (ap is_name c.requires.name.0))
+    (λ others to h. ap (is_symbol s.colon) h) (omega arith) (omega (arith, c.requires.within)) (omega (arith, c.requires.within)) c.in_err-symbol.ensures.missing)
+
+pub returns-in_err-word-clause-refused : goal.returns-in_err-word-clause-refused
+returns-in_err-word-clause-refused c =
+    let tokens = c.args.tokens.now in
+    let from = c.args.from in
+    err_told _ _ c.in_err-word.field-0.0 c.from_residual-in_err-word.result c.from_residual-in_err-word.ensures (λ e is. is)
+    (missing SpellsDecl tokens from (is_word w.PROC) word_rest (from + 2) (from + 2) (from + 2) c.in_err-word.field-0.0
+    (word_goes tokens from (ap is_name c.requires.name.0) (sym c.if-is_word.ensures.value))
+    (λ others to h. h) (omega arith) (omega (arith, c.in_ok-symbol.ensures.within)) (omega (arith, c.in_ok-symbol.ensures.within)) c.in_err-word.ensures.missing)

@@ -1,0 +1,43 @@
+// The bodies of tasks and procedures, from one semicolon to the other.
+
+ghost use Rattle.std.specs.Prelude.{◌≡◌, ◌+◌, ◌≤◌, length, max, IfOk, IfErr};
+ghost use Rattle.pearl_tree.specs.Modules.{SpellsBlock};
+ghost use Rattle.pearl_parse_expr.specs.Stops.{Exact};
+ghost use Rattle.pearl_parse.specs.Stops as spec;
+
+use crate::body::whole_body;
+use crate::step::{SEMICOLON, symbol, word};
+use pearl_parse_decl::list::behind;
+use pearl_parse_expr::reading::{Halt, Reading};
+use pearl_tables::word_code::END;
+use pearl_tree::statement::Body;
+use pearl_tree::token::Token;
+use std::alloc::Global;
+
+/// `";" body END ";"`
+pub fn block(
+    alloc: Global,
+    tokens: &[Token],
+    from: usize,
+    low: usize,
+) -> Result<Reading<Body>, Halt>
+    requires low { (from ≤ low) × (low ≤ length tokens.now) }
+    ensures spells { IfOk result (λ reading. SpellsBlock tokens.now from reading.part reading.end) }
+    ensures sure { IfOk result (λ reading. Exact SpellsBlock tokens.now from reading.end reading.stop) }
+    ensures on { IfOk result (λ reading. spec.IsOn tokens.now (from + 1) low reading.end reading.stop) }
+    ensures refused { IfErr result (λ halt. spec.IsStopped SpellsBlock tokens.now from low halt) }
+{
+    symbol(tokens, from, low, SEMICOLON)?;
+    let body = match whole_body(alloc, tokens, from + 1) {
+        Ok(body) => body,
+        Err(halt) => return Err(behind(halt, low)),
+    };
+    let stop = body.stop.max(low);
+    word(tokens, body.end, stop, END)?;
+    symbol(tokens, body.end + 1, stop, SEMICOLON)?;
+    Ok(Reading {
+        part: body.part,
+        end: body.end + 2,
+        stop: stop.max(body.end + 2),
+    })
+}

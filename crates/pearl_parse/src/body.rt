@@ -1,0 +1,72 @@
+// Bodies of tasks and procedures, and the declarations of bodies.
+
+ghost use Rattle.std.specs.Prelude.{◌≡◌, ◌+◌, ◌<◌, ◌≤◌, length, IfOk, IfErr};
+ghost use Rattle.std.proofs.Common.{ap};
+ghost use Rattle.pearl_tree.specs.Statements.{SpellsBodyDecl, SpellsWholeBody};
+ghost use Rattle.pearl_tree.specs.WordCodes as w;
+ghost use Rattle.pearl_parse_expr.specs.Stops.{Sure, Exact, IsAhead, IsHalted, is_word};
+ghost use Rattle.pearl_parse.specs.Stops.{IsOn};
+ghost use Rattle.pearl_parse.specs.Bodies.{extends_body};
+
+use crate::each::Repeated;
+use crate::statement::{NESTED_MAX, body};
+use crate::step::{SEMICOLON, symbol, word};
+use pearl_parse_decl::list::list;
+use pearl_parse_expr::reading::{Halt, Reading};
+use pearl_parse_expr::standing::place_at;
+use pearl_tables::word_code::DECLARE;
+use pearl_tree::parts::Parts;
+use pearl_tree::statement::{Body, BodyDecl};
+use pearl_tree::token::Token;
+use std::alloc::Global;
+
+/// `DCL item { "," item } ";"`
+fn body_declaration(alloc: Global, tokens: &[Token], from: usize) -> Result<Reading<BodyDecl>, Halt>
+    requires { from ≤ length tokens.now }
+    ensures spells { IfOk result (λ reading. SpellsBodyDecl tokens.now from reading.part reading.end) }
+    ensures sure { IfOk result (λ reading. Exact SpellsBodyDecl tokens.now from reading.end reading.stop) }
+    ensures ahead { IfOk result (λ reading. IsAhead tokens.now from reading.end reading.stop) }
+    ensures refused { IfErr result (λ halt. IsHalted SpellsBodyDecl tokens.now from halt) }
+{
+    word(tokens, from, from, DECLARE)?;
+    let items = list(alloc, tokens, from + 1)?;
+    symbol(tokens, items.end, items.stop, SEMICOLON)?;
+    Ok(Reading {
+        part: BodyDecl {
+            items: Parts::new(items.part),
+            place: place_at(tokens, from),
+        },
+        end: items.end + 1,
+        stop: items.stop.max(items.end + 1),
+    })
+}
+
+impl Repeated for BodyDecl {
+    ghost spelling = { SpellsBodyDecl };
+
+    ghost begins = { is_word w.DCL };
+
+    fn read(alloc: Global, tokens: &[Token], from: usize) -> Result<Reading<BodyDecl>, Halt> {
+        body_declaration(alloc, tokens, from)
+    }
+
+    ghost first = { λ tokens from x to h. ap (is_word w.DCL) h.2 };
+}
+
+/// The longest body that begins here, of a task or procedure.
+pub fn whole_body(alloc: Global, tokens: &[Token], from: usize) -> Result<Reading<Body>, Halt>
+    requires { from ≤ length tokens.now }
+    ensures spells { IfOk result (λ reading. SpellsWholeBody tokens.now from reading.part reading.end) }
+    ensures sure { IfOk result (λ reading. Sure SpellsWholeBody extends_body tokens.now from reading.end reading.stop) }
+    ensures on { IfOk result (λ reading. IsOn tokens.now from from reading.end reading.stop) }
+    ensures refused { IfErr result (λ halt. IsHalted SpellsWholeBody tokens.now from halt) }
+{
+    match body(alloc, tokens, from, from, NESTED_MAX) {
+        Ok(read) => Ok(Reading {
+            part: read.part,
+            end: read.end,
+            stop: read.stop,
+        }),
+        Err(halt) => Err(halt),
+    }
+}

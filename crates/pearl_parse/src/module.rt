@@ -1,0 +1,123 @@
+// Whole modules.
+
+ghost use Rattle.std.specs.Prelude.{◌≡◌, ◌≢◌, ◌+◌, ◌≤◌, length, max, IfOk, IfErr, OnOk};
+ghost use Rattle.pearl_tree.specs.Modules.{Spells};
+ghost use Rattle.pearl_parse_expr.specs.declared.reading.Halt.{Halt};
+ghost use Rattle.pearl_parse_expr.specs.Stops.{Exact, IsAhead, IsHalted};
+ghost use Rattle.pearl_parse.specs.Stops as spec;
+ghost use Rattle.pearl_parse.specs.Modules as modules;
+
+use crate::each::each;
+use crate::step::{SEMICOLON, name, symbol, word};
+use crate::system::opening;
+use pearl_parse_expr::reading::{Halt, Reading};
+use pearl_parse_expr::standing::{is_symbol, name_at, place_at};
+use pearl_parse_expr::symbol::{LEFT_ROUND, RIGHT_ROUND};
+use pearl_tables::word_code::{MODEND, MODULE};
+use pearl_tree::parts::Parts;
+use pearl_tree::token::Token;
+use pearl_tree::tree::{ModuleName, Tree};
+use std::alloc::Global;
+
+/// `[ "(" id ")" | id ]`
+fn module_name(tokens: &[Token], from: usize) -> Result<Reading<Option<ModuleName>>, Halt>
+    requires { from ≤ length tokens.now }
+    ensures spells { IfOk result (λ reading. modules.SpellsOptionalName tokens.now from reading.part reading.end) }
+    ensures sure { IfOk result (λ reading. Exact modules.SpellsOptionalName tokens.now from reading.end reading.stop) }
+    ensures on { IfOk result (λ reading. spec.IsOn tokens.now from from reading.end reading.stop) }
+    ensures close { IfOk result (λ reading. reading.stop ≡ reading.end) }
+    ensures refused { IfErr result (λ halt. IsHalted modules.SpellsOptionalName tokens.now from halt) }
+    ensures memory { IfErr result (λ halt. halt ≢ Halt.NoMemory) }
+{
+    if is_symbol(tokens, from, LEFT_ROUND) {
+        let name = name(tokens, from + 1, from)?;
+        symbol(tokens, from + 2, from, RIGHT_ROUND)?;
+        return Ok(Reading {
+            part: Some(ModuleName::Bracketed(name)),
+            end: from + 3,
+            stop: from + 3,
+        });
+    }
+    match name_at(tokens, from) {
+        Some(name) => Ok(Reading {
+            part: Some(ModuleName::Bare(name)),
+            end: from + 1,
+            stop: from + 1,
+        }),
+        None => Ok(Reading {
+            part: None,
+            end: from,
+            stop: from,
+        }),
+    }
+}
+
+/// `MODULE [ "(" id ")" | id ] ";"`
+fn head(tokens: &[Token], from: usize) -> Result<Reading<Option<ModuleName>>, Halt>
+    requires { from ≤ length tokens.now }
+    ensures spells { IfOk result (λ reading. modules.SpellsHead tokens.now from reading.part reading.end) }
+    ensures sure { IfOk result (λ reading. Exact modules.SpellsHead tokens.now from reading.end reading.stop) }
+    ensures ahead { IfOk result (λ reading. IsAhead tokens.now from reading.end reading.stop) }
+    ensures close { IfOk result (λ reading. reading.stop ≡ reading.end) }
+    ensures refused { IfErr result (λ halt. IsHalted modules.SpellsHead tokens.now from halt) }
+    ensures memory { IfErr result (λ halt. halt ≢ Halt.NoMemory) }
+{
+    word(tokens, from, from, MODULE)?;
+    let name = module_name(tokens, from + 1)?;
+    symbol(tokens, name.end, name.stop, SEMICOLON)?;
+    Ok(Reading {
+        part: name.part,
+        end: name.end + 1,
+        stop: name.end + 1,
+    })
+}
+
+/// The end of the tokens.
+fn over(tokens: &[Token], at: usize, stop: usize) -> Result<(), Halt>
+    requires { at ≤ length tokens.now }
+    ensures over { OnOk result (at ≡ length tokens.now) }
+    ensures missing { IfErr result (λ halt. spec.IsMissing tokens.now modules.is_end at stop halt) }
+{
+    if at < tokens.len() {
+        return Err(Halt::Refused(stop.max(at)));
+    }
+    Ok(())
+}
+
+/// `MODEND [ ";" ]` and the end of the tokens; whether there is a semicolon.
+fn ending(tokens: &[Token], from: usize, low: usize) -> Result<bool, Halt>
+    requires low { (from ≤ low) × (low ≤ length tokens.now) }
+    ensures spells { IfOk result (λ semicolon. modules.SpellsEnding tokens.now from semicolon (length tokens.now)) }
+    ensures refused { IfErr result (λ halt. spec.IsStopped modules.SpellsEnding tokens.now from low halt) }
+    ensures memory { IfErr result (λ halt. halt ≢ Halt.NoMemory) }
+{
+    word(tokens, from, low, MODEND)?;
+    let stop = low.max(from + 1);
+    if is_symbol(tokens, from + 1, SEMICOLON) {
+        over(tokens, from + 2, stop)?;
+        return Ok(true);
+    }
+    over(tokens, from + 1, stop)?;
+    Ok(false)
+}
+
+/// The module that the tokens are, from the first one to the last.
+pub fn module(alloc: Global, tokens: &[Token]) -> Result<Tree, Halt>
+    ensures spells { IfOk result (λ tree. Spells tree tokens.now) }
+    ensures refused { IfErr result (λ halt. IsHalted modules.SpellsSource tokens.now 0 halt) }
+{
+    let head = head(tokens, 0)?;
+    let opening = opening(alloc, tokens, head.end)?;
+    let list = match each(alloc, tokens, opening.end) {
+        Ok(list) => list,
+        Err(_) => return Err(Halt::NoMemory),
+    };
+    let semicolon = ending(tokens, list.end, list.stop.max(opening.stop))?;
+    Ok(Tree {
+        name: head.part,
+        system: opening.part,
+        declarations: Parts::new(list.part),
+        semicolon,
+        place: place_at(tokens, 0),
+    })
+}

@@ -1,0 +1,48 @@
+// What stands before and behind the statements that a statement holds.
+
+ghost use Rattle.std.specs.Prelude.{◌≡◌, ◌≢◌, ◌+◌, ◌<◌, ◌≤◌, length, IfOk, IfErr, OnOk};
+ghost use Rattle.pearl_tree.specs.Standing.{HasWord, HasSymbol};
+ghost use Rattle.pearl_tree.specs.WordCodes as w;
+ghost use Rattle.pearl_tree.specs.Symbols as s;
+ghost use Rattle.pearl_parse_expr.specs.declared.reading.Halt.{Halt};
+ghost use Rattle.pearl_parse_expr.specs.Stops.{Exact, IsAhead, IsHalted};
+ghost use Rattle.pearl_parse.specs.Stops as spec;
+ghost use Rattle.pearl_parse.specs.Bodies as bodies;
+
+use crate::step::{SEMICOLON, after, symbol, word as word_here};
+use pearl_parse_expr::reading::{Halt, Reading};
+use pearl_tables::word_code::*;
+use pearl_tree::expression::Expr;
+use pearl_tree::token::Token;
+use std::alloc::Global;
+
+/// `IF expr THEN`
+pub fn condition(alloc: Global, tokens: &[Token], from: usize) -> Result<Reading<Expr>, Halt>
+    requires within { from < length tokens.now }
+    requires word { HasWord tokens.now from w.IF }
+    ensures spells { IfOk result (λ reading. bodies.SpellsCondition tokens.now from reading.part reading.end) }
+    ensures sure { IfOk result (λ reading. Exact bodies.SpellsCondition tokens.now from reading.end reading.stop) }
+    ensures ahead { IfOk result (λ reading. IsAhead tokens.now from reading.end reading.stop) }
+    ensures refused { IfErr result (λ halt. IsHalted bodies.SpellsCondition tokens.now from halt) }
+{
+    let condition = after(alloc, tokens, from, from, IF)?;
+    word_here(tokens, condition.end, condition.stop, THEN)?;
+    Ok(Reading {
+        part: condition.part,
+        end: condition.end + 1,
+        stop: condition.stop.max(condition.end + 1),
+    })
+}
+
+/// A word that closes statements, and a semicolon.
+pub fn closing(tokens: &[Token], from: usize, low: usize, word: u8) -> Result<(), Halt>
+    requires from { from ≤ length tokens.now }
+    requires low { (from ≤ low) × (low ≤ length tokens.now) }
+    ensures stands { OnOk result (HasWord tokens.now from word × HasSymbol tokens.now (from + 1) s.semicolon) }
+    ensures within { OnOk result (from + 2 ≤ length tokens.now) }
+    ensures refused { IfErr result (λ halt. spec.IsStopped (bodies.SpellsClosing word) tokens.now from low halt) }
+    ensures memory { IfErr result (λ halt. halt ≢ Halt.NoMemory) }
+{
+    word_here(tokens, from, low, word)?;
+    symbol(tokens, from + 1, low, SEMICOLON)
+}

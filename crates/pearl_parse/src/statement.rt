@@ -1,0 +1,355 @@
+// Statements. Only IF, CASE, REPEAT and BEGIN begin another level of them.
+
+ghost use Rattle.std.specs.Prelude.{◌≡◌, ℕ, ◌+◌, ◌<◌, ◌≤◌, length, IfOk, IfErr, true};
+ghost use Rattle.pearl_tree.specs.Standing.{what_at, HasWord, SpellsMaybe, SpellsSome};
+ghost use Rattle.pearl_tree.specs.Statements.{SpellsStmt, SpellsBranch, SpellsBody};
+ghost use Rattle.pearl_tree.specs.WordCodes as w;
+ghost use Rattle.pearl_parse_expr.specs.declared.reading.Halt.{Halt};
+ghost use Rattle.pearl_parse_expr.specs.Stops.{Sure, Exact, IsAhead, IsHalted};
+ghost use Rattle.pearl_parse.specs.Stops as spec;
+ghost use Rattle.pearl_parse.specs.Bodies as bodies;
+
+use crate::each::each;
+use crate::first::{First, first_at};
+use crate::loops::loop_heads;
+use crate::nested::{closing, condition};
+use crate::plain::plain;
+use crate::step::after;
+use pearl_parse_expr::reading::{Halt, Reading, append};
+use pearl_parse_expr::standing::{is_word, place_at};
+use pearl_tables::word_code::*;
+use pearl_tree::parts::Parts;
+use pearl_tree::statement::{Body, BodyDecl, Branch, Stmt};
+use pearl_tree::token::Token;
+use std::alloc::Global;
+
+/// How many IF, CASE, REPEAT and BEGIN may stand within one another.
+pub const NESTED_MAX: u8 = 32;
+
+/// `{ stmt }`
+#[cycle(statement)]
+fn statements(
+    alloc: Global,
+    tokens: &[Token],
+    from: usize,
+    low: usize,
+    depth: u8,
+) -> Result<Reading<Vec<Stmt>>, Halt>
+    requires { (from ≤ low) × (low ≤ length tokens.now) }
+    ensures spells { IfOk result (λ reading. bodies.SpellsStatements depth tokens.now from reading.part.items reading.end) }
+    ensures sure { IfOk result (λ reading. Sure (bodies.SpellsStatements depth) spec.begins_statement tokens.now from reading.end reading.stop) }
+    ensures on { IfOk result (λ reading. spec.IsOn tokens.now from low reading.end reading.stop) }
+    ensures refused { IfErr result (λ halt. halt ≡ Halt.NoMemory) }
+{
+    let mut list = Vec::new(alloc);
+    let mut end = from;
+    let mut stop = low;
+    'each: loop {
+        match statement(alloc, tokens, end, depth) {
+            Ok(next) => {
+                append(&mut list, next.part)?;
+                end = next.end;
+                stop = stop.max(next.stop);
+            }
+            Err(halt) => match halt {
+                Halt::Refused(at) => {
+                    return Ok(Reading {
+                        part: list,
+                        end,
+                        stop: stop.max(at),
+                    });
+                }
+                Halt::NoMemory => return Err(Halt::NoMemory),
+            },
+        }
+    }
+}
+
+/// A word that stands here, and `{ stmt }`.
+#[cycle(statement)]
+fn branch(
+    alloc: Global,
+    tokens: &[Token],
+    from: usize,
+    low: usize,
+    depth: u8,
+    word: u8,
+) -> Result<Reading<Branch>, Halt>
+    requires within { from < length tokens.now }
+    requires low { low ≤ length tokens.now }
+    requires word { HasWord tokens.now from word }
+    ensures spells { IfOk result (λ reading. SpellsBranch tokens.now depth word from reading.part reading.end) }
+    ensures sure { IfOk result (λ reading. Sure (bodies.SpellsHeaded depth word) spec.begins_statement tokens.now from reading.end reading.stop) }
+    ensures on { IfOk result (λ reading. spec.IsOn tokens.now (from + 1) low reading.end reading.stop) }
+    ensures refused { IfErr result (λ halt. halt ≡ Halt.NoMemory) }
+{
+    match statements(alloc, tokens, from + 1, low.max(from + 1), depth) {
+        Ok(statements) => Ok(Reading {
+            part: Branch {
+                statements: Parts::new(statements.part),
+                place: place_at(tokens, from),
+            },
+            end: statements.end,
+            stop: statements.stop,
+        }),
+        Err(halt) => Err(halt),
+    }
+}
+
+/// `[ word { stmt } ]`
+#[cycle(statement)]
+fn maybe_branch(
+    alloc: Global,
+    tokens: &[Token],
+    from: usize,
+    low: usize,
+    depth: u8,
+    word: u8,
+) -> Result<Reading<Option<Branch>>, Halt>
+    requires { (from ≤ low) × (low ≤ length tokens.now) }
+    ensures spells { IfOk result (λ reading. SpellsMaybe (SpellsBranch tokens.now depth word) from reading.part reading.end) }
+    ensures sure { IfOk result (λ reading. Sure (bodies.SpellsOptionalHeaded depth word) spec.begins_statement tokens.now from reading.end reading.stop) }
+    ensures on { IfOk result (λ reading. spec.IsOn tokens.now from low reading.end reading.stop) }
+    ensures refused { IfErr result (λ halt. halt ≡ Halt.NoMemory) }
+{
+    if !is_word(tokens, from, word) {
+        return Ok(Reading {
+            part: None,
+            end: from,
+            stop: low,
+        });
+    }
+    match branch(alloc, tokens, from, low, depth, word) {
+        Ok(branch) => Ok(Reading {
+            part: Some(branch.part),
+            end: branch.end,
+            stop: branch.stop,
+        }),
+        Err(halt) => Err(halt),
+    }
+}
+
+/// `ALT { stmt } { ALT { stmt } }`
+#[cycle(statement)]
+fn alternatives(
+    alloc: Global,
+    tokens: &[Token],
+    from: usize,
+    low: usize,
+    depth: u8,
+) -> Result<Reading<Vec<Branch>>, Halt>
+    requires { (from ≤ low) × (low ≤ length tokens.now) }
+    ensures spells { IfOk result (λ reading. SpellsSome (SpellsBranch tokens.now depth w.ALT) from reading.part.items reading.end) }
+    ensures sure { IfOk result (λ reading. Sure (bodies.SpellsChoices depth) bodies.extends_alternatives tokens.now from reading.end reading.stop) }
+    ensures on { IfOk result (λ reading. spec.IsOn tokens.now from low reading.end reading.stop) }
+    ensures refused { IfErr result (λ halt. spec.IsStopped (bodies.SpellsChoices depth) tokens.now from low halt) }
+{
+    if !is_word(tokens, from, ALT) {
+        return Err(Halt::Refused(low));
+    }
+    let mut list = Vec::new(alloc);
+    let mut end = from;
+    let mut stop = low;
+    'each: while is_word(tokens, end, ALT) {
+        match branch(alloc, tokens, end, stop, depth, ALT) {
+            Ok(next) => {
+                append(&mut list, next.part)?;
+                end = next.end;
+                stop = next.stop;
+            }
+            Err(halt) => return Err(halt),
+        }
+    }
+    Ok(Reading {
+        part: list,
+        end,
+        stop,
+    })
+}
+
+/// `IF expr THEN { stmt } [ ELSE { stmt } ] FIN ";"`
+#[cycle(statement)]
+fn if_(alloc: Global, tokens: &[Token], from: usize, depth: u8) -> Result<Reading<Stmt>, Halt>
+    requires within { from < length tokens.now }
+    requires word { HasWord tokens.now from w.IF }
+    ensures spells { IfOk result (λ reading. SpellsStmt tokens.now depth from reading.part reading.end) }
+    ensures sure { IfOk result (λ reading. Exact (λ tokens. SpellsStmt tokens depth) tokens.now from reading.end reading.stop) }
+    ensures ahead { IfOk result (λ reading. IsAhead tokens.now from reading.end reading.stop) }
+    ensures refused { IfErr result (λ halt. IsHalted (λ tokens. SpellsStmt tokens depth) tokens.now from halt) }
+{
+    if depth == 0 {
+        return Err(Halt::Refused(from));
+    }
+    let condition = condition(alloc, tokens, from)?;
+    let statements = statements(alloc, tokens, condition.end, condition.stop, depth - 1)?;
+    let otherwise = maybe_branch(
+        alloc,
+        tokens,
+        statements.end,
+        statements.stop,
+        depth - 1,
+        ELSE,
+    )?;
+    closing(tokens, otherwise.end, otherwise.stop, FIN)?;
+    Ok(Reading {
+        part: Stmt::If {
+            condition: condition.part,
+            statements: Parts::new(statements.part),
+            otherwise: otherwise.part,
+            place: place_at(tokens, from),
+        },
+        end: otherwise.end + 2,
+        stop: otherwise.stop.max(otherwise.end + 2),
+    })
+}
+
+/// `CASE expr ALT { stmt } { ALT { stmt } } [ OUT { stmt } ] FIN ";"`
+#[cycle(statement)]
+fn case(alloc: Global, tokens: &[Token], from: usize, depth: u8) -> Result<Reading<Stmt>, Halt>
+    requires within { from < length tokens.now }
+    requires word { HasWord tokens.now from w.CASE }
+    ensures spells { IfOk result (λ reading. SpellsStmt tokens.now depth from reading.part reading.end) }
+    ensures sure { IfOk result (λ reading. Exact (λ tokens. SpellsStmt tokens depth) tokens.now from reading.end reading.stop) }
+    ensures ahead { IfOk result (λ reading. IsAhead tokens.now from reading.end reading.stop) }
+    ensures refused { IfErr result (λ halt. IsHalted (λ tokens. SpellsStmt tokens depth) tokens.now from halt) }
+{
+    if depth == 0 {
+        return Err(Halt::Refused(from));
+    }
+    let selector = after(alloc, tokens, from, from, CASE)?;
+    let alternatives = alternatives(alloc, tokens, selector.end, selector.stop, depth - 1)?;
+    let otherwise = maybe_branch(
+        alloc,
+        tokens,
+        alternatives.end,
+        alternatives.stop,
+        depth - 1,
+        OUT,
+    )?;
+    closing(tokens, otherwise.end, otherwise.stop, FIN)?;
+    Ok(Reading {
+        part: Stmt::Case {
+            selector: selector.part,
+            alternatives: Parts::new(alternatives.part),
+            otherwise: otherwise.part,
+            place: place_at(tokens, from),
+        },
+        end: otherwise.end + 2,
+        stop: otherwise.stop.max(otherwise.end + 2),
+    })
+}
+
+/// `{ DCL item { "," item } ";" } { stmt }`: the longest body that begins here, behind what was stopped at `low`.
+#[cycle(statement)]
+pub fn body(
+    alloc: Global,
+    tokens: &[Token],
+    from: usize,
+    low: usize,
+    depth: u8,
+) -> Result<Reading<Body>, Halt>
+    requires { (from ≤ low) × (low ≤ length tokens.now) }
+    ensures spells { IfOk result (λ reading. SpellsBody tokens.now depth from reading.part reading.end) }
+    ensures sure { IfOk result (λ reading. Sure (bodies.SpellsBlock depth) bodies.extends_body tokens.now from reading.end reading.stop) }
+    ensures on { IfOk result (λ reading. spec.IsOn tokens.now from low reading.end reading.stop) }
+    ensures refused { IfErr result (λ halt. spec.IsStopped (bodies.SpellsBlock depth) tokens.now from low halt) }
+{
+    if from == tokens.len() {
+        return Err(Halt::Refused(low));
+    }
+    let declarations = each::<BodyDecl>(alloc, tokens, from)?;
+    let low = declarations.stop.max(low);
+    let statements = statements(alloc, tokens, declarations.end, low, depth)?;
+    Ok(Reading {
+        part: Body {
+            declarations: Parts::new(declarations.part),
+            statements: Parts::new(statements.part),
+            place: place_at(tokens, from),
+        },
+        end: statements.end,
+        stop: statements.stop,
+    })
+}
+
+/// `[ FOR id ] [ FROM expr ] [ BY expr ] [ TO expr ] [ WHILE expr ] REPEAT body END ";"`
+#[cycle(statement)]
+fn repeat(alloc: Global, tokens: &[Token], from: usize, depth: u8) -> Result<Reading<Stmt>, Halt>
+    requires within { from < length tokens.now }
+    requires word { bodies.is_one bodies.loop_words (what_at tokens.now from) ≡ true }
+    ensures spells { IfOk result (λ reading. SpellsStmt tokens.now depth from reading.part reading.end) }
+    ensures sure { IfOk result (λ reading. Exact (λ tokens. SpellsStmt tokens depth) tokens.now from reading.end reading.stop) }
+    ensures ahead { IfOk result (λ reading. IsAhead tokens.now from reading.end reading.stop) }
+    ensures refused { IfErr result (λ halt. IsHalted (λ tokens. SpellsStmt tokens depth) tokens.now from halt) }
+{
+    if depth == 0 {
+        return Err(Halt::Refused(from));
+    }
+    let heads = loop_heads(alloc, tokens, from)?;
+    let body = body(alloc, tokens, heads.end, heads.stop, depth - 1)?;
+    closing(tokens, body.end, body.stop, END)?;
+    Ok(Reading {
+        part: Stmt::Repeat {
+            control: heads.part.control,
+            begin: heads.part.begin,
+            step: heads.part.step,
+            end: heads.part.end,
+            condition: heads.part.condition,
+            body: body.part,
+            place: place_at(tokens, from),
+        },
+        end: body.end + 2,
+        stop: body.stop.max(body.end + 2),
+    })
+}
+
+/// `BEGIN body END ";"`
+#[cycle(statement)]
+fn begin(alloc: Global, tokens: &[Token], from: usize, depth: u8) -> Result<Reading<Stmt>, Halt>
+    requires within { from < length tokens.now }
+    requires word { HasWord tokens.now from w.BEGIN }
+    ensures spells { IfOk result (λ reading. SpellsStmt tokens.now depth from reading.part reading.end) }
+    ensures sure { IfOk result (λ reading. Exact (λ tokens. SpellsStmt tokens depth) tokens.now from reading.end reading.stop) }
+    ensures ahead { IfOk result (λ reading. IsAhead tokens.now from reading.end reading.stop) }
+    ensures refused { IfErr result (λ halt. IsHalted (λ tokens. SpellsStmt tokens depth) tokens.now from halt) }
+{
+    if depth == 0 {
+        return Err(Halt::Refused(from));
+    }
+    let body = body(alloc, tokens, from + 1, from + 1, depth - 1)?;
+    closing(tokens, body.end, body.stop, END)?;
+    Ok(Reading {
+        part: Stmt::Begin {
+            body: body.part,
+            place: place_at(tokens, from),
+        },
+        end: body.end + 2,
+        stop: body.stop.max(body.end + 2),
+    })
+}
+
+/// The statement that begins here, with at most `depth` of IF, CASE, REPEAT and BEGIN within one another.
+#[cycle(statement)]
+pub fn statement(
+    alloc: Global,
+    tokens: &[Token],
+    from: usize,
+    depth: u8,
+) -> Result<Reading<Stmt>, Halt>
+    requires { from ≤ length tokens.now }
+    ensures spells { IfOk result (λ reading. SpellsStmt tokens.now depth from reading.part reading.end) }
+    ensures sure { IfOk result (λ reading. Exact (λ tokens. SpellsStmt tokens depth) tokens.now from reading.end reading.stop) }
+    ensures ahead { IfOk result (λ reading. IsAhead tokens.now from reading.end reading.stop) }
+    ensures refused { IfErr result (λ halt. IsHalted (λ tokens. SpellsStmt tokens depth) tokens.now from halt) }
+{
+    let first = match first_at(tokens, from) {
+        Some(first) => first,
+        None => return Err(Halt::Refused(from)),
+    };
+    match first {
+        First::Plain(first) => plain(alloc, tokens, from, first),
+        First::If => if_(alloc, tokens, from, depth),
+        First::Case => case(alloc, tokens, from, depth),
+        First::Repeat => repeat(alloc, tokens, from, depth),
+        First::Begin => begin(alloc, tokens, from, depth),
+    }
+}

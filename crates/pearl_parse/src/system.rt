@@ -1,0 +1,104 @@
+// The system part of a module.
+
+ghost use Rattle.std.specs.Prelude.{◌≡◌, ◌+◌, ◌<◌, ◌≤◌, length, IfOk, IfErr};
+ghost use Rattle.pearl_tree.specs.Standing.{HasWord};
+ghost use Rattle.pearl_tree.specs.Declarations.{SpellsDevice};
+ghost use Rattle.pearl_tree.specs.Modules.{SpellsSystem};
+ghost use Rattle.pearl_tree.specs.WordCodes as w;
+ghost use Rattle.pearl_parse_expr.specs.Stops.{Sure, Exact, IsAhead, IsHalted, is_name};
+ghost use Rattle.pearl_parse.specs.Stops as spec;
+ghost use Rattle.pearl_parse.specs.Modules as modules;
+
+use crate::each::{Repeated, each};
+use crate::step::{SEMICOLON, symbol, word};
+use pearl_parse_decl::specification::device;
+use pearl_parse_expr::reading::{Halt, Reading};
+use pearl_parse_expr::standing::is_word;
+use pearl_tables::word_code::{PROBLEM, SYSTEM};
+use pearl_tree::declaration::Device;
+use pearl_tree::parts::Parts;
+use pearl_tree::token::Token;
+use std::alloc::Global;
+
+impl Repeated for Device {
+    ghost spelling = { SpellsDevice };
+
+    ghost begins = { is_name };
+
+    fn read(_alloc: Global, tokens: &[Token], from: usize) -> Result<Reading<Device>, Halt> {
+        device(tokens, from)
+    }
+
+    ghost first = { modules.device_begins };
+}
+
+/// `SYSTEM ";" { device }`
+fn system(alloc: Global, tokens: &[Token], from: usize) -> Result<Reading<Parts<Device>>, Halt>
+    requires within { from < length tokens.now }
+    requires word { HasWord tokens.now from w.SYSTEM }
+    ensures spells { IfOk result (λ reading. SpellsSystem tokens.now from reading.part reading.end) }
+    ensures sure { IfOk result (λ reading. Sure SpellsSystem is_name tokens.now from reading.end reading.stop) }
+    ensures ahead { IfOk result (λ reading. IsAhead tokens.now from reading.end reading.stop) }
+    ensures refused { IfErr result (λ halt. IsHalted SpellsSystem tokens.now from halt) }
+{
+    symbol(tokens, from + 1, from, SEMICOLON)?;
+    match each(alloc, tokens, from + 2) {
+        Ok(devices) => Ok(Reading {
+            part: Parts::new(devices.part),
+            end: devices.end,
+            stop: devices.stop,
+        }),
+        Err(_) => Err(Halt::NoMemory),
+    }
+}
+
+/// `[ SYSTEM ";" { device } ]`
+fn maybe_system(
+    alloc: Global,
+    tokens: &[Token],
+    from: usize,
+) -> Result<Reading<Option<Parts<Device>>>, Halt>
+    requires { from ≤ length tokens.now }
+    ensures spells { IfOk result (λ reading. modules.SpellsOptionalSystem tokens.now from reading.part reading.end) }
+    ensures sure { IfOk result (λ reading. Sure modules.SpellsOptionalSystem is_name tokens.now from reading.end reading.stop) }
+    ensures on { IfOk result (λ reading. spec.IsOn tokens.now from from reading.end reading.stop) }
+    ensures refused { IfErr result (λ halt. IsHalted modules.SpellsOptionalSystem tokens.now from halt) }
+{
+    if !is_word(tokens, from, SYSTEM) {
+        return Ok(Reading {
+            part: None,
+            end: from,
+            stop: from,
+        });
+    }
+    match system(alloc, tokens, from) {
+        Ok(devices) => Ok(Reading {
+            part: Some(devices.part),
+            end: devices.end,
+            stop: devices.stop,
+        }),
+        Err(halt) => Err(halt),
+    }
+}
+
+/// `[ SYSTEM ";" { device } ] PROBLEM ";"`
+pub fn opening(
+    alloc: Global,
+    tokens: &[Token],
+    from: usize,
+) -> Result<Reading<Option<Parts<Device>>>, Halt>
+    requires { from ≤ length tokens.now }
+    ensures spells { IfOk result (λ reading. modules.SpellsOpening tokens.now from reading.part reading.end) }
+    ensures sure { IfOk result (λ reading. Exact modules.SpellsOpening tokens.now from reading.end reading.stop) }
+    ensures ahead { IfOk result (λ reading. IsAhead tokens.now from reading.end reading.stop) }
+    ensures refused { IfErr result (λ halt. IsHalted modules.SpellsOpening tokens.now from halt) }
+{
+    let system = maybe_system(alloc, tokens, from)?;
+    word(tokens, system.end, system.stop, PROBLEM)?;
+    symbol(tokens, system.end + 1, system.stop, SEMICOLON)?;
+    Ok(Reading {
+        part: system.part,
+        end: system.end + 2,
+        stop: system.stop.max(system.end + 2),
+    })
+}
