@@ -11,3 +11,17 @@ pub mod ClocksRead
 pub mod LawfulRead
 pub mod SureLists
 pub mod SureTokens
+pub mod ShownLists
+pub mod ShownExpressions
+pub mod ShownDeclarations
+pub mod ShownSchedules
+pub mod ShownStatements
+pub mod ShownModules
+pub mod PlainSpans
+pub mod PlainLists
+pub mod PlainLiterals
+pub mod PlainExpressions
+pub mod PlainDeclarations
+pub mod PlainSchedules
+pub mod PlainStatements
+pub mod PlainModules

@@ -9,3 +9,5 @@ pub mod Schedules
 pub mod Statements
 pub mod Modules
 pub mod Reading
+pub mod ShownText
+pub mod Plain

@@ -1,0 +1,358 @@
+-- Statements and bodies stand at the tokens that printing gives them.
+use Rattle.std.proofs.Common.{◌≡◌, ℕ, ◌+◌, ◌-◌, List, ◌++◌, true, inl, refl, subst, ap}
+use Rattle.std.specs.List.{flat_map}
+use Rattle.pearl_tree.specs.declared.statement.Stmt.{Stmt, Empty, Assign, Call, If', Case', Repeat', Exit, Begin', Return, Activate, Continue, Resume, OnTask, OnSemas, OnInterrupt, Put, Get, Send, Take, Row_of-Stmt, end_of-Stmt, more_of-Stmt, Row_of-Branch, end_of-Branch, more_of-Branch, Held-Stmt-If-2, None', Some'}
+use Rattle.pearl_tree.specs.declared.token.What.TheVariants as what
+use Rattle.pearl_tree.specs.declared.token.Token.{Token}
+use Rattle.pearl_tree.specs.Standing.{HasSymbol, SpellsMaybe}
+use Rattle.pearl_tree.specs.Statements.{SpellsAfter, SpellsStmt, SpellsStmts, SpellsAlternatives, SpellsMoreAlternatives, SpellsOtherwise, SpellsWholeBody}
+use Rattle.pearl_tree.specs.ShownExpressions.{shown_expr, shown_ref}
+use Rattle.pearl_tree.specs.ShownStatements.{OfAssign, OfCall, OfIf, OfCase, OfRepeat, OfBegin, OfReturn, OfActivate, OfContinue, OfResume, OfOnTask, OfOnSemas, OfPut, OfGet, OfSend, OfTake, MoreStmts, MoreBranches, OfOtherwise, shown_start, shown_once, shown_stmt, shown_stmts, shown_branches, shown_otherwise}
+use Rattle.pearl_tree.specs.ShownModules.{shown_body}
+use Rattle.pearl_tree.specs.Symbols as s
+use Rattle.pearl_tree.specs.WordCodes as w
+use Rattle.pearl_print.specs.Lists.{word, symbol, name_tokens, listed, maybe_bracketed, maybe}
+use Rattle.pearl_print.specs.Expressions.{expr_tokens, ref_tokens}
+use Rattle.pearl_print.specs.Formats.{by_tokens}
+use Rattle.pearl_print.specs.Schedules.{after_tokens, start_tokens, once_tokens}
+use Rattle.pearl_print.specs.Statements.{for_tokens, value_tokens, body_decl_tokens, loop_tokens, stmt_tokens, stmts_tokens, alternatives_tokens, otherwise_tokens, body_tokens}
+use Rattle.pearl_print.specs.Plain.{plain_name, plain_expr, plain_ref, plain_start, plain_once, plain_stmt, plain_stmts, plain_branches, plain_otherwise, plain_body}
+use Rattle.pearl_print.proofs.PlainSpans.{place_of, here, starts, Span, cut, cut3, cut4, cut5, cut_token, cut_two, two, three}
+use Rattle.pearl_print.proofs.PlainLists.{Placed, Places, in_parts, each_at, list_at, maybe_list_at, maybe_bracketed_at, maybe_at, seen, seen_option, name_places}
+use Rattle.pearl_print.proofs.PlainExpressions.{expr_places, ref_places}
+use Rattle.pearl_print.proofs.PlainSchedules.{after_places, maybe_after, for_places, value_places, start_places, once_places, decls_at, by_at}
+
+module _ (before tokens : List Token) where
+  mutual
+    stmt_at : (depth a : ℕ) (statement : Stmt) (b : ℕ) → SpellsStmt before depth a statement b → (from to : ℕ) → Span tokens from (stmt_tokens statement) to →
+        Placed (SpellsStmt tokens depth) (λ statement. plain_stmt (shown_stmt statement)) from statement to
+    stmt_at depth a (Empty place) b h from to g =
+        record { copy = Empty (place_of tokens from); spelled = (here tokens from _ g.0, g.0, g.1.0); same = refl }
+    stmt_at depth a (Assign target value place) b h from to g =
+        let p = cut tokens from (ref_tokens target ++ symbol s.becomes ++ expr_tokens value) (symbol s.semicolon) to g in
+        let q = cut_token tokens from (ref_tokens target) (what.Symbol s.becomes) (expr_tokens value) p.0 p.1 in
+        let first = (ref_places before tokens).at a target h.0 h.3 from q.0 q.1 in
+        let second = (expr_places before tokens).at (h.0 + 1) value h.1 h.5 (q.0 + 1) p.0 q.3 in
+        record {
+          copy = Assign first.copy second.copy (place_of tokens from);
+          spelled = (q.0, p.0, here tokens from _ g.0, first.spelled, inl q.2, second.spelled, p.2.0, p.2.1.0);
+          same = λ i. OfAssign (first.same i) (second.same i) 0;
+        }
+    stmt_at depth a (Call call name arguments place) b h from to g =
+        let k = from + 1 in
+        let p = cut tokens (k + 1) (maybe_bracketed expr_tokens arguments.items.items) (symbol s.semicolon) to g.1.1 in
+        let list = in_parts (k + 1) arguments p.0
+        (maybe_bracketed_at before tokens (expr_places before tokens) arguments.items.items (h.0 + 1) h.1 h.5 (k + 1) p.0 p.1) in
+        record {
+          copy = Call true (record { text = name.text; place = place_of tokens k }) list.copy (place_of tokens from);
+          spelled = (k, p.0, here tokens from _ g.0, (g.0, refl), (g.1.0, here tokens k _ g.1.0), list.spelled, p.2.0, p.2.1.0);
+          same = λ i. OfCall true (plain_name name) (seen shown_expr plain_expr list.copy.items.items arguments.items.items list.same i) 0;
+        }
+    stmt_at depth a (If' condition shape statements otherwise place) b h from to g =
+        let p = cut3 tokens from (after_tokens w.IF condition ++ word w.THEN ++ stmts_tokens statements) (otherwise_tokens w.ELSE otherwise) (word w.FIN ++ symbol s.semicolon) to g in
+        let q = cut_token tokens from (after_tokens w.IF condition) (what.Word w.THEN) (stmts_tokens statements) p.0 p.2 in
+        let first = (after_places before tokens w.IF).at a condition h.0 h.5 from q.0 q.1 in
+        let second = stmts_at (depth - 1) (h.0 + 1) _ statements h.1 h.7 (q.0 + 1) p.0 q.3 in
+        let third = otherwise_at (depth - 1) w.ELSE h.1 otherwise h.2 h.8 p.0 p.1 p.3 in
+        record {
+          copy = If' first.copy shape second.copy third.copy (place_of tokens from);
+          spelled = (
+            q.0,
+            p.0,
+            p.1,
+            here tokens from _ g.0,
+            h.4,
+            first.spelled,
+            q.2,
+            second.spelled,
+            third.spelled,
+            p.4.0,
+            p.4.1.0,
+            two (λ k. to ≡ k) p.1 p.4.1.1.0,
+          );
+          same = λ i. OfIf (first.same i) (second.same i) (third.same i) 0;
+        }
+    stmt_at depth a (Case' selector shape alternatives otherwise place) b h from to g =
+        let p = cut4 tokens from (after_tokens w.CASE selector) (alternatives_tokens alternatives) (otherwise_tokens w.OUT otherwise) (word w.FIN ++ symbol s.semicolon) to g in
+        let first = (after_places before tokens w.CASE).at a selector h.0 h.5 from p.0 p.3 in
+        let second = alternatives_at (depth - 1) h.0 _ alternatives h.1 h.6 p.0 p.1 p.4 in
+        let third = otherwise_at (depth - 1) w.OUT h.1 otherwise h.2 h.7 p.1 p.2 p.5 in
+        record {
+          copy = Case' first.copy shape second.copy third.copy (place_of tokens from);
+          spelled = (
+            p.0,
+            p.1,
+            p.2,
+            here tokens from _ g.0,
+            h.4,
+            first.spelled,
+            second.spelled,
+            third.spelled,
+            p.6.0,
+            p.6.1.0,
+            two (λ k. to ≡ k) p.2 p.6.1.1.0,
+          );
+          same = λ i. OfCase (first.same i) (second.same i) (third.same i) 0;
+        }
+    stmt_at depth a (Repeat' control begin step end condition declarations shape statements body_place place) b h from to g =
+        let p = cut tokens from (loop_tokens control begin step end condition)
+        (word w.REPEAT ++ (flat_map body_decl_tokens declarations.items.items ++ stmts_tokens statements) ++ (word w.END ++ symbol s.semicolon)) to g in
+        let l = cut5 tokens from (maybe for_tokens control) (maybe (after_tokens w.FROM) begin) (maybe (after_tokens w.BY) step) (maybe (after_tokens w.TO) end)
+        (maybe (after_tokens w.WHILE) condition) p.0 p.1 in
+        let k = p.0 + 1 in
+        let q = cut3 tokens k (flat_map body_decl_tokens declarations.items.items) (stmts_tokens statements) (word w.END ++ symbol s.semicolon) to p.2.1 in
+        let loop = maybe_at before tokens (for_places before tokens) control a h.0 h.8 from l.0 l.4 in
+        let first = maybe_after before tokens w.FROM begin h.0 h.1 h.9 l.0 l.1 l.5 in
+        let second = maybe_after before tokens w.BY step h.1 h.2 h.10 l.1 l.2 l.6 in
+        let third = maybe_after before tokens w.TO end h.2 h.3 h.11 l.2 l.3 l.7 in
+        let fourth = maybe_after before tokens w.WHILE condition h.3 h.4 h.12 l.3 p.0 l.8 in
+        let decls = decls_at before tokens (h.4 + 1) declarations h.14.0 h.14.2 k q.0 q.2 in
+        let body = stmts_at (depth - 1) h.14.0 _ statements h.5 h.14.3 q.0 q.1 q.3 in
+        record {
+          copy = Repeat' loop.copy first.copy second.copy third.copy fourth.copy decls.copy shape body.copy (place_of tokens k) (place_of tokens from);
+          spelled = (
+            l.0,
+            l.1,
+            l.2,
+            l.3,
+            p.0,
+            q.1,
+            starts tokens from _ to g,
+            h.7,
+            loop.spelled,
+            first.spelled,
+            second.spelled,
+            third.spelled,
+            fourth.spelled,
+            p.2.0,
+            (q.0, starts tokens k _ to p.2.1, decls.spelled, body.spelled),
+            q.4.0,
+            q.4.1.0,
+            two (λ n. to ≡ n) q.1 q.4.1.1.0,
+          );
+          same = λ i. OfRepeat (loop.same i) (seen_option shown_expr plain_expr first.copy begin first.same i) (seen_option shown_expr plain_expr second.copy step second.same i)
+              (seen_option shown_expr plain_expr third.copy end third.same i) (seen_option shown_expr plain_expr fourth.copy condition fourth.same i) (decls.same i) (body.same i) 0 0;
+        }
+    stmt_at depth a (Exit place) b h from to g =
+        record { copy = Exit (place_of tokens from); spelled = (here tokens from _ g.0, g.0, g.1.0, two (λ k. to ≡ k) from g.1.1.0); same = refl }
+    stmt_at depth a (Begin' declarations shape statements body_place place) b h from to g =
+        let k = from + 1 in
+        let q = cut3 tokens k (flat_map body_decl_tokens declarations.items.items) (stmts_tokens statements) (word w.END ++ symbol s.semicolon) to g.1 in
+        let decls = decls_at before tokens (a + 1) declarations h.4.0 h.4.2 k q.0 q.2 in
+        let body = stmts_at (depth - 1) h.4.0 _ statements h.0 h.4.3 q.0 q.1 q.3 in
+        record {
+          copy = Begin' decls.copy shape body.copy (place_of tokens k) (place_of tokens from);
+          spelled = (
+            q.1,
+            here tokens from _ g.0,
+            h.2,
+            g.0,
+            (q.0, starts tokens k _ to g.1, decls.spelled, body.spelled),
+            q.4.0,
+            q.4.1.0,
+            two (λ n. to ≡ n) q.1 q.4.1.1.0,
+          );
+          same = λ i. OfBegin (decls.same i) (body.same i) 0 0;
+        }
+    stmt_at depth a (Return value place) b h from to g =
+        let p = cut tokens (from + 1) (maybe value_tokens value) (symbol s.semicolon) to g.1 in
+        let part = maybe_at before tokens (value_places before tokens) value (a + 1) h.0 h.3 (from + 1) p.0 p.1 in
+        record {
+          copy = Return part.copy (place_of tokens from);
+          spelled = (p.0, here tokens from _ g.0, g.0, part.spelled, p.2.0, p.2.1.0);
+          same = λ i. OfReturn (seen_option shown_expr plain_expr part.copy value part.same i) 0;
+        }
+    stmt_at depth a (Activate start task priority place) b h from to g =
+        let p = cut3 tokens from (maybe start_tokens start ++ word w.ACTIVATE ++ name_tokens task) (maybe (after_tokens w.PRIO) priority) (symbol s.semicolon) to g in
+        let q = cut_token tokens from (maybe start_tokens start) (what.Word w.ACTIVATE) (name_tokens task) p.0 p.2 in
+        let first = maybe_at before tokens (start_places before tokens) start a h.0 h.3 from q.0 q.1 in
+        let second = maybe_after before tokens w.PRIO priority (h.0 + 2) h.1 h.6 p.0 p.1 p.3 in
+        record {
+          copy = Activate first.copy (record { text = task.text; place = place_of tokens (q.0 + 1) }) second.copy (place_of tokens from);
+          spelled = (
+            q.0,
+            p.1,
+            starts tokens from _ to g,
+            first.spelled,
+            q.2,
+            (q.3.0, here tokens (q.0 + 1) _ q.3.0),
+            subst (λ k. SpellsMaybe (SpellsAfter tokens w.PRIO) k second.copy p.1) (two (λ k. p.0 ≡ k) q.0 q.3.1.0) second.spelled,
+            p.4.0,
+            p.4.1.0,
+          );
+          same = λ i. OfActivate (seen_option shown_start plain_start first.copy start first.same i) (plain_name task)
+              (seen_option shown_expr plain_expr second.copy priority second.same i) 0;
+        }
+    stmt_at depth a (Continue once task place) b h from to g =
+        let p = cut_two tokens from (maybe once_tokens once) (what.Word w.CONTINUE) (what.Id task.text) (symbol s.semicolon) to g in
+        let first = maybe_at before tokens (once_places before tokens) once a h.0 h.2 from p.0 p.1 in
+        record {
+          copy = Continue first.copy (record { text = task.text; place = place_of tokens (p.0 + 1) }) (place_of tokens from);
+          spelled = (
+            p.0,
+            starts tokens from _ to g,
+            first.spelled,
+            p.2,
+            (p.3, here tokens (p.0 + 1) _ p.3),
+            two (λ k. HasSymbol tokens k s.semicolon) p.0 p.4.0,
+            three (λ k. to ≡ k) p.0 p.4.1.0,
+          );
+          same = λ i. OfContinue (seen_option shown_once plain_once first.copy once first.same i) (plain_name task) 0;
+        }
+    stmt_at depth a (Resume once place) b h from to g =
+        let p = cut_token tokens from (once_tokens once) (what.Word w.RESUME) (symbol s.semicolon) to g in
+        let first = (once_places before tokens).at a once h.0 h.2 from p.0 p.1 in
+        record {
+          copy = Resume first.copy (place_of tokens from);
+          spelled = (p.0, starts tokens from _ to g, first.spelled, p.2, p.3.0, two (λ k. to ≡ k) p.0 p.3.1.0);
+          same = ap (λ once. OfResume once 0) first.same;
+        }
+    stmt_at depth a (OnTask code task place) b h from to g =
+        let p = cut tokens (from + 1) (maybe name_tokens task) (symbol s.semicolon) to g.1 in
+        let part = maybe_at before tokens (name_places before tokens) task (a + 1) h.0 h.3 (from + 1) p.0 p.1 in
+        record {
+          copy = OnTask code part.copy (place_of tokens from);
+          spelled = (p.0, here tokens from _ g.0, g.0, part.spelled, p.2.0, p.2.1.0);
+          same = ap (λ task. OfOnTask code task 0) part.same;
+        }
+    stmt_at depth a (OnSemas code names place) b h from to g =
+        let p = cut tokens (from + 1) (listed name_tokens names.items.items) (symbol s.semicolon) to g.1 in
+        let list = in_parts (from + 1) names p.0
+        (list_at before tokens (name_places before tokens) names.items.items (a + 1) h.0 h.3 (from + 1) p.0 p.1) in
+        record {
+          copy = OnSemas code list.copy (place_of tokens from);
+          spelled = (p.0, here tokens from _ g.0, g.0, list.spelled, p.2.0, p.2.1.0);
+          same = ap (λ names. OfOnSemas code names 0) list.same;
+        }
+    stmt_at depth a (OnInterrupt code name place) b h from to g = record {
+      copy = OnInterrupt code (record { text = name.text; place = place_of tokens (from + 1) }) (place_of tokens from);
+      spelled = (
+        here tokens from _ g.0,
+        g.0,
+        (g.1.0, here tokens (from + 1) _ g.1.0),
+        two (λ k. HasSymbol tokens k s.semicolon) from g.1.1.0,
+        three (λ k. to ≡ k) from g.1.1.1.0,
+      );
+      same = refl;
+    }
+    stmt_at depth a (Put values dation formats place) b h from to g =
+        let p = cut_token tokens (from + 1) (listed expr_tokens values.items.items) (what.Word w.TO) (by_tokens dation formats) to g.1 in
+        let list = in_parts (from + 1) values p.0
+        (maybe_list_at before tokens (expr_places before tokens) values.items.items (a + 1) h.0 h.4 (from + 1) p.0 p.1) in
+        let by = by_at before tokens dation formats (h.0 + 3) h.1 h.8 p.0 to p.3 in
+        record {
+          copy = Put list.copy (record { text = dation.text; place = place_of tokens (p.0 + 1) }) by.0 (place_of tokens from);
+          spelled = (p.0, by.1, here tokens from _ g.0, g.0, list.spelled, p.2, by.2, by.3, by.4, by.5, by.6);
+          same = λ i. OfPut (seen shown_expr plain_expr list.copy.items.items values.items.items list.same i) (plain_name dation) (by.7 i) 0;
+        }
+    stmt_at depth a (Get targets dation formats place) b h from to g =
+        let p = cut_token tokens (from + 1) (listed ref_tokens targets.items.items) (what.Word w.FROM) (by_tokens dation formats) to g.1 in
+        let list = in_parts (from + 1) targets p.0
+        (maybe_list_at before tokens (ref_places before tokens) targets.items.items (a + 1) h.0 h.4 (from + 1) p.0 p.1) in
+        let by = by_at before tokens dation formats (h.0 + 3) h.1 h.8 p.0 to p.3 in
+        record {
+          copy = Get list.copy (record { text = dation.text; place = place_of tokens (p.0 + 1) }) by.0 (place_of tokens from);
+          spelled = (p.0, by.1, here tokens from _ g.0, g.0, list.spelled, p.2, by.2, by.3, by.4, by.5, by.6);
+          same = λ i. OfGet (seen shown_ref plain_ref list.copy.items.items targets.items.items list.same i) (plain_name dation) (by.7 i) 0;
+        }
+    stmt_at depth a (Send value dation place) b h from to g =
+        let p = cut_two tokens from (after_tokens w.SEND value) (what.Word w.TO) (what.Id dation.text) (symbol s.semicolon) to g in
+        let first = (after_places before tokens w.SEND).at a value h.0 h.2 from p.0 p.1 in
+        record {
+          copy = Send first.copy (record { text = dation.text; place = place_of tokens (p.0 + 1) }) (place_of tokens from);
+          spelled = (
+            p.0,
+            here tokens from _ g.0,
+            first.spelled,
+            p.2,
+            (p.3, here tokens (p.0 + 1) _ p.3),
+            two (λ k. HasSymbol tokens k s.semicolon) p.0 p.4.0,
+            three (λ k. to ≡ k) p.0 p.4.1.0,
+          );
+          same = ap (λ value. OfSend value (plain_name dation) 0) first.same;
+        }
+    stmt_at depth a (Take target dation place) b h from to g =
+        let p = cut_two tokens (from + 1) (ref_tokens target) (what.Word w.FROM) (what.Id dation.text) (symbol s.semicolon) to g.1 in
+        let first = (ref_places before tokens).at (a + 1) target h.0 h.3 (from + 1) p.0 p.1 in
+        record {
+          copy = Take first.copy (record { text = dation.text; place = place_of tokens (p.0 + 1) }) (place_of tokens from);
+          spelled = (
+            p.0,
+            here tokens from _ g.0,
+            g.0,
+            first.spelled,
+            p.2,
+            (p.3, here tokens (p.0 + 1) _ p.3),
+            two (λ k. HasSymbol tokens k s.semicolon) p.0 p.4.0,
+            three (λ k. to ≡ k) p.0 p.4.1.0,
+          );
+          same = ap (λ target. OfTake target (plain_name dation) 0) first.same;
+        }
+
+    stmts_at : (depth a : ℕ) (n : _) (row : Row_of-Stmt n) (b : ℕ) → SpellsStmts before depth a row b → (from to : ℕ) → Span tokens from (stmts_tokens row) to →
+        Placed (λ from (row : Row_of-Stmt n) to. SpellsStmts tokens depth from row to) (λ (row : Row_of-Stmt n). plain_stmts (shown_stmts row)) from row to
+    stmts_at depth a _ end_of-Stmt b h from to g = record { copy = end_of-Stmt; spelled = g.0; same = refl }
+    stmts_at depth a _ (more_of-Stmt statement rest) b h from to g =
+        let p = cut tokens from (stmt_tokens statement) (stmts_tokens rest) to g in
+        let first = stmt_at depth a statement h.0 h.1 from p.0 p.1 in
+        let others = stmts_at depth h.0 _ rest b h.2 p.0 to p.2 in
+        record {
+          copy = more_of-Stmt first.copy others.copy;
+          spelled = (p.0, first.spelled, others.spelled);
+          same = λ i. MoreStmts (first.same i) (others.same i);
+        }
+
+    alternatives_at : (depth a : ℕ) (n : _) (row : Row_of-Branch n) (b : ℕ) → SpellsAlternatives before depth a row b → (from to : ℕ) → Span tokens from (alternatives_tokens row) to →
+        Placed (λ from (row : Row_of-Branch n) to. SpellsAlternatives tokens depth from row to) (λ (row : Row_of-Branch n). plain_branches (shown_branches row)) from row to
+    alternatives_at depth a _ end_of-Branch b h from to g = absurd h
+    alternatives_at depth a _ (more_of-Branch shape statements place rest) b h from to g =
+        let p = cut tokens (from + 1) (stmts_tokens statements) (alternatives_tokens rest) to g.1 in
+        let first = stmts_at depth (a + 1) _ statements h.0 h.1.2 (from + 1) p.0 p.1 in
+        let others = more_alternatives_at depth h.0 _ rest b h.2 p.0 to p.2 in
+        record {
+          copy = more_of-Branch shape first.copy (place_of tokens from) others.copy;
+          spelled = (p.0, (here tokens from _ g.0, g.0, first.spelled), others.spelled);
+          same = λ i. MoreBranches (first.same i) 0 (others.same i);
+        }
+
+    more_alternatives_at : (depth a : ℕ) (n : _) (row : Row_of-Branch n) (b : ℕ) → SpellsMoreAlternatives before depth a row b → (from to : ℕ) → Span tokens from (alternatives_tokens row) to →
+        Placed (λ from (row : Row_of-Branch n) to. SpellsMoreAlternatives tokens depth from row to) (λ (row : Row_of-Branch n). plain_branches (shown_branches row)) from row to
+    more_alternatives_at depth a _ end_of-Branch b h from to g = record { copy = end_of-Branch; spelled = g.0; same = refl }
+    more_alternatives_at depth a _ (more_of-Branch shape statements place rest) b h from to g =
+        let p = cut tokens (from + 1) (stmts_tokens statements) (alternatives_tokens rest) to g.1 in
+        let first = stmts_at depth (a + 1) _ statements h.0 h.1.2 (from + 1) p.0 p.1 in
+        let others = more_alternatives_at depth h.0 _ rest b h.2 p.0 to p.2 in
+        record {
+          copy = more_of-Branch shape first.copy (place_of tokens from) others.copy;
+          spelled = (p.0, (here tokens from _ g.0, g.0, first.spelled), others.spelled);
+          same = λ i. MoreBranches (first.same i) 0 (others.same i);
+        }
+
+    otherwise_at : (depth code a : ℕ) (otherwise : Held-Stmt-If-2) (b : ℕ) → SpellsOtherwise before depth code a otherwise b → (from to : ℕ) → Span tokens from (otherwise_tokens code otherwise) to →
+        Placed (SpellsOtherwise tokens depth code) (λ otherwise. plain_otherwise (shown_otherwise otherwise)) from otherwise to
+    otherwise_at depth code a None' b h from to g = record { copy = None'; spelled = g.0; same = refl }
+    otherwise_at depth code a (Some' shape statements place) b h from to g =
+        let part = stmts_at depth (a + 1) _ statements b h.2 (from + 1) to g.1 in
+        record {
+          copy = Some' shape part.copy (place_of tokens from);
+          spelled = (here tokens from _ g.0, g.0, part.spelled);
+          same = ap (λ statements. OfOtherwise statements 0) part.same;
+        }
+
+  stmt_places : Places tokens (SpellsStmt before 32) (SpellsStmt tokens 32) stmt_tokens (λ statement. plain_stmt (shown_stmt statement))
+  stmt_places = record { at = stmt_at 32 }
+
+  pub body_places : Places tokens (SpellsWholeBody before) (SpellsWholeBody tokens) body_tokens (λ body. plain_body (shown_body body))
+  body_places = record {
+    at = λ a body b h from to g.
+        let statements = body.statements in
+        let p = cut tokens from (flat_map body_decl_tokens body.declarations.items.items) (flat_map stmt_tokens statements.items.items) to g in
+        let decls = decls_at before tokens a body.declarations h.0 h.2 from p.0 p.1 in
+        let list = in_parts p.0 statements to
+        (each_at before tokens stmt_places statements.items.items h.0 b h.3 p.0 to p.2) in
+        record {
+          copy = record { declarations = decls.copy; statements = list.copy; place = place_of tokens from };
+          spelled = (p.0, starts tokens from _ to g, decls.spelled, list.spelled);
+          same = λ i. record { declarations = decls.same i; statements = seen shown_stmt plain_stmt list.copy.items.items statements.items.items list.same i; place = 0 };
+        };
+  }

@@ -1,0 +1,27 @@
+-- The tokens of lists whose parts have the tokens of what they show.
+use Rattle.std.proofs.Common.{◌≡◌, List, [], ◌∷◌, ◌++◌, Option, Some, None, map, option_map, refl}
+use Rattle.std.specs.List.{flat_map}
+use Rattle.pearl_tree.specs.declared.token.What.{What}
+use Rattle.pearl_tree.specs.Symbols as s
+use Rattle.pearl_print.specs.Lists.{symbol, more, listed, maybe_bracketed, maybe}
+
+module _ {X S : Type 0} (show : X → S) (said : S → List What) (tokens : X → List What) (same : (x : X) → said (show x) ≡ tokens x) where
+  pub each_same : (xs : List X) → flat_map said (map show xs) ≡ flat_map tokens xs
+  each_same [] = refl
+  each_same (x ∷ xs) = λ i. same x i ++ each_same xs i
+
+  more_same : (xs : List X) → more said (map show xs) ≡ more tokens xs
+  more_same [] = refl
+  more_same (x ∷ xs) = λ i. (symbol s.comma ++ same x i) ++ more_same xs i
+
+  pub listed_same : (xs : List X) → listed said (map show xs) ≡ listed tokens xs
+  listed_same [] = refl
+  listed_same (x ∷ xs) = λ i. same x i ++ more_same xs i
+
+  pub maybe_bracketed_same : (xs : List X) → maybe_bracketed said (map show xs) ≡ maybe_bracketed tokens xs
+  maybe_bracketed_same [] = refl
+  maybe_bracketed_same (x ∷ xs) = λ i. symbol s.left_round ++ listed_same (x ∷ xs) i ++ symbol s.right_round
+
+  pub maybe_same : (part : Option X) → maybe said (option_map show part) ≡ maybe tokens part
+  maybe_same None = refl
+  maybe_same (Some x) = same x
