@@ -5,13 +5,14 @@ use Rattle.pearl_prog.specs.declared.program.Program.{Program}
 use Rattle.pearl_first.proofs.Unique.{one_outcome}
 use Rattle.pearl_top.specs.declared.status.Status.{Status}
 use Rattle.pearl_top.specs.declared.status.Status.TheVariants.{Done, Usage, Refused, BadObject, BadJournal, ReadFault, WriteFault, NoMemory, TooLong}
-use Rattle.pearl_top.specs.Commands.{Command, Run, NoCommand}
+use Rattle.pearl_top.specs.Commands.{Command, Run, Print, NoCommand}
 use Rattle.pearl_top.specs.Complete.{AreInOrder, IsInOrder}
 use Rattle.pearl_top.specs.Journal.{Entries, All, Bad, entries}
 use Rattle.pearl_top.specs.JournalDue.{IsBadJournal}
 use Rattle.pearl_top.specs.Outcome.{Due, IsRefused, IsSource, ReadRose, SourceAndJournal}
 use Rattle.pearl_top.specs.Taken.{Ends}
 use Rattle.pearl_top.proofs.DueLaws.{handled-whole}
+use Rattle.pearl_top.proofs.PrintEnds.{print_completes}
 
 -- an accepted source is not refused
 pub not_refused : (source bytes : List ℕ) (p : Program) → IsSource source p → IsRefused source bytes → ⊥
@@ -67,6 +68,8 @@ completes NoCommand files rose write_failed old new status ends read write order
 completes (Run source journal) files rose write_failed old new status ends read write order no_read no_write =
     by_status (content files source) (content files journal) (rose source) (rose journal) old new status order ends
     (λ e. no_read (read e)) (λ e. no_write (write e))
+completes (Print source) files rose write_failed old new status ends read write order no_read no_write =
+    print_completes (content files source) (rose source) old new status order ends (λ e. no_read (read e)) (λ e. no_write (write e))
 
 -- where the words are those of this command
 pub completes_as : (words other : Command) (files : Files) (rose : List ℕ → Type 0) (write_failed : Type 0) (old new : Option (List ℕ)) (status : Status) →

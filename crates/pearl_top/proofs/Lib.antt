@@ -1,5 +1,7 @@
 pub mod JournalLaws
 pub mod TakenLaws
+pub mod PrintLaws
+pub mod PrintEnds
 pub mod ReplayLaws
 pub mod RunEnds
 pub mod TranscriptLaws

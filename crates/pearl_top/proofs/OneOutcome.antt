@@ -10,15 +10,16 @@ use Rattle.pearl_script.specs.declared.refusal.Refusal.TheVariants as refusal
 use Rattle.pearl_script.specs.Refusals.{refusal_line}
 use Rattle.pearl_top.specs.declared.status.Status.{Status}
 use Rattle.pearl_top.specs.declared.status.Status.TheVariants.{Done, Usage, Refused, BadObject, BadJournal, ReadFault, WriteFault, NoMemory, TooLong}
-use Rattle.pearl_top.specs.Commands.{Run, NoCommand}
+use Rattle.pearl_top.specs.Commands.{Run, Print, NoCommand, source_limit}
 use Rattle.pearl_top.specs.Journal.{Ending, Entries, All, Bad}
 use Rattle.pearl_top.specs.JournalDue.{IsRun, JournalDue, handled, journal_limit}
 use Rattle.pearl_top.specs.Laws.{AreAlike, HasOneOutcome}
-use Rattle.pearl_top.specs.Outcome.{Due, IsRefused, IsSource, SourceAndJournal, SourceDue, fault_line, source_limit}
+use Rattle.pearl_top.specs.Outcome.{Due, IsRefused, IsSource, SourceAndJournal, SourceDue, fault_line}
 use Rattle.pearl_top.specs.Transcript.{Close, Closed, Cut, IsTranscript}
 use Rattle.pearl_top.proofs.AlikeLaws.{one_meaning, transcript_same}
 use Rattle.pearl_top.proofs.Completeness.{not_refused}
 use Rattle.pearl_top.proofs.DueLaws.{handled-whole, le_true, le_false}
+use Rattle.pearl_top.proofs.PrintLaws.{print_once}
 
 -- AT AND AFTER THE JOURNAL
 
@@ -165,3 +166,5 @@ one_outcome (Run source journal) files status other bytes others is its =
     ended_once (content files source) (content files journal) status other bytes others
     (ended (content files source) (content files journal) status bytes is.memory is.due)
     (ended (content files source) (content files journal) other others its.memory its.due)
+one_outcome (Print source) files status other bytes others is its =
+    print_once source files status other bytes others is.memory its.memory is.due its.due

@@ -5,10 +5,11 @@ use Rattle.pearl_script.specs.declared.refusal.Refusal.TheVariants as refusal
 use Rattle.pearl_script.specs.Refusals.{refusal_line}
 use Rattle.pearl_top.specs.declared.status.Status.{Status}
 use Rattle.pearl_top.specs.declared.status.Status.TheVariants.{Done, Usage, Refused, BadObject, BadJournal, ReadFault, WriteFault, NoMemory, TooLong}
-use Rattle.pearl_top.specs.Commands.{Command, Run, NoCommand}
+use Rattle.pearl_top.specs.Commands.{Command, Run, Print, NoCommand}
 use Rattle.pearl_top.specs.Outcome.{Due, IsOutcome, ReadRose}
 use Rattle.pearl_top.specs.Taken.{Ends, Finishes, Just}
 use Rattle.pearl_top.proofs.OneOutcome.{no_command}
+use Rattle.pearl_top.proofs.PrintEnds.{print_rises}
 use Rattle.pearl_top.proofs.TakenLaws.{ends_as}
 use Rattle.pearl_top.proofs.WordLaws.{due_rises}
 
@@ -33,6 +34,7 @@ unrisen NoCommand files rose old new status no_read ends =
     (λ s bytes due. let usage = no_command files rose s bytes due in subst (λ t. Due NoCommand files (λ name. ⊥) t bytes) (sym usage.0) usage.1) ends
 unrisen (Run source journal) files rose old new status no_read ends =
     due_rises (content files source) (content files journal) (rose source) (rose journal) ⊥ ⊥ old new status (λ r. no_read (inl r)) (λ r. no_read (inr r)) ends
+unrisen (Print source) files rose old new status no_read ends = print_rises (content files source) (rose source) ⊥ old new status no_read ends
 
 -- where the words are those of this command
 pub settles : (words other : Command) (files : Files) (rose : List ℕ → Type 0) (write_failed : Type 0) (old new : Option (List ℕ)) (status : Status) →

@@ -75,6 +75,12 @@ ends_as old new due told WriteFault otherwise ends = record { status = ends.stat
 ends_as old new due told NoMemory otherwise ends = record { bytes = ends.bytes; is_due = otherwise NoMemory ends.bytes ends.is_due; taken = ends.taken }
 ends_as old new due told TooLong otherwise ends = record { bytes = ends.bytes; is_due = otherwise TooLong ends.bytes ends.is_due; taken = ends.taken }
 
+-- just the one line is due, with its status
+pub ends_just : (old new : Option (List ℕ)) (due : Status → List ℕ → Type 0) (at : Status) (line : List ℕ) (status : Status) → due at line →
+    Ends old new (Just at line) status → Ends old new due status
+ends_just old new due at line status is_due ends =
+    ends_as old new (Just at line) due status (λ s bytes just. subst (λ t. due t bytes) (sym just.0) (subst (due at) (sym just.1) is_due)) ends
+
 append_none : {A : Type 0} (xs : List A) → xs ++ [] ≡ xs
 append_none [] = refl
 append_none (x ∷ xs) = ap (λ ys. x ∷ ys) (append_none xs)

@@ -13,9 +13,9 @@ use Rattle.pearl_script.specs.declared.refusal.Refusal.TheVariants as refusal
 use Rattle.pearl_script.specs.Refusals.{refusal_line}
 use Rattle.pearl_top.specs.declared.status.Status.{Status}
 use Rattle.pearl_top.specs.declared.status.Status.TheVariants.{Done, Usage, Refused, BadObject, BadJournal, ReadFault, WriteFault, NoMemory, TooLong}
-use Rattle.pearl_top.specs.Commands.{Command, Run}
+use Rattle.pearl_top.specs.Commands.{Command, Run, source_limit}
 use Rattle.pearl_top.specs.JournalDue.{JournalDue}
-use Rattle.pearl_top.specs.Outcome.{Due, DueFor, MayRead, SourceDue, SourceAndJournal, fault_line, source_limit}
+use Rattle.pearl_top.specs.Outcome.{Due, DueFor, MayRead, SourceDue, SourceAndJournal, fault_line}
 use Rattle.pearl_top.specs.Ready.{Ready}
 use Rattle.pearl_top.specs.Replay.{start_of}
 use Rattle.pearl_top.specs.Taken.{Ends, Just}

@@ -3,21 +3,32 @@ use Rattle.std.specs.Prelude.{◌≡◌, ℕ, List, [], ◌∷◌, Bool, true, f
 use Rattle.pearl_top.specs.declared.command.Command as code
 use Rattle.pearl_top.specs.declared.command.Command.TheVariants as borrowed
 
--- `run SOURCE JOURNAL`, the names being those of files; any other words are no command
+-- `run SOURCE JOURNAL` or `print SOURCE`, the names being those of files; any other words are no command
 pub data Command : Type 0 where
   Run : (source journal : List ℕ) → Command
+  Print : (source : List ℕ) → Command
   NoCommand : Command
 
 abbrev pub run_if : Bool → List ℕ → List ℕ → Command
 run_if true source journal = Run source journal
 run_if false source journal = NoCommand
 
+abbrev pub print_if : Bool → List ℕ → Command
+print_if true source = Print source
+print_if false source = NoCommand
+
 -- the command of the words after the program's name
 abbrev pub command_of : List (List ℕ) → Command
 command_of (word ∷ source ∷ journal ∷ []) = run_if (bytes_eq word (codes "run")) source journal
+command_of (word ∷ source ∷ []) = print_if (bytes_eq word (codes "print")) source
 command_of words = NoCommand
 
 -- the code's command, which borrows the names, is this one
 abbrev pub IsCommand : code.Command → Command → Type 0
 IsCommand (borrowed.Run source journal) command = command ≡ Run source.now journal.now
+IsCommand (borrowed.Print source) command = command ≡ Print source.now
 IsCommand borrowed.None command = command ≡ NoCommand
+
+-- the most bytes that a source may have
+abbrev pub source_limit : ℕ
+source_limit = 1048576

@@ -1,12 +1,13 @@
--- Which words and files bring a run to its end.
+-- Which words and files bring a command to its end.
 use Rattle.std.specs.Prelude.{◌≡◌, ℕ, ◌≤◌, List, length}
 use Rattle.pearl_io.specs.Outside.{Files, content}
 use Rattle.pearl_rules.specs.declared.entry.Entry.{Entry}
 use Rattle.pearl_prog.specs.declared.program.Program.{Program}
-use Rattle.pearl_top.specs.Commands.{Command, Run, NoCommand}
+use Rattle.pearl_top.specs.Commands.{Command, Run, Print, NoCommand}
 use Rattle.pearl_top.specs.Journal.{All, entries, journal_lines}
 use Rattle.pearl_top.specs.JournalDue.{journal_limit}
 use Rattle.pearl_top.specs.Outcome.{IsSource}
+use Rattle.pearl_top.specs.PrintDue.{IsSpelled}
 
 -- an accepted source, and a journal of which all lines are accepted, each within its limit
 pub record AreInOrder (source journal : List ℕ) : Type 0 where
@@ -20,3 +21,4 @@ pub record AreInOrder (source journal : List ℕ) : Type 0 where
 abbrev pub IsInOrder : Command → Files → Type 0
 IsInOrder NoCommand files = ⊥
 IsInOrder (Run source journal) files = AreInOrder (content files source) (content files journal)
+IsInOrder (Print source) files = IsSpelled (content files source)

@@ -1,12 +1,15 @@
 -- The definitions determine the answer.
-use Rattle.std.specs.Prelude.{◌≡◌, ℕ, List}
-use Rattle.pearl_io.specs.Outside.{Files}
+use Rattle.std.specs.Prelude.{◌≡◌, ℕ, ◌⊎◌, List}
+use Rattle.pearl_io.specs.Outside.{Files, content}
 use Rattle.pearl_rules.specs.declared.action.Answer.{Answer}
 use Rattle.pearl_rules.specs.declared.entry.Entry.{Entry}
 use Rattle.pearl_prog.specs.declared.program.Program.{Program}
+use Rattle.pearl_tree.specs.declared.token.Token.{Token}
+use Rattle.pearl_lex.specs.Lexes.{Lexes}
 use Rattle.pearl_meaning.specs.Meaning.{offer}
 use Rattle.pearl_top.specs.declared.status.Status.{Status}
-use Rattle.pearl_top.specs.Commands.{Command}
+use Rattle.pearl_top.specs.declared.status.Status.TheVariants.{Refused}
+use Rattle.pearl_top.specs.Commands.{Command, Print}
 use Rattle.pearl_top.specs.Outcome.{IsSource, IsOutcome}
 use Rattle.pearl_top.specs.Transcript.{Close, IsTranscript}
 
@@ -23,7 +26,13 @@ abbrev pub HasOneTranscript : Type 0
 HasOneTranscript = (source : List ℕ) (p q : Program) → IsSource source p → IsSource source q → (es : List Entry) (close : Close) (bytes others : List ℕ) →
     IsTranscript p es close bytes → IsTranscript q es close others → bytes ≡ others
 
--- a command and the files held have at most one status, and at most one list of bytes
+-- The same bytes. But where `print` refuses a source that has tokens, its line may name any place up to and with which no
+-- program begins.
+abbrev pub AreSame : Command → Files → Status → List ℕ → List ℕ → Type 0
+AreSame (Print source) files Refused bytes others = (bytes ≡ others) ⊎ ((tokens : List Token) × Lexes (content files source) tokens)
+AreSame _ files status bytes others = bytes ≡ others
+
+-- a command and the files held have at most one status, and at most one list of bytes, apart from those lines of `print`
 abbrev pub HasOneOutcome : Type 0
 HasOneOutcome = (command : Command) (files : Files) (status other : Status) (bytes others : List ℕ) →
-    IsOutcome command files status bytes → IsOutcome command files other others → (status ≡ other) × (bytes ≡ others)
+    IsOutcome command files status bytes → IsOutcome command files other others → (status ≡ other) × AreSame command files status bytes others

@@ -6,6 +6,7 @@ pub mod Transcript
 pub mod Replay
 pub mod JournalDue
 pub mod Parts
+pub mod PrintDue
 pub mod Outcome
 pub mod Complete
 pub mod Laws

@@ -10,12 +10,9 @@ use Rattle.pearl_script.specs.declared.refusal.Refusal.TheVariants as refusal
 use Rattle.pearl_script.specs.Refusals.{refusal_line}
 use Rattle.pearl_top.specs.declared.status.Status.{Status}
 use Rattle.pearl_top.specs.declared.status.Status.TheVariants.{Usage, Refused, ReadFault, NoMemory, TooLong}
-use Rattle.pearl_top.specs.Commands.{Command, Run, NoCommand}
+use Rattle.pearl_top.specs.Commands.{Command, Run, Print, NoCommand, source_limit}
 use Rattle.pearl_top.specs.JournalDue.{JournalDue}
-
--- the most bytes that a source may have
-abbrev pub source_limit : ℕ
-source_limit = 1048576
+use Rattle.pearl_top.specs.PrintDue.{PrintDue}
 
 -- THE SOURCE
 
@@ -59,6 +56,7 @@ Due NoCommand files rose Usage bytes = bytes ≡ refusal_line refusal.Usage
 Due NoCommand files rose status bytes = ⊥
 Due (Run source journal) files rose status bytes =
     SourceAndJournal (content files source) (content files journal) (rose source) (rose journal) status bytes
+Due (Print source) files rose status bytes = PrintDue (content files source) (rose source) status bytes
 
 -- the status and all bytes where nothing outside fails and memory is there
 pub record IsOutcome (command : Command) (files : Files) (status : Status) (bytes : List ℕ) : Type 0 where
@@ -69,6 +67,7 @@ pub record IsOutcome (command : Command) (files : Files) (status : Status) (byte
 abbrev pub ReadRose : Command → (List ℕ → Type 0) → Type 0
 ReadRose NoCommand rose = ⊥
 ReadRose (Run source journal) rose = rose source ⊎ rose journal
+ReadRose (Print source) rose = rose source
 
 -- WHERE A SHELF MAY NOT TELL WHAT IT HOLDS
 
@@ -81,9 +80,11 @@ MayHave (Some files) name bytes = bytes ≡ content files name
 abbrev pub MayRead : Command → Option Files → List ℕ → List ℕ → Type 0
 MayRead NoCommand held source journal = Unit {0}
 MayRead (Run source_name journal_name) held source journal = MayHave held source_name source × MayHave held journal_name journal
+MayRead (Print source_name) held source journal = MayHave held source_name source
 
--- what is due for the words, where these are the bytes of their source and journal
+-- what is due for the words, where these are the bytes of their source, and of their journal where they name one
 abbrev pub DueFor : Command → List ℕ → List ℕ → (List ℕ → Type 0) → Status → List ℕ → Type 0
 DueFor NoCommand source journal rose Usage bytes = bytes ≡ refusal_line refusal.Usage
 DueFor NoCommand source journal rose status bytes = ⊥
 DueFor (Run source_name journal_name) source journal rose status bytes = SourceAndJournal source journal (rose source_name) (rose journal_name) status bytes
+DueFor (Print source_name) source journal rose status bytes = PrintDue source (rose source_name) status bytes

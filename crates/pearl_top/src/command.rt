@@ -3,10 +3,15 @@
 ghost use Rattle.std.specs.Prelude.{◌≡◌, List, map, string_bytes};
 ghost use Rattle.pearl_top.specs.Commands.{command_of, IsCommand};
 
+/// The most bytes that a source may have.
+pub const SOURCE_LIMIT: u64 = 1_048_576;
+
 /// What the words ask for.
 pub enum Command<'a> {
     /// `run SOURCE JOURNAL`.
     Run { source: &'a str, journal: &'a str },
+    /// `print SOURCE`.
+    Print { source: &'a str },
     /// The words are none of the listed forms.
     None,
 }
@@ -19,6 +24,9 @@ pub fn command_of_words(words: &[String]) -> Command<'_>
         [word, source, journal] if word.as_str() == "run" => Command::Run {
             source: source.as_str(),
             journal: journal.as_str(),
+        },
+        [word, source] if word.as_str() == "print" => Command::Print {
+            source: source.as_str(),
         },
         _ => Command::None,
     }

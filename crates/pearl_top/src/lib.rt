@@ -6,6 +6,9 @@ mod ending;
 mod journal;
 pub mod laws;
 mod machine_run;
+mod print;
+#[cfg(test)]
+mod print_tests;
 mod refuse;
 mod replay;
 pub mod status;

@@ -23,7 +23,7 @@ const NARROW: &[u8] =
 const WHOLE: &[u8] =
     b"0 start main 255\n0 out 1 '   17\\n'\n0 end main\n0 state main dormant\n0 close\n";
 
-fn words(alloc: Global, words: &[&str]) -> Result<Vec<String>, AllocError> {
+pub fn words(alloc: Global, words: &[&str]) -> Result<Vec<String>, AllocError> {
     let mut owned = Vec::new(alloc);
     for word in words {
         owned.push(String::from_str(alloc, word)?)?;
@@ -31,7 +31,7 @@ fn words(alloc: Global, words: &[&str]) -> Result<Vec<String>, AllocError> {
     Ok(owned)
 }
 
-fn two_files(alloc: Global, source: &[u8], journal: &[u8]) -> Result<Vec<File>, AllocError> {
+pub fn two_files(alloc: Global, source: &[u8], journal: &[u8]) -> Result<Vec<File>, AllocError> {
     let mut files = Vec::new(alloc);
     for (name, bytes) in [("s", source), ("j", journal)] {
         files.push(File {

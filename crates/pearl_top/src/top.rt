@@ -2,15 +2,16 @@
 
 ghost use Rattle.std.specs.Prelude.{◌≡◌, ◌≢◌, ◌≤◌, ◌⊎◌, ℕ, List, Some, length, map, string_bytes};
 ghost use Rattle.pearl_io.specs.Outside.{Files, Rose};
-ghost use Rattle.pearl_top.specs.Commands.{Run, NoCommand, command_of};
+ghost use Rattle.pearl_top.specs.Commands.{Run, NoCommand, command_of, source_limit};
 ghost use Rattle.pearl_top.specs.Complete.{IsInOrder};
 ghost use Rattle.pearl_top.specs.JournalDue.{JournalDue};
-ghost use Rattle.pearl_top.specs.Outcome.{Due, DueFor, IsOutcome, MayHave, MayRead, ReadRose, SourceAndJournal, source_limit};
+ghost use Rattle.pearl_top.specs.Outcome.{Due, DueFor, IsOutcome, MayHave, MayRead, ReadRose, SourceAndJournal};
 ghost use Rattle.pearl_script.specs.Refusals.{refusal_line as line_of_refusal};
 ghost use Rattle.pearl_top.specs.Taken.{Ends, Finishes, Just};
 
-use crate::command::{Command, command_of_words};
+use crate::command::{Command, SOURCE_LIMIT, command_of_words};
 use crate::machine_run::run_machine;
+use crate::print::print_source;
 use crate::refuse::refuse;
 use crate::status::Status;
 use pearl_first::fault::FrontFault;
@@ -21,9 +22,6 @@ use pearl_prog::prog::Prog;
 use pearl_run::Machine;
 use pearl_script::refusal::Refusal;
 use std::alloc::Global;
-
-// The most bytes that a source may have.
-const SOURCE_LIMIT: u64 = 1_048_576;
 
 /// Carries out the command of the words after the program's name: reads the files that it names from the shelf, and
 /// writes what is due to the sink, each line as one piece.
@@ -47,15 +45,16 @@ pub fn pearl<S: Shelf, K: Sink>(
         (files : Files) → S.holds shelf.old ≡ Some files →
         Ends (K.taken sink.old) (K.taken sink.new) (Due command files risen) result }
 
-    // Where neither reading nor writing failed, and memory was there, what was taken is, with the status, the one outcome.
+    // Where neither reading nor writing failed, and memory was there, what was taken is, with the status, an outcome. How far it
+    // is the only one says `laws::one_outcome`.
     ensures outcome { let command = command_of (map string_bytes words.now) in
         let risen = λ (name : List ℕ). Rose (S.faults shelf.old name) (S.faults shelf.new name) in
         (files : Files) → S.holds shelf.old ≡ Some files → ¬ (ReadRose command risen) →
         ¬ (Rose (K.faults sink.old) (K.faults sink.new) ⊎ K.full sink.new) → result ≢ Status.NoMemory →
         Finishes (K.taken sink.old) (K.taken sink.new) (IsOutcome command files result) }
 
-    // Where the files that the words name are in order, and neither reading nor writing failed, the run comes to its end,
-    // unless memory is out.
+    // Where the files that the words name are in order, and neither reading nor writing failed, the command is carried out to
+    // its end, unless memory is out.
     ensures complete { let command = command_of (map string_bytes words.now) in
         let risen = λ (name : List ℕ). Rose (S.faults shelf.old name) (S.faults shelf.new name) in
         (files : Files) → S.holds shelf.old ≡ Some files → IsInOrder command files → ¬ (ReadRose command risen) →
@@ -81,6 +80,7 @@ pub fn pearl<S: Shelf, K: Sink>(
 {
     match command_of_words(words) {
         Command::Run { source, journal } => run(alloc, source, journal, shelf, sink),
+        Command::Print { source } => print_source(alloc, source, shelf, sink),
         Command::None => refuse(sink, &Refusal::Usage, Status::Usage),
     }
 }

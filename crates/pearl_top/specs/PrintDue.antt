@@ -1,0 +1,50 @@
+-- What is due for a source that is printed: only its tokens and its grammar are asked.
+use Rattle.std.specs.Prelude.{◌≡◌, ℕ, ◌+◌, ◌<◌, ◌≤◌, ◌⊎◌, List, length}
+use Rattle.pearl_tree.specs.declared.token.Token.{Token}
+use Rattle.pearl_tree.specs.declared.tree.Tree.{Tree}
+use Rattle.pearl_tree.specs.Modules.{Spells}
+use Rattle.pearl_lex.specs.Lexes.{Lexes, IsStuck}
+use Rattle.pearl_parse.specs.Refusals.{IsRefusedAt}
+use Rattle.pearl_print.specs.Modules.{tokens_of}
+use Rattle.pearl_print.specs.Spelled.{text_of}
+use Rattle.pearl_script.specs.declared.refusal.Refusal.TheVariants as refusal
+use Rattle.pearl_script.specs.Refusals.{refusal_line}
+use Rattle.pearl_top.specs.declared.status.Status.{Status}
+use Rattle.pearl_top.specs.declared.status.Status.TheVariants.{Done, Refused, ReadFault, NoMemory, TooLong}
+use Rattle.pearl_top.specs.Commands.{source_limit}
+
+-- these bytes, within the limit, have tokens that a tree spells
+pub record IsSpelled (source : List ℕ) : Type 0 where
+  pub within : length source ≤ source_limit
+  pub tokens : List Token
+  pub lexes : Lexes source tokens
+  pub tree : Tree
+  pub spells : Spells tree tokens
+
+-- and this is their canonical text
+pub record IsPrinted (source bytes : List ℕ) : Type 0 where
+  pub is : IsSpelled source
+  pub text : bytes ≡ text_of (tokens_of is.tree)
+
+-- the bytes have tokens, and no program begins with those up to and with the one at this place; the end of the source, which has
+-- the place of its length, counts as its last token
+pub record HasStop (source : List ℕ) (place : ℕ) : Type 0 where
+  pub tokens : List Token
+  pub lexes : Lexes source tokens
+  pub refused : IsRefusedAt tokens (length source) place
+
+-- these bytes, within the limit, are refused at a place: no token begins there, or no program begins with the tokens up to and with it
+pub record IsUnspelled (source bytes : List ℕ) : Type 0 where
+  pub within : length source ≤ source_limit
+  pub place : ℕ
+  pub fault : IsStuck source place ⊎ HasStop source place
+  pub text : bytes ≡ refusal_line (refusal.Syntax place)
+
+-- What ends at a source that is printed: its text; a refusal; too many bytes; a fault of reading it, where its count rose; want of memory.
+abbrev pub PrintDue : List ℕ → Type 0 → Status → List ℕ → Type 0
+PrintDue source rose Done bytes = IsPrinted source bytes
+PrintDue source rose Refused bytes = IsUnspelled source bytes
+PrintDue source rose TooLong bytes = (source_limit < length source) × (bytes ≡ refusal_line (refusal.TooLong (source_limit + 1)))
+PrintDue source rose ReadFault bytes = rose × (bytes ≡ refusal_line refusal.Read)
+PrintDue source rose NoMemory bytes = bytes ≡ refusal_line refusal.Memory
+PrintDue source rose status bytes = ⊥
