@@ -11,8 +11,6 @@ mod parser;
 mod resolve;
 mod rules;
 mod spelling;
-#[cfg(test)]
-mod tests;
 pub mod token;
 pub mod tree;
 pub mod word;

@@ -4,5 +4,3 @@
 pub(crate) mod field;
 pub mod item;
 pub mod put;
-#[cfg(test)]
-mod tests;

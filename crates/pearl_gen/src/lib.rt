@@ -9,8 +9,6 @@ ghost use Rattle.pearl_gen.specs.Alone.{MeansAlone};
 mod expressions;
 mod routines;
 mod tables;
-#[cfg(test)]
-mod tests;
 
 use pearl_code::object::Object;
 use pearl_prog::prog::Prog;

@@ -11,8 +11,6 @@ mod memory;
 mod outside;
 mod put;
 mod sure;
-#[cfg(test)]
-mod tests;
 
 pub use fetch::{Fetched, fetch_all};
 pub use files::File;

@@ -8,5 +8,3 @@ pub mod lexer;
 mod literal;
 mod quoted;
 mod spelling;
-#[cfg(test)]
-mod tests;

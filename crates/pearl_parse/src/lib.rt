@@ -11,19 +11,13 @@ mod leaf;
 mod list;
 mod loops;
 mod module;
-#[cfg(test)]
-mod module_tests;
 mod nested;
-#[cfg(test)]
-mod nested_tests;
 pub mod parse;
 mod plain;
 mod schedule;
 mod statement;
 mod step;
 mod system;
-#[cfg(test)]
-mod tests;
 mod timed;
 mod transfer;
 mod unit;

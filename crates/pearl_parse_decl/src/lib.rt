@@ -12,6 +12,4 @@ pub mod list;
 pub mod name;
 pub mod specification;
 pub mod symbol;
-#[cfg(test)]
-mod tests;
 pub mod typing;

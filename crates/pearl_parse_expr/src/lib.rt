@@ -10,5 +10,3 @@ mod operator;
 pub mod reading;
 pub mod standing;
 pub mod symbol;
-#[cfg(test)]
-mod tests;

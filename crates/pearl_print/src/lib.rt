@@ -15,7 +15,5 @@ mod spelling;
 mod statement;
 mod symbol;
 mod tasking;
-#[cfg(test)]
-mod tests;
 mod transfer;
 mod typing;

@@ -6,4 +6,3 @@ pub mod Goes
 pub mod Marking
 pub mod Runs
 pub mod Closing
-pub mod Hand

@@ -2,4 +2,3 @@ pub mod Seen
 pub mod Frame
 pub mod Task
 pub mod Told
-pub mod Hand

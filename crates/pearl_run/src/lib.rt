@@ -9,7 +9,5 @@ mod frame;
 mod machine;
 mod scheduler;
 mod task;
-#[cfg(test)]
-mod tests;
 
 pub use machine::Machine;

@@ -3,6 +3,4 @@
 
 mod piece;
 pub mod refusal;
-#[cfg(test)]
-mod tests;
 pub mod transcript;

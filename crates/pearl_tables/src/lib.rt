@@ -6,7 +6,5 @@ pub mod instruction;
 pub mod laws;
 pub mod opcode;
 pub mod operator;
-#[cfg(test)]
-mod tests;
 pub mod word;
 pub mod word_code;

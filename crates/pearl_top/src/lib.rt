@@ -7,11 +7,7 @@ mod journal;
 pub mod laws;
 mod machine_run;
 mod print;
-#[cfg(test)]
-mod print_tests;
 mod refuse;
 mod replay;
 pub mod status;
-#[cfg(test)]
-mod tests;
 pub mod top;

@@ -24,21 +24,3 @@ impl<T> Parts<T> {
         self.items.as_slice()
     }
 }
-
-#[cfg(test)]
-mod tests {
-    use super::*;
-    use crate::name::Number;
-    use std::test::Fail;
-
-    #[test]
-    fn parts_show_their_items_in_order(rt: HostRuntime) -> Result<(), Fail> {
-        let one = Number { value: 1, place: 4 };
-        let two = Number { value: 2, place: 6 };
-        let parts = Parts::new(Vec::from_array(rt.alloc(), [one, two])?);
-        assert_eq!(rt; parts.as_slice().len(), 2);
-        assert_eq!(rt; parts.as_slice()[0].place, 4);
-        assert_eq!(rt; parts.as_slice()[1].value, 2);
-        Ok(())
-    }
-}

@@ -2,9 +2,9 @@
 
 ghost use Rattle.pearl_value.specs.WellFormed.{IsWellFormed};
 
-use crate::item::{Item, ItemCode};
-use crate::put::put_text;
 use arrayvec::ArrayVec;
+use pearl_format::item::{Item, ItemCode};
+use pearl_format::put::put_text;
 use pearl_value::apply::apply2;
 use pearl_value::cell::Cell;
 use pearl_value::conversion::{convert, kind};

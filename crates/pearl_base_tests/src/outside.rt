@@ -1,4 +1,6 @@
-use super::*;
+use pearl_io::{
+    Fetched, File, MemoryShelf, MemorySink, Shelf, Sink, SureShelf, SureSink, fetch_all, put_all,
+};
 use std::alloc::{AllocError, Global};
 use std::test::Fail;
 

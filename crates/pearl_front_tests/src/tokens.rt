@@ -1,7 +1,7 @@
 // Sources whose tokens were worked out by hand.
 
-use crate::fault::LexFault;
-use crate::lexer::tokens;
+use pearl_lex::fault::LexFault;
+use pearl_lex::lexer::tokens;
 use pearl_tree::token::{Token, What};
 use std::alloc::{AllocError, Global};
 use std::fmt;

@@ -12,7 +12,7 @@ use Rattle.pearl_prog.specs.declared.program.Target.TheVariants.{Leaf}
 use Rattle.pearl_prog.specs.declared.program.Expr.{Expr, Number, Read}
 use Rattle.pearl_prog.specs.Kinds.{kind_or, kind_of_expr, held}
 use Rattle.pearl_prog.specs.Sound.{IsExpr, IsAssign}
-use Rattle.pearl_gen.proofs.tests.one_variable.Goals as goal
+use Rattle.pearl_back_tests.proofs.object.one_variable.Goals as goal
 
 -- the sum of the variable and the number
 record IsSum (left right value : Expr) : Type 0 where

@@ -1,7 +1,7 @@
 // Sources whose answers were worked out by hand.
 
-use crate::fault::FrontFault;
-use crate::front_end::program;
+use pearl_first::fault::FrontFault;
+use pearl_first::front_end::program;
 use std::alloc::Global;
 use std::fmt;
 

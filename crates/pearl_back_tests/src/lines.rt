@@ -3,11 +3,11 @@
 ghost use Rattle.std.specs.Prelude.{◌≡◌, IfOk, length};
 ghost use Rattle.pearl_script.specs.Lines.{IsEventOf};
 
-use crate::refusal::{Refusal, refusal_line};
-use crate::transcript::{close_line, event_line, state_line};
 use arrayvec::ArrayVec;
 use pearl_rules::event::{Event, Shown};
 use pearl_rules::setup::{Device, Direction, Setup, TaskEntry};
+use pearl_script::refusal::{Refusal, refusal_line};
+use pearl_script::transcript::{close_line, event_line, state_line};
 use pearl_value::listing::Listing;
 use pearl_value::trap::Trap;
 use std::alloc::{AllocError, Global};

@@ -6,10 +6,10 @@ ghost use Rattle.pearl_rules.specs.declared.setup.Setup.{Setup as Tables};
 ghost use Rattle.pearl_prog.specs.Kinds.{kind_or, kind_of_expr, held};
 ghost use Rattle.pearl_prog.specs.Sound.{IsExpr};
 
-use crate::generate;
 use arrayvec::ArrayVec;
 use pearl_code::instr::Instr;
 use pearl_format::item::{Item, ItemCode};
+use pearl_gen::generate;
 use pearl_prog::prog::Prog;
 use pearl_prog::program::{Expr, Program, Routine, Statement, Target, Variable};
 use pearl_rules::setup::{Device, Direction, Setup, TaskEntry};

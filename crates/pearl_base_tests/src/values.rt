@@ -3,13 +3,13 @@
 ghost use Rattle.pearl_value.specs.Kinds.{IsKind};
 ghost use Rattle.pearl_value.specs.WellFormed.{IsWellFormed};
 
-use crate::apply::{apply1, apply2};
-use crate::cell::Cell;
-use crate::conversion::{blank, convert, kind, suits};
-use crate::kind::Kind;
-use crate::operator::{Dyad, Monad, result1, result2};
-use crate::trap::Trap;
 use arrayvec::ArrayVec;
+use pearl_value::apply::{apply1, apply2};
+use pearl_value::cell::Cell;
+use pearl_value::conversion::{blank, convert, kind, suits};
+use pearl_value::kind::Kind;
+use pearl_value::operator::{Dyad, Monad, result1, result2};
+use pearl_value::trap::Trap;
 use std::process::Abort;
 
 /// An operand of a row of a table.

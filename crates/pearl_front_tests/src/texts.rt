@@ -1,7 +1,7 @@
 // Texts by hand.
 
-use crate::print::print;
 use arrayvec::ArrayVec;
+use pearl_print::print::print;
 use pearl_tree::declaration::{Declared, Item, Prio};
 use pearl_tree::expression::{Dyad, Dyadic, Expr, Operand, Primary, Ref};
 use pearl_tree::literal::{Const, Duration, Literal, Secs};

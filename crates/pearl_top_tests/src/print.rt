@@ -1,9 +1,9 @@
 // What `print` writes.
 
-use crate::status::Status;
-use crate::tests::{two_files, words};
-use crate::top::pearl;
+use crate::run::{two_files, words};
 use pearl_io::{MemoryShelf, MemorySink, SureShelf, SureSink};
+use pearl_top::status::Status;
+use pearl_top::top::pearl;
 use std::alloc::{AllocError, Global};
 use std::test::Fail;
 

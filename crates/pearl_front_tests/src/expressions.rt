@@ -1,8 +1,8 @@
 // Expressions that were worked out by hand, each written back with a bracket round each dyadic operator.
 
-use crate::expression::expression;
-use crate::fault::ParseFault;
 use pearl_lex::lexer::tokens;
+use pearl_parse_expr::expression::expression;
+use pearl_parse_expr::fault::ParseFault;
 use pearl_tree::expression::{Dyad, Expr, Monad, Operand, Primary, Ref, Selector, Side};
 use pearl_tree::literal::Literal;
 use pearl_tree::token::Token;

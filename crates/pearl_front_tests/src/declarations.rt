@@ -1,10 +1,10 @@
 // Parts that were worked out by hand: the number of the token behind each, and the number of its stop.
 
-use crate::declaration::{declare, length_of, specify, type_of};
-use crate::head::{returns, task_head};
-use crate::list::{Part, list};
-use crate::specification::device;
 use pearl_lex::lexer::tokens;
+use pearl_parse_decl::declaration::{declare, length_of, specify, type_of};
+use pearl_parse_decl::head::{returns, task_head};
+use pearl_parse_decl::list::{Part, list};
+use pearl_parse_decl::specification::device;
 use pearl_parse_expr::reading::{Halt, Reading};
 use pearl_parse_expr::standing::is_word;
 use pearl_tables::word_code::{DECLARE, LENGTH, SPECIFY, TYPE};

@@ -1,6 +1,6 @@
-use crate::status::Status;
-use crate::top::pearl;
 use pearl_io::{File, MemoryShelf, MemorySink, SureShelf, SureSink};
+use pearl_top::status::Status;
+use pearl_top::top::pearl;
 use std::alloc::{AllocError, Global};
 use std::test::Fail;
 

@@ -12,7 +12,7 @@ use Rattle.pearl_code.specs.declared.object.Object.{Object}
 use Rattle.pearl_code.specs.Valid.{IsValid, IsCode, RunsFrom}
 use Rattle.pearl_rules.specs.declared.setup.Setup.{Setup}
 use Rattle.pearl_rules.specs.Tables.{IsSetup}
-use Rattle.pearl_run.specs.Hand.{hand_setup, hand_code, IsSeventeen, IsHand}
+use Rattle.pearl_back_tests.specs.Hand.{hand_setup, hand_code, IsSeventeen, IsHand}
 
 setup_is : IsSetup hand_setup
 setup_is = record {

@@ -1,9 +1,8 @@
 // Runs of an object by hand.
 
 ghost use Rattle.std.specs.Prelude.{◌≡◌, ◌<◌, ◌≤◌, IfOk};
-ghost use Rattle.pearl_run.specs.Hand.{hand_setup, IsHand, IsSeventeen};
+ghost use Rattle.pearl_back_tests.specs.Hand.{hand_setup, IsHand, IsSeventeen};
 
-use crate::machine::Machine;
 use arrayvec::ArrayVec;
 use pearl_code::instr::Instr;
 use pearl_code::object::{Code, Object};
@@ -11,6 +10,7 @@ use pearl_format::item::{Item, ItemCode};
 use pearl_io::MemorySink;
 use pearl_rules::entry::Entry;
 use pearl_rules::setup::{Device, Direction, Setup, TaskEntry};
+use pearl_run::Machine;
 use pearl_value::cell::Cell;
 use pearl_value::kind::Kind;
 use pearl_value::listing::Listing;

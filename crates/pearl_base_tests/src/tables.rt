@@ -1,8 +1,8 @@
-use crate::family::*;
-use crate::instruction::{CodeRow, find_code};
-use crate::opcode::*;
-use crate::operator::{OPS, find_op};
-use crate::word::{WORDS, find_word, words};
+use pearl_tables::family::*;
+use pearl_tables::instruction::{CodeRow, find_code};
+use pearl_tables::opcode::*;
+use pearl_tables::operator::{OPS, find_op};
+use pearl_tables::word::{WORDS, find_word, words};
 
 #[test]
 fn words_have_the_codes_of_their_meanings(rt: HostRuntime) {

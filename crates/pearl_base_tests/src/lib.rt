@@ -1,0 +1,13 @@
+// Tests of values, tables, lists, formats, and files and sinks in memory.
+#![tactic(auto)]
+
+#[cfg(test)]
+mod formats;
+#[cfg(test)]
+mod lists;
+#[cfg(test)]
+mod outside;
+#[cfg(test)]
+mod tables;
+#[cfg(test)]
+mod values;

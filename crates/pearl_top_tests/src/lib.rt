@@ -1,0 +1,7 @@
+// Tests of the top call.
+#![tactic(auto)]
+
+#[cfg(test)]
+mod print;
+#[cfg(test)]
+mod run;
