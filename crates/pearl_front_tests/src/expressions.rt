@@ -12,60 +12,64 @@ use std::fmt;
 const END: u32 = u32::MAX;
 
 // Each source with the number of the token after its longest expression, the place of the stop, and what is read.
-const READ: [(&[u8], usize, u32, &[u8]); 27] = [
-    (b"a - b - c ** d", 7, END, b"((a-b)-(c^d))"),
-    (b"a ** b ** c", 5, END, b"((a^b)^c)"),
-    (
-        b"a OR b AND c EQ d LT e + f * g ** h",
-        15,
-        END,
-        b"(a|(b&(c=(d<(e+(f*(g^h)))))))",
-    ),
-    (
-        b"a ** b * c + d > e /= f AND g EXOR h",
-        15,
-        END,
-        b"(((((((a^b)*c)+d)>e)#f)&g)?h)",
-    ),
-    (b"a // b REM c >< d", 7, END, b"(((a/b)%c)~d)"),
-    (b"a <> b SHIFT c", 5, END, b"((a@b)$c)"),
-    (b"a <= b >= c", 5, END, b"((a{b)}c)"),
-    (b"(a - (b - c)) * d", 11, END, b"([(a-[(b-c)])]*d)"),
-    (b"- a ** b", 4, END, b"(-a^b)"),
-    (b"NOT ABS SIGN + a", 5, END, b"!AS+a"),
-    (b"a.b(1, c + d)(e).f", 15, END, b"a.b(n,(c+d))(e).f"),
-    (b"f(a)(b", 4, END, b"f(a)"),
-    (b"f(a, )", 1, 5, b"f"),
-    (b"f(a b)", 1, 4, b"f"),
-    (b"f() + 1", 1, 2, b"f"),
-    (b"a.5", 1, 2, b"a"),
-    (b"1 HRS 2 MIN 3.5 SEC - 4 HRS 5 SEC", 11, END, b"(d-d)"),
-    (b"6 MIN 7 SEC + 8.9 SEC", 7, END, b"(d+d)"),
-    (b"1 HRS 2 x", 2, 8, b"d"),
-    (b"1 MIN 2.5", 2, END, b"d"),
-    (b"2 UPB a(1) - LWB b.c", 11, END, b"(nUa(n)-Lb.c)"),
-    (b"1 LWB 5", 1, 6, b"n"),
-    (b"NOW - TRY s", 4, END, b"(N-Ts)"),
-    (b"'1'B >< 'ab' CAT 1:2:3", 5, END, b"((b~t)~c)"),
-    (b"a b", 1, 2, b"a"),
-    (b"a + ;", 1, 4, b"a"),
-    (b"x := y", 1, 2, b"x"),
-];
+fn read() -> &'static [(&'static [u8], usize, u32, &'static [u8])] {
+    &[
+        (b"a - b - c ** d", 7, END, b"((a-b)-(c^d))"),
+        (b"a ** b ** c", 5, END, b"((a^b)^c)"),
+        (
+            b"a OR b AND c EQ d LT e + f * g ** h",
+            15,
+            END,
+            b"(a|(b&(c=(d<(e+(f*(g^h)))))))",
+        ),
+        (
+            b"a ** b * c + d > e /= f AND g EXOR h",
+            15,
+            END,
+            b"(((((((a^b)*c)+d)>e)#f)&g)?h)",
+        ),
+        (b"a // b REM c >< d", 7, END, b"(((a/b)%c)~d)"),
+        (b"a <> b SHIFT c", 5, END, b"((a@b)$c)"),
+        (b"a <= b >= c", 5, END, b"((a{b)}c)"),
+        (b"(a - (b - c)) * d", 11, END, b"([(a-[(b-c)])]*d)"),
+        (b"- a ** b", 4, END, b"(-a^b)"),
+        (b"NOT ABS SIGN + a", 5, END, b"!AS+a"),
+        (b"a.b(1, c + d)(e).f", 15, END, b"a.b(n,(c+d))(e).f"),
+        (b"f(a)(b", 4, END, b"f(a)"),
+        (b"f(a, )", 1, 5, b"f"),
+        (b"f(a b)", 1, 4, b"f"),
+        (b"f() + 1", 1, 2, b"f"),
+        (b"a.5", 1, 2, b"a"),
+        (b"1 HRS 2 MIN 3.5 SEC - 4 HRS 5 SEC", 11, END, b"(d-d)"),
+        (b"6 MIN 7 SEC + 8.9 SEC", 7, END, b"(d+d)"),
+        (b"1 HRS 2 x", 2, 8, b"d"),
+        (b"1 MIN 2.5", 2, END, b"d"),
+        (b"2 UPB a(1) - LWB b.c", 11, END, b"(nUa(n)-Lb.c)"),
+        (b"1 LWB 5", 1, 6, b"n"),
+        (b"NOW - TRY s", 4, END, b"(N-Ts)"),
+        (b"'1'B >< 'ab' CAT 1:2:3", 5, END, b"((b~t)~c)"),
+        (b"a b", 1, 2, b"a"),
+        (b"a + ;", 1, 4, b"a"),
+        (b"x := y", 1, 2, b"x"),
+    ]
+}
 
 // Each source with which no expression begins, with the place of its stop.
-const REFUSED: [(&[u8], u32); 11] = [
-    (b"", END),
-    (b")", 0),
-    (b"* a", 0),
-    (b"(a", END),
-    (b"(a, b)", 2),
-    (b"()", 1),
-    (b"1.5 x", 4),
-    (b"TRY 1", 4),
-    (b"UPB 5", 4),
-    (b"- +", END),
-    (b"IF a", 0),
-];
+fn refused() -> &'static [(&'static [u8], u32)] {
+    &[
+        (b"", END),
+        (b")", 0),
+        (b"* a", 0),
+        (b"(a", END),
+        (b"(a, b)", 2),
+        (b"()", 1),
+        (b"1.5 x", 4),
+        (b"TRY 1", 4),
+        (b"UPB 5", 4),
+        (b"- +", END),
+        (b"IF a", 0),
+    ]
+}
 
 fn dyad_mark(operator: Dyad) -> u8 {
     match operator {
@@ -273,10 +277,10 @@ fn repeated(
 
 #[test]
 fn expressions_are_read_to_their_end(rt: HostRuntime) -> Result<(), fmt::Error> {
-    for (source, end, stop, text) in READ {
+    for &(source, end, stop, text) in read() {
         assert!(rt; reads(rt.alloc(), source, end, stop, text), "{source:?}");
     }
-    for (source, stop) in REFUSED {
+    for &(source, stop) in refused() {
         assert!(rt; refuses(rt.alloc(), source, stop), "{source:?}");
     }
     Ok(())

@@ -175,7 +175,7 @@ fn refuses(alloc: Global, source: &[u8], stop: u32) -> bool {
 
 #[test]
 fn modules_are_read_from_the_first_token_to_the_last(rt: HostRuntime) -> Result<(), fmt::Error> {
-    for (source, text) in read() {
+    for &(source, text) in read() {
         assert!(rt; reads(rt.alloc(), source, text), "{source:?}");
     }
     Ok(())
@@ -183,8 +183,8 @@ fn modules_are_read_from_the_first_token_to_the_last(rt: HostRuntime) -> Result<
 
 #[test]
 fn what_is_no_module_is_refused_where_it_stops(rt: HostRuntime) -> Result<(), fmt::Error> {
-    for (source, stop) in refused() {
-        assert!(rt; refuses(rt.alloc(), source, *stop), "{source:?}");
+    for &(source, stop) in refused() {
+        assert!(rt; refuses(rt.alloc(), source, stop), "{source:?}");
     }
     Ok(())
 }

@@ -211,7 +211,7 @@ fn elses_of(alloc: Global, body: &[u8]) -> Option<(bool, bool)> {
 
 #[test]
 fn bodies_are_read_to_their_ends(rt: HostRuntime) -> Result<(), fmt::Error> {
-    for body in read() {
+    for &body in read() {
         assert!(rt; tree_of(rt.alloc(), body).is_some(), "{body:?}");
     }
     Ok(())
@@ -219,11 +219,8 @@ fn bodies_are_read_to_their_ends(rt: HostRuntime) -> Result<(), fmt::Error> {
 
 #[test]
 fn a_token_that_fits_in_no_body_is_refused(rt: HostRuntime) -> Result<(), fmt::Error> {
-    for (body, number) in refused() {
-        assert!(rt;
-            refuses(rt.alloc(), body, *number) == Some(true),
-            "{body:?}"
-        );
+    for &(body, number) in refused() {
+        assert!(rt; refuses(rt.alloc(), body, number) == Some(true), "{body:?}");
     }
     Ok(())
 }
@@ -240,7 +237,7 @@ fn else_belongs_to_the_inner_if(rt: HostRuntime) -> Result<(), fmt::Error> {
 
 #[test]
 fn thirty_two_levels_are_read_and_no_more(rt: HostRuntime) -> Result<(), fmt::Error> {
-    for (open, close, tokens) in levels() {
+    for &(open, close, tokens) in levels() {
         let deep = nest(rt.alloc(), open, close, 32)?;
         assert!(rt; tree_of(rt.alloc(), deep.as_slice()).is_some(), "{open:?}");
         let deeper = nest(rt.alloc(), open, close, 33)?;

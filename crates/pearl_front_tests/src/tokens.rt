@@ -20,7 +20,7 @@ enum Want {
 }
 
 // Each source with its tokens and their places.
-const SOURCES: [(&[u8], &[(u32, Want)]); 13] = [
+static SOURCES: [(&[u8], &[(u32, Want)]); 13] = [
     (b"", &[]),
     (b" \t\x0c\r\n! to the end", &[]),
     (
@@ -142,31 +142,37 @@ const SOURCES: [(&[u8], &[(u32, Want)]); 13] = [
     ),
 ];
 
+fn sources() -> &'static [(&'static [u8], &'static [(u32, Want)])] {
+    &SOURCES
+}
+
 // Each source that has no tokens, with the place at which it has none.
-const REFUSED: [(&[u8], u32); 22] = [
-    (b"a _", 2),
-    (b"a /", 2),
-    (b"a \x0b", 2),
-    (b"a /* never closed *", 2),
-    (b"a /*/", 2),
-    (b"*/", 1),
-    (b"9223372036854775808", 0),
-    (b"9223372036854775808.5", 0),
-    (b"a 1.2345", 2),
-    (b"a 24:00:00", 2),
-    (b"a 0:60:00", 2),
-    (b"a 0:0:60", 2),
-    (b"a 0:0:0.1234", 2),
-    (b"a 'never closed", 2),
-    (b"a 'line\nend'", 2),
-    (b"a 'byte\x7f'", 2),
-    (b"a ''", 2),
-    (b"a ''B", 2),
-    (b"a '2'B", 2),
-    (b"a 'f'B4", 2),
-    (b"a '1''1'B", 2),
-    (b"a 'FFFFFFFFFFFFFFFF0'B4", 2),
-];
+fn refused() -> &'static [(&'static [u8], u32)] {
+    &[
+        (b"a _", 2),
+        (b"a /", 2),
+        (b"a \x0b", 2),
+        (b"a /* never closed *", 2),
+        (b"a /*/", 2),
+        (b"*/", 1),
+        (b"9223372036854775808", 0),
+        (b"9223372036854775808.5", 0),
+        (b"a 1.2345", 2),
+        (b"a 24:00:00", 2),
+        (b"a 0:60:00", 2),
+        (b"a 0:0:60", 2),
+        (b"a 0:0:0.1234", 2),
+        (b"a 'never closed", 2),
+        (b"a 'line\nend'", 2),
+        (b"a 'byte\x7f'", 2),
+        (b"a ''", 2),
+        (b"a ''B", 2),
+        (b"a '2'B", 2),
+        (b"a 'f'B4", 2),
+        (b"a '1''1'B", 2),
+        (b"a 'FFFFFFFFFFFFFFFF0'B4", 2),
+    ]
+}
 
 fn is_same(what: &What, want: Want) -> bool {
     match (what, want) {
@@ -229,10 +235,10 @@ fn has_only(alloc: Global, source: &[u8], want: Want, count: usize) -> bool {
 
 #[test]
 fn answers_sources(rt: HostRuntime) -> Result<(), fmt::Error> {
-    for (source, wants) in SOURCES {
+    for &(source, wants) in sources() {
         assert!(rt; has_tokens(rt.alloc(), source, wants), "{source:?}");
     }
-    for (source, place) in REFUSED {
+    for &(source, place) in refused() {
         assert!(rt; is_refused(rt.alloc(), source, place), "{source:?}");
     }
     Ok(())

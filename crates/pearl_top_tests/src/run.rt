@@ -4,6 +4,8 @@ use pearl_top::top::pearl;
 use std::alloc::{AllocError, Global};
 use std::test::Fail;
 
+const RUN: &[&str] = &["run", "s", "j"];
+
 const FIRST: &[u8] =
     b"MODULE(m); SYSTEM; tty: TERMINAL(1); irq: INTERRUPT(3);\nPROBLEM; SPC tty DATION INOUT ALPHIC, irq INTERRUPT;\nmain: TASK MAIN; PUT 17 TO tty BY F(5), SKIP; END;\nMODEND;\n";
 
@@ -23,7 +25,7 @@ const NARROW: &[u8] =
 const WHOLE: &[u8] =
     b"0 start main 255\n0 out 1 '   17\\n'\n0 end main\n0 state main dormant\n0 close\n";
 
-pub fn words(alloc: Global, words: &[&str]) -> Result<Vec<String>, AllocError> {
+fn words(alloc: Global, words: &[&str]) -> Result<Vec<String>, AllocError> {
     let mut owned = Vec::new(alloc);
     for word in words {
         owned.push(String::from_str(alloc, word)?)?;
@@ -31,7 +33,7 @@ pub fn words(alloc: Global, words: &[&str]) -> Result<Vec<String>, AllocError> {
     Ok(owned)
 }
 
-pub fn two_files(alloc: Global, source: &[u8], journal: &[u8]) -> Result<Vec<File>, AllocError> {
+fn two_files(alloc: Global, source: &[u8], journal: &[u8]) -> Result<Vec<File>, AllocError> {
     let mut files = Vec::new(alloc);
     for (name, bytes) in [("s", source), ("j", journal)] {
         files.push(File {
@@ -42,6 +44,50 @@ pub fn two_files(alloc: Global, source: &[u8], journal: &[u8]) -> Result<Vec<Fil
     Ok(files)
 }
 
+/// How a command ends, and what it writes.
+pub type Ending = (Status, Vec<u8>);
+
+/// The command over these two files, s and j, where nothing outside fails and so many bytes are taken.
+pub fn carry_out(
+    alloc: Global,
+    names: &[&str],
+    source: &[u8],
+    journal: &[u8],
+    room: usize,
+) -> Result<Ending, AllocError> {
+    let names = words(alloc, names)?;
+    let mut shelf = SureShelf::new(two_files(alloc, source, journal)?);
+    let mut sink = SureSink::new(alloc, room)?;
+    let status = pearl(alloc, names.as_slice(), &mut shelf, &mut sink);
+    Ok((status, Vec::from_slice(alloc, sink.bytes())?))
+}
+
+/// What fails outside: the numbers of the calls of the shelf and of the sink, each call moving so many bytes at most, but one
+/// at least.
+#[derive(Clone, Copy)]
+pub struct Outside {
+    pub fetches: &'static [u64],
+    pub puts: &'static [u64],
+    pub most: usize,
+}
+
+/// The command over these two files, s and j, where this fails.
+pub fn carry_out_in(
+    alloc: Global,
+    names: &[&str],
+    source: &[u8],
+    journal: &[u8],
+    outside: Outside,
+) -> Result<Ending, AllocError> {
+    let names = words(alloc, names)?;
+    let most = outside.most.max(1);
+    let files = two_files(alloc, source, journal)?;
+    let mut shelf = MemoryShelf::new(files, Vec::from_slice(alloc, outside.fetches)?, most);
+    let mut sink = MemorySink::new(alloc, Vec::from_slice(alloc, outside.puts)?, most);
+    let status = pearl(alloc, names.as_slice(), &mut shelf, &mut sink);
+    Ok((status, Vec::from_slice(alloc, sink.bytes())?))
+}
+
 // A module of the first language with this between its head and MODEND.
 fn module(alloc: Global, body: &[u8]) -> Result<Vec<u8>, AllocError> {
     let mut source = Vec::from_slice(alloc, HEAD)?;
@@ -50,11 +96,9 @@ fn module(alloc: Global, body: &[u8]) -> Result<Vec<u8>, AllocError> {
     Ok(source)
 }
 
-#[test]
-fn variables_hold_what_was_put_into_them(rt: HostRuntime) -> Result<(), Fail> {
-    let alloc = rt.alloc();
-    let names = words(alloc, &["run", "s", "j"])?;
-    let cases: [(&[u8], &[u8], &[u8]); 9] = [
+// Declarations and a task with a journal, and the transcript.
+fn variables() -> &'static [(&'static [u8], &'static [u8], &'static [u8])] {
+    &[
         (
             b"DCL inflow FIXED;\nDCL level FIXED;\nmain: TASK MAIN;\n  inflow := 40;\n  level := level + inflow - 3;\n  PUT level TO tty BY F(5), SKIP;\n  level := 2147483647 + level;\nEND;",
             b"run 6\nrun 10\n",
@@ -100,23 +144,24 @@ fn variables_hold_what_was_put_into_them(rt: HostRuntime) -> Result<(), Fail> {
             b"run 100",
             b"0 start main 255\n0 out 1 '5'\n0 trap main Format\n0 state main dormant\n0 close\n",
         ),
-    ];
-    for (body, journal, text) in cases {
+    ]
+}
+
+#[test]
+fn variables_hold_what_was_put_into_them(rt: HostRuntime) -> Result<(), Fail> {
+    let alloc = rt.alloc();
+    for &(body, journal, text) in variables() {
         let source = module(alloc, body)?;
-        let mut shelf = SureShelf::new(two_files(alloc, source.as_slice(), journal)?);
-        let mut sink = SureSink::new(alloc, 4096)?;
-        let ended = pearl(alloc, names.as_slice(), &mut shelf, &mut sink);
-        assert_eq!(rt; sink.bytes(), text);
-        assert_eq!(rt; ended, Status::Done);
+        let (status, written) = carry_out(alloc, RUN, source.as_slice(), journal, 4096)?;
+        assert_eq!(rt; written.as_slice(), text);
+        assert_eq!(rt; status, Status::Done);
     }
     Ok(())
 }
 
-#[test]
-fn names_are_checked(rt: HostRuntime) -> Result<(), Fail> {
-    let alloc = rt.alloc();
-    let names = words(alloc, &["run", "s", "j"])?;
-    let cases: [(&[u8], &[u8]); 6] = [
+// Declarations and a task, and the line of what is broken in them.
+fn broken_names() -> &'static [(&'static [u8], &'static [u8])] {
+    &[
         (
             b"DCL x FIXED; DCL x FIXED; main: TASK MAIN; END;",
             b"error source 126 S1\n",
@@ -138,57 +183,64 @@ fn names_are_checked(rt: HostRuntime) -> Result<(), Fail> {
             b"DCL x FIXED; main: TASK MAIN; x := 1 + ; END;",
             b"error syntax 148\n",
         ),
-    ];
-    for (body, text) in cases {
+    ]
+}
+
+#[test]
+fn names_are_checked(rt: HostRuntime) -> Result<(), Fail> {
+    let alloc = rt.alloc();
+    for &(body, text) in broken_names() {
         let source = module(alloc, body)?;
-        let mut shelf = SureShelf::new(two_files(alloc, source.as_slice(), b"run 10")?);
-        let mut sink = SureSink::new(alloc, 4096)?;
-        let ended = pearl(alloc, names.as_slice(), &mut shelf, &mut sink);
-        assert_eq!(rt; sink.bytes(), text);
-        assert_eq!(rt; ended, Status::Refused);
+        let (status, written) = carry_out(alloc, RUN, source.as_slice(), b"run 10", 4096)?;
+        assert_eq!(rt; written.as_slice(), text);
+        assert_eq!(rt; status, Status::Refused);
     }
     Ok(())
 }
 
-#[test]
-fn status_and_transcript_are_due(rt: HostRuntime) -> Result<(), Fail> {
-    let alloc = rt.alloc();
-    let run = ["run", "s", "j"].as_slice();
-    let cases: [(&[&str], &[u8], &[u8], Status, &[u8]); 12] = [
-        (run, FIRST, b"run 10\n", Status::Done, WHOLE),
-        (run, FIRST, b"run 0\nrun 1000000", Status::Done, WHOLE),
-        (run, FIRST, b"run 9223372036854775807", Status::Done, WHOLE),
+// Words, a source and a journal, and the status and the text.
+fn commands() -> &'static [(
+    &'static [&'static str],
+    &'static [u8],
+    &'static [u8],
+    Status,
+    &'static [u8],
+)] {
+    &[
+        (RUN, FIRST, b"run 10\n", Status::Done, WHOLE),
+        (RUN, FIRST, b"run 0\nrun 1000000", Status::Done, WHOLE),
+        (RUN, FIRST, b"run 9223372036854775807", Status::Done, WHOLE),
         (
-            run,
+            RUN,
             FIRST,
             b"",
             Status::Done,
             b"0 start main 255\n0 state main running 255\n0 close\n",
         ),
         (
-            run,
+            RUN,
             NARROW,
             b"run 10\n",
             Status::Done,
             b"0 start main 255\n0 trap main Format\n0 state main dormant\n0 close\n",
         ),
         (
-            run,
+            RUN,
             FIRST,
             b"run 1\n\nrun x",
             Status::BadJournal,
             b"0 start main 255\n0 out 1 '   17\\n'\nerror journal 3 1\n",
         ),
         (
-            run,
+            RUN,
             FIRST,
             b"run 9223372036854775808\n",
             Status::BadJournal,
             b"0 start main 255\nerror journal 1 1\n",
         ),
-        (run, b"", b"run 10\n", Status::Refused, b"error syntax 0\n"),
+        (RUN, b"", b"run 10\n", Status::Refused, b"error syntax 0\n"),
         (
-            run,
+            RUN,
             TO_IRQ,
             b"run 10\n",
             Status::Refused,
@@ -203,27 +255,30 @@ fn status_and_transcript_are_due(rt: HostRuntime) -> Result<(), Fail> {
             b"error usage\n",
         ),
         (&[], FIRST, b"", Status::Usage, b"error usage\n"),
-    ];
-    for (names, source, journal, status, text) in cases {
-        let names = words(alloc, names)?;
+    ]
+}
+
+#[test]
+fn status_and_transcript_are_due(rt: HostRuntime) -> Result<(), Fail> {
+    let alloc = rt.alloc();
+    for &(names, source, journal, status, text) in commands() {
         for most in [usize::MAX, 1] {
-            assert!(rt; most > 0);
-            let files = two_files(alloc, source, journal)?;
-            let mut shelf = MemoryShelf::new(files, Vec::new(alloc), most);
-            let mut sink = MemorySink::new(alloc, Vec::new(alloc), most);
-            let ended = pearl(alloc, names.as_slice(), &mut shelf, &mut sink);
-            assert_eq!(rt; sink.bytes(), text, "by {most}");
+            let outside = Outside {
+                fetches: &[],
+                puts: &[],
+                most,
+            };
+            let (ended, written) = carry_out_in(alloc, names, source, journal, outside)?;
+            assert_eq!(rt; written.as_slice(), text, "by {most}");
             assert_eq!(rt; ended, status, "by {most}");
         }
     }
     Ok(())
 }
 
-#[test]
-fn faults_outside_end_the_run(rt: HostRuntime) -> Result<(), Fail> {
-    let alloc = rt.alloc();
-    let names = words(alloc, &["run", "s", "j"])?;
-    let cases: [(&[u64], &[u64], Status, &[u8]); 6] = [
+// The numbers of the calls that fail, of the shelf and of the sink, and the status and the text.
+fn faults() -> &'static [(&'static [u64], &'static [u64], Status, &'static [u8])] {
+    &[
         (&[], &[1], Status::WriteFault, b""),
         (&[], &[2], Status::WriteFault, b"0 start main 255\n"),
         (&[1], &[], Status::ReadFault, b"error read\n"),
@@ -235,14 +290,20 @@ fn faults_outside_end_the_run(rt: HostRuntime) -> Result<(), Fail> {
             Status::ReadFault,
             b"0 start main 255\n0 out 1 '   17\\n'\nerror read\n",
         ),
-    ];
-    for (fetches, puts, status, text) in cases {
-        let files = two_files(alloc, FIRST, b"run 1\nrun 10")?;
-        let fetches = Vec::from_slice(alloc, fetches)?;
-        let mut shelf = MemoryShelf::new(files, fetches, usize::MAX);
-        let mut sink = MemorySink::new(alloc, Vec::from_slice(alloc, puts)?, usize::MAX);
-        let ended = pearl(alloc, names.as_slice(), &mut shelf, &mut sink);
-        assert_eq!(rt; sink.bytes(), text);
+    ]
+}
+
+#[test]
+fn faults_outside_end_the_run(rt: HostRuntime) -> Result<(), Fail> {
+    let alloc = rt.alloc();
+    for &(fetches, puts, status, text) in faults() {
+        let outside = Outside {
+            fetches,
+            puts,
+            most: usize::MAX,
+        };
+        let (ended, written) = carry_out_in(alloc, RUN, FIRST, b"run 1\nrun 10", outside)?;
+        assert_eq!(rt; written.as_slice(), text);
         assert_eq!(rt; ended, status);
     }
     Ok(())
@@ -251,7 +312,6 @@ fn faults_outside_end_the_run(rt: HostRuntime) -> Result<(), Fail> {
 #[test]
 fn nothing_outside_fails(rt: HostRuntime) -> Result<(), Fail> {
     let alloc = rt.alloc();
-    let names = words(alloc, &["run", "s", "j"])?;
     let mut longest = Vec::from_slice(alloc, FIRST)?;
     longest.resize(1_048_576, 32)?;
     let mut too_long = longest.clone()?;
@@ -268,10 +328,8 @@ fn nothing_outside_fails(rt: HostRuntime) -> Result<(), Fail> {
         ),
     ];
     for (source, room, status, text) in cases {
-        let mut shelf = SureShelf::new(two_files(alloc, source, b"run 10\n")?);
-        let mut sink = SureSink::new(alloc, room)?;
-        let ended = pearl(alloc, names.as_slice(), &mut shelf, &mut sink);
-        assert_eq!(rt; sink.bytes(), text, "in {room}");
+        let (ended, written) = carry_out(alloc, RUN, source, b"run 10\n", room)?;
+        assert_eq!(rt; written.as_slice(), text, "in {room}");
         assert_eq!(rt; ended, status, "in {room}");
     }
     Ok(())
