@@ -28,23 +28,55 @@ fn answer(fetched: &Fetched) -> (&'static str, &[u8]) {
     }
 }
 
+fn from_sure(alloc: Global, name: &str) -> Result<Fetched, AllocError> {
+    let mut shelf = SureShelf::new(two_files(alloc)?);
+    Ok(fetch_all(alloc, &mut shelf, name, 99))
+}
+
+fn from_memory(
+    alloc: Global,
+    name: &str,
+    limit: u64,
+    failing: &[u64],
+    most: usize,
+) -> Result<Fetched, AllocError> {
+    let failing = Vec::from_slice(alloc, failing)?;
+    let mut shelf = MemoryShelf::new(two_files(alloc)?, failing, most.max(1));
+    Ok(fetch_all(alloc, &mut shelf, name, limit))
+}
+
+// Whether the bytes are put whole, and what was taken.
+fn into_sure(alloc: Global, room: usize, piece: &[u8]) -> Result<(bool, Vec<u8>), AllocError> {
+    let mut sink = SureSink::new(alloc, room)?;
+    let whole = put_all(&mut sink, piece).is_ok();
+    Ok((whole, Vec::from_slice(alloc, sink.bytes())?))
+}
+
+fn into_memory(
+    alloc: Global,
+    failing: &[u64],
+    most: usize,
+    piece: &[u8],
+) -> Result<(bool, Vec<u8>), AllocError> {
+    let mut sink = MemorySink::new(alloc, Vec::from_slice(alloc, failing)?, most);
+    let whole = put_all(&mut sink, piece).is_ok();
+    Ok((whole, Vec::from_slice(alloc, sink.bytes())?))
+}
+
 #[test]
 fn shelves_give_their_files(rt: HostRuntime) -> Result<(), Fail> {
     let alloc = rt.alloc();
-    let mut sure = SureShelf::new(two_files(alloc)?);
-    let mut memory = MemoryShelf::new(two_files(alloc)?, Vec::new(alloc), 2);
     for (name, bytes) in [("a", b"alpha".as_slice()), ("b", b""), ("c", b"")] {
-        let from_sure = fetch_all(alloc, &mut sure, name, 99);
-        assert_eq!(rt; answer(&from_sure), ("whole", bytes), "of {name}");
-        let from_memory = fetch_all(alloc, &mut memory, name, 99);
-        assert_eq!(rt; answer(&from_memory), ("whole", bytes), "of {name}");
+        let sure = from_sure(alloc, name)?;
+        assert_eq!(rt; answer(&sure), ("whole", bytes), "of {name}");
+        let memory = from_memory(alloc, name, 99, &[], 2)?;
+        assert_eq!(rt; answer(&memory), ("whole", bytes), "of {name}");
     }
     Ok(())
 }
 
 #[test]
 fn fetching_stops_at_a_fault_and_at_the_limit(rt: HostRuntime) -> Result<(), Fail> {
-    let alloc = rt.alloc();
     let cases: [(u64, &[u64], &str, &[u8]); 5] = [
         (5, &[], "whole", b"alpha"),
         (4, &[], "too long", b"alph"),
@@ -53,9 +85,7 @@ fn fetching_stops_at_a_fault_and_at_the_limit(rt: HostRuntime) -> Result<(), Fai
         (5, &[6], "fault", b"alpha"),
     ];
     for (limit, failing, kind, bytes) in cases {
-        let failing = Vec::from_slice(alloc, failing)?;
-        let mut shelf = MemoryShelf::new(two_files(alloc)?, failing, 1);
-        let fetched = fetch_all(alloc, &mut shelf, "a", limit);
+        let fetched = from_memory(rt.alloc(), "a", limit, failing, 1)?;
         assert_eq!(rt; answer(&fetched), (kind, bytes), "up to {limit}");
     }
     Ok(())
@@ -72,19 +102,27 @@ fn sinks_take_what_is_put(rt: HostRuntime) -> Result<(), Fail> {
         (&[6], 1, true, b"hello"),
     ];
     for (failing, most, whole, taken) in cases {
-        let mut sink = MemorySink::new(alloc, Vec::from_slice(alloc, failing)?, most);
-        assert_eq!(rt; put_all(&mut sink, b"hello").is_ok(), whole, "by {most}");
-        assert_eq!(rt; sink.bytes(), taken, "by {most}");
+        let (is_whole, bytes) = into_memory(alloc, failing, most, b"hello")?;
+        assert_eq!(rt; is_whole, whole, "by {most}");
+        assert_eq!(rt; bytes.as_slice(), taken, "by {most}");
     }
+    Ok(())
+}
+
+#[test]
+fn a_room_is_filled_and_no_more(rt: HostRuntime) -> Result<(), Fail> {
+    let alloc = rt.alloc();
     for (room, whole, taken) in [
         (6, true, b"hello".as_slice()),
         (5, true, b"hello"),
         (2, false, b"he"),
+        (0, false, b""),
     ] {
-        let mut sink = SureSink::new(alloc, room)?;
-        assert_eq!(rt; put_all(&mut sink, b"hello").is_ok(), whole, "in {room}");
-        assert_eq!(rt; sink.bytes(), taken, "in {room}");
-        assert_eq!(rt; put_all(&mut sink, b"").is_ok(), true, "nothing in {room}");
+        let (is_whole, bytes) = into_sure(alloc, room, b"hello")?;
+        assert_eq!(rt; is_whole, whole, "in {room}");
+        assert_eq!(rt; bytes.as_slice(), taken, "in {room}");
+        let (nothing, _) = into_sure(alloc, room, b"")?;
+        assert!(rt; nothing, "nothing in {room}");
     }
     Ok(())
 }

@@ -1,12 +1,14 @@
+// Rows of the tables, by hand.
+
 use pearl_tables::family::*;
 use pearl_tables::instruction::{CodeRow, find_code};
 use pearl_tables::opcode::*;
 use pearl_tables::operator::{OPS, find_op};
 use pearl_tables::word::{WORDS, find_word, words};
 
-#[test]
-fn words_have_the_codes_of_their_meanings(rt: HostRuntime) {
-    let cases: [(&[u8], Option<u8>); 16] = [
+// Texts with the codes of the words that they are.
+fn spellings() -> &'static [(&'static [u8], Option<u8>)] {
+    &[
         (b"MODULE", Some(0)),
         (b"DECLARE", Some(4)),
         (b"DCL", Some(4)),
@@ -23,17 +25,24 @@ fn words_have_the_codes_of_their_meanings(rt: HostRuntime) {
         (b"module", None),
         (b"ZZZ", None),
         (b"", None),
-    ];
-    for (text, code) in &cases {
-        assert_eq!(rt; find_word(words(), text), *code);
-        assert_eq!(rt; find_word(&WORDS, text), *code);
-    }
+    ]
 }
 
 #[test]
-fn operators_have_rows_for_their_families(rt: HostRuntime) {
-    // The operator, its left and right family, and the rank and the result's family where there is a row.
-    let cases: [(u8, u8, u8, Option<(u8, u8)>); 16] = [
+fn words_have_the_codes_of_their_meanings(rt: HostRuntime) {
+    for &(text, code) in spellings() {
+        assert_eq!(rt; find_word(words(), text), code);
+    }
+    assert_eq!(rt; find_word(&WORDS, b"DCL"), Some(4));
+}
+
+fn rank_and_result(code: u8, left: u8, right: u8) -> Option<(u8, u8)> {
+    find_op(&OPS, code, left, right).map(|row| (row.rank, row.result))
+}
+
+// The operator, its left and right family, and the rank and the result's family where there is a row.
+fn rows() -> &'static [(u8, u8, u8, Option<(u8, u8)>)] {
+    &[
         (PLUS, ABSENT, FIXED, Some((0, FIXED))),
         (SIGN, ABSENT, DURATION, Some((0, FIXED))),
         (NOT, ABSENT, FIXED, None),
@@ -50,13 +59,13 @@ fn operators_have_rows_for_their_families(rt: HostRuntime) {
         (NE, BIT, BIT, Some((5, BIT))),
         (EXOR, BIT, BIT, Some((7, BIT))),
         (53, FIXED, FIXED, None),
-    ];
-    for (code, left, right, expected) in &cases {
-        let found = match find_op(&OPS, *code, *left, *right) {
-            Some(row) => Some((row.rank, row.result)),
-            None => None,
-        };
-        assert_eq!(rt; found, *expected);
+    ]
+}
+
+#[test]
+fn operators_have_rows_for_their_families(rt: HostRuntime) {
+    for &(code, left, right, expected) in rows() {
+        assert_eq!(rt; rank_and_result(code, left, right), expected);
     }
 }
 
