@@ -25,3 +25,5 @@ pub mod PlainDeclarations
 pub mod PlainSchedules
 pub mod PlainStatements
 pub mod PlainModules
+pub mod PlainTokens
+pub mod PrintedAgain

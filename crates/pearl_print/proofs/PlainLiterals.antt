@@ -34,7 +34,7 @@ use Rattle.pearl_print.specs.Plain.{plain_number, plain_duration, plain_literal,
 use Rattle.pearl_print.proofs.PlainSpans.{place_of, here, starts, Span, cut, cut4, two}
 use Rattle.pearl_print.proofs.PlainLists.{Placed, Places, in_parts, bracketed_at, maybe_bracketed_at, maybe_at, name_places, number_places, bracketed_number_places}
 
-carried_back : (ms : ℕ) → 3600000 * (ms / 3600000) + 60000 * (ms / 60000 % 60) + (1000 * (ms / 1000 % 60) + ms % 1000) ≡ ms
+pub carried_back : (ms : ℕ) → 3600000 * (ms / 3600000) + 60000 * (ms / 60000 % 60) + (1000 * (ms / 1000 % 60) + ms % 1000) ≡ ms
 carried_back ms =
     let minutes : ms / 1000 / 60 ≡ ms / 60000 = div-div-eq-div-mul ms 1000 60 in
     let hours : ms / 60000 / 60 ≡ ms / 3600000 = div-div-eq-div-mul ms 60000 60 in

@@ -21,7 +21,7 @@ use Rattle.pearl_print.specs.Expressions.{const_tokens}
 use Rattle.pearl_print.specs.Types.{names_tokens, bounds_tokens, basic_tokens, typing_tokens, fields_tokens, more_fields_tokens}
 use Rattle.pearl_print.specs.Declarations.{item_tokens, sema_tokens, declared_tokens, class_tokens, spec_tokens, param_tokens}
 
-abbrev said_names : ShownNames → List What
+abbrev pub said_names : ShownNames → List What
 said_names (OfOne name) = name_tokens name
 said_names (OfSeveral names place) = bracketed name_tokens names
 
@@ -35,12 +35,12 @@ abbrev mutual
   said_typing (OfStruct fields place) = word w.STRUCT ++ symbol s.left_square ++ said_fields fields ++ symbol s.right_square
   said_typing (OfNamed name) = name_tokens name
 
-  said_fields : ShownFields → List What
+  pub said_fields : ShownFields → List What
   said_fields NoFields = []
   said_fields (MoreFields names bounds part place rest) =
       (said_names names ++ bounds_tokens bounds ++ said_typing part) ++ more_said_fields rest
 
-  more_said_fields : ShownFields → List What
+  pub more_said_fields : ShownFields → List What
   more_said_fields NoFields = []
   more_said_fields (MoreFields names bounds part place rest) =
       (symbol s.comma ++ said_names names ++ bounds_tokens bounds ++ said_typing part) ++ more_said_fields rest
@@ -72,7 +72,7 @@ item_same item =
     λ i. names_same item.names i ++ bounds_tokens item.bounds.items.items ++ flag w.INV item.inv ++
     typing_same item.typing i ++ maybe_headed w.INIT const_tokens item.init.items.items
 
-abbrev said_sema : ShownSema → List What
+abbrev pub said_sema : ShownSema → List What
 said_sema sema = said_names sema.names ++ word w.SEMA ++ maybe_headed w.PRESET number_tokens sema.preset
 
 sema_same : (sema : Sema) → said_sema (shown_sema sema) ≡ sema_tokens sema

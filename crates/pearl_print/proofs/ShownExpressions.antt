@@ -19,7 +19,7 @@ abbrev mutual
   said_expr (OfOperand monadics part place) = flat_map monadic_tokens monadics ++ said_primary part
   said_expr (OfDyadic left dyadic right place) = said_expr left ++ dyadic_tokens dyadic ++ said_expr right
 
-  said_primary : ShownPrimary → List What
+  pub said_primary : ShownPrimary → List What
   said_primary (OfLiteral part) = literal_tokens part
   said_primary (OfRef name selectors place) = name_tokens name ++ said_selectors selectors
   said_primary (OfGroup inner place) = symbol s.left_round ++ said_expr inner ++ symbol s.right_round
@@ -28,19 +28,19 @@ abbrev mutual
   said_primary (OfLimit dimension side name selectors ref_place place) =
       maybe number_tokens dimension ++ word (side_word side) ++ (name_tokens name ++ said_selectors selectors)
 
-  said_selectors : ShownSelectors → List What
+  pub said_selectors : ShownSelectors → List What
   said_selectors NoSelectors = []
   said_selectors (MoreSelectors selector rest) = said_selector selector ++ said_selectors rest
 
-  said_selector : ShownSelector → List What
+  pub said_selector : ShownSelector → List What
   said_selector (OfSubscripts subscripts place) = symbol s.left_round ++ said_subscripts subscripts ++ symbol s.right_round
   said_selector (OfComponent name place) = symbol s.period ++ name_tokens name
 
-  said_subscripts : ShownExprs → List What
+  pub said_subscripts : ShownExprs → List What
   said_subscripts NoExprs = []
   said_subscripts (MoreExprs first rest) = said_expr first ++ more_said_subscripts rest
 
-  more_said_subscripts : ShownExprs → List What
+  pub more_said_subscripts : ShownExprs → List What
   more_said_subscripts NoExprs = []
   more_said_subscripts (MoreExprs next rest) = (symbol s.comma ++ said_expr next) ++ more_said_subscripts rest
 

@@ -1,9 +1,9 @@
 -- The tokens of lists whose parts have the tokens of what they show.
-use Rattle.std.proofs.Common.{◌≡◌, List, [], ◌∷◌, ◌++◌, Option, Some, None, map, option_map, refl}
+use Rattle.std.proofs.Common.{◌≡◌, ℕ, List, [], ◌∷◌, ◌++◌, Option, Some, None, map, option_map, refl}
 use Rattle.std.specs.List.{flat_map}
 use Rattle.pearl_tree.specs.declared.token.What.{What}
 use Rattle.pearl_tree.specs.Symbols as s
-use Rattle.pearl_print.specs.Lists.{symbol, more, listed, maybe_bracketed, maybe}
+use Rattle.pearl_print.specs.Lists.{word, symbol, more, listed, bracketed, maybe_bracketed, maybe_headed, maybe}
 
 module _ {X S : Type 0} (show : X → S) (said : S → List What) (tokens : X → List What) (same : (x : X) → said (show x) ≡ tokens x) where
   pub each_same : (xs : List X) → flat_map said (map show xs) ≡ flat_map tokens xs
@@ -18,9 +18,16 @@ module _ {X S : Type 0} (show : X → S) (said : S → List What) (tokens : X �
   listed_same [] = refl
   listed_same (x ∷ xs) = λ i. same x i ++ more_same xs i
 
+  pub bracketed_same : (xs : List X) → bracketed said (map show xs) ≡ bracketed tokens xs
+  bracketed_same xs = λ i. symbol s.left_round ++ listed_same xs i ++ symbol s.right_round
+
   pub maybe_bracketed_same : (xs : List X) → maybe_bracketed said (map show xs) ≡ maybe_bracketed tokens xs
   maybe_bracketed_same [] = refl
-  maybe_bracketed_same (x ∷ xs) = λ i. symbol s.left_round ++ listed_same (x ∷ xs) i ++ symbol s.right_round
+  maybe_bracketed_same (x ∷ xs) = bracketed_same (x ∷ xs)
+
+  pub maybe_headed_same : (code : ℕ) (xs : List X) → maybe_headed code said (map show xs) ≡ maybe_headed code tokens xs
+  maybe_headed_same code [] = refl
+  maybe_headed_same code (x ∷ xs) = λ i. word code ++ bracketed_same (x ∷ xs) i
 
   pub maybe_same : (part : Option X) → maybe said (option_map show part) ≡ maybe tokens part
   maybe_same None = refl

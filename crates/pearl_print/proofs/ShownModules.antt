@@ -23,7 +23,7 @@ use Rattle.pearl_print.proofs.ShownLists.{each_same, listed_same, maybe_brackete
 use Rattle.pearl_print.proofs.ShownDeclarations.{said_typing, typing_same, said_declared, declared_same, said_spec, spec_same, said_param, param_same}
 use Rattle.pearl_print.proofs.ShownStatements.{said_body_decl, body_decl_same, said_stmt, stmt_same}
 
-abbrev said_task_body : ShownBody → List What
+abbrev pub said_task_body : ShownBody → List What
 said_task_body body =
     symbol s.semicolon ++ (flat_map said_body_decl body.declarations ++ flat_map said_stmt body.statements) ++ word w.END ++
     symbol s.semicolon
@@ -34,7 +34,7 @@ task_body_same body =
     (each_same shown_body_decl said_body_decl body_decl_tokens body_decl_same body.declarations.items.items i ++
     each_same shown_stmt said_stmt stmt_tokens stmt_same body.statements.items.items i) ++ word w.END ++ symbol s.semicolon
 
-abbrev said_decl : ShownDecl → List What
+abbrev pub said_decl : ShownDecl → List What
 said_decl (OfLength sort number place) = word w.LENGTH ++ word (sort_word sort) ++ bracketed_number number ++ symbol s.semicolon
 said_decl (OfType name part place) = word w.TYPE ++ name_tokens name ++ said_typing part ++ symbol s.semicolon
 said_decl (OfDeclare declared place) = word w.DCL ++ listed said_declared declared ++ symbol s.semicolon
@@ -59,10 +59,10 @@ decl_same (decl.Proc name params returns body place) =
     maybe_bracketed_same shown_param said_param param_tokens param_same params.items.items i ++ maybe returns_tokens returns ++
     task_body_same body i
 
-abbrev said_system : List Device → List What
+abbrev pub said_system : List Device → List What
 said_system devices = word w.SYSTEM ++ symbol s.semicolon ++ flat_map device_tokens devices
 
-abbrev said_front : ShownTree → List What
+abbrev pub said_front : ShownTree → List What
 said_front tree =
     word w.MODULE ++ maybe module_name_tokens tree.name ++ symbol s.semicolon ++ maybe said_system tree.system ++
     word w.PROBLEM ++ symbol s.semicolon
@@ -72,10 +72,10 @@ front_same tree =
     λ i. word w.MODULE ++ maybe module_name_tokens tree.name ++ symbol s.semicolon ++
     maybe_same shown_devices said_system system_tokens (λ _. refl) tree.system i ++ word w.PROBLEM ++ symbol s.semicolon
 
-abbrev said_tree : ShownTree → List What
+abbrev pub said_tree : ShownTree → List What
 said_tree tree = said_front tree ++ flat_map said_decl tree.declarations ++ word w.MODEND ++ symbol s.semicolon
 
-tree_same : (tree : Tree) → said_tree (shown_tree tree) ≡ tokens_of tree
+pub tree_same : (tree : Tree) → said_tree (shown_tree tree) ≡ tokens_of tree
 unfolding tokens_of
 tree_same tree =
     λ i. front_same tree i ++ each_same shown_decl said_decl decl_tokens decl_same tree.declarations.items.items i ++

@@ -23,7 +23,7 @@ said_after code expr = word code ++ said_expr expr
 pub after_same : (code : ℕ) (expr : Expr) → said_after code (shown_expr expr) ≡ after_tokens code expr
 after_same code expr = λ i. word code ++ expr_same expr i
 
-abbrev said_period_end : ShownPeriodEnd → List What
+abbrev pub said_period_end : ShownPeriodEnd → List What
 said_period_end (OfUntil time place) = said_after w.UNTIL time
 said_period_end (OfDuring duration place) = said_after w.DURING duration
 
@@ -31,7 +31,7 @@ period_end_same : (end : PeriodEnd) → said_period_end (shown_period_end end) �
 period_end_same (Until time place) = after_same w.UNTIL time
 period_end_same (During duration place) = after_same w.DURING duration
 
-abbrev said_period : ShownPeriod → List What
+abbrev pub said_period : ShownPeriod → List What
 said_period period = said_after w.ALL period.duration ++ maybe said_period_end period.end
 
 period_same : (period : Period) → said_period (shown_period period) ≡ period_tokens period

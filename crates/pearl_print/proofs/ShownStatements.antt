@@ -24,7 +24,7 @@ use Rattle.pearl_print.proofs.ShownExpressions.{said_expr, expr_same, said_ref, 
 use Rattle.pearl_print.proofs.ShownDeclarations.{said_item, item_same}
 use Rattle.pearl_print.proofs.ShownSchedules.{said_after, after_same, said_start, start_same, said_once, once_same}
 
-abbrev said_value : ShownExpr → List What
+abbrev pub said_value : ShownExpr → List What
 said_value expr = symbol s.left_round ++ said_expr expr ++ symbol s.right_round
 
 value_same : (expr : Expr) → said_value (shown_expr expr) ≡ value_tokens expr
@@ -40,7 +40,7 @@ body_decl_same declaration =
 maybe_after_same : (code : ℕ) (part : Option Expr) → maybe (said_after code) (option_map shown_expr part) ≡ maybe (after_tokens code) part
 maybe_after_same code part = maybe_same shown_expr (said_after code) (after_tokens code) (after_same code) part
 
-abbrev said_loop : Option Name → Option ShownExpr → Option ShownExpr → Option ShownExpr → Option ShownExpr → List What
+abbrev pub said_loop : Option Name → Option ShownExpr → Option ShownExpr → Option ShownExpr → Option ShownExpr → List What
 said_loop control begin step end condition =
     maybe for_tokens control ++ maybe (said_after w.FROM) begin ++ maybe (said_after w.BY) step ++
     maybe (said_after w.TO) end ++ maybe (said_after w.WHILE) condition
@@ -52,7 +52,7 @@ loop_same control begin step end condition =
     λ i. maybe for_tokens control ++ maybe_after_same w.FROM begin i ++ maybe_after_same w.BY step i ++
     maybe_after_same w.TO end i ++ maybe_after_same w.WHILE condition i
 
-abbrev said_by : Name → List Fmt → List What
+abbrev pub said_by : Name → List Fmt → List What
 said_by name formats = name_tokens name ++ word w.BY ++ listed fmt_tokens formats ++ symbol s.semicolon
 
 abbrev mutual
@@ -94,15 +94,15 @@ abbrev mutual
   said_stmt (OfTake target dation place) =
       word w.TAKE ++ said_ref target ++ word w.FROM ++ name_tokens dation ++ symbol s.semicolon
 
-  said_stmts : ShownStmts → List What
+  pub said_stmts : ShownStmts → List What
   said_stmts NoStmts = []
   said_stmts (MoreStmts statement rest) = said_stmt statement ++ said_stmts rest
 
-  said_alternatives : ShownBranches → List What
+  pub said_alternatives : ShownBranches → List What
   said_alternatives NoBranches = []
   said_alternatives (MoreBranches statements place rest) = (word w.ALT ++ said_stmts statements) ++ said_alternatives rest
 
-  said_otherwise : ℕ → ShownOtherwise → List What
+  pub said_otherwise : ℕ → ShownOtherwise → List What
   said_otherwise code NoOtherwise = []
   said_otherwise code (OfOtherwise statements place) = word code ++ said_stmts statements
 

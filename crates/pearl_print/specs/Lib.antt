@@ -9,5 +9,6 @@ pub mod Schedules
 pub mod Statements
 pub mod Modules
 pub mod Reading
-pub mod ShownText
 pub mod Plain
+pub mod ShownText
+pub mod Canonical

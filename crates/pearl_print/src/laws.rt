@@ -1,7 +1,8 @@
-// What the text of tokens is read as, and which tokens a tree has.
+// What the text of tokens is read as, which tokens a tree has, and that printing a printed text changes nothing.
 
+ghost use Rattle.pearl_print.specs.Canonical.{PrintsAgain};
 ghost use Rattle.pearl_print.specs.Reading.{LawfulTextReads, LawfulTokens};
-ghost use Rattle.pearl_print.specs.ShownText.{HasOneText, SourceHasOneText};
+ghost use Rattle.pearl_print.specs.ShownText.{HasOneText, SourceHasOneText, PlainHasOneText};
 
 /// The text of lawful tokens has exactly these tokens.
 pub fn text_reads()
@@ -21,4 +22,15 @@ pub fn one_text()
 /// The tokens of a source have one canonical text: each tree that they spell has the same tokens.
 pub fn source_has_one_text()
     ensures { SourceHasOneText }
+{}
+
+/// Two trees that say the same, but for their places and for what printing settles, have the same tokens.
+pub fn plain_has_one_text()
+    ensures { PlainHasOneText }
+{}
+
+/// A printed text is printed again to the same bytes: the text of a lawful tree that spells tokens has itself tokens that
+/// a tree spells, and each tree that spells them has this text, unless a duration in the first tree has 2^63 hours or more.
+pub fn prints_again()
+    ensures { PrintsAgain }
 {}
