@@ -73,8 +73,8 @@ fn setup(alloc: Global) -> Result<Setup, AllocError>
 fn seventeen(alloc: Global) -> Result<Instr, AllocError>
     ensures { IfOk result IsSeventeen }
 {
-    let value = Cell::Fixed { len: 31, value: 17 };
-    Ok(Instr::Const(Box::new(alloc, value)?))
+    let literal = Box::new(alloc, Cell::Fixed { len: 31, value: 17 })?;
+    Ok(Instr::Const(literal))
 }
 
 // The sum becomes the number and 17, and is written; then it is put into so many binary digits and written in one column.

@@ -18,16 +18,6 @@ use pearl_value::listing::Listing;
 use pearl_value::operator::Dyad;
 use std::alloc::{AllocError as NoMemory, Global};
 
-const NUMBER: Item = Item {
-    code: ItemCode::F,
-    width: 3,
-};
-
-const LINE: Item = Item {
-    code: ItemCode::Skip,
-    width: 0,
-};
-
 const COUNT: Variable = Variable {
     target: Target::Leaf(0),
 };
@@ -78,10 +68,22 @@ fn one_variable(alloc: Global) -> Result<Prog, NoMemory> {
 }
 
 fn format_of_two(alloc: Global) -> Result<Listing<Item>, NoMemory>
-    ensures { IfOk result (λ items. items ≡ NUMBER ∷ NUMBER ∷ LINE ∷ []) }
+    ensures { IfOk result (λ items. items ≡ record { code = ItemCode.F; width = 3 } ∷ record { code = ItemCode.F; width = 3 }
+        ∷ record { code = ItemCode.Skip; width = 0 } ∷ []) }
 {
-    let items = vec![in alloc; NUMBER, NUMBER, LINE]?;
-    Ok(Listing::new(items))
+    let first = Item {
+        code: ItemCode::F,
+        width: 3,
+    };
+    let second = Item {
+        code: ItemCode::F,
+        width: 3,
+    };
+    let line_end = Item {
+        code: ItemCode::Skip,
+        width: 0,
+    };
+    Ok(Listing::new(vec![in alloc; first, second, line_end]?))
 }
 
 fn sum(alloc: Global, left: Expr, right: Expr) -> Result<Expr, NoMemory>
