@@ -36,13 +36,13 @@ fn from_sure(alloc: Global, name: &str) -> Result<Fetched, AllocError> {
 fn from_memory(
     alloc: Global,
     name: &str,
-    limit: u64,
+    limit: u32,
     failing: &[u64],
     most: usize,
 ) -> Result<Fetched, AllocError> {
     let failing = Vec::from_slice(alloc, failing)?;
     let mut shelf = MemoryShelf::new(two_files(alloc)?, failing, most.max(1));
-    Ok(fetch_all(alloc, &mut shelf, name, limit))
+    Ok(fetch_all(alloc, &mut shelf, name, u64::from(limit)))
 }
 
 // Whether the bytes are put whole, and what was taken.
@@ -77,7 +77,7 @@ fn shelves_give_their_files(rt: HostRuntime) -> Result<(), Fail> {
 
 #[test]
 fn fetching_stops_at_a_fault_and_at_the_limit(rt: HostRuntime) -> Result<(), Fail> {
-    let cases: [(u64, &[u64], &str, &[u8]); 5] = [
+    let cases: [(u32, &[u64], &str, &[u8]); 5] = [
         (5, &[], "whole", b"alpha"),
         (4, &[], "too long", b"alph"),
         (0, &[], "too long", b""),

@@ -138,17 +138,21 @@ fn is_shown(alloc: Global, tree: &Tree, text: &[u8]) -> bool {
     }
 }
 
-// The tokens of a source that fits into 32 bits, if it has some.
-pub fn tokens_of(alloc: Global, source: &[u8]) -> Option<Vec<Token>> {
+/// The tokens of a source of at most 1 MiB, if it has some, and its length.
+pub fn tokens_of(alloc: Global, source: &[u8]) -> Option<(Vec<Token>, u32)> {
     if source.len() > 1_048_576 {
         return None;
     }
-    tokens(alloc, source).ok()
+    let end = source.len() as u32;
+    match tokens(alloc, source) {
+        Ok(tokens) => Some((tokens, end)),
+        Err(_) => None,
+    }
 }
 
 fn reads(alloc: Global, source: &[u8], text: &[u8]) -> bool {
     match tokens_of(alloc, source) {
-        Some(tokens) => match parse(alloc, tokens.as_slice(), source.len() as u32) {
+        Some((tokens, end)) => match parse(alloc, tokens.as_slice(), end) {
             Ok(tree) => is_shown(alloc, &tree, text),
             Err(_) => false,
         },
@@ -168,7 +172,7 @@ pub fn is_refused(alloc: Global, tokens: &[Token], end: u32, stop: u32) -> bool 
 
 fn refuses(alloc: Global, source: &[u8], stop: u32) -> bool {
     match tokens_of(alloc, source) {
-        Some(tokens) => is_refused(alloc, tokens.as_slice(), source.len() as u32, stop),
+        Some((tokens, end)) => is_refused(alloc, tokens.as_slice(), end, stop),
         None => false,
     }
 }

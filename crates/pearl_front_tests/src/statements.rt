@@ -160,8 +160,8 @@ fn nest(alloc: Global, open: &[u8], close: &[u8], count: usize) -> Result<Vec<u8
 
 fn tree_of(alloc: Global, body: &[u8]) -> Option<Tree> {
     let source = module_of(alloc, body).ok()?;
-    let tokens = tokens_of(alloc, source.as_slice())?;
-    parse(alloc, tokens.as_slice(), source.len() as u32).ok()
+    let (tokens, end) = tokens_of(alloc, source.as_slice())?;
+    parse(alloc, tokens.as_slice(), end).ok()
 }
 
 fn place_of(tokens: &[Token], number: usize) -> Option<u32> {
@@ -173,9 +173,9 @@ fn place_of(tokens: &[Token], number: usize) -> Option<u32> {
 
 fn refuses(alloc: Global, body: &[u8], number: usize) -> Option<bool> {
     let source = module_of(alloc, body).ok()?;
-    let tokens = tokens_of(alloc, source.as_slice())?;
+    let (tokens, end) = tokens_of(alloc, source.as_slice())?;
     let stop = place_of(tokens.as_slice(), number)?;
-    Some(is_refused(alloc, tokens.as_slice(), source.len() as u32, stop))
+    Some(is_refused(alloc, tokens.as_slice(), end, stop))
 }
 
 fn body_of(tree: &Tree) -> Option<&Body> {
