@@ -18,19 +18,30 @@ fn two_files(alloc: Global) -> Result<Vec<File>, AllocError> {
     Ok(files)
 }
 
-// The kind of answer and its bytes, to compare them.
-fn answer(fetched: &Fetched) -> (&'static str, &[u8]) {
+/// The kind of an answer.
+#[derive(Clone, Copy, PartialEq, Eq, Debug)]
+enum Told {
+    Whole,
+    TooLong,
+    Fault,
+    NoMemory,
+}
+
+/// The kind of an answer, and its bytes.
+type Answer = (Told, Vec<u8>);
+
+fn answer(alloc: Global, fetched: Fetched) -> Answer {
     match fetched {
-        Fetched::Whole(bytes) => ("whole", bytes.as_slice()),
-        Fetched::TooLong(bytes) => ("too long", bytes.as_slice()),
-        Fetched::Fault(bytes) => ("fault", bytes.as_slice()),
-        Fetched::NoMemory => ("no memory", &[]),
+        Fetched::Whole(bytes) => (Told::Whole, bytes),
+        Fetched::TooLong(bytes) => (Told::TooLong, bytes),
+        Fetched::Fault(bytes) => (Told::Fault, bytes),
+        Fetched::NoMemory => (Told::NoMemory, Vec::new(alloc)),
     }
 }
 
-fn from_sure(alloc: Global, name: &str) -> Result<Fetched, AllocError> {
+fn from_sure(alloc: Global, name: &str) -> Result<Answer, AllocError> {
     let mut shelf = SureShelf::new(two_files(alloc)?);
-    Ok(fetch_all(alloc, &mut shelf, name, 99))
+    Ok(answer(alloc, fetch_all(alloc, &mut shelf, name, 99)))
 }
 
 fn from_memory(
@@ -39,10 +50,11 @@ fn from_memory(
     limit: u32,
     failing: &[u64],
     most: usize,
-) -> Result<Fetched, AllocError> {
+) -> Result<Answer, AllocError> {
     let failing = Vec::from_slice(alloc, failing)?;
     let mut shelf = MemoryShelf::new(two_files(alloc)?, failing, most.max(1));
-    Ok(fetch_all(alloc, &mut shelf, name, u64::from(limit)))
+    let fetched = fetch_all(alloc, &mut shelf, name, u64::from(limit));
+    Ok(answer(alloc, fetched))
 }
 
 // Whether the bytes are put whole, and what was taken.
@@ -66,27 +78,30 @@ fn into_memory(
 #[test]
 fn shelves_give_their_files(rt: HostRuntime) -> Result<(), Fail> {
     let alloc = rt.alloc();
-    for (name, bytes) in [("a", b"alpha".as_slice()), ("b", b""), ("c", b"")] {
-        let sure = from_sure(alloc, name)?;
-        assert_eq!(rt; answer(&sure), ("whole", bytes), "of {name}");
-        let memory = from_memory(alloc, name, 99, &[], 2)?;
-        assert_eq!(rt; answer(&memory), ("whole", bytes), "of {name}");
+    for (name, want) in [("a", b"alpha".as_slice()), ("b", b""), ("c", b"")] {
+        let (told, bytes) = from_sure(alloc, name)?;
+        assert_eq!(rt; told, Told::Whole, "of {name}");
+        assert_eq!(rt; bytes.as_slice(), want, "of {name}");
+        let (told, bytes) = from_memory(alloc, name, 99, &[], 2)?;
+        assert_eq!(rt; told, Told::Whole, "of {name}");
+        assert_eq!(rt; bytes.as_slice(), want, "of {name}");
     }
     Ok(())
 }
 
 #[test]
 fn fetching_stops_at_a_fault_and_at_the_limit(rt: HostRuntime) -> Result<(), Fail> {
-    let cases: [(u32, &[u64], &str, &[u8]); 5] = [
-        (5, &[], "whole", b"alpha"),
-        (4, &[], "too long", b"alph"),
-        (0, &[], "too long", b""),
-        (5, &[2], "fault", b"a"),
-        (5, &[6], "fault", b"alpha"),
+    let cases: [(u32, &[u64], Told, &[u8]); 5] = [
+        (5, &[], Told::Whole, b"alpha"),
+        (4, &[], Told::TooLong, b"alph"),
+        (0, &[], Told::TooLong, b""),
+        (5, &[2], Told::Fault, b"a"),
+        (5, &[6], Told::Fault, b"alpha"),
     ];
-    for (limit, failing, kind, bytes) in cases {
-        let fetched = from_memory(rt.alloc(), "a", limit, failing, 1)?;
-        assert_eq!(rt; answer(&fetched), (kind, bytes), "up to {limit}");
+    for (limit, failing, want, front) in cases {
+        let (told, bytes) = from_memory(rt.alloc(), "a", limit, failing, 1)?;
+        assert_eq!(rt; told, want, "up to {limit}");
+        assert_eq!(rt; bytes.as_slice(), front, "up to {limit}");
     }
     Ok(())
 }

@@ -128,14 +128,14 @@ fn refused() -> &'static [(&'static [u8], usize)] {
     ]
 }
 
-// What opens a level, what closes it, and how many tokens open it.
+// What opens a level, what closes it, and the number of the token that opens the 33rd.
 fn levels() -> &'static [(&'static [u8], &'static [u8], usize)] {
     &[
-        (b"IF a THEN ", b"FIN; ", 3),
-        (b"IF a THEN ELSE ", b"FIN; ", 4),
-        (b"CASE a ALT ", b"FIN; ", 3),
-        (b"FOR i REPEAT ", b"END; ", 3),
-        (b"BEGIN ", b"END; ", 1),
+        (b"IF a THEN ", b"FIN; ", 96),
+        (b"IF a THEN ELSE ", b"FIN; ", 128),
+        (b"CASE a ALT ", b"FIN; ", 96),
+        (b"FOR i REPEAT ", b"END; ", 96),
+        (b"BEGIN ", b"END; ", 32),
     ]
 }
 
@@ -237,12 +237,12 @@ fn else_belongs_to_the_inner_if(rt: HostRuntime) -> Result<(), fmt::Error> {
 
 #[test]
 fn thirty_two_levels_are_read_and_no_more(rt: HostRuntime) -> Result<(), fmt::Error> {
-    for &(open, close, tokens) in levels() {
+    for &(open, close, number) in levels() {
         let deep = nest(rt.alloc(), open, close, 32)?;
         assert!(rt; tree_of(rt.alloc(), deep.as_slice()).is_some(), "{open:?}");
         let deeper = nest(rt.alloc(), open, close, 33)?;
         assert!(rt;
-            refuses(rt.alloc(), deeper.as_slice(), 32 * tokens) == Some(true),
+            refuses(rt.alloc(), deeper.as_slice(), number) == Some(true),
             "{open:?}"
         );
     }
