@@ -81,10 +81,10 @@ joins_at {X} key x xs at above below =
     joined xs at x y (inl old) = inserted_old xs at x y old
     joined xs at x y (inr e) = subst (λ z. Contains (insert xs at x) z) (sym e) (inserted_new xs at x)
 
--- the same at a slice and a key that are these
-pub joins_found : {X : Type 0} (key : X → ℕ × ℕ) (x : X) (xs slice : List X) (at : ℕ) (k : ℕ × ℕ) → slice ≡ xs → k ≡ key x
-    → All (λ y. IsLess k (key y)) (drop at slice) → All (λ y. IsLess (key y) k) (take at slice) → Joins key x xs (insert xs at x)
-joins_found key x xs slice at k here is above below =
-    joins_at key x xs at
+-- the same at a slice, a key and a new list that are these
+pub joins_found : {X : Type 0} (key : X → ℕ × ℕ) (x : X) (xs slice new : List X) (at : ℕ) (k : ℕ × ℕ) → slice ≡ xs → k ≡ key x → new ≡ insert xs at x
+    → All (λ y. IsLess k (key y)) (drop at slice) → All (λ y. IsLess (key y) k) (take at slice) → Joins key x xs new
+joins_found key x xs slice new at k here is made above below =
+    subst (λ s. Joins key x xs s) (sym made) (joins_at key x xs at
     (subst (λ s. All (λ y. IsLess (key x) (key y)) (drop at s)) here (subst (λ j. All (λ y. IsLess j (key y)) (drop at slice)) is above))
-    (subst (λ s. All (λ y. IsLess (key y) (key x)) (take at s)) here (subst (λ j. All (λ y. IsLess (key y) j) (take at slice)) is below))
+    (subst (λ s. All (λ y. IsLess (key y) (key x)) (take at s)) here (subst (λ j. All (λ y. IsLess (key y) j) (take at slice)) is below)))
