@@ -1,0 +1,8 @@
+pub mod Lists
+pub mod StatementRows
+pub mod Collecting
+pub mod AnyTypes
+pub mod DeclLists
+mod Outers
+mod OneList
+mod Examples

@@ -1,0 +1,15 @@
+pub mod FaultLists
+pub mod Names
+pub mod Lengths
+pub mod Durations
+pub mod Scopes
+pub mod Listed
+pub mod Sorts
+pub mod Meanings
+pub mod Shapes
+pub mod Layout
+pub mod Constants
+pub mod Parts
+pub mod Rules
+pub mod Tables
+pub mod Laws

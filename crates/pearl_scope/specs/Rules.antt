@@ -1,0 +1,151 @@
+-- The rules S1 to S9, one after the other, and the faults of a module in them.
+use Rattle.std.specs.Prelude.{ℕ, ◌-◌, ◌^◌, Bool, true, false, ◌&&◌, ◌||◌, not, nat_le, nat_lt, List, [], ◌∷◌, ◌++◌, length, take, map, Option, Some, None, is_none, Contains}
+use Rattle.std.specs.List.{list_all, flat_map}
+use Rattle.pearl_value.specs.declared.kind.Kind.{Kind}
+use Rattle.pearl_tree.specs.declared.fault.RuleFault.{RuleFault}
+use Rattle.pearl_tree.specs.declared.name.Name.{Name}
+use Rattle.pearl_tree.specs.declared.name.Number.{Number}
+use Rattle.pearl_tree.specs.declared.literal.Const.{Const}
+use Rattle.pearl_tree.specs.ShownModules.{ShownTree}
+use Rattle.pearl_scope.specs.declared.length.DefaultLength.{DefaultLength}
+use Rattle.pearl_scope.specs.FaultLists.{fault_if}
+use Rattle.pearl_scope.specs.Lengths.{is_length, lengths_set}
+use Rattle.pearl_scope.specs.Durations.{is_too_long, place_of_duration}
+use Rattle.pearl_scope.specs.Names.{text_of, names_of, repeats}
+use Rattle.pearl_scope.specs.declared.scope.NameSort.{NameSort}
+use Rattle.pearl_scope.specs.declared.scope.NameSort.TheVariants.{NewType as TypeNumber}
+use Rattle.pearl_scope.specs.declared.scope.ScopeNames.{ScopeNames}
+use Rattle.pearl_scope.specs.Scopes.{scopes_of}
+use Rattle.pearl_scope.specs.Sorts.{names_of_scopes}
+use Rattle.pearl_scope.specs.Meanings.{sort_from, sort_within}
+use Rattle.pearl_scope.specs.Shapes.{Shape, Around, field_names, is_sound_pair, bound_pair, shapes_after}
+use Rattle.pearl_scope.specs.Layout.{Leaf, item_leaves, is_sound_leaf, slots_of}
+use Rattle.pearl_scope.specs.Constants.{missing_slots, wrong_signs}
+use Rattle.pearl_scope.specs.Parts.{Part, Used, UsedAsType, Length, Lasts, Bounds, Struct, Item, Sema, parts_of}
+
+-- what is known of a module before its rules are asked
+pub record Known : Type 0 where
+  pub scopes : List ScopeNames
+  pub lengths : List DefaultLength
+  -- the shapes of its TYPEs, by their numbers
+  pub shapes : List (Option Shape)
+
+abbrev pub known_of : ShownTree → Known
+known_of tree = record {
+  scopes = names_of_scopes (scopes_of tree);
+  lengths = lengths_set tree.declarations;
+  shapes = shapes_after (names_of_scopes (scopes_of tree)) (lengths_set tree.declarations) [] tree.declarations;
+}
+
+-- what is seen from a scope where so many TYPEs stand before
+abbrev pub around : Known → (scope types : ℕ) → Around
+around known scope types =
+    record { scopes = known.scopes; lengths = known.lengths; shapes = take types known.shapes; scope = scope }
+
+-- S1: a name is declared twice in one scope
+abbrev pub s1 : ScopeNames → List RuleFault
+s1 scope = repeats 1 [] (map (λ entry. entry.name) scope.names)
+
+-- S2: a name is used that no visible scope declares
+abbrev pub s2 : Known → Part → List RuleFault
+s2 known (Used view name) = fault_if (is_none (sort_from known.scopes view (text_of name))) name.place 2
+s2 known part = []
+
+abbrev pub is_later_or_no_type : ℕ → Option NameSort → Bool
+is_later_or_no_type types None = false
+is_later_or_no_type types (Some (TypeNumber number)) = nat_le types number
+is_later_or_no_type types (Some sort) = true
+
+-- S3: a type name is used before its TYPE, or names something else
+abbrev pub s3 : Known → Part → List RuleFault
+s3 known (UsedAsType scope types name) =
+    fault_if (is_later_or_no_type types (sort_within known.scopes scope (text_of name))) name.place 3
+s3 known part = []
+
+-- S4: a length is outside its range, or a duration literal is too long
+abbrev pub s4 : Part → List RuleFault
+s4 (Length sort number) = fault_if (not (is_length sort number.value)) number.place 4
+s4 (Lasts duration) = fault_if (is_too_long duration) (place_of_duration duration) 4
+s4 part = []
+
+-- at each of these names
+abbrev pub fault_at_names : Bool → List Name → ℕ → List RuleFault
+fault_at_names broken [] rule = []
+fault_at_names broken (name ∷ names) rule = fault_if broken name.place rule ++ fault_at_names broken names rule
+
+abbrev pub has_unsound_leaf : Option (List Leaf) → Bool
+has_unsound_leaf None = false
+has_unsound_leaf (Some leaves) = not (list_all is_sound_leaf leaves)
+
+-- S5: a lower bound is above the upper one, or a bound is out of range; a leaf has more than three dimensions on its path
+-- or more than 65,536 elements
+abbrev pub s5 : Known → Part → List RuleFault
+s5 known (Bounds bound) = fault_if (not (is_sound_pair (bound_pair bound))) bound.place 5
+s5 known (Item scope types item) =
+    fault_at_names (has_unsound_leaf (item_leaves (around known scope types) item)) (names_of item.names) 5
+s5 known part = []
+
+-- S6: a STRUCT names a field twice
+abbrev pub s6 : Part → List RuleFault
+s6 (Struct fields) = repeats 6 [] (field_names fields)
+s6 part = []
+
+-- INIT's constants run over the slots of each name in turn
+abbrev pub slots_of_names : List Name → List Leaf → List Kind
+slots_of_names names leaves = flat_map (λ name. slots_of leaves) names
+
+abbrev pub missing_of : List Name → List Const → Option (List Leaf) → List RuleFault
+missing_of names init None = []
+missing_of names init (Some leaves) =
+    if_sound (list_all is_sound_leaf leaves) (missing_slots (slots_of_names names leaves) init)
+  where
+    if_sound : Bool → List RuleFault → List RuleFault
+    if_sound true faults = faults
+    if_sound false faults = []
+
+-- S7: INIT has more constants than slots, or one that doesn't suit or fit its slot, or a sign before another literal than
+-- FIXED and DURATION
+abbrev pub s7 : Known → Part → List RuleFault
+s7 known (Item scope types item) =
+    wrong_signs item.init ++ missing_of (names_of item.names) item.init (item_leaves (around known scope types) item)
+s7 known part = []
+
+abbrev pub has_no_constant : List Const → Bool
+has_no_constant [] = true
+has_no_constant (constant ∷ rest) = false
+
+abbrev pub fault_at_first : Bool → List Name → ℕ → List RuleFault
+fault_at_first broken [] rule = []
+fault_at_first broken (name ∷ names) rule = fault_if broken name.place rule
+
+-- S8: INV without INIT
+abbrev pub s8 : Part → List RuleFault
+s8 (Item scope types item) = fault_at_first (item.inv && has_no_constant item.init) (names_of item.names) 8
+s8 part = []
+
+-- where so many names are left for the numbers
+abbrev pub unfit_presets : ℕ → List Number → List RuleFault
+unfit_presets names [] = []
+unfit_presets names (number ∷ rest) =
+    fault_if (nat_lt names 1 || nat_lt (2 ^ 31 - 1) number.value) number.place 9 ++ unfit_presets (names - 1) rest
+
+-- S9: PRESET has more numbers than names, or a number above 2^31 - 1
+abbrev pub s9 : Part → List RuleFault
+s9 (Sema sema) = unfit_presets (length (names_of sema.names)) sema.preset
+s9 part = []
+
+abbrev pub part_faults : Known → Part → List RuleFault
+part_faults known part =
+    s2 known part ++ (s3 known part ++ (s4 part ++ (s5 known part ++ (s6 part ++ (s7 known part ++ (s8 part ++ s9 part))))))
+
+-- what is broken in these parts
+unfoldable pub faults_in : Known → List Part → List RuleFault
+faults_in known parts = flat_map (part_faults known) parts
+
+-- what is broken in a module, in no order and perhaps more than once
+abbrev pub broken : ShownTree → List RuleFault
+broken tree = flat_map s1 (known_of tree).scopes ++ faults_in (known_of tree) (parts_of tree)
+
+-- the rules S1 to S9 that a module breaks
+abbrev pub IsBroken : ShownTree → RuleFault → Type 0
+IsBroken tree fault = Contains (broken tree) fault

@@ -1,0 +1,44 @@
+// The names of scopes.
+
+use pearl_tree::name::Name;
+use pearl_value::listing::Listing;
+
+/// What sort of thing a name means.
+#[derive(Clone, Copy, PartialEq, Eq, Debug)]
+pub enum NameSort {
+    Variable,
+    /// A control variable of a loop.
+    Control,
+    Parameter,
+    /// A type, with its number among the TYPEs of the module.
+    NewType(u32),
+    Semaphore,
+    Interrupt,
+    Dation,
+    Task,
+    Procedure,
+}
+
+/// A name that a scope declares, at the place where it is declared.
+#[derive(Drop)]
+pub struct SortedName {
+    pub name: Name,
+    pub sort: NameSort,
+}
+
+/// The names of a scope in order, and the number of the scope around it. The module has none around it.
+#[derive(Drop)]
+pub struct ScopeNames {
+    pub outer: Option<u32>,
+    pub names: Listing<SortedName>,
+}
+
+/// From where a name is seen.
+#[derive(Clone, Copy, PartialEq, Eq, Debug)]
+pub enum View {
+    /// Within the scope of this number.
+    Within(u32),
+    /// In the WHILE of the loop whose body is the scope of this number: of its names the control variable alone is
+    /// visible there.
+    WhileOf(u32),
+}
