@@ -10,6 +10,8 @@ mod expressions;
 #[cfg(test)]
 mod modules;
 #[cfg(test)]
+mod scopes;
+#[cfg(test)]
 mod statements;
 #[cfg(test)]
 mod texts;

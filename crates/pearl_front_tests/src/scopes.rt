@@ -1,0 +1,112 @@
+// What the names of a module mean, scope by scope, and its default lengths.
+
+use crate::modules::tokens_of;
+use pearl_parse::parse::parse;
+use pearl_scope::collect::names_of_module;
+use pearl_scope::duration::is_too_long;
+use pearl_scope::length::{is_length, kind_of_basic, length_at, lengths_set};
+use pearl_scope::meaning::sort_from;
+use pearl_scope::scope::{NameSort, View};
+use pearl_tree::literal::{Duration, Secs};
+use pearl_tree::name::Number;
+use pearl_tree::tree::Tree;
+use pearl_tree::typing::{Basic, Sort};
+use pearl_value::kind::Kind;
+use std::alloc::Global;
+use std::test::Fail;
+
+const SOURCE: &[u8] = b"MODULE(m);PROBLEM;LENGTH FIXED(15);LENGTH BIT(65);TYPE u BIT;\
+    DCL (a,b) FIXED,s SEMA;p:PROC(x FIXED);FOR i WHILE i<1 REPEAT DCL a u;END;END;MODEND;";
+
+// Of each scope the one around it, and how many names it has.
+fn scopes() -> &'static [(Option<u32>, usize)] {
+    &[(None, 5), (Some(0), 1), (Some(1), 2)]
+}
+
+// Names seen from somewhere, and what they mean there.
+fn meanings() -> &'static [(View, &'static [u8], Option<NameSort>)] {
+    &[
+        (View::Within(0), b"u", Some(NameSort::NewType(0))),
+        (View::Within(0), b"x", None),
+        (View::Within(1), b"x", Some(NameSort::Parameter)),
+        (View::Within(1), b"i", None),
+        (View::Within(2), b"a", Some(NameSort::Variable)),
+        (View::Within(2), b"s", Some(NameSort::Semaphore)),
+        (View::Within(2), b"p", Some(NameSort::Procedure)),
+        (View::WhileOf(2), b"i", Some(NameSort::Control)),
+        (View::WhileOf(2), b"x", Some(NameSort::Parameter)),
+    ]
+}
+
+fn tree_of(alloc: Global, source: &[u8]) -> Option<Tree> {
+    let (tokens, end) = tokens_of(alloc, source)?;
+    parse(alloc, tokens.as_slice(), end).ok()
+}
+
+#[test]
+fn names_mean_their_innermost_declaration(rt: HostRuntime) -> Result<(), Fail> {
+    let Some(tree) = tree_of(rt.alloc(), SOURCE) else {
+        assert!(rt; false, "no tree");
+        return Ok(());
+    };
+    let found = names_of_module(rt.alloc(), &tree)?;
+    assert_eq!(rt; found.len(), scopes().len());
+    for (scope, want) in found.iter().zip(scopes()) {
+        assert_eq!(rt; (scope.outer, scope.names.as_slice().len()), *want);
+    }
+    for &(view, name, want) in meanings() {
+        assert_eq!(rt; sort_from(found.as_slice(), view, name), want, "{name:?}");
+    }
+    Ok(())
+}
+
+#[test]
+fn lengths_hold_from_their_place_on(rt: HostRuntime) -> Result<(), Fail> {
+    let Some(tree) = tree_of(rt.alloc(), SOURCE) else {
+        assert!(rt; false, "no tree");
+        return Ok(());
+    };
+    let lengths = lengths_set(rt.alloc(), &tree)?;
+    assert_eq!(rt; lengths.len(), 1);
+    let lengths = lengths.as_slice();
+    assert_eq!(rt; length_at(lengths, Sort::Fixed, 17), 31);
+    assert_eq!(rt; length_at(lengths, Sort::Fixed, 70), 15);
+    assert_eq!(rt; length_at(lengths, Sort::Bit, 70), 1);
+    let basic = Basic::Sized {
+        sort: Sort::Fixed,
+        number: None,
+        place: 70,
+    };
+    assert_eq!(rt; kind_of_basic(lengths, &basic), Some(Kind::Fixed(15)));
+    assert!(rt; is_length(Sort::Char, 255));
+    assert!(rt; !is_length(Sort::Bit, 65));
+    Ok(())
+}
+
+fn of_seconds(whole: u64) -> Duration {
+    Duration::Seconds {
+        seconds: Secs::Decimal {
+            whole,
+            thousandths: 776,
+            place: 0,
+        },
+        place: 0,
+    }
+}
+
+fn of_hours(value: u64) -> Duration {
+    Duration::Hours {
+        hours: Number { value, place: 0 },
+        minutes: None,
+        seconds: None,
+        place: 0,
+    }
+}
+
+#[test]
+fn a_duration_may_have_2_to_the_40_milliseconds(rt: HostRuntime) {
+    assert!(rt; !is_too_long(&of_seconds(1_099_511_627)));
+    assert!(rt; is_too_long(&of_seconds(1_099_511_628)));
+    assert!(rt; !is_too_long(&of_hours(305_419)));
+    assert!(rt; is_too_long(&of_hours(305_420)));
+}
