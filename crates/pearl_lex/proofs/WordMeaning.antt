@@ -8,7 +8,7 @@ use Rattle.std.proofs.lemmas.Slice.Eq.{bytes_eq-Decides}
 use Rattle.std.proofs.lemmas.List.Elements.{All-contains, Decides-contains}
 use Rattle.pearl_tables.specs.declared.word.WordRow.{WordRow}
 use Rattle.pearl_tables.specs.Words.{meanings, IsWord, AreTheWords}
-use Rattle.pearl_tree.specs.WordCodes.{words}
+use Rattle.pearl_tables.specs.Words.{words}
 use Rattle.pearl_lex.specs.Spelling.{meaning}
 use Rattle.pearl_lex.proofs.Passes.{and_front, and_back}
 

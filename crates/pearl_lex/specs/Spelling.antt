@@ -5,7 +5,7 @@ use Rattle.std.specs.List.{prefix_len}
 use Rattle.std.specs.Str.{bytes_eq}
 use Rattle.pearl_tree.specs.declared.token.What.{What}
 use Rattle.pearl_tree.specs.declared.token.What.TheVariants as what
-use Rattle.pearl_tree.specs.Symbols as symbol
+use Rattle.pearl_tables.specs.declared.symbol.TheConstants as s
 use Rattle.pearl_lex.specs.declared.front.Front.{Front}
 
 -- a letter, a digit or `_`
@@ -56,33 +56,33 @@ word_or_id None text = id_of text
 -- the symbol of these two bytes
 abbrev pub double_symbol : ℕ → ℕ → Option ℕ
 double_symbol a b =
-    if a == 58 && b == 61 then Some symbol.becomes else (
-    if a == 61 && b == 61 then Some symbol.same else (
-    if a == 47 && b == 61 then Some symbol.differs else (
-    if a == 60 && b == 61 then Some symbol.at_most else (
-    if a == 62 && b == 61 then Some symbol.at_least else (
-    if a == 62 && b == 60 then Some symbol.joined else (
-    if a == 60 && b == 62 then Some symbol.turned else (
-    if a == 47 && b == 47 then Some symbol.over else (
-    if a == 42 && b == 42 then Some symbol.power else None))))))))
+    if a == 58 && b == 61 then Some s.BECOMES else (
+    if a == 61 && b == 61 then Some s.EQUAL else (
+    if a == 47 && b == 61 then Some s.UNEQUAL else (
+    if a == 60 && b == 61 then Some s.AT_MOST else (
+    if a == 62 && b == 61 then Some s.AT_LEAST else (
+    if a == 62 && b == 60 then Some s.CONCATENATE else (
+    if a == 60 && b == 62 then Some s.ROTATE else (
+    if a == 47 && b == 47 then Some s.DIVIDE else (
+    if a == 42 && b == 42 then Some s.POWER else None))))))))
 
 -- the symbol of this one byte
 abbrev pub single_symbol : ℕ → Option ℕ
 single_symbol a =
-    if a == 40 then Some symbol.left_round else (
-    if a == 41 then Some symbol.right_round else (
-    if a == 91 then Some symbol.left_square else (
-    if a == 93 then Some symbol.right_square else (
-    if a == 44 then Some symbol.comma else (
-    if a == 59 then Some symbol.semicolon else (
-    if a == 58 then Some symbol.colon else (
-    if a == 46 then Some symbol.period else (
-    if a == 61 then Some symbol.equals else (
-    if a == 60 then Some symbol.less else (
-    if a == 62 then Some symbol.more else (
-    if a == 43 then Some symbol.plus else (
-    if a == 45 then Some symbol.minus else (
-    if a == 42 then Some symbol.star else None)))))))))))))
+    if a == 40 then Some s.LEFT_ROUND else (
+    if a == 41 then Some s.RIGHT_ROUND else (
+    if a == 91 then Some s.LEFT_SQUARE else (
+    if a == 93 then Some s.RIGHT_SQUARE else (
+    if a == 44 then Some s.COMMA else (
+    if a == 59 then Some s.SEMICOLON else (
+    if a == 58 then Some s.COLON else (
+    if a == 46 then Some s.PERIOD else (
+    if a == 61 then Some s.EQUALS_SIGN else (
+    if a == 60 then Some s.LESS else (
+    if a == 62 then Some s.GREATER else (
+    if a == 43 then Some s.PLUS else (
+    if a == 45 then Some s.MINUS else (
+    if a == 42 then Some s.TIMES else None)))))))))))))
 
 abbrev pub longer_symbol : Option ℕ → Option ℕ → Option Front
 longer_symbol (Some double) single = Some (record { what = what.Symbol double; size = 2 })

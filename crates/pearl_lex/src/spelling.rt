@@ -2,7 +2,7 @@
 
 ghost use Rattle.std.specs.Prelude.{◌≡◌, ◌≢◌, ◌+◌, ◌-◌, ◌<◌, ◌≤◌, ◌^◌, true, length, take, drop, slice_index, nat_le, IfSome, if◌then◌else◌, Some, None};
 ghost use Rattle.std.specs.List.{prefix_len};
-ghost use Rattle.pearl_tree.specs.WordCodes.{words};
+ghost use Rattle.pearl_tables.specs.Words.{words};
 ghost use Rattle.pearl_lex.specs.Spelling as spec;
 
 use crate::front::Front;

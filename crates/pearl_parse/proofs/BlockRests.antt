@@ -8,8 +8,8 @@ use Rattle.pearl_tree.specs.Standing.{Spelling, HasWord, HasSymbol, SpellsMaybe,
 use Rattle.pearl_tree.specs.Declarations.{SpellsParam}
 use Rattle.pearl_tree.specs.Statements.{SpellsWholeBody}
 use Rattle.pearl_tree.specs.Modules.{SpellsTaskHead, SpellsReturns, SpellsBlock}
-use Rattle.pearl_tree.specs.Symbols as s
-use Rattle.pearl_tree.specs.WordCodes as w
+use Rattle.pearl_tables.specs.declared.symbol.TheConstants as s
+use Rattle.pearl_tables.specs.declared.word_code.TheConstants as w
 use Rattle.pearl_parse_expr.specs.declared.reading.Halt.{Halt}
 use Rattle.pearl_parse_expr.specs.declared.reading.Halt.TheVariants.{Refused, NoMemory}
 use Rattle.pearl_parse_expr.specs.Stops.{Sure, IsHalted, is_word}
@@ -22,7 +22,7 @@ use Rattle.pearl_parse.proofs.Steps.{Rest, Ends, Then, Goes, Avoids, past}
 
 -- END ";"
 abbrev pub end_rest : Rest
-end_rest others at to = HasWord others at w.END × HasSymbol others (at + 1) s.semicolon × (to ≡ at + 2)
+end_rest others at to = HasWord others at w.END × HasSymbol others (at + 1) s.SEMICOLON × (to ≡ at + 2)
 
 -- body END ";"
 abbrev pub body_rest : Rest
@@ -30,7 +30,7 @@ body_rest = Then SpellsWholeBody end_rest
 
 -- ";" body END ";"
 abbrev pub opened_rest : Rest
-opened_rest others at to = HasSymbol others at s.semicolon × body_rest others (at + 1) to
+opened_rest others at to = HasSymbol others at s.SEMICOLON × body_rest others (at + 1) to
 
 abbrev pub block_rest : Rest
 block_rest = Then SpellsBlock Ends
@@ -60,7 +60,7 @@ pub returns_stop : Avoids (is_word w.RETURNS) block_rest
 returns_stop others at to h = ap (is_word w.RETURNS) h.2.1
 
 pub params_stop : Avoids by_bracket returns_rest
-params_stop others at to (None, m, h, rest) = ap by_bracket (subst (λ k. HasSymbol others k s.semicolon) h rest.2.1)
+params_stop others at to (None, m, h, rest) = ap by_bracket (subst (λ k. HasSymbol others k s.SEMICOLON) h rest.2.1)
 params_stop others at to (Some x, m, h, rest) = ap by_bracket h.1
 
 pub sure_longer : {Y : Type 0} (spells : List Token → Spelling Y) (extends : Option What → Bool) (tokens : List Token) (from end stop new : ℕ) → stop ≤ new →

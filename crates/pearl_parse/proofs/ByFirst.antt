@@ -16,8 +16,8 @@ use Rattle.pearl_tree.specs.declared.token.What.TheVariants as what
 use Rattle.pearl_tree.specs.declared.token.Token.{Token}
 use Rattle.pearl_tree.specs.Standing.{HasWord, IsName, SpellsMaybe, what_at}
 use Rattle.pearl_tree.specs.Statements.{SpellsAfter, SpellsFor, SpellsStart, SpellsOnce, SpellsStmt}
-use Rattle.pearl_tree.specs.Symbols as s
-use Rattle.pearl_tree.specs.WordCodes as w
+use Rattle.pearl_tables.specs.declared.symbol.TheConstants as s
+use Rattle.pearl_tables.specs.declared.word_code.TheConstants as w
 use Rattle.pearl_tree.proofs.OneStatement.{group_of}
 use Rattle.pearl_parse.specs.Stops.{begins_statement}
 
@@ -73,7 +73,7 @@ module _ (tokens : List Token) where
   lead_once from (once.When n p) to h = leads from (what.Word w.WHEN) 9 h.1 refl refl
 
   stmt_leads : (depth from : ℕ) (a : Stmt) (to : ℕ) → SpellsStmt tokens depth from a to → Leads from (group a)
-  stmt_leads depth from (Empty p) to h = leads from (what.Symbol s.semicolon) 0 h.1 refl refl
+  stmt_leads depth from (Empty p) to h = leads from (what.Symbol s.SEMICOLON) 0 h.1 refl refl
   stmt_leads depth from (Assign target x p) to h = leads from (what.Id target.name.text) 1 h.3.1.0 refl refl
   stmt_leads depth from (Call false name xs p) to h = leads from (what.Id name.text) 1 (subst (λ k. IsName tokens k name) h.3 h.4).0 refl refl
   stmt_leads depth from (Call true name xs p) to h = leads from (what.Word w.CALL) 1 h.3.0 refl refl

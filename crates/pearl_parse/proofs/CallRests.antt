@@ -10,8 +10,8 @@ use Rattle.pearl_tree.specs.declared.token.Token.{Token}
 use Rattle.pearl_tree.specs.Standing.{IsAt, HasWord, HasSymbol, IsName, SpellsEach, SpellsList, SpellsMaybeBracketed, what_at}
 use Rattle.pearl_tree.specs.Expressions.{SpellsWhole, SpellsSelector}
 use Rattle.pearl_tree.specs.Statements.{SpellsStmt}
-use Rattle.pearl_tree.specs.Symbols as s
-use Rattle.pearl_tree.specs.WordCodes as w
+use Rattle.pearl_tables.specs.declared.symbol.TheConstants as s
+use Rattle.pearl_tables.specs.declared.word_code.TheConstants as w
 use Rattle.pearl_tree.proofs.ExpressionLists.{spells_subscripts}
 use Rattle.pearl_tree.proofs.OneStatement.{group_of}
 use Rattle.pearl_parse_expr.specs.declared.reading.Halt.{Halt}
@@ -41,40 +41,40 @@ value_rest = Then SpellsWhole exit_rest
 
 -- ")" ";"
 abbrev pub closed_rest : Rest
-closed_rest others at to = HasSymbol others at s.right_round × HasSymbol others (at + 1) s.semicolon × (to ≡ at + 2)
+closed_rest others at to = HasSymbol others at s.RIGHT_ROUND × HasSymbol others (at + 1) s.SEMICOLON × (to ≡ at + 2)
 
 -- ---- arguments
 
 module _ (others : List Token) (from : ℕ) where
-  pub bracketed_end : (end : ℕ) → HasSymbol others from s.left_round →
+  pub bracketed_end : (end : ℕ) → HasSymbol others from s.LEFT_ROUND →
       ((xs : List Expr) (to : ℕ) → SpellsList others (SpellsWhole others) (from + 1) xs to → (to ≡ end) ⊎ EndsEarly (by_comma extends_expression) others end to) →
       (xs : List Expr) (to : ℕ) → SpellsArguments others from xs to → closed_rest others end to
   bracketed_end end bracket sure [] to h =
-      absurd (clash _ (ap (is_symbol s.semicolon) (subst (λ k. HasSymbol others k s.semicolon) h.1 h.2)) (ap (is_symbol s.semicolon) bracket))
+      absurd (clash _ (ap (is_symbol s.SEMICOLON) (subst (λ k. HasSymbol others k s.SEMICOLON) h.1 h.2)) (ap (is_symbol s.SEMICOLON) bracket))
   bracketed_end end bracket sure (x ∷ xs) to h =
       let inner = h.1 in
       let same : inner.0 ≡ end = settled (by_comma extends_expression) others end inner.0 (sure (x ∷ xs) inner.0 inner.2) (ap (by_comma extends_expression) inner.3) in (
-        subst (λ k. HasSymbol others k s.right_round) same inner.3,
-        subst (λ k. HasSymbol others k s.semicolon) (inner.4 ∙ ap (λ k. k + 1) same) h.2,
+        subst (λ k. HasSymbol others k s.RIGHT_ROUND) same inner.3,
+        subst (λ k. HasSymbol others k s.SEMICOLON) (inner.4 ∙ ap (λ k. k + 1) same) h.2,
         omega (arith, same, inner.4, h.3),
       )
 
 module _ (tokens : List Token) (from : ℕ) where
-  pub arguments_go : (end stop new : ℕ) → HasSymbol tokens from s.left_round → from ≤ new → stop ≤ new →
+  pub arguments_go : (end stop new : ℕ) → HasSymbol tokens from s.LEFT_ROUND → from ≤ new → stop ≤ new →
       Sure (λ tokens. SpellsList tokens (SpellsWhole tokens)) (by_comma extends_expression) tokens (from + 1) end stop →
       Goes SpellsArguments tokens from closed_rest end new
   arguments_go end stop new bracket near below sure = λ others agree xs to h.
       bracketed_end others from end (sym (agree from near) ∙ bracket) (λ xs to h. sure others (shorter tokens others stop new below agree) xs to h) xs to h
 
-  pub arguments_stuck : (stop new : ℕ) → HasSymbol tokens from s.left_round → from ≤ new → stop ≤ new →
+  pub arguments_stuck : (stop new : ℕ) → HasSymbol tokens from s.LEFT_ROUND → from ≤ new → stop ≤ new →
       Stuck (λ tokens. SpellsList tokens (SpellsWhole tokens)) tokens (from + 1) stop → Stuck SpellsArguments tokens from new
   arguments_stuck stop new bracket near below stuck = λ others agree xs to h.
       by others (sym (agree from near) ∙ bracket) (λ xs to h. stuck others (shorter tokens others stop new below agree) xs to h) xs to h
     where
-      by : (others : List Token) → HasSymbol others from s.left_round → ((xs : List Expr) (to : ℕ) → SpellsList others (SpellsWhole others) (from + 1) xs to → ⊥) →
+      by : (others : List Token) → HasSymbol others from s.LEFT_ROUND → ((xs : List Expr) (to : ℕ) → SpellsList others (SpellsWhole others) (from + 1) xs to → ⊥) →
           (xs : List Expr) (to : ℕ) → SpellsArguments others from xs to → ⊥
       by others bracket stuck [] to h =
-          clash _ (ap (is_symbol s.semicolon) (subst (λ k. HasSymbol others k s.semicolon) h.1 h.2)) (ap (is_symbol s.semicolon) bracket)
+          clash _ (ap (is_symbol s.SEMICOLON) (subst (λ k. HasSymbol others k s.SEMICOLON) h.1 h.2)) (ap (is_symbol s.SEMICOLON) bracket)
       by others bracket stuck (x ∷ xs) to h = stuck (x ∷ xs) h.1.0 h.1.2
 
 -- ---- the name and the arguments of a call, as a reference
@@ -96,16 +96,16 @@ module _ (tokens : List Token) where
           (xs : List Selector) × SpellsEach (SpellsSelector tokens 33) from xs to
       by [] e h = ([], h)
       by (y ∷ ys) e h =
-          let place = place_of from s.left_round h.1 in
+          let place = place_of from s.LEFT_ROUND h.1 in
           let list = subst (λ zs. SpellsList tokens (SpellsWhole tokens) (from + 1) zs h.0) (sym e) h.2 in
           let selector = subst (λ X. X) (sym (spells_subscripts tokens 33 from arguments place.0 to)) (h.0, place.1, h.1, omega arith, list, h.3, h.4) in
           (Subscripts arguments place.0 ∷ [], (to, selector, refl))
 
-becomes_here : (token : Option What) → (token ≡ Some (what.Symbol s.becomes)) ⊎ (token ≡ Some (what.Symbol s.equals)) → is_becomes token ≡ true
+becomes_here : (token : Option What) → (token ≡ Some (what.Symbol s.BECOMES)) ⊎ (token ≡ Some (what.Symbol s.EQUALS_SIGN)) → is_becomes token ≡ true
 becomes_here token (inl h) = ap is_becomes h
 becomes_here token (inr h) = ap is_becomes h
 
-becomes_stops : (token : Option What) → (token ≡ Some (what.Symbol s.becomes)) ⊎ (token ≡ Some (what.Symbol s.equals)) → extends_operand token ≡ false
+becomes_stops : (token : Option What) → (token ≡ Some (what.Symbol s.BECOMES)) ⊎ (token ≡ Some (what.Symbol s.EQUALS_SIGN)) → extends_operand token ≡ false
 becomes_stops token (inl h) = ap extends_operand h
 becomes_stops token (inr h) = ap extends_operand h
 
@@ -126,12 +126,12 @@ module _ (others : List Token) (depth from end : ℕ) (named : is_name (what_at 
   kind_one : (a : Stmt) (to : ℕ) → SpellsStmt others depth from a to → T (eqb (group a) 1)
   kind_one a to h = let first = name_here (what_at others from) named in of_kind others depth from 1 first.0 first.1 first.2 a to h
 
-  call_end : (arguments : Parts Expr) (b : ℕ) → SpellsMaybeBracketed others (SpellsWhole others) (from + 1) arguments.items.items b → HasSymbol others b s.semicolon →
-      HasSymbol others end s.semicolon
+  call_end : (arguments : Parts Expr) (b : ℕ) → SpellsMaybeBracketed others (SpellsWhole others) (from + 1) arguments.items.items b → HasSymbol others b s.SEMICOLON →
+      HasSymbol others end s.SEMICOLON
   call_end arguments b h i =
       let list = as_selectors others (from + 1) arguments b h in
       let same = settled extends_operand others end b (sure list.0 b (named, list.1)) (ap extends_operand i) in
-      subst (λ k. HasSymbol others k s.semicolon) same i
+      subst (λ k. HasSymbol others k s.SEMICOLON) same i
 
   pub an_assignment : is_becomes (what_at others end) ≡ true → (a : Stmt) (to : ℕ) → SpellsStmt others depth from a to → value_rest others (end + 1) to
   an_assignment here a to h = by a (kind_one a to h) h
@@ -163,7 +163,7 @@ module _ (tokens : List Token) (depth from : ℕ) where
   return_goes here = behind_word tokens depth from w.RETURN 8 return_rest here refl by
     where
       by : (others : List Token) (a : Stmt) (to : ℕ) → T (eqb (group a) 8) → SpellsStmt others depth from a to → return_rest others (from + 1) to
-      by others (Return None p) to e h = (None, h.0, (h.3, ap (is_symbol s.left_round) (subst (λ k. HasSymbol others k s.semicolon) h.3 h.4)), (h.4, h.5))
+      by others (Return None p) to e h = (None, h.0, (h.3, ap (is_symbol s.LEFT_ROUND) (subst (λ k. HasSymbol others k s.SEMICOLON) h.3 h.4)), (h.4, h.5))
       by others (Return (Some x) p) to e h = (Some x, h.0, h.3, (h.4, h.5))
       by others a to e h = absurd e
 

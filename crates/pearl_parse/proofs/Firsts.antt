@@ -7,8 +7,8 @@ use Rattle.pearl_tree.specs.declared.token.What.{What}
 use Rattle.pearl_tree.specs.declared.token.What.TheVariants as what
 use Rattle.pearl_tree.specs.declared.token.Token.{Token}
 use Rattle.pearl_tree.specs.Standing.{what_at, HasWord}
-use Rattle.pearl_tree.specs.Symbols as s
-use Rattle.pearl_tree.specs.WordCodes as w
+use Rattle.pearl_tables.specs.declared.symbol.TheConstants as s
+use Rattle.pearl_tables.specs.declared.word_code.TheConstants as w
 use Rattle.pearl_parse_expr.specs.Stops.{is_name}
 use Rattle.pearl_parse.specs.declared.first.Plain.TheVariants as plain
 use Rattle.pearl_parse.specs.declared.first.First.{First}
@@ -56,12 +56,12 @@ are_right tokens k =
 
 module _ (tokens : List Token) (k : ℕ) where
   begins_as : (token : What) (kind : First) → what_at tokens k ≡ Some token → first_of token ≡ Some kind → BeginsAs tokens k kind
-  begins_as (what.Symbol symbol) kind here h = by (symbol == s.semicolon) refl h
+  begins_as (what.Symbol symbol) kind here h = by (symbol == s.SEMICOLON) refl h
     where
-      by : (same : Bool) → (symbol == s.semicolon) ≡ same → (if same then Some (first.Plain plain.Empty) else None) ≡ Some kind → BeginsAs tokens k kind
+      by : (same : Bool) → (symbol == s.SEMICOLON) ≡ same → (if same then Some (first.Plain plain.Empty) else None) ≡ Some kind → BeginsAs tokens k kind
       by true is h =
           let e : first.Plain plain.Empty ≡ kind = let e = h in cc e in
-          subst (λ kind. BeginsAs tokens k kind) e (subst (λ symbol. what_at tokens k ≡ Some (what.Symbol symbol)) (eqb-true symbol s.semicolon is) here)
+          subst (λ kind. BeginsAs tokens k kind) e (subst (λ symbol. what_at tokens k ≡ Some (what.Symbol symbol)) (eqb-true symbol s.SEMICOLON is) here)
       by false is h = absurd (let e = h in cc e)
   begins_as (what.Id text) kind here h =
       let e : first.Plain plain.Named ≡ kind = let e = h in cc e in
@@ -81,7 +81,7 @@ pub token_here : (tokens : List Token) (at : ℕ) (token : Token) → at < lengt
 token_here tokens at token inside same = ap (option_map (λ (t : Token). t.what)) (slice_get_read tokens (length tokens) at token refl inside same)
 
 pub begins_none : (token : What) → first_of token ≡ None → begins_statement (Some token) ≡ false
-begins_none (what.Symbol symbol) h = by (symbol == s.semicolon) h
+begins_none (what.Symbol symbol) h = by (symbol == s.SEMICOLON) h
   where
     by : (same : Bool) → (if same then Some (first.Plain plain.Empty) else None) ≡ None → same ≡ false
     by true h = absurd (let e = h in cc e)

@@ -10,8 +10,8 @@ use Rattle.pearl_tree.specs.declared.token.Token.{Token}
 use Rattle.pearl_tree.specs.Standing.{what_at, HasWord, HasSymbol, SpellsName}
 use Rattle.pearl_tree.specs.Expressions.{SpellsWhole}
 use Rattle.pearl_tree.specs.Statements.{SpellsStmt, task_word, interrupt_word}
-use Rattle.pearl_tree.specs.Symbols as s
-use Rattle.pearl_tree.specs.WordCodes as w
+use Rattle.pearl_tables.specs.declared.symbol.TheConstants as s
+use Rattle.pearl_tables.specs.declared.word_code.TheConstants as w
 use Rattle.pearl_tree.proofs.OneStatement.{group_of}
 use Rattle.pearl_parse_expr.specs.Stops.{is_name}
 use Rattle.pearl_parse.specs.Stops.{SpellsOwnNamed, SpellsOptional}
@@ -22,18 +22,18 @@ abbrev pub Spelled : ℕ → List Token → ℕ → Stmt → ℕ → Type 0
 Spelled depth tokens = SpellsStmt tokens depth
 
 abbrev pub exit_rest : Rest
-exit_rest others at to = HasSymbol others at s.semicolon × (to ≡ at + 1)
+exit_rest others at to = HasSymbol others at s.SEMICOLON × (to ≡ at + 1)
 
 abbrev pub task_rest : Rest
 task_rest = Then (SpellsOptional is_name SpellsName) exit_rest
 
 abbrev pub interrupt_rest : Rest
-interrupt_rest others at to = (is_name (what_at others at) ≡ true) × HasSymbol others (at + 1) s.semicolon × (to ≡ at + 2)
+interrupt_rest others at to = (is_name (what_at others at) ≡ true) × HasSymbol others (at + 1) s.SEMICOLON × (to ≡ at + 2)
 
 -- word id ";"
 abbrev pub station_rest : ℕ → Rest
 station_rest word others at to =
-    HasWord others at word × (is_name (what_at others (at + 1)) ≡ true) × HasSymbol others (at + 2) s.semicolon × (to ≡ at + 3)
+    HasWord others at word × (is_name (what_at others (at + 1)) ≡ true) × HasSymbol others (at + 2) s.SEMICOLON × (to ≡ at + 3)
 
 abbrev pub send_rest : Rest
 send_rest = Then SpellsWhole (station_rest w.TO)
@@ -82,7 +82,7 @@ module _ (tokens : List Token) (depth from : ℕ) where
       kind Prevent = refl
 
       by : (others : List Token) (a : Stmt) (to : ℕ) → T (eqb (group a) 10) → SpellsStmt others depth from a to → task_rest others (from + 1) to
-      by others (OnTask c None p) to e h = (None, h.0, (h.3, ap is_name (subst (λ k. HasSymbol others k s.semicolon) h.3 h.4)), (h.4, h.5))
+      by others (OnTask c None p) to e h = (None, h.0, (h.3, ap is_name (subst (λ k. HasSymbol others k s.SEMICOLON) h.3 h.4)), (h.4, h.5))
       by others (OnTask c (Some x) p) to e h = (Some x, h.0, h.3, (h.4, h.5))
       by others a to e h = absurd e
 
@@ -95,5 +95,5 @@ module _ (tokens : List Token) (depth from : ℕ) where
       kind Trigger = refl
 
       by : (others : List Token) (a : Stmt) (to : ℕ) → T (eqb (group a) 12) → SpellsStmt others depth from a to → interrupt_rest others (from + 1) to
-      by others (OnInterrupt c x p) to e h = (ap is_name h.2.0, subst (λ k. HasSymbol others k s.semicolon) two h.3, omega (arith, h.4))
+      by others (OnInterrupt c x p) to e h = (ap is_name h.2.0, subst (λ k. HasSymbol others k s.SEMICOLON) two h.3, omega (arith, h.4))
       by others a to e h = absurd e

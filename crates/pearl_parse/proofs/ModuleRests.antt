@@ -11,8 +11,8 @@ use Rattle.pearl_tree.specs.declared.token.Token.{Token}
 use Rattle.pearl_tree.specs.Standing.{Spelling, what_at, IsAt, HasWord, HasSymbol, SpellsEach, SpellsMaybe}
 use Rattle.pearl_tree.specs.Declarations.{SpellsDevice}
 use Rattle.pearl_tree.specs.Modules.{SpellsDecl, SpellsModuleName, SpellsSystem, Spells}
-use Rattle.pearl_tree.specs.Symbols as s
-use Rattle.pearl_tree.specs.WordCodes as w
+use Rattle.pearl_tables.specs.declared.symbol.TheConstants as s
+use Rattle.pearl_tables.specs.declared.word_code.TheConstants as w
 use Rattle.pearl_parse_expr.specs.Stops.{Sure, Exact, is_name, is_symbol, is_word}
 use Rattle.pearl_parse_expr.proofs.PastEnd.{no_token}
 use Rattle.pearl_parse_expr.proofs.Primaries.{clash}
@@ -26,7 +26,7 @@ use Rattle.pearl_parse.proofs.BlockRests.{sure_longer}
 -- id ")"
 abbrev pub bracketed_rest : Rest
 bracketed_rest others at to =
-    (is_name (what_at others at) ≡ true) × HasSymbol others (at + 1) s.right_round × (to ≡ at + 2)
+    (is_name (what_at others at) ≡ true) × HasSymbol others (at + 1) s.RIGHT_ROUND × (to ≡ at + 2)
 
 -- [ "(" id ")" | id ] ";"
 abbrev pub name_rest : Rest
@@ -37,31 +37,31 @@ abbrev pub head_rest : Rest
 head_rest others at to = HasWord others at w.MODULE × name_rest others (at + 1) to
 
 module _ (tokens : List Token) (from : ℕ) where
-  pub bracketed_goes : HasSymbol tokens from s.left_round → Goes SpellsOptionalName tokens from bracketed_rest (from + 1) from
+  pub bracketed_goes : HasSymbol tokens from s.LEFT_ROUND → Goes SpellsOptionalName tokens from bracketed_rest (from + 1) from
   bracketed_goes here = λ others agree x to h. by others x to (sym (agree from (omega arith)) ∙ here) h
     where
       two : from + 2 ≡ from + 1 + 1
       two = omega arith
 
-      by : (others : List Token) (x : Option ModuleName) (to : ℕ) → HasSymbol others from s.left_round → SpellsOptionalName others from x to → bracketed_rest others (from + 1) to
+      by : (others : List Token) (x : Option ModuleName) (to : ℕ) → HasSymbol others from s.LEFT_ROUND → SpellsOptionalName others from x to → bracketed_rest others (from + 1) to
       by others None to here h = absurd (clash _ (ap begins_module_name here) h.1)
-      by others (Some (Bracketed name)) to here h = (ap is_name h.1.0, subst (λ k. HasSymbol others k s.right_round) two h.2, omega (arith, h.3))
+      by others (Some (Bracketed name)) to here h = (ap is_name h.1.0, subst (λ k. HasSymbol others k s.RIGHT_ROUND) two h.2, omega (arith, h.3))
       by others (Some (Bare name)) to here h = absurd (clash _ (ap is_name h.0.0) (ap is_name here))
 
-  pub bracket_closes : (to : ℕ) → bracketed_rest tokens (from + 1) to → is_symbol s.right_round (what_at tokens (from + 2)) ≡ true
+  pub bracket_closes : (to : ℕ) → bracketed_rest tokens (from + 1) to → is_symbol s.RIGHT_ROUND (what_at tokens (from + 2)) ≡ true
   bracket_closes to h =
       let two : from + 1 + 1 ≡ from + 2 = omega arith in
-      subst (λ k. is_symbol s.right_round (what_at tokens k) ≡ true) two (ap (is_symbol s.right_round) h.1)
+      subst (λ k. is_symbol s.RIGHT_ROUND (what_at tokens k) ≡ true) two (ap (is_symbol s.RIGHT_ROUND) h.1)
 
-  pub bare_is_exact : is_symbol s.left_round (what_at tokens from) ≡ false → is_name (what_at tokens from) ≡ true →
+  pub bare_is_exact : is_symbol s.LEFT_ROUND (what_at tokens from) ≡ false → is_name (what_at tokens from) ≡ true →
       Exact SpellsOptionalName tokens from (from + 1) (from + 1)
   bare_is_exact other here = λ others agree x to h.
-      by others x to (ap (is_symbol s.left_round) (sym (agree from (omega arith))) ∙ other) (ap is_name (sym (agree from (omega arith))) ∙ here) h
+      by others x to (ap (is_symbol s.LEFT_ROUND) (sym (agree from (omega arith))) ∙ other) (ap is_name (sym (agree from (omega arith))) ∙ here) h
     where
-      by : (others : List Token) (x : Option ModuleName) (to : ℕ) → is_symbol s.left_round (what_at others from) ≡ false → is_name (what_at others from) ≡ true →
+      by : (others : List Token) (x : Option ModuleName) (to : ℕ) → is_symbol s.LEFT_ROUND (what_at others from) ≡ false → is_name (what_at others from) ≡ true →
           SpellsOptionalName others from x to → to ≡ from + 1
       by others None to other here h = absurd (clash _ (rw (other, here) refl) h.1)
-      by others (Some (Bracketed name)) to other here h = absurd (clash _ (ap (is_symbol s.left_round) h.0) other)
+      by others (Some (Bracketed name)) to other here h = absurd (clash _ (ap (is_symbol s.LEFT_ROUND) h.0) other)
       by others (Some (Bare name)) to other here h = h.1
 
   pub head_goes : Goes SpellsHead tokens from head_rest from from
@@ -70,7 +70,7 @@ module _ (tokens : List Token) (from : ℕ) where
   pub name_goes : Goes SpellsHead tokens from name_rest (from + 1) from
   name_goes = λ others agree x to h. (x, h.0, h.2, (h.3, h.4))
 
-pub no_name : (token : Option What) → is_symbol s.left_round token ≡ false → is_name token ≡ false → begins_module_name token ≡ false
+pub no_name : (token : Option What) → is_symbol s.LEFT_ROUND token ≡ false → is_name token ≡ false → begins_module_name token ≡ false
 no_name token bracket name = rw (bracket, name) refl
 
 pub name_begins : (others : List Token) (from : ℕ) (x : ModuleName) (to : ℕ) → SpellsModuleName others from x to → begins_module_name (what_at others from) ≡ true
@@ -83,11 +83,11 @@ abbrev pub Devices : List Token → Spelling (List Device)
 Devices tokens = SpellsEach (SpellsDevice tokens)
 
 abbrev pub devices_rest : Rest
-devices_rest others at to = HasSymbol others at s.semicolon × Then Devices Ends others (at + 1) to
+devices_rest others at to = HasSymbol others at s.SEMICOLON × Then Devices Ends others (at + 1) to
 
 -- PROBLEM ";"
 abbrev pub problem_rest : Rest
-problem_rest others at to = HasWord others at w.PROBLEM × HasSymbol others (at + 1) s.semicolon × (to ≡ at + 2)
+problem_rest others at to = HasWord others at w.PROBLEM × HasSymbol others (at + 1) s.SEMICOLON × (to ≡ at + 2)
 
 abbrev pub opening_rest : Rest
 opening_rest = Then SpellsOptionalSystem problem_rest
@@ -132,19 +132,19 @@ module _ (tokens : List Token) (from : ℕ) where
   pub ending_goes : (low : ℕ) → Goes SpellsEnding tokens from ending_rest from low
   ending_goes low = λ others agree x to h. h.0
 
-  pub closed_goes : (stop : ℕ) → from + 1 ≤ stop → HasSymbol tokens (from + 1) s.semicolon → Goes SpellsEnding tokens from over_rest (from + 2) stop
+  pub closed_goes : (stop : ℕ) → from + 1 ≤ stop → HasSymbol tokens (from + 1) s.SEMICOLON → Goes SpellsEnding tokens from over_rest (from + 2) stop
   closed_goes stop near here = λ others agree x to h. by others x to (sym (agree (from + 1) near) ∙ here) h
     where
-      by : (others : List Token) (x : Bool) (to : ℕ) → HasSymbol others (from + 1) s.semicolon → SpellsEnding others from x to → over_rest others (from + 2) to
+      by : (others : List Token) (x : Bool) (to : ℕ) → HasSymbol others (from + 1) s.SEMICOLON → SpellsEnding others from x to → over_rest others (from + 2) to
       by others false to here h = absurd (let e = sym (no_token others (from + 1) (omega (arith, h.1, h.2))) ∙ here in cc e)
       by others true to here h = (omega (arith, h.1.1), h.2)
 
-  pub open_goes : (stop : ℕ) → from + 1 ≤ stop → is_symbol s.semicolon (what_at tokens (from + 1)) ≡ false → Goes SpellsEnding tokens from over_rest (from + 1) stop
-  open_goes stop near other = λ others agree x to h. by others x to (ap (is_symbol s.semicolon) (sym (agree (from + 1) near)) ∙ other) h
+  pub open_goes : (stop : ℕ) → from + 1 ≤ stop → is_symbol s.SEMICOLON (what_at tokens (from + 1)) ≡ false → Goes SpellsEnding tokens from over_rest (from + 1) stop
+  open_goes stop near other = λ others agree x to h. by others x to (ap (is_symbol s.SEMICOLON) (sym (agree (from + 1) near)) ∙ other) h
     where
-      by : (others : List Token) (x : Bool) (to : ℕ) → is_symbol s.semicolon (what_at others (from + 1)) ≡ false → SpellsEnding others from x to → over_rest others (from + 1) to
+      by : (others : List Token) (x : Bool) (to : ℕ) → is_symbol s.SEMICOLON (what_at others (from + 1)) ≡ false → SpellsEnding others from x to → over_rest others (from + 1) to
       by others false to other h = (h.1, h.2)
-      by others true to other h = absurd (clash _ (ap (is_symbol s.semicolon) h.1.0) other)
+      by others true to other h = absurd (clash _ (ap (is_symbol s.SEMICOLON) h.1.0) other)
 
 -- ---- the whole module
 
@@ -167,8 +167,8 @@ pub ending_stops : Avoids begins_declaration last_rest
 ending_stops others at to h = ap begins_declaration h.2.0
 
 module _ (others : List Token) where
-  optional_name : (from : ℕ) (name : Option ModuleName) (a : ℕ) → SpellsMaybe (SpellsModuleName others) from name a → HasSymbol others a s.semicolon → SpellsOptionalName others from name a
-  optional_name from None a h i = (h, ap begins_module_name (subst (λ k. HasSymbol others k s.semicolon) h i))
+  optional_name : (from : ℕ) (name : Option ModuleName) (a : ℕ) → SpellsMaybe (SpellsModuleName others) from name a → HasSymbol others a s.SEMICOLON → SpellsOptionalName others from name a
+  optional_name from None a h i = (h, ap begins_module_name (subst (λ k. HasSymbol others k s.SEMICOLON) h i))
   optional_name from (Some name) a h i = h
 
   optional_system : (from : ℕ) (system : Option (Parts Device)) (a : ℕ) → SpellsMaybe (SpellsSystem others) from system a → HasWord others a w.PROBLEM → SpellsOptionalSystem others from system a

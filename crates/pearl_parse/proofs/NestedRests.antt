@@ -11,8 +11,8 @@ use Rattle.pearl_tree.specs.declared.token.What.TheVariants as what
 use Rattle.pearl_tree.specs.declared.token.Token.{Token}
 use Rattle.pearl_tree.specs.Standing.{Spelling, what_at, IsAt, HasWord, HasSymbol, SpellsMaybe, SpellsSome}
 use Rattle.pearl_tree.specs.Statements.{SpellsStmt, SpellsBranch, SpellsBody, SpellsAfter}
-use Rattle.pearl_tree.specs.Symbols as s
-use Rattle.pearl_tree.specs.WordCodes as w
+use Rattle.pearl_tables.specs.declared.symbol.TheConstants as s
+use Rattle.pearl_tables.specs.declared.word_code.TheConstants as w
 use Rattle.pearl_tree.proofs.OneStatement.{group_of}
 use Rattle.pearl_tree.proofs.StatementLists.{spells_if, spells_case, spells_begin, spells_repeat}
 use Rattle.pearl_parse_expr.specs.declared.reading.Halt.{Halt}
@@ -170,9 +170,9 @@ module _ (tokens : List Token) (depth from : ℕ) where
       (only_repeat others depth from (ap (is_one loop_words) (sym (agree from (omega arith))) ∙ here) a to h).1
 
 -- ";"
-pub empty_is_exact : (tokens : List Token) (depth from : ℕ) → HasSymbol tokens from s.semicolon → Exact (Spelled depth) tokens from (from + 1) (from + 1)
+pub empty_is_exact : (tokens : List Token) (depth from : ℕ) → HasSymbol tokens from s.SEMICOLON → Exact (Spelled depth) tokens from (from + 1) (from + 1)
 empty_is_exact tokens depth from here = λ others agree a to h.
-    by others a to (of_kind others depth from 0 (what.Symbol s.semicolon) (sym (agree from (omega arith)) ∙ here) refl a to h) h
+    by others a to (of_kind others depth from 0 (what.Symbol s.SEMICOLON) (sym (agree from (omega arith)) ∙ here) refl a to h) h
   where
     by : (others : List Token) (a : Stmt) (to : ℕ) → T (eqb (group a) 0) → SpellsStmt others depth from a to → to ≡ from + 1
     by others (Empty p) to e h = h.2
@@ -181,7 +181,7 @@ empty_is_exact tokens depth from here = λ others agree a to h.
 -- what was read, put together
 module _ (tokens : List Token) (depth from place : ℕ) (here : IsAt tokens from place) (deep : 0 < depth) where
   abbrev Closes : ℕ → ℕ → Type 0
-  Closes word k = HasWord tokens k word × HasSymbol tokens (k + 1) s.semicolon
+  Closes word k = HasWord tokens k word × HasSymbol tokens (k + 1) s.SEMICOLON
 
   pub if_spelled : (condition : Expr) (statements : Parts Stmt) (otherwise : Option Branch) (a b c : ℕ) → SpellsCondition tokens from condition a →
       SpellsStatements (depth - 1) tokens a statements.items.items b → SpellsMaybe (SpellsBranch tokens (depth - 1) w.ELSE) b otherwise c → Closes w.FIN c →

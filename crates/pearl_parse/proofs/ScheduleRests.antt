@@ -11,8 +11,8 @@ use Rattle.pearl_tree.specs.declared.token.What.TheVariants as what
 use Rattle.pearl_tree.specs.declared.token.Token.{Token}
 use Rattle.pearl_tree.specs.Standing.{HasWord, HasSymbol, IsName, SpellsMaybe, what_at}
 use Rattle.pearl_tree.specs.Statements.{SpellsAfter, SpellsStmt, SpellsStart, SpellsOnce}
-use Rattle.pearl_tree.specs.Symbols as s
-use Rattle.pearl_tree.specs.WordCodes as w
+use Rattle.pearl_tables.specs.declared.symbol.TheConstants as s
+use Rattle.pearl_tables.specs.declared.word_code.TheConstants as w
 use Rattle.pearl_tree.proofs.Meeting.{same_word}
 use Rattle.pearl_tree.proofs.OneSchedule.{start_word, start_begins, once_word, once_begins}
 use Rattle.pearl_parse_expr.specs.declared.reading.Halt.{Halt}
@@ -34,7 +34,7 @@ activation_rest = Then SpellsActivation Ends
 
 -- CONTINUE id ";"
 abbrev pub continue_rest : Rest
-continue_rest others at to = (is_name (what_at others (at + 1)) ≡ true) × HasSymbol others (at + 2) s.semicolon × (to ≡ at + 3)
+continue_rest others at to = (is_name (what_at others (at + 1)) ≡ true) × HasSymbol others (at + 2) s.SEMICOLON × (to ≡ at + 3)
 
 module _ (tokens : List Token) (from : ℕ) where
   pub period_stopped : (low end stop : ℕ) (halt : Halt) → Sure (λ tokens. SpellsAfter tokens w.ALL) extends_expression tokens from end stop → from ≤ end → low ≤ stop →
@@ -56,8 +56,8 @@ module _ (tokens : List Token) (from : ℕ) where
   activation_goes stop = λ others agree x to h. (x.1, h.0, h.3, (h.4, h.5))
 
 module _ (others : List Token) where
-  pub priority_optional : (k : ℕ) (x : Option Expr) (b : ℕ) → SpellsMaybe (SpellsAfter others w.PRIO) k x b → HasSymbol others b s.semicolon → SpellsOptionalPriority others k x b
-  priority_optional k None b h i = (h, ap (is_word w.PRIO) (subst (λ k. HasSymbol others k s.semicolon) h i))
+  pub priority_optional : (k : ℕ) (x : Option Expr) (b : ℕ) → SpellsMaybe (SpellsAfter others w.PRIO) k x b → HasSymbol others b s.SEMICOLON → SpellsOptionalPriority others k x b
+  priority_optional k None b h i = (h, ap (is_word w.PRIO) (subst (λ k. HasSymbol others k s.SEMICOLON) h i))
   priority_optional k (Some x) b h i = h
 
   no_start : (from word : ℕ) (a : Start) (to : ℕ) → HasWord others from word → ((a : Start) → T (eqb (start_word others a) word) → ⊥) → SpellsStart others from a to → ⊥
@@ -108,7 +108,7 @@ module _ (others : List Token) where
       by (Activate None n x p) e h = absurd (omega (arith, same_word others from w.ACTIVATE w.CONTINUE (subst (λ k. HasWord others k w.ACTIVATE) h.3 h.4) here))
       by (Activate (Some x) n y p) e h = absurd (no_start from w.CONTINUE x h.0 here start_no_continue h.3)
       by (Continue None n p) e h =
-          (ap is_name (subst (λ k. IsName others (k + 1) n) h.2 h.4).0, subst (λ k. HasSymbol others (k + 2) s.semicolon) h.2 h.5, h.6 ∙ ap (λ k. k + 3) h.2)
+          (ap is_name (subst (λ k. IsName others (k + 1) n) h.2 h.4).0, subst (λ k. HasSymbol others (k + 2) s.SEMICOLON) h.2 h.5, h.6 ∙ ap (λ k. k + 3) h.2)
       by (Continue (Some x) n p) e h = absurd (no_once from w.CONTINUE x h.0 here once_no_continue h.2)
       by (Resume x p) e h = absurd (no_once from w.CONTINUE x h.0 here once_no_continue h.2)
       by a e h = absurd e

@@ -14,8 +14,8 @@ use Rattle.pearl_tree.specs.declared.token.What.TheVariants as what
 use Rattle.pearl_tree.specs.declared.token.Token.{Token}
 use Rattle.pearl_tree.specs.Standing.{HasWord, HasSymbol, SpellsMaybe, what_at}
 use Rattle.pearl_tree.specs.Statements.{SpellsAfter, SpellsPeriodEnd, SpellsPeriod, SpellsStmt, SpellsStart, SpellsOnce}
-use Rattle.pearl_tree.specs.Symbols as s
-use Rattle.pearl_tree.specs.WordCodes as w
+use Rattle.pearl_tables.specs.declared.symbol.TheConstants as s
+use Rattle.pearl_tables.specs.declared.word_code.TheConstants as w
 use Rattle.pearl_tree.proofs.Meeting.{same_word}
 use Rattle.pearl_tree.proofs.OneSchedule.{start_word, start_begins, once_word, once_begins}
 use Rattle.pearl_tree.proofs.OneStatement.{group_of}
@@ -35,11 +35,11 @@ continued others at to = HasWord others at w.CONTINUE × continue_rest others at
 
 -- ";" behind RESUME
 abbrev pub resume_rest : Rest
-resume_rest others at to = HasSymbol others (at + 1) s.semicolon × (to ≡ at + 2)
+resume_rest others at to = HasSymbol others (at + 1) s.SEMICOLON × (to ≡ at + 2)
 
 -- RESUME ";"
 abbrev pub resumed : Rest
-resumed others at to = HasWord others at w.RESUME × HasSymbol others (at + 1) s.semicolon × (to ≡ at + 2)
+resumed others at to = HasWord others at w.RESUME × HasSymbol others (at + 1) s.SEMICOLON × (to ≡ at + 2)
 
 abbrev pub begun_rest : Rest
 begun_rest = Then SpellsBegun Ends
@@ -170,7 +170,7 @@ module _ (others : List Token) (at to : ℕ) where
       first None m h i = omega (arith, same_word others at w.CONTINUE w.ACTIVATE here (subst (λ k. HasWord others k w.ACTIVATE) h.0 i))
       first (Some u) m h i = omega (arith, same_word others at w.CONTINUE w.ALL here h.2.0)
 
-  pub is_resumed : HasWord others at w.RESUME → after_time others at to → HasSymbol others (at + 1) s.semicolon × (to ≡ at + 2)
+  pub is_resumed : HasWord others at w.RESUME → after_time others at to → HasSymbol others (at + 1) s.SEMICOLON × (to ≡ at + 2)
   is_resumed here (inl h) = absurd (omega (arith, same_word others at w.RESUME w.CONTINUE here h.0))
   is_resumed here (inr (inl h)) = (h.1, h.2)
   is_resumed here (inr (inr h)) = absurd (first h.0.0 h.2.0 h.2.1 h.2.2.1)

@@ -6,8 +6,8 @@ use Rattle.pearl_tree.specs.declared.token.What.{What}
 use Rattle.pearl_tree.specs.declared.token.Token.{Token}
 use Rattle.pearl_tree.specs.Standing.{what_at, HasWord, HasSymbol}
 use Rattle.pearl_tree.specs.Modules.{SpellsDecl}
-use Rattle.pearl_tree.specs.Symbols as s
-use Rattle.pearl_tree.specs.WordCodes as w
+use Rattle.pearl_tables.specs.declared.symbol.TheConstants as s
+use Rattle.pearl_tables.specs.declared.word_code.TheConstants as w
 use Rattle.pearl_parse_expr.specs.Stops.{Sure, Stuck, is_name, is_word}
 use Rattle.pearl_parse_decl.specs.Readings.{by_bracket}
 use Rattle.pearl_parse_expr.proofs.Primaries.{clash}
@@ -26,7 +26,7 @@ no_declaration tokens from other = λ others agree x to h.
 
 -- ":"
 abbrev pub unit_rest : Rest
-unit_rest others at to = HasSymbol others at s.colon
+unit_rest others at to = HasSymbol others at s.COLON
 
 module _ (others : List Token) (from : ℕ) where
   as_unit : is_name (what_at others from) ≡ true → (x : Decl) (to : ℕ) → SpellsDecl others from x to → unit_rest others (from + 1) to

@@ -6,20 +6,20 @@ use Rattle.pearl_tree.specs.declared.token.Token.{Token}
 use Rattle.pearl_tree.specs.Standing.{Spelling, HasSymbol, SpellsMaybeBracketed}
 use Rattle.pearl_tree.specs.Expressions.{SpellsWhole}
 use Rattle.pearl_tree.specs.Statements.{SpellsValue}
-use Rattle.pearl_tree.specs.Symbols as s
+use Rattle.pearl_tables.specs.declared.symbol.TheConstants as s
 use Rattle.pearl_parse_expr.specs.Stops.{is_symbol}
 use Rattle.pearl_parse.specs.Stops.{SpellsOptional}
 
 -- [ "(" expr ")" ], where a bracket begins one
 abbrev pub SpellsOptionalValue : List Token → Spelling (Option Expr)
-SpellsOptionalValue = SpellsOptional (is_symbol s.left_round) SpellsValue
+SpellsOptionalValue = SpellsOptional (is_symbol s.LEFT_ROUND) SpellsValue
 
 -- [ "(" expr { "," expr } ")" ] ";"
 abbrev pub SpellsArguments : List Token → Spelling (List Expr)
 SpellsArguments tokens from arguments to =
-    (m : ℕ) × SpellsMaybeBracketed tokens (SpellsWhole tokens) from arguments m × HasSymbol tokens m s.semicolon ×
+    (m : ℕ) × SpellsMaybeBracketed tokens (SpellsWhole tokens) from arguments m × HasSymbol tokens m s.SEMICOLON ×
     (to ≡ m + 1)
 
 -- `:=` or `=`
 abbrev pub is_becomes : Option What → Bool
-is_becomes token = is_symbol s.becomes token || is_symbol s.equals token
+is_becomes token = is_symbol s.BECOMES token || is_symbol s.EQUALS_SIGN token

@@ -8,8 +8,8 @@ use Rattle.pearl_tree.specs.declared.statement.SemaWord.TheVariants.{Request, Re
 use Rattle.pearl_tree.specs.declared.statement.InterruptWord.TheVariants.{Enable, Disable, Trigger}
 use Rattle.pearl_tree.specs.Standing.{what_at, HasWord, HasSymbol}
 use Rattle.pearl_tree.specs.Statements.{task_word, sema_word, interrupt_word}
-use Rattle.pearl_tree.specs.Symbols as s
-use Rattle.pearl_tree.specs.WordCodes as w
+use Rattle.pearl_tables.specs.declared.symbol.TheConstants as s
+use Rattle.pearl_tables.specs.declared.word_code.TheConstants as w
 use Rattle.pearl_parse_expr.specs.Stops.{is_name}
 use Rattle.pearl_parse.specs.declared.first.Plain.{Plain}
 use Rattle.pearl_parse.specs.declared.first.Plain.TheVariants as plain
@@ -40,14 +40,14 @@ first_in (row ∷ rows) code = if code == row.0 then Some row.1 else first_in ro
 
 -- the statement that a token begins
 abbrev pub first_of : What → Option First
-first_of (what.Symbol symbol) = if symbol == s.semicolon then Some (first.Plain plain.Empty) else None
+first_of (what.Symbol symbol) = if symbol == s.SEMICOLON then Some (first.Plain plain.Empty) else None
 first_of (what.Id _) = Some (first.Plain plain.Named)
 first_of (what.Word code) = first_in first_words code
 first_of _ = None
 
 -- a statement that holds no others begins there
 abbrev pub BeginsPlain : List Token → ℕ → Plain → Type 0
-BeginsPlain tokens k plain.Empty = HasSymbol tokens k s.semicolon
+BeginsPlain tokens k plain.Empty = HasSymbol tokens k s.SEMICOLON
 BeginsPlain tokens k plain.Named = is_name (what_at tokens k) ≡ true
 BeginsPlain tokens k plain.Call = HasWord tokens k w.CALL
 BeginsPlain tokens k plain.Exit = HasWord tokens k w.EXIT

@@ -12,8 +12,8 @@ use Rattle.pearl_tree.specs.declared.token.Token.{Token}
 use Rattle.pearl_tree.specs.Standing.{Spelling, what_at, HasWord, HasSymbol, SpellsSymbolFlag}
 use Rattle.pearl_tree.specs.Declarations.{SpellsDevice}
 use Rattle.pearl_tree.specs.Modules.{SpellsDecl, SpellsModuleName, SpellsSystem, SpellsTree}
-use Rattle.pearl_tree.specs.Symbols as s
-use Rattle.pearl_tree.specs.WordCodes as w
+use Rattle.pearl_tables.specs.declared.symbol.TheConstants as s
+use Rattle.pearl_tables.specs.declared.word_code.TheConstants as w
 use Rattle.pearl_parse_expr.specs.Stops.{is_name, is_symbol, is_word}
 use Rattle.pearl_parse.specs.Stops.{SpellsOptional}
 
@@ -24,7 +24,7 @@ begins_declaration token =
 
 -- a bracket or an id
 abbrev pub begins_module_name : Option What → Bool
-begins_module_name token = is_symbol s.left_round token || is_name token
+begins_module_name token = is_symbol s.LEFT_ROUND token || is_name token
 
 -- [ "(" id ")" | id ]
 abbrev pub SpellsOptionalName : List Token → Spelling (Option ModuleName)
@@ -34,7 +34,7 @@ SpellsOptionalName = SpellsOptional begins_module_name SpellsModuleName
 abbrev pub SpellsHead : List Token → Spelling (Option ModuleName)
 SpellsHead tokens from name to =
     (m : ℕ) × HasWord tokens from w.MODULE × SpellsOptionalName tokens (from + 1) name m ×
-    HasSymbol tokens m s.semicolon × (to ≡ m + 1)
+    HasSymbol tokens m s.SEMICOLON × (to ≡ m + 1)
 
 -- [ SYSTEM ";" { device } ]
 abbrev pub SpellsOptionalSystem : List Token → Spelling (Option (Parts Device))
@@ -44,12 +44,12 @@ SpellsOptionalSystem = SpellsOptional (is_word w.SYSTEM) SpellsSystem
 abbrev pub SpellsOpening : List Token → Spelling (Option (Parts Device))
 SpellsOpening tokens from system to =
     (m : ℕ) × SpellsOptionalSystem tokens from system m × HasWord tokens m w.PROBLEM ×
-    HasSymbol tokens (m + 1) s.semicolon × (to ≡ m + 2)
+    HasSymbol tokens (m + 1) s.SEMICOLON × (to ≡ m + 2)
 
 -- MODEND [ ";" ], and no token behind it
 abbrev pub SpellsEnding : List Token → Spelling Bool
 SpellsEnding tokens from semicolon to =
-    HasWord tokens from w.MODEND × SpellsSymbolFlag tokens s.semicolon (from + 1) semicolon to × (to ≡ length tokens)
+    HasWord tokens from w.MODEND × SpellsSymbolFlag tokens s.SEMICOLON (from + 1) semicolon to × (to ≡ length tokens)
 
 -- no token
 abbrev pub is_end : Option What → Bool

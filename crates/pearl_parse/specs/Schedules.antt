@@ -8,8 +8,8 @@ use Rattle.pearl_tree.specs.declared.token.What.{What}
 use Rattle.pearl_tree.specs.declared.token.Token.{Token}
 use Rattle.pearl_tree.specs.Standing.{Spelling, what_at, IsAt, HasWord, HasSymbol, IsName, SpellsMaybe}
 use Rattle.pearl_tree.specs.Statements.{SpellsAfter, SpellsPeriodEnd, SpellsPeriod}
-use Rattle.pearl_tree.specs.Symbols as s
-use Rattle.pearl_tree.specs.WordCodes as w
+use Rattle.pearl_tables.specs.declared.symbol.TheConstants as s
+use Rattle.pearl_tables.specs.declared.word_code.TheConstants as w
 use Rattle.pearl_parse_expr.specs.Stops.{extends_expression, is_word}
 use Rattle.pearl_parse.specs.Stops.{SpellsOptional}
 
@@ -39,7 +39,7 @@ SpellsOptionalPriority = SpellsOptional (is_word w.PRIO) (λ tokens. SpellsAfter
 abbrev pub SpellsActivation : List Token → Spelling (Name × Option Expr)
 SpellsActivation tokens from part to =
     (m : ℕ) × HasWord tokens from w.ACTIVATE × IsName tokens (from + 1) part.0 ×
-    SpellsOptionalPriority tokens (from + 2) part.1 m × HasSymbol tokens m s.semicolon × (to ≡ m + 1)
+    SpellsOptionalPriority tokens (from + 2) part.1 m × HasSymbol tokens m s.SEMICOLON × (to ≡ m + 1)
 
 -- [ ALL expr [ UNTIL expr | DURING expr ] ] ACTIVATE id [ PRIO expr ] ";"
 abbrev pub SpellsBegun : List Token → Spelling (Option Period × (Name × Option Expr))

@@ -12,8 +12,8 @@ use Rattle.pearl_tree.specs.Statements.{SpellsMaybeList}
 use Rattle.pearl_tree.specs.Formats.{SpellsFmt}
 use Rattle.pearl_tree.specs.declared.name.Name.{Name}
 use Rattle.pearl_tree.specs.declared.format.Fmt.{Fmt}
-use Rattle.pearl_tree.specs.Symbols as s
-use Rattle.pearl_tree.specs.WordCodes as w
+use Rattle.pearl_tables.specs.declared.symbol.TheConstants as s
+use Rattle.pearl_tables.specs.declared.word_code.TheConstants as w
 
 -- a part that begins at `from` and may be empty was read, and was stopped within the tokens and no earlier than at `low`
 abbrev pub IsOn : List Token → ℕ → ℕ → ℕ → ℕ → Type 0
@@ -51,7 +51,7 @@ SpellsNameList tokens = SpellsList tokens (SpellsName tokens)
 -- fmt { "," fmt } ";"
 abbrev pub SpellsFormats : List Token → Spelling (List Fmt)
 SpellsFormats tokens from formats to =
-    (m : ℕ) × SpellsList tokens (SpellsFmt tokens) from formats m × HasSymbol tokens m s.semicolon × (to ≡ m + 1)
+    (m : ℕ) × SpellsList tokens (SpellsFmt tokens) from formats m × HasSymbol tokens m s.SEMICOLON × (to ≡ m + 1)
 
 -- id BY fmt { "," fmt } ";"
 abbrev pub SpellsStation : List Token → Spelling (Name × List Fmt)
@@ -71,7 +71,7 @@ is_among (word ∷ words) code = (code == word) || is_among words code
 
 -- the first token of a statement
 abbrev pub begins_statement : Option What → Bool
-begins_statement (Some (what.Symbol symbol)) = symbol == s.semicolon
+begins_statement (Some (what.Symbol symbol)) = symbol == s.SEMICOLON
 begins_statement (Some (what.Id _)) = true
 begins_statement (Some (what.Word code)) = is_among statement_words code
 begins_statement _ = false

@@ -3,7 +3,7 @@
 ghost use Rattle.std.specs.Prelude.{◌≡◌, ◌+◌, ◌<◌, ◌≤◌, length, IfOk, IfErr};
 ghost use Rattle.std.proofs.Common.{ap};
 ghost use Rattle.pearl_tree.specs.Statements.{SpellsBodyDecl, SpellsWholeBody};
-ghost use Rattle.pearl_tree.specs.WordCodes as w;
+ghost use Rattle.pearl_tables.specs.declared.word_code.TheConstants as w;
 ghost use Rattle.pearl_parse_expr.specs.Stops.{Sure, Exact, IsAhead, IsHalted, is_word};
 ghost use Rattle.pearl_parse.specs.Stops.{IsOn};
 ghost use Rattle.pearl_parse.specs.Bodies.{extends_body};
@@ -14,7 +14,7 @@ use crate::step::{SEMICOLON, symbol, word};
 use pearl_parse_decl::list::list;
 use pearl_parse_expr::reading::{Halt, Reading};
 use pearl_parse_expr::standing::place_at;
-use pearl_tables::word_code::DECLARE;
+use pearl_tables::word_code::DCL;
 use pearl_tree::parts::Parts;
 use pearl_tree::statement::{Body, BodyDecl};
 use pearl_tree::token::Token;
@@ -28,7 +28,7 @@ fn body_declaration(alloc: Global, tokens: &[Token], from: usize) -> Result<Read
     ensures ahead { IfOk result (λ reading. IsAhead tokens.now from reading.end reading.stop) }
     ensures refused { IfErr result (λ halt. IsHalted SpellsBodyDecl tokens.now from halt) }
 {
-    word(tokens, from, from, DECLARE)?;
+    word(tokens, from, from, DCL)?;
     let items = list(alloc, tokens, from + 1)?;
     symbol(tokens, items.end, items.stop, SEMICOLON)?;
     Ok(Reading {

@@ -4,8 +4,8 @@ ghost use Rattle.std.specs.Prelude.{◌≡◌, ◌+◌, ◌<◌, ◌≤◌, ℕ,
 ghost use Rattle.pearl_tree.specs.Standing.{what_at, HasWord, HasSymbol, SpellsMaybeBracketed, SpellsMaybe};
 ghost use Rattle.pearl_tree.specs.Expressions.{SpellsWhole};
 ghost use Rattle.pearl_tree.specs.Statements.{SpellsStmt, SpellsValue, HasBecomes};
-ghost use Rattle.pearl_tree.specs.WordCodes as w;
-ghost use Rattle.pearl_tree.specs.Symbols as s;
+ghost use Rattle.pearl_tables.specs.declared.word_code.TheConstants as w;
+ghost use Rattle.pearl_tables.specs.declared.symbol.TheConstants as s;
 ghost use Rattle.pearl_parse_expr.specs.Stops.{Exact, IsAhead, IsHalted, is_name, is_symbol};
 ghost use Rattle.pearl_parse.specs.Stops as spec;
 ghost use Rattle.pearl_parse.specs.Calls as calls;
@@ -24,12 +24,12 @@ use std::alloc::Global;
 
 const BECOMES: u8 = 8;
 
-const EQUALS: u8 = 9;
+const EQUALS_SIGN: u8 = 9;
 
 /// `"(" expr ")"`
 fn value(alloc: Global, tokens: &[Token], from: usize) -> Result<Reading<Expr>, Halt>
     requires within { from < length tokens.now }
-    requires bracket { HasSymbol tokens.now from s.left_round }
+    requires bracket { HasSymbol tokens.now from s.LEFT_ROUND }
     ensures spells { IfOk result (λ reading. SpellsValue tokens.now from reading.part reading.end) }
     ensures sure { IfOk result (λ reading. Exact SpellsValue tokens.now from reading.end reading.stop) }
     ensures ahead { IfOk result (λ reading. IsAhead tokens.now from reading.end reading.stop) }
@@ -161,7 +161,7 @@ fn becomes(tokens: &[Token], at: usize) -> bool
     if is_symbol(tokens, at, BECOMES) {
         return true;
     }
-    is_symbol(tokens, at, EQUALS)
+    is_symbol(tokens, at, EQUALS_SIGN)
 }
 
 /// `ref ":=" expr ";"`, or `id [ "(" expr { "," expr } ")" ] ";"`: a reference is read, and the token behind it decides.

@@ -3,7 +3,7 @@
 ghost use Rattle.std.specs.Prelude.{◌≡◌, ◌≢◌, ◌+◌, ◌<◌, ◌≤◌, ℕ, length, IfOk, IfErr};
 ghost use Rattle.pearl_tree.specs.Standing.{HasWord};
 ghost use Rattle.pearl_tree.specs.Statements.{SpellsStmt, task_word, sema_word, interrupt_word};
-ghost use Rattle.pearl_tree.specs.WordCodes as w;
+ghost use Rattle.pearl_tables.specs.declared.word_code.TheConstants as w;
 ghost use Rattle.pearl_parse_expr.specs.declared.reading.Halt.{Halt};
 ghost use Rattle.pearl_parse_expr.specs.Stops.{Exact, IsAhead, IsHalted};
 

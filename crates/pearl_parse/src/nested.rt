@@ -2,8 +2,8 @@
 
 ghost use Rattle.std.specs.Prelude.{◌≡◌, ◌≢◌, ◌+◌, ◌<◌, ◌≤◌, length, IfOk, IfErr, OnOk};
 ghost use Rattle.pearl_tree.specs.Standing.{HasWord, HasSymbol};
-ghost use Rattle.pearl_tree.specs.WordCodes as w;
-ghost use Rattle.pearl_tree.specs.Symbols as s;
+ghost use Rattle.pearl_tables.specs.declared.word_code.TheConstants as w;
+ghost use Rattle.pearl_tables.specs.declared.symbol.TheConstants as s;
 ghost use Rattle.pearl_parse_expr.specs.declared.reading.Halt.{Halt};
 ghost use Rattle.pearl_parse_expr.specs.Stops.{Exact, IsAhead, IsHalted};
 ghost use Rattle.pearl_parse.specs.Stops as spec;
@@ -38,7 +38,7 @@ pub fn condition(alloc: Global, tokens: &[Token], from: usize) -> Result<Reading
 pub fn closing(tokens: &[Token], from: usize, low: usize, word: u8) -> Result<(), Halt>
     requires from { from ≤ length tokens.now }
     requires low { (from ≤ low) × (low ≤ length tokens.now) }
-    ensures stands { OnOk result (HasWord tokens.now from word × HasSymbol tokens.now (from + 1) s.semicolon) }
+    ensures stands { OnOk result (HasWord tokens.now from word × HasSymbol tokens.now (from + 1) s.SEMICOLON) }
     ensures within { OnOk result (from + 2 ≤ length tokens.now) }
     ensures refused { IfErr result (λ halt. spec.IsStopped (bodies.SpellsClosing word) tokens.now from low halt) }
     ensures memory { IfErr result (λ halt. halt ≢ Halt.NoMemory) }

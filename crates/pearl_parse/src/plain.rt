@@ -3,7 +3,7 @@
 ghost use Rattle.std.specs.Prelude.{ℕ, ◌<◌, ◌≤◌, length, IfOk, IfErr};
 ghost use Rattle.pearl_tree.specs.Standing.{HasSymbol};
 ghost use Rattle.pearl_tree.specs.Statements.{SpellsStmt};
-ghost use Rattle.pearl_tree.specs.Symbols as s;
+ghost use Rattle.pearl_tables.specs.declared.symbol.TheConstants as s;
 ghost use Rattle.pearl_parse_expr.specs.Stops.{Exact, IsAhead, IsHalted};
 ghost use Rattle.pearl_parse.specs.Firsts.{BeginsPlain};
 
@@ -23,7 +23,7 @@ use std::alloc::Global;
 /// `";"`
 fn empty(tokens: &[Token], from: usize) -> Reading<Stmt>
     requires within { from < length tokens.now }
-    requires symbol { HasSymbol tokens.now from s.semicolon }
+    requires symbol { HasSymbol tokens.now from s.SEMICOLON }
     ensures spells { (depth : ℕ) → SpellsStmt tokens.now depth from result.part result.end }
     ensures sure { (depth : ℕ) → Exact (λ tokens. SpellsStmt tokens depth) tokens.now from result.end result.stop }
     ensures ahead { IsAhead tokens.now from result.end result.stop }

@@ -3,7 +3,7 @@
 ghost use Rattle.std.specs.Prelude.{◌≡◌, ◌≢◌, ℕ, ◌+◌, ◌<◌, ◌≤◌, length, IfOk, IfErr};
 ghost use Rattle.pearl_tree.specs.Standing.{HasWord, SpellsMaybe};
 ghost use Rattle.pearl_tree.specs.Statements.{SpellsPeriodEnd, SpellsPeriod, SpellsStmt};
-ghost use Rattle.pearl_tree.specs.WordCodes as w;
+ghost use Rattle.pearl_tables.specs.declared.word_code.TheConstants as w;
 ghost use Rattle.pearl_parse_expr.specs.declared.reading.Halt.{Halt};
 ghost use Rattle.pearl_parse_expr.specs.Stops.{Sure, Exact, IsAhead, IsHalted, extends_expression};
 ghost use Rattle.pearl_parse.specs.Stops as spec;
@@ -113,7 +113,7 @@ pub fn activate(
 {
     word(tokens, from, low, ACTIVATE)?;
     let task = name(tokens, from + 1, low)?;
-    let priority = maybe_after(alloc, tokens, from + 2, low, PRIORITY)?;
+    let priority = maybe_after(alloc, tokens, from + 2, low, PRIO)?;
     symbol(tokens, priority.end, priority.stop, SEMICOLON)?;
     Ok(Reading {
         part: Activation {

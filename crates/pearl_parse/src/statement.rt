@@ -3,7 +3,7 @@
 ghost use Rattle.std.specs.Prelude.{◌≡◌, ℕ, ◌+◌, ◌<◌, ◌≤◌, length, IfOk, IfErr, true};
 ghost use Rattle.pearl_tree.specs.Standing.{what_at, HasWord, SpellsMaybe, SpellsSome};
 ghost use Rattle.pearl_tree.specs.Statements.{SpellsStmt, SpellsBranch, SpellsBody};
-ghost use Rattle.pearl_tree.specs.WordCodes as w;
+ghost use Rattle.pearl_tables.specs.declared.word_code.TheConstants as w;
 ghost use Rattle.pearl_parse_expr.specs.declared.reading.Halt.{Halt};
 ghost use Rattle.pearl_parse_expr.specs.Stops.{Sure, Exact, IsAhead, IsHalted};
 ghost use Rattle.pearl_parse.specs.Stops as spec;

@@ -4,7 +4,7 @@ ghost use Rattle.std.specs.Prelude.{◌≡◌, ◌+◌, ◌<◌, ◌≤◌, ℕ,
 ghost use Rattle.pearl_tree.specs.Standing.{HasWord, SpellsList, SpellsName};
 ghost use Rattle.pearl_tree.specs.Formats.{SpellsFmt};
 ghost use Rattle.pearl_tree.specs.Statements.{SpellsStmt, sema_word};
-ghost use Rattle.pearl_tree.specs.WordCodes as w;
+ghost use Rattle.pearl_tables.specs.declared.word_code.TheConstants as w;
 ghost use Rattle.pearl_parse_expr.specs.Stops.{Sure, Exact, IsAhead, IsHalted};
 ghost use Rattle.pearl_parse_decl.specs.Readings.{by_comma, never};
 ghost use Rattle.pearl_parse.specs.Stops as spec;

@@ -3,8 +3,8 @@
 ghost use Rattle.std.specs.Prelude.{◌≡◌, ◌+◌, ◌<◌, ◌≤◌, length, max, IfOk, IfErr, false};
 ghost use Rattle.pearl_tree.specs.Standing.{what_at, HasWord, HasSymbol, IsName};
 ghost use Rattle.pearl_tree.specs.Modules.{SpellsDecl};
-ghost use Rattle.pearl_tree.specs.Symbols as s;
-ghost use Rattle.pearl_tree.specs.WordCodes as w;
+ghost use Rattle.pearl_tables.specs.declared.symbol.TheConstants as s;
+ghost use Rattle.pearl_tables.specs.declared.word_code.TheConstants as w;
 ghost use Rattle.pearl_parse_expr.specs.Stops.{Exact, IsAhead, IsHalted};
 ghost use Rattle.pearl_parse.specs.Modules as modules;
 
@@ -28,7 +28,7 @@ use std::alloc::Global;
 fn task(alloc: Global, tokens: &[Token], from: usize, name: Name) -> Result<Reading<Decl>, Halt>
     requires within { from + 2 < length tokens.now }
     requires name { IsName tokens.now from name }
-    requires colon { HasSymbol tokens.now (from + 1) s.colon }
+    requires colon { HasSymbol tokens.now (from + 1) s.COLON }
     requires word { HasWord tokens.now (from + 2) w.TASK }
     ensures spells { IfOk result (λ reading. SpellsDecl tokens.now from reading.part reading.end) }
     ensures sure { IfOk result (λ reading. Exact SpellsDecl tokens.now from reading.end reading.stop) }
@@ -59,7 +59,7 @@ fn procedure(
 ) -> Result<Reading<Decl>, Halt>
     requires within { from + 2 < length tokens.now }
     requires name { IsName tokens.now from name }
-    requires colon { HasSymbol tokens.now (from + 1) s.colon }
+    requires colon { HasSymbol tokens.now (from + 1) s.COLON }
     requires word { HasWord tokens.now (from + 2) w.PROC }
     ensures spells { IfOk result (λ reading. SpellsDecl tokens.now from reading.part reading.end) }
     ensures sure { IfOk result (λ reading. Exact SpellsDecl tokens.now from reading.end reading.stop) }
@@ -98,7 +98,7 @@ fn unit(alloc: Global, tokens: &[Token], from: usize, name: Name) -> Result<Read
     if is_word(tokens, from + 2, TASK) {
         return task(alloc, tokens, from, name);
     }
-    word(tokens, from + 2, from + 2, PROCEDURE)?;
+    word(tokens, from + 2, from + 2, PROC)?;
     procedure(alloc, tokens, from, name)
 }
 
@@ -116,10 +116,10 @@ pub fn declaration(alloc: Global, tokens: &[Token], from: usize) -> Result<Readi
     if is_word(tokens, from, TYPE) {
         return type_of(alloc, tokens, from);
     }
-    if is_word(tokens, from, DECLARE) {
+    if is_word(tokens, from, DCL) {
         return declare(alloc, tokens, from);
     }
-    if is_word(tokens, from, SPECIFY) {
+    if is_word(tokens, from, SPC) {
         return specify(alloc, tokens, from);
     }
     match name_at(tokens, from) {

@@ -4,7 +4,7 @@ use Rattle.pearl_tree.specs.declared.token.What.{What}
 use Rattle.pearl_tree.specs.declared.token.What.TheVariants as what
 use Rattle.pearl_tree.specs.declared.token.Token.{Token}
 use Rattle.pearl_tree.specs.Standing.{Spelling, what_at, HasSymbol, SpellsMore, SpellsList, SpellsBracketed, SpellsMaybeBracketed, SpellsMaybeHeaded}
-use Rattle.pearl_tree.specs.Symbols as s
+use Rattle.pearl_tables.specs.declared.symbol.TheConstants as s
 use Rattle.pearl_tree.specs.Stops.{BeginAlike}
 use Rattle.pearl_parse_expr.specs.Stops.{Sure, Stuck, Exact, EndsEarly, is_symbol, is_word}
 use Rattle.pearl_parse_decl.specs.Readings.{by_bracket, by_comma}
@@ -29,14 +29,14 @@ module _ {X : Type 0} (spells : List Token → Spelling X) (extends : Option Wha
       (others : List Token) → BeginAlike tokens others stop → (xs : List X) (to : ℕ) → SpellsList others (spells others) from xs to →
       EndsEarly (by_comma extends) others end to ⊎ ((ys : List X) × SpellsMore others (spells others) end ys to)
 
-  module _ (no_comma : extends (Some (what.Symbol s.comma)) ≡ false) where
+  module _ (no_comma : extends (Some (what.Symbol s.COMMA)) ≡ false) where
     -- behind one more part
     after_part : (others : List Token) (end m to : ℕ) (ys : List X) → SpellsMore others (spells others) m ys to →
         (m ≡ end) ⊎ EndsEarly extends others end m →
         EndsEarly (by_comma extends) others end to ⊎ ((ys : List X) × SpellsMore others (spells others) end ys to)
     after_part others end m to ys h (inl same) = inr (ys, subst (λ k. SpellsMore others (spells others) k ys to) same h)
     after_part others end m to [] h (inr early) =
-        inl (omega (arith, h, early.0), subst (λ k. by_comma extends (what_at others k) ≡ true) (sym h) (or_first (extends (what_at others m)) (is_symbol s.comma (what_at others m)) early.1))
+        inl (omega (arith, h, early.0), subst (λ k. by_comma extends (what_at others k) ≡ true) (sym h) (or_first (extends (what_at others m)) (is_symbol s.COMMA (what_at others m)) early.1))
     after_part others end m to (y ∷ ys) h (inr early) = absurd (clash _ early.1 (ap extends h.1 ∙ no_comma))
 
     begins : (others : List Token) (from end : ℕ) →
@@ -49,23 +49,23 @@ module _ {X : Type 0} (spells : List Token → Spelling X) (extends : Option Wha
     pub list_begins : (tokens : List Token) (from end stop : ℕ) → Sure spells extends tokens from end stop → ListGoes tokens from end stop
     list_begins tokens from end stop sure = λ others agree xs to h. begins others from end (λ x to h. sure others agree x to h) xs to h
 
-    step : (others : List Token) (end next to : ℕ) → end < next → HasSymbol others end s.comma →
+    step : (others : List Token) (end next to : ℕ) → end < next → HasSymbol others end s.COMMA →
         ((x : X) (to : ℕ) → spells others (end + 1) x to → (to ≡ next) ⊎ EndsEarly extends others next to) →
         EndsEarly (by_comma extends) others end to ⊎ ((ys : List X) × SpellsMore others (spells others) end ys to) →
         EndsEarly (by_comma extends) others next to ⊎ ((ys : List X) × SpellsMore others (spells others) next ys to)
     step others end next to ahead comma sure (inl early) = inl (omega (arith, early.0), early.1)
     step others end next to ahead comma sure (inr ([], h)) =
-        inl (omega (arith, h), subst (λ k. by_comma extends (what_at others k) ≡ true) (sym h) (or_second (extends (what_at others end)) (is_symbol s.comma (what_at others end)) (ap (is_symbol s.comma) comma)))
+        inl (omega (arith, h), subst (λ k. by_comma extends (what_at others k) ≡ true) (sym h) (or_second (extends (what_at others end)) (is_symbol s.COMMA (what_at others end)) (ap (is_symbol s.COMMA) comma)))
     step others end next to ahead comma sure (inr (y ∷ ys, h)) = after_part others next h.0 to ys h.3 (sure y h.0 h.2)
 
     pub list_next : (tokens : List Token) (from end stop next last new : ℕ) → ListGoes tokens from end stop → end ≤ stop → end < next →
-        stop ≤ new → last ≤ new → HasSymbol tokens end s.comma → Sure spells extends tokens (end + 1) next last → ListGoes tokens from next new
+        stop ≤ new → last ≤ new → HasSymbol tokens end s.COMMA → Sure spells extends tokens (end + 1) next last → ListGoes tokens from next new
     list_next tokens from end stop next last new go near ahead below reach comma sure = λ others agree xs to h.
         step others end next to ahead (sym (agree end (omega arith)) ∙ comma)
         (λ x to h. sure others (shorter tokens others last new reach agree) x to h)
         (go others (shorter tokens others stop new below agree) xs to h)
 
-  ends : (others : List Token) (end to : ℕ) → (HasSymbol others end s.comma → (x : X) (to : ℕ) → spells others (end + 1) x to → ⊥) →
+  ends : (others : List Token) (end to : ℕ) → (HasSymbol others end s.COMMA → (x : X) (to : ℕ) → spells others (end + 1) x to → ⊥) →
       EndsEarly (by_comma extends) others end to ⊎ ((ys : List X) × SpellsMore others (spells others) end ys to) →
       (to ≡ end) ⊎ EndsEarly (by_comma extends) others end to
   ends others end to stuck (inl early) = inr early
@@ -73,11 +73,11 @@ module _ {X : Type 0} (spells : List Token → Spelling X) (extends : Option Wha
   ends others end to stuck (inr (y ∷ ys, h)) = absurd (stuck h.1 y h.0 h.2)
 
   pub list_ends : (tokens : List Token) (from end stop : ℕ) → ListGoes tokens from end stop → end ≤ stop →
-      is_symbol s.comma (what_at tokens end) ≡ false →
+      is_symbol s.COMMA (what_at tokens end) ≡ false →
       Sure (λ tokens. SpellsList tokens (spells tokens)) (by_comma extends) tokens from end stop
   list_ends tokens from end stop go near no_comma = λ others agree xs to h.
       ends others end to
-      (λ comma x to h. clash _ (ap (is_symbol s.comma) comma) (ap (is_symbol s.comma) (sym (agree end near)) ∙ no_comma))
+      (λ comma x to h. clash _ (ap (is_symbol s.COMMA) comma) (ap (is_symbol s.COMMA) (sym (agree end near)) ∙ no_comma))
       (go others agree xs to h)
 
   pub list_is_stuck : (tokens : List Token) (from end stop last new : ℕ) → ListGoes tokens from end stop → stop ≤ new → last ≤ new →
@@ -89,14 +89,14 @@ module _ {X : Type 0} (spells : List Token → Spelling X) (extends : Option Wha
       (go others (shorter tokens others stop new below agree) xs to h)
 
   -- the bracket that closes a list stands at one place
-  module _ (no_bracket : extends (Some (what.Symbol s.right_round)) ≡ false) where
+  module _ (no_bracket : extends (Some (what.Symbol s.RIGHT_ROUND)) ≡ false) where
     closes : (others : List Token) (from end : ℕ) →
         ((xs : List X) (to : ℕ) → SpellsList others (spells others) (from + 1) xs to → (to ≡ end) ⊎ EndsEarly (by_comma extends) others end to) →
-        (xs : List X) (to : ℕ) → SpellsBracketed others (spells others) from xs to → HasSymbol others end s.right_round × (to ≡ end + 1)
+        (xs : List X) (to : ℕ) → SpellsBracketed others (spells others) from xs to → HasSymbol others end s.RIGHT_ROUND × (to ≡ end + 1)
     closes others from end sure xs to h =
         let none : by_comma extends (what_at others h.0) ≡ false = rw (h.3, no_bracket) refl in
         let same = settled (by_comma extends) others end h.0 (sure xs h.0 h.2) none in
-        (subst (λ k. HasSymbol others k s.right_round) same h.3, omega (arith, same, h.4))
+        (subst (λ k. HasSymbol others k s.RIGHT_ROUND) same h.3, omega (arith, same, h.4))
 
     pub bracketed_is_exact : (tokens : List Token) (from end stop new : ℕ) → stop ≤ new →
         Sure (λ tokens. SpellsList tokens (spells tokens)) (by_comma extends) tokens (from + 1) end stop →
@@ -106,20 +106,20 @@ module _ {X : Type 0} (spells : List Token → Spelling X) (extends : Option Wha
 
     pub bracketed_is_open : (tokens : List Token) (from end stop : ℕ) → end ≤ stop →
         Sure (λ tokens. SpellsList tokens (spells tokens)) (by_comma extends) tokens (from + 1) end stop →
-        is_symbol s.right_round (what_at tokens end) ≡ false →
+        is_symbol s.RIGHT_ROUND (what_at tokens end) ≡ false →
         Stuck (λ tokens. SpellsBracketed tokens (spells tokens)) tokens from stop
     bracketed_is_open tokens from end stop below sure unclosed = λ others agree xs to h.
         let closed = closes others from end (λ xs to h. sure others agree xs to h) xs to h in
-        clash _ (ap (is_symbol s.right_round) closed.0) (ap (is_symbol s.right_round) (sym (agree end below)) ∙ unclosed)
+        clash _ (ap (is_symbol s.RIGHT_ROUND) closed.0) (ap (is_symbol s.RIGHT_ROUND) (sym (agree end below)) ∙ unclosed)
 
   -- [ "(" part { "," part } ")" ]
-  pub maybe_is_sure : (tokens : List Token) (from end stop : ℕ) → from < end → from ≤ stop → HasSymbol tokens from s.left_round →
+  pub maybe_is_sure : (tokens : List Token) (from end stop : ℕ) → from < end → from ≤ stop → HasSymbol tokens from s.LEFT_ROUND →
       Exact (λ tokens. SpellsBracketed tokens (spells tokens)) tokens from end stop →
       Sure (λ tokens. SpellsMaybeBracketed tokens (spells tokens)) by_bracket tokens from end stop
   maybe_is_sure tokens from end stop ahead near bracket exact = λ others agree xs to h.
       by others (sym (agree from near) ∙ bracket) (λ xs to h. exact others agree xs to h) xs to h
     where
-      by : (others : List Token) → HasSymbol others from s.left_round →
+      by : (others : List Token) → HasSymbol others from s.LEFT_ROUND →
           ((xs : List X) (to : ℕ) → SpellsBracketed others (spells others) from xs to → to ≡ end) →
           (xs : List X) (to : ℕ) → SpellsMaybeBracketed others (spells others) from xs to → (to ≡ end) ⊎ EndsEarly by_bracket others end to
       by others bracket one [] to h = inr (omega (arith, h, ahead), subst (λ k. by_bracket (what_at others k) ≡ true) (sym h) (ap by_bracket bracket))

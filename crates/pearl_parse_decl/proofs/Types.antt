@@ -15,8 +15,8 @@ use Rattle.pearl_tree.specs.declared.token.What.TheVariants as what
 use Rattle.pearl_tree.specs.declared.token.Token.{Token}
 use Rattle.pearl_tree.specs.Standing.{what_at, HasWord, HasSymbol, SpellsName, SpellsMore, SpellsList, SpellsBracketed}
 use Rattle.pearl_tree.specs.Types.{SpellsNames, SpellsBounds, sort_word, SpellsBasic, SpellsTyping, SpellsFields, SpellsMoreFields, SpellsField}
-use Rattle.pearl_tree.specs.Symbols as s
-use Rattle.pearl_tree.specs.WordCodes as w
+use Rattle.pearl_tables.specs.declared.symbol.TheConstants as s
+use Rattle.pearl_tables.specs.declared.word_code.TheConstants as w
 use Rattle.pearl_tree.specs.Stops.{BeginAlike}
 use Rattle.pearl_parse_expr.specs.Stops.{Sure, Stuck, Exact, is_symbol, is_word, is_name}
 use Rattle.pearl_parse_decl.specs.Readings.{by_bracket, by_comma}
@@ -105,8 +105,8 @@ module _ (tokens : List Token) where
   fields_of _ = (_, end_of-Field)
 
   pub only_struct : (depth from : ℕ) → HasWord tokens from w.STRUCT → (x : Typing) (to : ℕ) → SpellsTyping tokens depth from x to →
-      (0 < depth) × HasSymbol tokens (from + 1) s.left_square ×
-      ((list : List Field) × (m : ℕ) × SpellsList tokens (SpellsField tokens (depth - 1)) (from + 2) list m × HasSymbol tokens m s.right_square × (to ≡ m + 1))
+      (0 < depth) × HasSymbol tokens (from + 1) s.LEFT_SQUARE ×
+      ((list : List Field) × (m : ℕ) × SpellsList tokens (SpellsField tokens (depth - 1)) (from + 2) list m × HasSymbol tokens m s.RIGHT_SQUARE × (to ≡ m + 1))
   only_struct depth from word (typing.Basic part) to h = absurd (clash _ (ap (is_word w.STRUCT) word) (basic_no_struct from part to h))
   only_struct depth from word (typing.Struct' n fields place) to h =
       let row = fields_of (typing.Struct' n fields place) in
@@ -117,19 +117,19 @@ module _ (tokens : List Token) where
 module _ (tokens : List Token) (depth from end stop : ℕ) (word : HasWord tokens from w.STRUCT) (near : from ≤ stop)
     (sure : Sure (λ tokens. SpellsList tokens (SpellsField tokens (depth - 1))) (by_comma by_bracket) tokens (from + 2) end stop) where
   closes : (others : List Token) → BeginAlike tokens others stop → (x : Typing) (to : ℕ) → SpellsTyping others depth from x to →
-      HasSymbol others end s.right_square × (to ≡ end + 1)
+      HasSymbol others end s.RIGHT_SQUARE × (to ≡ end + 1)
   closes others agree x to h =
       let read = (only_struct others depth from (sym (agree from near) ∙ word) x to h).2 in
       let none : by_comma by_bracket (what_at others read.1) ≡ false = ap (by_comma by_bracket) read.3 in
       let same = settled (by_comma by_bracket) others end read.1 (sure others agree read.0 read.1 read.2) none in
-      (subst (λ k. HasSymbol others k s.right_square) same read.3, omega (arith, same, read.4))
+      (subst (λ k. HasSymbol others k s.RIGHT_SQUARE) same read.3, omega (arith, same, read.4))
 
   pub struct_is_sure : (new : ℕ) → stop ≤ new → Sure (λ tokens. SpellsTyping tokens depth) by_bracket tokens from (end + 1) new
   struct_is_sure new below = λ others agree x to h. inl (closes others (shorter tokens others stop new below agree) x to h).1
 
-  pub struct_is_open : end ≤ stop → is_symbol s.right_square (what_at tokens end) ≡ false → Stuck (λ tokens. SpellsTyping tokens depth) tokens from stop
+  pub struct_is_open : end ≤ stop → is_symbol s.RIGHT_SQUARE (what_at tokens end) ≡ false → Stuck (λ tokens. SpellsTyping tokens depth) tokens from stop
   struct_is_open below unclosed = λ others agree x to h.
-      clash _ (ap (is_symbol s.right_square) (closes others agree x to h).0) (ap (is_symbol s.right_square) (sym (agree end below)) ∙ unclosed)
+      clash _ (ap (is_symbol s.RIGHT_SQUARE) (closes others agree x to h).0) (ap (is_symbol s.RIGHT_SQUARE) (sym (agree end below)) ∙ unclosed)
 
 -- behind the names and the bounds that were read the type of a field begins
 pub field_typing : (tokens others : List Token) (depth from a b stop_a stop_b stop : ℕ) → stop_a ≤ stop → stop_b ≤ stop →

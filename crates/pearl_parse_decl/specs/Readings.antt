@@ -2,8 +2,8 @@
 use Rattle.std.specs.Prelude.{ℕ, ◌≤◌, ◌||◌, max, Bool, false, List, length, Option}
 use Rattle.pearl_tree.specs.declared.token.What.{What}
 use Rattle.pearl_tree.specs.declared.token.Token.{Token}
-use Rattle.pearl_tree.specs.Symbols as s
-use Rattle.pearl_tree.specs.WordCodes as w
+use Rattle.pearl_tables.specs.declared.symbol.TheConstants as s
+use Rattle.pearl_tables.specs.declared.word_code.TheConstants as w
 use Rattle.pearl_parse_expr.specs.declared.reading.Halt.{Halt}
 use Rattle.pearl_parse_expr.specs.declared.reading.Halt.TheVariants.{Refused, NoMemory}
 use Rattle.pearl_parse_expr.specs.Stops.{is_name, is_symbol, is_word}
@@ -14,18 +14,18 @@ never token = false
 
 -- a part behind which `"(" number ")"` may stand
 abbrev pub by_bracket : Option What → Bool
-by_bracket = is_symbol s.left_round
+by_bracket = is_symbol s.LEFT_ROUND
 
 abbrev pub by_colon : Option What → Bool
-by_colon = is_symbol s.colon
+by_colon = is_symbol s.COLON
 
 -- `+` or `-`
 abbrev pub is_sign : Option What → Bool
-is_sign token = is_symbol s.plus token || is_symbol s.minus token
+is_sign token = is_symbol s.PLUS token || is_symbol s.MINUS token
 
 -- part { "," part }
 abbrev pub by_comma : (Option What → Bool) → Option What → Bool
-by_comma extends token = extends token || is_symbol s.comma token
+by_comma extends token = extends token || is_symbol s.COMMA token
 
 abbrev pub extends_item : Option What → Bool
 extends_item token = by_bracket token || is_word w.INIT token

@@ -3,7 +3,7 @@
 ghost use Rattle.std.specs.Prelude.{◌≡◌, ◌≢◌, ◌+◌, ◌≤◌, List, length, max, IfOk, IfErr};
 ghost use Rattle.pearl_tree.specs.Standing.{HasWord};
 ghost use Rattle.pearl_tree.specs.Modules as modules;
-ghost use Rattle.pearl_tree.specs.WordCodes as w;
+ghost use Rattle.pearl_tables.specs.declared.word_code.TheConstants as w;
 ghost use Rattle.pearl_parse_expr.specs.declared.reading.Halt.{Halt};
 ghost use Rattle.pearl_parse_expr.specs.Stops as stops;
 

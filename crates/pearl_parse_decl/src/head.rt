@@ -4,7 +4,7 @@ ghost use Rattle.std.specs.Prelude.{◌≡◌, ◌+◌, ◌<◌, ◌≤◌, List
 ghost use Rattle.pearl_tree.specs.Standing.{HasWord, SpellsMaybe};
 ghost use Rattle.pearl_tree.specs.Declarations as grammar;
 ghost use Rattle.pearl_tree.specs.Modules as modules;
-ghost use Rattle.pearl_tree.specs.WordCodes as w;
+ghost use Rattle.pearl_tables.specs.declared.word_code.TheConstants as w;
 ghost use Rattle.pearl_parse_expr.specs.Stops as stops;
 ghost use Rattle.pearl_parse_decl.specs.Readings as spec;
 
@@ -15,7 +15,7 @@ use crate::symbol::*;
 use crate::typing::basic;
 use pearl_parse_expr::reading::{Halt, Reading};
 use pearl_parse_expr::standing::{is_symbol, is_word, number_at, place_at};
-use pearl_tables::word_code::{IDENTICAL, MAIN, PRIORITY, RETURNS};
+use pearl_tables::word_code::{IDENT, MAIN, PRIO, RETURNS};
 use pearl_tree::declaration::{Param, Prio};
 use pearl_tree::token::Token;
 use pearl_tree::tree::TaskHead;
@@ -38,7 +38,7 @@ pub fn param(alloc: Global, tokens: &[Token], from: usize) -> Result<Reading<Par
         Ok(basic) => basic,
         Err(halt) => return Err(behind(halt, names.stop)),
     };
-    let ident = flag(tokens, basic.end, IDENTICAL);
+    let ident = flag(tokens, basic.end, IDENT);
     Ok(Reading {
         part: Param {
             names: names.part,
@@ -73,7 +73,7 @@ fn prio(tokens: &[Token], from: usize) -> Result<Prio, usize>
     ensures refused { IfErr result (λ stop. stops.Stuck grammar.SpellsPrio tokens.now from stop) }
     ensures held { IfErr result (λ stop. (from ≤ stop) × (stop ≤ length tokens.now)) }
 {
-    if !is_word(tokens, from, PRIORITY) {
+    if !is_word(tokens, from, PRIO) {
         return Err(from);
     }
     match number_at(tokens, from + 1) {

@@ -4,7 +4,7 @@ ghost use Rattle.std.specs.Prelude.{◌≡◌, ◌+◌, ◌≤◌, List, length,
 ghost use Rattle.pearl_tree.specs.Standing.{HasWord};
 ghost use Rattle.pearl_tree.specs.Types as types;
 ghost use Rattle.pearl_tree.specs.Declarations as grammar;
-ghost use Rattle.pearl_tree.specs.WordCodes as w;
+ghost use Rattle.pearl_tables.specs.declared.word_code.TheConstants as w;
 ghost use Rattle.pearl_parse_expr.specs.Stops as stops;
 ghost use Rattle.pearl_parse_decl.specs.Readings as spec;
 

@@ -5,7 +5,7 @@ ghost use Rattle.pearl_tree.specs.declared.token.Token.{Token};
 ghost use Rattle.pearl_tree.specs.declared.token.What.{What};
 ghost use Rattle.pearl_tree.specs.declared.token.What.TheVariants as what;
 ghost use Rattle.pearl_tree.specs.Standing.{Spelling, HasWord, HasSymbol, SpellsList, SpellsBracketed, SpellsMaybeBracketed, SpellsMaybeHeaded};
-ghost use Rattle.pearl_tree.specs.Symbols as s;
+ghost use Rattle.pearl_tables.specs.declared.symbol.TheConstants as s;
 ghost use Rattle.pearl_parse_expr.specs.declared.reading.Halt.{Halt};
 ghost use Rattle.pearl_parse_expr.specs.Stops as stops;
 ghost use Rattle.pearl_parse_decl.specs.Readings as spec;
@@ -33,9 +33,9 @@ pub trait Part: Drop {
         ensures refused { IfErr result (λ halt. stops.IsHalted spelling tokens.now from halt) };
 
     // Behind a part a comma or a closing bracket may stand.
-    ghost stops_at_comma: { extends (Some (what.Symbol s.comma)) ≡ false };
+    ghost stops_at_comma: { extends (Some (what.Symbol s.COMMA)) ≡ false };
 
-    ghost stops_at_bracket: { extends (Some (what.Symbol s.right_round)) ≡ false };
+    ghost stops_at_bracket: { extends (Some (what.Symbol s.RIGHT_ROUND)) ≡ false };
 }
 
 /// The same want of memory, or the later one of two tokens.

@@ -5,7 +5,7 @@ ghost use Rattle.pearl_tree.specs.Standing.{what_at, HasWord, HasId};
 ghost use Rattle.pearl_tree.specs.Types as types;
 ghost use Rattle.pearl_tree.specs.Declarations as grammar;
 ghost use Rattle.pearl_tree.specs.declared.declaration.Direction.{Direction};
-ghost use Rattle.pearl_tree.specs.WordCodes as w;
+ghost use Rattle.pearl_tables.specs.declared.word_code.TheConstants as w;
 ghost use Rattle.pearl_parse_expr.specs.declared.reading.Halt.{Halt};
 ghost use Rattle.pearl_parse_expr.specs.Stops as stops;
 ghost use Rattle.pearl_parse_decl.specs.Readings as spec;

@@ -5,8 +5,8 @@ ghost use Rattle.pearl_tree.specs.Standing.{what_at, HasWord, HasSymbol, SpellsM
 ghost use Rattle.pearl_tree.specs.Types as grammar;
 ghost use Rattle.pearl_tree.specs.declared.typing.Sort.{Sort};
 ghost use Rattle.pearl_tree.specs.declared.typing.Field.{Field};
-ghost use Rattle.pearl_tree.specs.Symbols as s;
-ghost use Rattle.pearl_tree.specs.WordCodes as w;
+ghost use Rattle.pearl_tables.specs.declared.symbol.TheConstants as s;
+ghost use Rattle.pearl_tables.specs.declared.word_code.TheConstants as w;
 ghost use Rattle.pearl_parse_expr.specs.declared.reading.Halt.{Halt};
 ghost use Rattle.pearl_parse_expr.specs.Stops as stops;
 ghost use Rattle.pearl_parse_decl.specs.Readings as spec;
@@ -16,7 +16,7 @@ use crate::name::{maybe_number, names};
 use crate::symbol::*;
 use pearl_parse_expr::reading::{Halt, Reading, append};
 use pearl_parse_expr::standing::{is_symbol, is_word, name_at, number_at, place_at};
-use pearl_tables::word_code::{BIT, CHARACTER, CLOCK, DURATION, FIXED, STRUCT};
+use pearl_tables::word_code::{BIT, CHAR, CLOCK, DURATION, FIXED, STRUCT};
 use pearl_tree::name::Name;
 use pearl_tree::parts::Parts;
 use pearl_tree::token::Token;
@@ -160,7 +160,7 @@ pub fn sort_at(tokens: &[Token], at: usize) -> Option<Sort>
     if is_word(tokens, at, BIT) {
         return Some(Sort::Bit);
     }
-    if is_word(tokens, at, CHARACTER) {
+    if is_word(tokens, at, CHAR) {
         return Some(Sort::Char);
     }
     None

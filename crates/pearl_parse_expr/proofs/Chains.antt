@@ -9,8 +9,8 @@ use Rattle.pearl_tree.specs.declared.token.What.TheVariants as what
 use Rattle.pearl_tree.specs.declared.token.Token.{Token}
 use Rattle.pearl_tree.specs.Standing.{what_at}
 use Rattle.pearl_tree.specs.Expressions.{SpellsTerms, SpellsExpr, HasDyad, dyad_of, dyad_count}
-use Rattle.pearl_tree.specs.WordCodes as w
-use Rattle.pearl_tree.specs.Symbols as s
+use Rattle.pearl_tables.specs.declared.word_code.TheConstants as w
+use Rattle.pearl_tables.specs.declared.symbol.TheConstants as s
 use Rattle.pearl_parse_expr.specs.declared.reading.Halt.{Halt}
 use Rattle.pearl_parse_expr.specs.declared.reading.Halt.TheVariants.{Refused, NoMemory}
 use Rattle.pearl_tree.specs.Following.{lengthens_operand}
@@ -75,9 +75,9 @@ dyad_is_behind (Some (what.Clock milliseconds)) extends dyad = true≢false (sym
 dyad_is_behind (Some (what.Bits len value)) extends dyad = true≢false (sym extends)
 dyad_is_behind (Some (what.Text text)) extends dyad = true≢false (sym extends)
 dyad_is_behind (Some (what.Symbol symbol)) extends dyad =
-    or_absurd (symbol == s.left_round) (symbol == s.period)
-    (λ h. clash _ dyad (ap (λ k. is_dyad (Some (what.Symbol k))) (eqb-true symbol s.left_round h)))
-    (λ h. clash _ dyad (ap (λ k. is_dyad (Some (what.Symbol k))) (eqb-true symbol s.period h))) extends
+    or_absurd (symbol == s.LEFT_ROUND) (symbol == s.PERIOD)
+    (λ h. clash _ dyad (ap (λ k. is_dyad (Some (what.Symbol k))) (eqb-true symbol s.LEFT_ROUND h)))
+    (λ h. clash _ dyad (ap (λ k. is_dyad (Some (what.Symbol k))) (eqb-true symbol s.PERIOD h))) extends
 dyad_is_behind None extends dyad = true≢false (sym extends)
 
 -- a chain from `from` ends early, or goes through `end` with all but `count` of its operators

@@ -15,8 +15,8 @@ use Rattle.pearl_tree.specs.declared.token.What.TheVariants as what
 use Rattle.pearl_tree.specs.declared.token.Token.{Token}
 use Rattle.pearl_tree.specs.Standing.{what_at, HasWord, SpellsEach, SpellsMaybe, SpellsNumber}
 use Rattle.pearl_tree.specs.Expressions.{SpellsPrimary, SpellsMonadic, side_word, monad_what}
-use Rattle.pearl_tree.specs.WordCodes as w
-use Rattle.pearl_tree.specs.Symbols as s
+use Rattle.pearl_tables.specs.declared.word_code.TheConstants as w
+use Rattle.pearl_tables.specs.declared.symbol.TheConstants as s
 use Rattle.pearl_tree.specs.Stops.{BeginAlike}
 use Rattle.pearl_parse_expr.specs.Stops.{Sure, Stuck, EndsEarly, is_number, is_side, is_literal, is_name, is_symbol, is_word, monad_of, extends_operand, SpellsNamed, SpellsSigned}
 use Rattle.pearl_parse_expr.proofs.Primaries.{clash, or_absurd, side_head, Head, first_token, only_limit, only_counted_limit}
@@ -115,7 +115,7 @@ number_is_no_monad (Some (what.Text text)) h sign = true≢false (sym sign)
 number_is_no_monad (Some (what.Symbol symbol)) h sign = true≢false (sym h)
 number_is_no_monad None h sign = true≢false (sym sign)
 
-bracket_is_no_monad : (token : Option What) → is_symbol s.left_round token ≡ true → is_monad token ≡ true → ⊥
+bracket_is_no_monad : (token : Option What) → is_symbol s.LEFT_ROUND token ≡ true → is_monad token ≡ true → ⊥
 bracket_is_no_monad (Some (what.Word code)) h sign = true≢false (sym h)
 bracket_is_no_monad (Some (what.Id text)) h sign = true≢false (sym sign)
 bracket_is_no_monad (Some (what.Number value)) h sign = true≢false (sym sign)
@@ -124,7 +124,7 @@ bracket_is_no_monad (Some (what.Clock milliseconds)) h sign = true≢false (sym 
 bracket_is_no_monad (Some (what.Bits len value)) h sign = true≢false (sym sign)
 bracket_is_no_monad (Some (what.Text text)) h sign = true≢false (sym sign)
 bracket_is_no_monad (Some (what.Symbol symbol)) h sign =
-    clash _ sign (ap (λ k. is_monad (Some (what.Symbol k))) (eqb-true symbol s.left_round h))
+    clash _ sign (ap (λ k. is_monad (Some (what.Symbol k))) (eqb-true symbol s.LEFT_ROUND h))
 bracket_is_no_monad None h sign = true≢false (sym sign)
 
 now_is_no_monad : (token : Option What) → is_word w.NOW token ≡ true → is_monad token ≡ true → ⊥

@@ -6,7 +6,7 @@ use Rattle.pearl_tree.specs.declared.token.What.{What}
 use Rattle.pearl_tree.specs.declared.token.Token.{Token}
 use Rattle.pearl_tree.specs.Standing.{what_at, HasSymbol, SpellsMore}
 use Rattle.pearl_tree.specs.Expressions.{SpellsSelector, SpellsExpr}
-use Rattle.pearl_tree.specs.Symbols as s
+use Rattle.pearl_tables.specs.declared.symbol.TheConstants as s
 use Rattle.pearl_tree.specs.Stops.{BeginAlike}
 use Rattle.pearl_parse_expr.specs.Stops.{Sure, Stuck, Exact, EndsEarly, is_symbol, extends_operand, extends_expression, extends_list, SpellsSelectorsList, SpellsSubscriptsList}
 use Rattle.pearl_parse_expr.proofs.Primaries.{clash}
@@ -62,7 +62,7 @@ or_second true b h = refl
 or_second false b h = h
 
 list_extends : (token : Option What) → extends_expression token ≡ true → extends_list token ≡ true
-list_extends token h = or_first (extends_expression token) (is_symbol s.comma token) h
+list_extends token h = or_first (extends_expression token) (is_symbol s.COMMA token) h
 
 -- expressions between commas from `from` end early, or go through `end`
 abbrev pub SubscriptsGo : List Token → ℕ → ℕ → ℕ → ℕ → Type 0
@@ -91,7 +91,7 @@ module _ (tokens : List Token) (depth from : ℕ) where
       SubscriptsGo tokens depth from end stop
   subscripts_begin end stop sure = λ others agree xs to h. list_begins others end (λ x to h. sure others agree x to h) xs to h
 
-  list_step : (others : List Token) (end next to : ℕ) → end < next → HasSymbol others end s.comma →
+  list_step : (others : List Token) (end next to : ℕ) → end < next → HasSymbol others end s.COMMA →
       ((x : Expr) (to : ℕ) → SpellsExpr others depth (end + 1) x to → (to ≡ next) ⊎ EndsEarly extends_expression others next to) →
       EndsEarly extends_list others end to ⊎ ((ys : List Expr) × SpellsMore others (SpellsExpr others depth) end ys to) →
       EndsEarly extends_list others next to ⊎ ((ys : List Expr) × SpellsMore others (SpellsExpr others depth) next ys to)
@@ -101,7 +101,7 @@ module _ (tokens : List Token) (depth from : ℕ) where
   list_step others end next to ahead comma sure (inr (y ∷ ys, h)) = after_expression others next h.0 to ys h.3 (sure y h.0 h.2)
 
   pub subscripts_next : (end stop next last new : ℕ) → SubscriptsGo tokens depth from end stop → end ≤ stop → end < next → stop ≤ new →
-      last ≤ new → HasSymbol tokens end s.comma → Sure (λ tokens. SpellsExpr tokens depth) extends_expression tokens (end + 1) next last →
+      last ≤ new → HasSymbol tokens end s.COMMA → Sure (λ tokens. SpellsExpr tokens depth) extends_expression tokens (end + 1) next last →
       SubscriptsGo tokens depth from next new
   subscripts_next end stop next last new go near ahead below reach comma sure = λ others agree xs to h.
       list_step others end next to ahead (sym (agree end (omega arith)) ∙ comma)
@@ -109,7 +109,7 @@ module _ (tokens : List Token) (depth from : ℕ) where
       (go others (shorter tokens others stop new below agree) xs to h)
 
   list_ends : (others : List Token) (end to : ℕ) →
-      (HasSymbol others end s.comma → (x : Expr) (to : ℕ) → SpellsExpr others depth (end + 1) x to → ⊥) →
+      (HasSymbol others end s.COMMA → (x : Expr) (to : ℕ) → SpellsExpr others depth (end + 1) x to → ⊥) →
       EndsEarly extends_list others end to ⊎ ((ys : List Expr) × SpellsMore others (SpellsExpr others depth) end ys to) →
       (to ≡ end) ⊎ EndsEarly extends_list others end to
   list_ends others end to stuck (inl early) = inr early
@@ -117,11 +117,11 @@ module _ (tokens : List Token) (depth from : ℕ) where
   list_ends others end to stuck (inr (y ∷ ys, h)) = absurd (stuck h.1 y h.0 h.2)
 
   pub subscripts_end : (end stop : ℕ) → SubscriptsGo tokens depth from end stop → end ≤ stop →
-      is_symbol s.comma (what_at tokens end) ≡ false →
+      is_symbol s.COMMA (what_at tokens end) ≡ false →
       Sure (λ tokens. SpellsSubscriptsList tokens depth) extends_list tokens from end stop
   subscripts_end end stop go near no_comma = λ others agree xs to h.
       list_ends others end to
-      (λ comma x to h. clash _ (ap (is_symbol s.comma) comma) (ap (is_symbol s.comma) (sym (agree end near)) ∙ no_comma))
+      (λ comma x to h. clash _ (ap (is_symbol s.COMMA) comma) (ap (is_symbol s.COMMA) (sym (agree end near)) ∙ no_comma))
       (go others agree xs to h)
 
   pub subscripts_stuck : (end stop last new : ℕ) → SubscriptsGo tokens depth from end stop → stop ≤ new → last ≤ new →

@@ -18,8 +18,8 @@ use Rattle.pearl_tree.specs.declared.token.What.TheVariants as what
 use Rattle.pearl_tree.specs.declared.token.Token.{Token}
 use Rattle.pearl_tree.specs.Standing.{what_at, HasWord, HasSymbol}
 use Rattle.pearl_tree.specs.Expressions.{SpellsSecs, SpellsLiteral, SpellsPrimary, SpellsSelector, SpellsExpr, side_word}
-use Rattle.pearl_tree.specs.WordCodes as w
-use Rattle.pearl_tree.specs.Symbols as s
+use Rattle.pearl_tables.specs.declared.word_code.TheConstants as w
+use Rattle.pearl_tables.specs.declared.symbol.TheConstants as s
 use Rattle.pearl_tree.specs.Stops.{BeginAlike}
 use Rattle.pearl_tree.proofs.ExpressionLists.{selectors, subscripts}
 use Rattle.pearl_parse_expr.specs.Stops.{is_literal, is_name, is_number, is_secs, is_plain, is_side, is_symbol, is_word, begins_limit, extends_operand, SpellsNamed, SpellsSubscriptsList}
@@ -50,7 +50,7 @@ literal_head tokens from (literal.Duration (Seconds (secs.Decimal whole thousand
 abbrev pub Head : Primary → Option What → Type 0
 Head (primary.Literal part) token = is_literal token ≡ true
 Head (primary.Ref' name _ list place) token = is_name token ≡ true
-Head (primary.Group' _ inner place) token = is_symbol s.left_round token ≡ true
+Head (primary.Group' _ inner place) token = is_symbol s.LEFT_ROUND token ≡ true
 Head (primary.Now place) token = is_word w.NOW token ≡ true
 Head (primary.Try name place) token = is_word w.TRY token ≡ true
 Head (primary.Limit' None side name _ list ref_place place) token = is_side token ≡ true
@@ -117,7 +117,7 @@ module _ (tokens : List Token) where
   pub first_token : (depth from : ℕ) (x : Primary) (to : ℕ) → SpellsPrimary tokens depth from x to → Head x (what_at tokens from)
   first_token depth from (primary.Literal part) to h = literal_head tokens from part to h
   first_token depth from (primary.Ref' name _ list place) to h = ap is_name h.1.0
-  first_token depth from (primary.Group' _ inner place) to h = ap (is_symbol s.left_round) h.2
+  first_token depth from (primary.Group' _ inner place) to h = ap (is_symbol s.LEFT_ROUND) h.2
   first_token depth from (primary.Now place) to h = ap (is_word w.NOW) h.1
   first_token depth from (primary.Try name place) to h = ap (is_word w.TRY) h.1
   first_token depth from (primary.Limit' None side name _ list ref_place place) to h =
@@ -125,9 +125,9 @@ module _ (tokens : List Token) where
   first_token depth from (primary.Limit' (Some number) side name _ list ref_place place) to h = ap is_number h.2.0.0
 
   -- a group
-  pub only_group : (depth from : ℕ) → HasSymbol tokens from s.left_round → (x : Primary) (to : ℕ) →
+  pub only_group : (depth from : ℕ) → HasSymbol tokens from s.LEFT_ROUND → (x : Primary) (to : ℕ) →
       SpellsPrimary tokens depth from x to →
-      (0 < depth) × ((inner : Expr) × (m : ℕ) × SpellsExpr tokens (depth - 1) (from + 1) inner m × HasSymbol tokens m s.right_round × (to ≡ m + 1))
+      (0 < depth) × ((inner : Expr) × (m : ℕ) × SpellsExpr tokens (depth - 1) (from + 1) inner m × HasSymbol tokens m s.RIGHT_ROUND × (to ≡ m + 1))
   only_group depth from stands (primary.Group' _ inner place) to h = (h.3, (inner, h.0, h.4, h.5, h.6))
   only_group depth from stands (primary.Literal part) to h =
       absurd (clash _ (first_token depth from (primary.Literal part) to h) (ap is_literal stands))
@@ -160,7 +160,7 @@ module _ (tokens : List Token) where
   only_now depth from stands (primary.Literal part) to h =
       absurd (clash _ (first_token depth from (primary.Literal part) to h) (ap is_literal stands))
   only_now depth from stands (primary.Ref' name _ list place) to h = absurd (clash _ (ap is_name h.1.0) (ap is_name stands))
-  only_now depth from stands (primary.Group' _ inner place) to h = absurd (clash _ (ap (is_symbol s.left_round) h.2) (ap (is_symbol s.left_round) stands))
+  only_now depth from stands (primary.Group' _ inner place) to h = absurd (clash _ (ap (is_symbol s.LEFT_ROUND) h.2) (ap (is_symbol s.LEFT_ROUND) stands))
   only_now depth from stands (primary.Try name place) to h = absurd (clash _ (ap (is_word w.TRY) h.1) (ap (is_word w.TRY) stands))
   only_now depth from stands (primary.Limit' None side name _ list ref_place place) to h =
       absurd (clash _ (side_head (what_at tokens from) side (subst (λ k. HasWord tokens k (side_word side)) h.2 h.3)) (ap is_side stands))
@@ -174,7 +174,7 @@ module _ (tokens : List Token) where
   only_try depth from stands (primary.Literal part) to h =
       absurd (clash _ (first_token depth from (primary.Literal part) to h) (ap is_literal stands))
   only_try depth from stands (primary.Ref' name _ list place) to h = absurd (clash _ (ap is_name h.1.0) (ap is_name stands))
-  only_try depth from stands (primary.Group' _ inner place) to h = absurd (clash _ (ap (is_symbol s.left_round) h.2) (ap (is_symbol s.left_round) stands))
+  only_try depth from stands (primary.Group' _ inner place) to h = absurd (clash _ (ap (is_symbol s.LEFT_ROUND) h.2) (ap (is_symbol s.LEFT_ROUND) stands))
   only_try depth from stands (primary.Now place) to h = absurd (clash _ (ap (is_word w.NOW) h.1) (ap (is_word w.NOW) stands))
   only_try depth from stands (primary.Limit' None side name _ list ref_place place) to h =
       absurd (clash _ (side_head (what_at tokens from) side (subst (λ k. HasWord tokens k (side_word side)) h.2 h.3)) (ap is_side stands))
@@ -182,13 +182,13 @@ module _ (tokens : List Token) where
       absurd (clash _ (ap is_number h.2.0.0) (ap is_number stands))
 
   -- a literal
-  pub only_literal : (depth from : ℕ) → is_symbol s.left_round (what_at tokens from) ≡ false → is_name (what_at tokens from) ≡ false →
+  pub only_literal : (depth from : ℕ) → is_symbol s.LEFT_ROUND (what_at tokens from) ≡ false → is_name (what_at tokens from) ≡ false →
       is_word w.NOW (what_at tokens from) ≡ false → is_word w.TRY (what_at tokens from) ≡ false →
       is_side (what_at tokens from) ≡ false → (is_number (what_at tokens from) ≡ true → is_side (what_at tokens (from + 1)) ≡ false) →
       (x : Primary) (to : ℕ) → SpellsPrimary tokens depth from x to → (part : Literal) × SpellsLiteral tokens from part to
   only_literal depth from group name now_word try_word side behind (primary.Literal part) to h = (part, h)
   only_literal depth from group name now_word try_word side behind (primary.Ref' _ _ list place) to h = absurd (clash _ (ap is_name h.1.0) name)
-  only_literal depth from group name now_word try_word side behind (primary.Group' _ inner place) to h = absurd (clash _ (ap (is_symbol s.left_round) h.2) group)
+  only_literal depth from group name now_word try_word side behind (primary.Group' _ inner place) to h = absurd (clash _ (ap (is_symbol s.LEFT_ROUND) h.2) group)
   only_literal depth from group name now_word try_word side behind (primary.Now place) to h = absurd (clash _ (ap (is_word w.NOW) h.1) now_word)
   only_literal depth from group name now_word try_word side behind (primary.Try _ place) to h = absurd (clash _ (ap (is_word w.TRY) h.1) try_word)
   only_literal depth from group name now_word try_word side behind (primary.Limit' None which _ _ list ref_place place) to h =
@@ -245,25 +245,25 @@ module _ (tokens : List Token) where
   only_counted_limit depth from stands behind (primary.Try name place) to h = absurd (clash _ stands (ap is_number h.1))
 
   -- a selector
-  pub only_component : (depth from : ℕ) → HasSymbol tokens from s.period → (x : Selector) (to : ℕ) →
+  pub only_component : (depth from : ℕ) → HasSymbol tokens from s.PERIOD → (x : Selector) (to : ℕ) →
       SpellsSelector tokens depth from x to → (is_name (what_at tokens (from + 1)) ≡ true) × (to ≡ from + 2)
   only_component depth from stands (Component name place) to h = (ap is_name h.2.0, h.3)
   only_component depth from stands (Subscripts' _ row place) to h =
-      absurd (clash _ (ap (is_symbol s.left_round) h.2) (ap (is_symbol s.left_round) stands))
+      absurd (clash _ (ap (is_symbol s.LEFT_ROUND) h.2) (ap (is_symbol s.LEFT_ROUND) stands))
 
-  pub only_bracketed : (depth from : ℕ) → HasSymbol tokens from s.left_round → (x : Selector) (to : ℕ) →
+  pub only_bracketed : (depth from : ℕ) → HasSymbol tokens from s.LEFT_ROUND → (x : Selector) (to : ℕ) →
       SpellsSelector tokens depth from x to →
-      (list : List Expr) × (m : ℕ) × SpellsSubscriptsList tokens (depth - 1) (from + 1) list m × HasSymbol tokens m s.right_round × (to ≡ m + 1)
+      (list : List Expr) × (m : ℕ) × SpellsSubscriptsList tokens (depth - 1) (from + 1) list m × HasSymbol tokens m s.RIGHT_ROUND × (to ≡ m + 1)
   only_bracketed depth from stands (Subscripts' n list place) to h =
       let row = subscripts_of (Subscripts' n list place) in
       (items-the_row-Expr row.0 row.1, h.0, subst (λ X. X) (subscripts tokens (depth - 1) (from + 1) row.0 row.1 h.0) h.4, h.5, h.6)
   only_bracketed depth from stands (Component name place) to h =
-      absurd (clash _ (ap (is_symbol s.period) h.1) (ap (is_symbol s.period) stands))
+      absurd (clash _ (ap (is_symbol s.PERIOD) h.1) (ap (is_symbol s.PERIOD) stands))
 
-  pub no_selector : (depth from : ℕ) → is_symbol s.period (what_at tokens from) ≡ false →
-      (is_symbol s.left_round (what_at tokens from) ≡ true → 0 < depth → ⊥) → (x : Selector) (to : ℕ) → SpellsSelector tokens depth from x to → ⊥
-  no_selector depth from period bracket (Component name place) to h = clash _ (ap (is_symbol s.period) h.1) period
-  no_selector depth from period bracket (Subscripts' _ row place) to h = bracket (ap (is_symbol s.left_round) h.2) h.3
+  pub no_selector : (depth from : ℕ) → is_symbol s.PERIOD (what_at tokens from) ≡ false →
+      (is_symbol s.LEFT_ROUND (what_at tokens from) ≡ true → 0 < depth → ⊥) → (x : Selector) (to : ℕ) → SpellsSelector tokens depth from x to → ⊥
+  no_selector depth from period bracket (Component name place) to h = clash _ (ap (is_symbol s.PERIOD) h.1) period
+  no_selector depth from period bracket (Subscripts' _ row place) to h = bracket (ap (is_symbol s.LEFT_ROUND) h.2) h.3
 
   pub selector_extends : (depth from : ℕ) (x : Selector) (to : ℕ) → SpellsSelector tokens depth from x to → extends_operand (what_at tokens from) ≡ true
   selector_extends depth from (Component name place) to h = ap extends_operand h.1
@@ -291,14 +291,14 @@ second_false false b h holds = absurd (true≢false (sym holds))
 -- a literal, where the same tokens stand: `stop` is behind a number
 pub literal_others : (tokens others : List Token) (depth from stop : ℕ) → BeginAlike tokens others stop → from ≤ stop →
     (is_plain (what_at tokens from) ≡ true → from + 1 ≤ stop) →
-    is_symbol s.left_round (what_at tokens from) ≡ false → is_name (what_at tokens from) ≡ false →
+    is_symbol s.LEFT_ROUND (what_at tokens from) ≡ false → is_name (what_at tokens from) ≡ false →
     is_word w.NOW (what_at tokens from) ≡ false → is_word w.TRY (what_at tokens from) ≡ false →
     begins_limit tokens from ≡ false →
     (x : Primary) (to : ℕ) → SpellsPrimary others depth from x to → (part : Literal) × SpellsLiteral others from part to
 literal_others tokens others depth from stop agree near far group name now_word try_word limit x to h =
     let here = sym (agree from near) in
     let limits = both_false (is_side (what_at tokens from)) (is_number (what_at tokens from) && is_side (what_at tokens (from + 1))) limit in
-    only_literal others depth from (ap (is_symbol s.left_round) here ∙ group) (ap is_name here ∙ name)
+    only_literal others depth from (ap (is_symbol s.LEFT_ROUND) here ∙ group) (ap is_name here ∙ name)
     (ap (is_word w.NOW) here ∙ now_word) (ap (is_word w.TRY) here ∙ try_word) (ap is_side here ∙ limits.0)
     (λ number. let stands = ap is_number (sym here) ∙ number in
     ap is_side (sym (agree (from + 1) (far (number_plain (what_at tokens from) stands)))) ∙

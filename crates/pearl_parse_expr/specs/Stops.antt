@@ -18,8 +18,8 @@ use Rattle.pearl_parse_expr.specs.declared.reading.Halt.{Halt}
 use Rattle.pearl_parse_expr.specs.declared.reading.Halt.TheVariants.{Refused, NoMemory}
 use Rattle.pearl_tree.specs.Following.{lengthens_operand, lengthens_expr}
 use Rattle.pearl_tree.specs.Stops.{BeginAlike}
-use Rattle.pearl_tree.specs.Symbols as s
-use Rattle.pearl_tree.specs.WordCodes as w
+use Rattle.pearl_tables.specs.declared.symbol.TheConstants as s
+use Rattle.pearl_tables.specs.declared.word_code.TheConstants as w
 
 -- a token of this kind; the end is of none
 abbrev pub is_one_of : (What → Bool) → Option What → Bool
@@ -92,7 +92,7 @@ is_plain _ = false
 -- the monadic operator that a token is
 abbrev pub monad_of : What → Option Monad
 monad_of (what.Symbol symbol) =
-    if symbol == s.plus then Some monad.Plus else (if symbol == s.minus then Some monad.Minus else None)
+    if symbol == s.PLUS then Some monad.Plus else (if symbol == s.MINUS then Some monad.Minus else None)
 monad_of (what.Word code) =
     if code == w.ABS then Some monad.Abs
     else (if code == w.SIGN then Some monad.Sign else (if code == w.NOT then Some monad.Not else None))
@@ -128,7 +128,7 @@ begins_limit tokens from =
 
 -- a token that goes on with expressions between commas that could end before it
 abbrev pub extends_list : Option What → Bool
-extends_list token = extends_expression token || is_symbol s.comma token
+extends_list token = extends_expression token || is_symbol s.COMMA token
 
 -- { + | - | ABS | SIGN | NOT } primary
 abbrev pub SpellsSigned : List Token → ℕ → Spelling Primary

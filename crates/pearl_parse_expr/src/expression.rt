@@ -8,8 +8,8 @@ ghost use Rattle.pearl_tree.specs.declared.expression.Expr.{Expr};
 ghost use Rattle.pearl_tree.specs.Standing.{what_at, IsAt, HasWord, HasSymbol, SpellsEach, SpellsMaybe, SpellsNumber};
 ghost use Rattle.pearl_tree.specs.Expressions as grammar;
 ghost use Rattle.pearl_tree.specs.Following.{lengthens_expr, HasOneOf};
-ghost use Rattle.pearl_tree.specs.WordCodes as w;
-ghost use Rattle.pearl_tree.specs.Symbols as s;
+ghost use Rattle.pearl_tables.specs.declared.word_code.TheConstants as w;
+ghost use Rattle.pearl_tables.specs.declared.symbol.TheConstants as s;
 ghost use Rattle.pearl_parse_expr.specs.declared.reading.Halt.{Halt};
 ghost use Rattle.pearl_parse_expr.specs.Stops as spec;
 
@@ -88,7 +88,7 @@ fn bracketed(
     depth: u8,
 ) -> Result<Reading<Selector>, Halt>
     requires within { from ≤ length tokens.now }
-    requires bracket { HasSymbol tokens.now from s.left_round }
+    requires bracket { HasSymbol tokens.now from s.LEFT_ROUND }
     requires deep { 0 < depth }
     ensures spells { IfOk result (λ reading. grammar.SpellsSelector tokens.now depth from reading.part reading.end) }
     ensures sure { IfOk result (λ reading. spec.Exact (λ tokens. grammar.SpellsSelector tokens depth) tokens.now from reading.end reading.stop) }
@@ -206,7 +206,7 @@ pub fn reference(
 #[cycle(expression)]
 fn group(alloc: Global, tokens: &[Token], from: usize, depth: u8) -> Result<Reading<Primary>, Halt>
     requires within { from ≤ length tokens.now }
-    requires bracket { HasSymbol tokens.now from s.left_round }
+    requires bracket { HasSymbol tokens.now from s.LEFT_ROUND }
     ensures spells { IfOk result (λ reading. grammar.SpellsPrimary tokens.now depth from reading.part reading.end) }
     ensures sure { IfOk result (λ reading. spec.Sure (λ tokens. grammar.SpellsPrimary tokens depth) spec.extends_operand tokens.now from reading.end reading.stop) }
     ensures ahead { IfOk result (λ reading. spec.IsAhead tokens.now from reading.end reading.stop) }

@@ -4,8 +4,8 @@ ghost use Rattle.std.specs.Prelude.{◌≡◌, ◌≢◌, ℕ, ◌+◌, ◌<◌,
 ghost use Rattle.std.specs.Option.{option_and_then};
 ghost use Rattle.pearl_tree.specs.Standing.{what_at, HasWord, HasSymbol, SpellsEach, SpellsMaybe, SpellsNumber};
 ghost use Rattle.pearl_tree.specs.Expressions as grammar;
-ghost use Rattle.pearl_tree.specs.WordCodes as w;
-ghost use Rattle.pearl_tree.specs.Symbols as s;
+ghost use Rattle.pearl_tables.specs.declared.word_code.TheConstants as w;
+ghost use Rattle.pearl_tables.specs.declared.symbol.TheConstants as s;
 ghost use Rattle.pearl_parse_expr.specs.declared.reading.Halt.{Halt};
 ghost use Rattle.pearl_parse_expr.specs.Stops as spec;
 
@@ -78,7 +78,7 @@ pub fn limit_head(tokens: &[Token], from: usize) -> Option<LimitHead>
 /// A component, from its period on.
 pub fn component(tokens: &[Token], from: usize) -> Result<Reading<Selector>, Halt>
     requires within { from ≤ length tokens.now }
-    requires period { HasSymbol tokens.now from s.period }
+    requires period { HasSymbol tokens.now from s.PERIOD }
     ensures spells { IfOk result (λ reading. (depth : ℕ) → grammar.SpellsSelector tokens.now depth from reading.part reading.end) }
     ensures sure { IfOk result (λ reading. (depth : ℕ) → spec.Exact (λ tokens. grammar.SpellsSelector tokens depth) tokens.now from reading.end reading.stop) }
     ensures ahead { IfOk result (λ reading. spec.IsAhead tokens.now from reading.end reading.stop) }
@@ -124,7 +124,7 @@ pub fn availability(tokens: &[Token], from: usize) -> Result<Reading<Primary>, H
 /// The longest literal that begins here, where no other primary does.
 pub fn literal_primary(tokens: &[Token], from: usize) -> Result<Reading<Primary>, Halt>
     requires within { from ≤ length tokens.now }
-    requires group { spec.is_symbol s.left_round (what_at tokens.now from) ≡ false }
+    requires group { spec.is_symbol s.LEFT_ROUND (what_at tokens.now from) ≡ false }
     requires name { spec.is_name (what_at tokens.now from) ≡ false }
     requires now_word { spec.is_word w.NOW (what_at tokens.now from) ≡ false }
     requires try_word { spec.is_word w.TRY (what_at tokens.now from) ≡ false }

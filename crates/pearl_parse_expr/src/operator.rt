@@ -16,18 +16,18 @@ fn dyad_of_symbol(symbol: u8) -> Option<Dyad>
 {
     match symbol {
         POWER => Some(Dyad::Power),
-        STAR => Some(Dyad::Times),
-        OVER => Some(Dyad::Over),
-        JOINED => Some(Dyad::Cat),
+        TIMES => Some(Dyad::Times),
+        DIVIDE => Some(Dyad::Over),
+        CONCATENATE => Some(Dyad::Cat),
         PLUS => Some(Dyad::Plus),
         MINUS => Some(Dyad::Minus),
-        TURNED => Some(Dyad::Cshift),
+        ROTATE => Some(Dyad::Cshift),
         LESS => Some(Dyad::Lt),
-        MORE => Some(Dyad::Gt),
+        GREATER => Some(Dyad::Gt),
         AT_MOST => Some(Dyad::Le),
         AT_LEAST => Some(Dyad::Ge),
-        SAME => Some(Dyad::Eq),
-        DIFFERS => Some(Dyad::Ne),
+        EQUAL => Some(Dyad::Eq),
+        UNEQUAL => Some(Dyad::Ne),
         _ => None,
     }
 }

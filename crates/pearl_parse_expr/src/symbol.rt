@@ -8,28 +8,28 @@ pub const COMMA: u8 = 4;
 
 pub const PERIOD: u8 = 7;
 
-pub const SAME: u8 = 10;
+pub const EQUAL: u8 = 10;
 
-pub const DIFFERS: u8 = 11;
+pub const UNEQUAL: u8 = 11;
 
 pub const LESS: u8 = 12;
 
-pub const MORE: u8 = 13;
+pub const GREATER: u8 = 13;
 
 pub const AT_MOST: u8 = 14;
 
 pub const AT_LEAST: u8 = 15;
 
-pub const JOINED: u8 = 16;
+pub const CONCATENATE: u8 = 16;
 
-pub const TURNED: u8 = 17;
+pub const ROTATE: u8 = 17;
 
 pub const PLUS: u8 = 18;
 
 pub const MINUS: u8 = 19;
 
-pub const STAR: u8 = 20;
+pub const TIMES: u8 = 20;
 
-pub const OVER: u8 = 21;
+pub const DIVIDE: u8 = 21;
 
 pub const POWER: u8 = 22;

@@ -14,8 +14,8 @@ use Rattle.pearl_tree.specs.declared.token.Token.{Token}
 use Rattle.pearl_tree.specs.Standing.{HasWord, HasSymbol, IsNumber}
 use Rattle.pearl_tree.specs.Declarations.{IsDeviceWord, SpellsDevice, SpellsPrio, SpellsItem, SpellsSema, SpellsDeclared, direction_word, SpellsClass, SpellsSpec, SpellsParam}
 use Rattle.pearl_tree.specs.ShownDeclarations.{OfItem, OfSema, OfInterrupt, OfDation, shown_item, shown_sema, shown_declared, shown_spec, shown_param}
-use Rattle.pearl_tree.specs.Symbols as s
-use Rattle.pearl_tree.specs.WordCodes as w
+use Rattle.pearl_tables.specs.declared.symbol.TheConstants as s
+use Rattle.pearl_tables.specs.declared.word_code.TheConstants as w
 use Rattle.pearl_print.specs.Lists.{word, symbol, number_tokens, maybe_headed, flag, bracketed_number}
 use Rattle.pearl_print.specs.Expressions.{const_tokens}
 use Rattle.pearl_print.specs.Types.{names_tokens, bounds_tokens, basic_tokens, typing_tokens}
@@ -45,7 +45,7 @@ module _ (before tokens : List Token) where
   pub device_places : Places tokens (SpellsDevice before) (SpellsDevice tokens) device_tokens plain_device
   device_places = record {
     at = λ a part b h from to g.
-        let p = cut3 tokens (from + 1 + 1) (device_word_tokens part.word) (bracketed_number part.number) (symbol s.semicolon) to g.1.1 in
+        let p = cut3 tokens (from + 1 + 1) (device_word_tokens part.word) (bracketed_number part.number) (symbol s.SEMICOLON) to g.1.1 in
         let word = device_word_at part.word (from + 1 + 1) p.0 p.2 in
         let left : p.0 ≡ from + 3 = omega (arith, word.2) in
         let number : Number = record { value = part.number.value; place = place_of tokens (p.0 + 1) } in
@@ -60,10 +60,10 @@ module _ (before tokens : List Token) where
             (g.0, here tokens from _ g.0),
             g.1.0,
             two (λ k. IsDeviceWord tokens k word.0) from word.1,
-            subst (λ k. HasSymbol tokens k s.left_round) left p.3.0,
+            subst (λ k. HasSymbol tokens k s.LEFT_ROUND) left p.3.0,
             subst (λ k. IsNumber tokens k number) inner is_number,
-            subst (λ k. HasSymbol tokens k s.right_round) close p.3.1.1.0,
-            subst (λ k. HasSymbol tokens k s.semicolon) last p.4.0,
+            subst (λ k. HasSymbol tokens k s.RIGHT_ROUND) close p.3.1.1.0,
+            subst (λ k. HasSymbol tokens k s.SEMICOLON) last p.4.0,
             omega (arith, last, p.4.1.0),
           );
           same = λ i. record { name = plain_name part.name; word = word.3 i; number = plain_number part.number; place = 0 };

@@ -14,7 +14,7 @@ use Rattle.pearl_tree.specs.declared.token.Token.{Token}
 use Rattle.pearl_tree.specs.Standing.{what_at}
 use Rattle.pearl_tree.specs.Expressions.{SpellsMonadic, HasDyad, dyad_of, rank, rank_of, dyad_count, side_word, SpellsTerms, SpellsPrimary, SpellsSelectors, SpellsSelector, SpellsSubscripts, SpellsMoreSubscripts, SpellsWhole, SpellsOwnRef}
 use Rattle.pearl_tree.specs.ShownExpressions.{ShownExpr, OfOperand, OfDyadic, OfLiteral, OfRef, OfGroup, OfLimit, ShownSelectors, NoSelectors, MoreSelectors, ShownSelector, OfSubscripts, MoreExprs, shown_expr, shown_primary, shown_selectors, shown_selector, shown_exprs, shown_selector_list, shown_ref}
-use Rattle.pearl_tree.specs.Symbols as s
+use Rattle.pearl_tables.specs.declared.symbol.TheConstants as s
 use Rattle.pearl_print.specs.Lists.{symbol, name_tokens, number_tokens, maybe}
 use Rattle.pearl_print.specs.Expressions.{monadic_tokens, dyad_what, expr_tokens, primary_tokens, selectors_tokens, selector_tokens, subscripts_tokens, more_subscripts_tokens, ref_tokens}
 use Rattle.pearl_print.specs.Plain.{plain_name, plain_monadic, plain_expr, plain_primary, plain_selectors, plain_selector, plain_exprs, plain_ref}
@@ -134,7 +134,7 @@ module _ (before tokens : List Token) where
           same = ap (λ selectors. OfRef (plain_name name) selectors 0) inner.same;
         }
     primary_at depth a (primary.Group' q inner place) b h from to g =
-        let p = cut tokens (from + 1) (expr_tokens inner) (symbol s.right_round) to g.1 in
+        let p = cut tokens (from + 1) (expr_tokens inner) (symbol s.RIGHT_ROUND) to g.1 in
         let part = terms_at (depth - 1) (a + 1) inner h.0 h.4.0 (from + 1) p.0 p.1 in
         let few = subst (λ n. n ≤ 100) (same_count part.copy inner part.same) h.4.1 in
         record {
@@ -176,7 +176,7 @@ module _ (before tokens : List Token) where
     selector_at : (depth a : ℕ) (selector : Selector) (b : ℕ) → SpellsSelector before depth a selector b → (from to : ℕ) → Span tokens from (selector_tokens selector) to →
         Placed (SpellsSelector tokens depth) (λ selector. plain_selector (shown_selector selector)) from selector to
     selector_at depth a (Subscripts' shape subscripts place) b h from to g =
-        let p = cut tokens (from + 1) (subscripts_tokens subscripts) (symbol s.right_round) to g.1 in
+        let p = cut tokens (from + 1) (subscripts_tokens subscripts) (symbol s.RIGHT_ROUND) to g.1 in
         let inner = subscripts_at (depth - 1) (a + 1) _ subscripts h.0 h.4 (from + 1) p.0 p.1 in
         record {
           copy = Subscripts' shape inner.copy (place_of tokens from);

@@ -8,7 +8,7 @@ use Rattle.pearl_tree.specs.declared.token.What.{What}
 use Rattle.pearl_tree.specs.declared.token.Token.{Token}
 use Rattle.pearl_tree.specs.Standing.{Spelling, SpellsName, SpellsNumber, SpellsBracketedNumber, SpellsEach, SpellsMore, SpellsList, SpellsBracketed, SpellsMaybeBracketed, SpellsMaybeHeaded, SpellsMaybe, SpellsFlag, HasSymbol}
 use Rattle.pearl_tree.specs.Statements.{SpellsMaybeList}
-use Rattle.pearl_tree.specs.Symbols as s
+use Rattle.pearl_tables.specs.declared.symbol.TheConstants as s
 use Rattle.pearl_print.specs.Lists.{symbol, name_tokens, number_tokens, more, listed, bracketed, maybe_bracketed, maybe_headed, maybe, flag, bracketed_number}
 use Rattle.pearl_print.specs.Plain.{plain_name, plain_number}
 use Rattle.pearl_print.proofs.PlainSpans.{place_of, here, Span, cut, two, three}
@@ -60,7 +60,7 @@ module _ (before tokens : List Token) {X Y : Type 0} {was spells : Spelling X} {
   bracketed_some : (x : X) (xs : List X) (a b : ℕ) → SpellsBracketed before was a (x ∷ xs) b → (from to : ℕ) →
       Span tokens from (bracketed each (x ∷ xs)) to → PlacedSome (SpellsBracketed tokens spells) view from x xs to
   bracketed_some x xs a b h from to g =
-      let p = cut tokens (from + 1) (each x ++ more each xs) (symbol s.right_round) to g.1 in
+      let p = cut tokens (from + 1) (each x ++ more each xs) (symbol s.RIGHT_ROUND) to g.1 in
       let list = some_at x xs (a + 1) h.0 h.2 (from + 1) p.0 p.1 in
       record { head = list.head; tail = list.tail; spelled = (p.0, g.0, list.spelled, p.2.0, p.2.1.0); same = list.same }
 
@@ -164,7 +164,7 @@ module _ (before tokens : List Token) where
       spelled = (
         g.0,
         (g.1.0, here tokens (from + 1) _ g.1.0),
-        two (λ k. HasSymbol tokens k s.right_round) from g.1.1.0,
+        two (λ k. HasSymbol tokens k s.RIGHT_ROUND) from g.1.1.0,
         three (λ k. to ≡ k) from g.1.1.1.0,
       );
       same = refl;

@@ -24,7 +24,7 @@ use Rattle.pearl_tree.specs.Standing.{SpellsSymbolFlag, SpellsMaybe, SpellsBrack
 use Rattle.pearl_tree.specs.Expressions.{SpellsMinutes, SpellsSeconds, SpellsDuration, SpellsLiteral, SpellsSign, SpellsConst}
 use Rattle.pearl_tree.specs.Types.{SpellsNames, SpellsInt, SpellsUpper, SpellsBound, SpellsBounds, SpellsBasic, SpellsTyping, SpellsFields, SpellsMoreFields}
 use Rattle.pearl_tree.specs.Formats.{SpellsFmt}
-use Rattle.pearl_tree.specs.Symbols as s
+use Rattle.pearl_tables.specs.declared.symbol.TheConstants as s
 use Rattle.pearl_tree.specs.ShownDeclarations.{shown_names, OfOne, OfSeveral, shown_typing, shown_fields, OfBasic, OfStruct, OfNamed, MoreFields}
 use Rattle.pearl_print.specs.Lists.{symbol, number_tokens, maybe, bracketed_number}
 use Rattle.pearl_print.specs.Expressions.{duration_milliseconds, carried, literal_tokens, sign_tokens, const_tokens}
@@ -107,7 +107,7 @@ module _ (before tokens : List Token) where
         (bracketed_at before tokens (name_places before tokens) names.items.items a b h.1 from to g) in
         record { copy = Several p.copy (place_of tokens from); spelled = (here tokens from _ g.0, p.spelled); same = ap (λ names. OfSeveral names 0) p.same }
 
-  minus_at : (told : Bool) (from to : ℕ) → Span tokens from (minus_tokens told) to → SpellsSymbolFlag tokens s.minus from told to
+  minus_at : (told : Bool) (from to : ℕ) → Span tokens from (minus_tokens told) to → SpellsSymbolFlag tokens s.MINUS from told to
   minus_at false from to g = g.0
   minus_at true from to g = (g.0, g.1.0)
 
@@ -198,7 +198,7 @@ module _ (before tokens : List Token) where
         let p = basic_at a part b h from to g in
         record { copy = typing.Basic p.copy; spelled = p.spelled; same = ap OfBasic p.same }
     typing_at depth a (typing.Struct' shape fields place) b h from to g =
-        let p = cut tokens (from + 1 + 1) (fields_tokens fields) (symbol s.right_square) to g.1.1 in
+        let p = cut tokens (from + 1 + 1) (fields_tokens fields) (symbol s.RIGHT_SQUARE) to g.1.1 in
         let inner = fields_at (depth - 1) (a + 2) _ fields h.0 h.5 (from + 1 + 1) p.0 p.1 in
         record {
           copy = typing.Struct' shape inner.copy (place_of tokens from);

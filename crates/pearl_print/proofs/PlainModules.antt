@@ -24,8 +24,8 @@ use Rattle.pearl_tree.specs.Declarations.{SpellsDevice, SpellsParam}
 use Rattle.pearl_tree.specs.Modules.{SpellsTaskHead, SpellsReturns, SpellsBlock, SpellsDecl, SpellsModuleName, SpellsSystem, SpellsTree, Spells}
 use Rattle.pearl_tree.specs.ShownDeclarations.{shown_declared, shown_spec, shown_param}
 use Rattle.pearl_tree.specs.ShownModules.{OfType, OfDeclare, OfSpecify, OfTask, OfProc, shown_body, shown_decl, shown_devices, shown_tree}
-use Rattle.pearl_tree.specs.Symbols as s
-use Rattle.pearl_tree.specs.WordCodes as w
+use Rattle.pearl_tables.specs.declared.symbol.TheConstants as s
+use Rattle.pearl_tables.specs.declared.word_code.TheConstants as w
 use Rattle.pearl_print.specs.Lists.{word, symbol, listed, maybe_bracketed, maybe, flag}
 use Rattle.pearl_print.specs.Types.{basic_tokens, typing_tokens}
 use Rattle.pearl_print.specs.Declarations.{prio_tokens, declared_tokens, spec_tokens, param_tokens}
@@ -65,7 +65,7 @@ module _ (before tokens : List Token) where
   returns_places = record {
     at = λ a part b h from to g.
         let k = from + 1 + 1 in
-        let p = cut tokens k (basic_tokens part) (symbol s.right_round) to g.1.1 in
+        let p = cut tokens k (basic_tokens part) (symbol s.RIGHT_ROUND) to g.1.1 in
         let inner = (basic_places before tokens).at (a + 2) part h.0 h.3 k p.0 p.1 in
         record {
           copy = inner.copy;
@@ -77,7 +77,7 @@ module _ (before tokens : List Token) where
   block_places : Places tokens (SpellsBlock before) (SpellsBlock tokens) task_body_tokens (λ body. plain_body (shown_body body))
   block_places = record {
     at = λ a body b h from to g.
-        let p = cut_token tokens (from + 1) (body_tokens body) (what.Word w.END) (symbol s.semicolon) to g.1 in
+        let p = cut_token tokens (from + 1) (body_tokens body) (what.Word w.END) (symbol s.SEMICOLON) to g.1 in
         let inner = (body_places before tokens).at (a + 1) body h.0 h.2 (from + 1) p.0 p.1 in
         record {
           copy = inner.copy;
@@ -100,17 +100,17 @@ module _ (before tokens : List Token) where
           here tokens from _ g.0,
           g.0,
           g.1.0,
-          two (λ n. HasSymbol tokens n s.left_round) from g.1.1.0,
+          two (λ n. HasSymbol tokens n s.LEFT_ROUND) from g.1.1.0,
           three (λ n. IsNumber tokens n copy) from is,
-          subst (λ n. HasSymbol tokens n s.right_round) close g.1.1.1.1.0,
-          subst (λ n. HasSymbol tokens n s.semicolon) last g.1.1.1.1.1.0,
+          subst (λ n. HasSymbol tokens n s.RIGHT_ROUND) close g.1.1.1.1.0,
+          subst (λ n. HasSymbol tokens n s.SEMICOLON) last g.1.1.1.1.1.0,
           omega (arith, g.1.1.1.1.1.1.0),
         );
         same = refl;
       }
   decl_at a (decl.Type name part place) b h from to g =
       let k = from + 1 + 1 in
-      let p = cut tokens k (typing_tokens part) (symbol s.semicolon) to g.1.1 in
+      let p = cut tokens k (typing_tokens part) (symbol s.SEMICOLON) to g.1.1 in
       let inner = (typing_places before tokens).at (a + 2) part h.0 h.4 k p.0 p.1 in
       record {
         copy = decl.Type (record { text = name.text; place = place_of tokens (from + 1) }) inner.copy (place_of tokens from);
@@ -126,7 +126,7 @@ module _ (before tokens : List Token) where
         same = ap (λ part. OfType (plain_name name) part 0) inner.same;
       }
   decl_at a (decl.Declare parts place) b h from to g =
-      let p = cut tokens (from + 1) (listed declared_tokens parts.items.items) (symbol s.semicolon) to g.1 in
+      let p = cut tokens (from + 1) (listed declared_tokens parts.items.items) (symbol s.SEMICOLON) to g.1 in
       let list = in_parts (from + 1) parts p.0
       (list_at before tokens (declared_places before tokens) parts.items.items (a + 1) h.0 h.3 (from + 1) p.0 p.1) in
       record {
@@ -135,7 +135,7 @@ module _ (before tokens : List Token) where
         same = ap (λ parts. OfDeclare parts 0) (seen shown_declared plain_declared list.copy.items.items parts.items.items list.same);
       }
   decl_at a (decl.Specify parts place) b h from to g =
-      let p = cut tokens (from + 1) (listed spec_tokens parts.items.items) (symbol s.semicolon) to g.1 in
+      let p = cut tokens (from + 1) (listed spec_tokens parts.items.items) (symbol s.SEMICOLON) to g.1 in
       let list = in_parts (from + 1) parts p.0
       (list_at before tokens (spec_places before tokens) parts.items.items (a + 1) h.0 h.3 (from + 1) p.0 p.1) in
       record {
@@ -194,7 +194,7 @@ module _ (before tokens : List Token) where
     spelled = (
       g.0,
       (g.1.0, here tokens (from + 1) _ g.1.0),
-      two (λ k. HasSymbol tokens k s.right_round) from g.1.1.0,
+      two (λ k. HasSymbol tokens k s.RIGHT_ROUND) from g.1.1.0,
       three (λ k. to ≡ k) from g.1.1.1.0,
     );
     same = refl;
@@ -225,13 +225,13 @@ module _ (before tokens : List Token) where
 
   -- a module, but for the last semicolon
   tree_at : (tree : Tree) (end : ℕ) → SpellsTree before 0 tree end → (n : ℕ) →
-      Span tokens 0 (front_tokens tree ++ flat_map decl_tokens tree.declarations.items.items ++ word w.MODEND) n → HasSymbol tokens n s.semicolon →
+      Span tokens 0 (front_tokens tree ++ flat_map decl_tokens tree.declarations.items.items ++ word w.MODEND) n → HasSymbol tokens n s.SEMICOLON →
       Placed (SpellsTree tokens) (λ tree. plain (shown_tree tree)) 0 tree (n + 1)
   tree_at tree end h n g last =
       let decls = tree.declarations in
       let p = cut3 tokens 0 (front_tokens tree) (flat_map decl_tokens decls.items.items) (word w.MODEND) n g in
-      let f = cut_token tokens 1 (maybe module_name_tokens tree.name ++ symbol s.semicolon ++ maybe system_tokens tree.system) (what.Word w.PROBLEM) (symbol s.semicolon) p.0 p.2.1 in
-      let k = cut_token tokens 1 (maybe module_name_tokens tree.name) (what.Symbol s.semicolon) (maybe system_tokens tree.system) f.0 f.1 in
+      let f = cut_token tokens 1 (maybe module_name_tokens tree.name ++ symbol s.SEMICOLON ++ maybe system_tokens tree.system) (what.Word w.PROBLEM) (symbol s.SEMICOLON) p.0 p.2.1 in
+      let k = cut_token tokens 1 (maybe module_name_tokens tree.name) (what.Symbol s.SEMICOLON) (maybe system_tokens tree.system) f.0 f.1 in
       let first = maybe_at before tokens module_name_places tree.name 1 h.0 h.5 1 k.0 k.1 in
       let second = maybe_at before tokens system_places tree.system (h.0 + 1) h.1 h.7 (k.0 + 1) f.0 k.3 in
       let third = in_parts p.0 decls p.1
@@ -251,7 +251,7 @@ module _ (before tokens : List Token) where
           f.3.0,
           subst (λ k. SpellsEach (SpellsDecl tokens) k third.copy.items.items p.1) (two (λ k. p.0 ≡ k) f.0 f.3.1.0) third.spelled,
           p.4.0,
-          (subst (λ k. HasSymbol tokens k s.semicolon) p.4.1.0 last, ap (λ k. k + 1) p.4.1.0),
+          (subst (λ k. HasSymbol tokens k s.SEMICOLON) p.4.1.0 last, ap (λ k. k + 1) p.4.1.0),
         );
         same = λ i. record {
           name = first.same i;
@@ -287,7 +287,7 @@ pub placed_tree : (tree : Tree) (before tokens : List Token) → Spells tree bef
 unfolding tokens_of
 placed_tree tree before tokens h are =
     let xs = front_tokens tree ++ flat_map decl_tokens tree.declarations.items.items ++ word w.MODEND in
-    let end = what.Symbol s.semicolon in
+    let end = what.Symbol s.SEMICOLON in
     let none : 0 + length xs ≡ length xs = omega arith in
     let span : Span tokens 0 xs (length xs) = subst (λ n. Span tokens 0 xs n) none (span_of tokens [] xs end are) in
     let p = tree_at before tokens tree (length before) h.spells (length xs) span (what_is tokens xs end [] are) in

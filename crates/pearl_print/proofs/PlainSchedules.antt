@@ -20,8 +20,8 @@ use Rattle.pearl_tree.specs.Statements.{SpellsAfter, SpellsFor, SpellsValue, Spe
 use Rattle.pearl_tree.specs.ShownExpressions.{ShownExpr, shown_expr}
 use Rattle.pearl_tree.specs.ShownDeclarations.{shown_item}
 use Rattle.pearl_tree.specs.ShownStatements.{OfUntil, OfDuring, OfAt, OfAfter, OfWhen, OfAll, OnceAt, OnceAfter, shown_period_end, shown_period, shown_start, shown_once, shown_body_decl}
-use Rattle.pearl_tree.specs.Symbols as s
-use Rattle.pearl_tree.specs.WordCodes as w
+use Rattle.pearl_tables.specs.declared.symbol.TheConstants as s
+use Rattle.pearl_tables.specs.declared.word_code.TheConstants as w
 use Rattle.pearl_print.specs.Lists.{symbol, listed, maybe}
 use Rattle.pearl_print.specs.Expressions.{expr_tokens}
 use Rattle.pearl_print.specs.Formats.{fmt_tokens, by_tokens}
@@ -63,7 +63,7 @@ module _ (before tokens : List Token) where
   pub value_places : Places tokens (SpellsValue before) (SpellsValue tokens) value_tokens expr_view
   value_places = record {
     at = λ a expr b h from to g.
-        let p = cut tokens (from + 1) (expr_tokens expr) (symbol s.right_round) to g.1 in
+        let p = cut tokens (from + 1) (expr_tokens expr) (symbol s.RIGHT_ROUND) to g.1 in
         let part = (expr_places before tokens).at (a + 1) expr h.0 h.2 (from + 1) p.0 p.1 in
         record { copy = part.copy; spelled = (p.0, g.0, part.spelled, p.2.0, p.2.1.0); same = part.same };
   }
@@ -164,7 +164,7 @@ module _ (before tokens : List Token) where
   body_decl_places = record {
     at = λ a part b h from to g.
         let items = part.items in
-        let p = cut tokens (from + 1) (listed item_tokens items.items.items) (symbol s.semicolon) to g.1 in
+        let p = cut tokens (from + 1) (listed item_tokens items.items.items) (symbol s.SEMICOLON) to g.1 in
         let list = in_parts (from + 1) items p.0
         (list_at before tokens (item_places before tokens) items.items.items (a + 1) h.0 h.3 (from + 1) p.0 p.1) in
         record {
@@ -188,11 +188,11 @@ module _ (before tokens : List Token) where
   pub by_at : (dation : Name) (formats : Parts Fmt) (a b : ℕ) → SpellsList before (SpellsFmt before) a formats.items.items b → (k to : ℕ) →
       Span tokens (k + 1) (by_tokens dation formats) to →
       (copy : Parts Fmt) × (m : ℕ) × IsName tokens (k + 1) (record { text = dation.text; place = place_of tokens (k + 1) }) × HasWord tokens (k + 2) w.BY ×
-      SpellsList tokens (SpellsFmt tokens) (k + 3) copy.items.items m × HasSymbol tokens m s.semicolon × (to ≡ m + 1) ×
+      SpellsList tokens (SpellsFmt tokens) (k + 3) copy.items.items m × HasSymbol tokens m s.SEMICOLON × (to ≡ m + 1) ×
       (map plain_fmt copy.items.items ≡ map plain_fmt formats.items.items)
   by_at dation formats a b h k to g =
       let j = k + 1 + 1 + 1 in
-      let p = cut tokens j (listed fmt_tokens formats.items.items) (symbol s.semicolon) to g.1.1 in
+      let p = cut tokens j (listed fmt_tokens formats.items.items) (symbol s.SEMICOLON) to g.1.1 in
       let list = in_parts j formats p.0
       (list_at before tokens (fmt_places before tokens) formats.items.items a b h j p.0 p.1) in (
         list.copy,

@@ -9,8 +9,8 @@ use Rattle.pearl_tree.specs.Statements.{SpellsAfter, SpellsStmt, SpellsStmts, Sp
 use Rattle.pearl_tree.specs.ShownExpressions.{shown_expr, shown_ref}
 use Rattle.pearl_tree.specs.ShownStatements.{OfAssign, OfCall, OfIf, OfCase, OfRepeat, OfBegin, OfReturn, OfActivate, OfContinue, OfResume, OfOnTask, OfOnSemas, OfPut, OfGet, OfSend, OfTake, MoreStmts, MoreBranches, OfOtherwise, shown_start, shown_once, shown_stmt, shown_stmts, shown_branches, shown_otherwise}
 use Rattle.pearl_tree.specs.ShownModules.{shown_body}
-use Rattle.pearl_tree.specs.Symbols as s
-use Rattle.pearl_tree.specs.WordCodes as w
+use Rattle.pearl_tables.specs.declared.symbol.TheConstants as s
+use Rattle.pearl_tables.specs.declared.word_code.TheConstants as w
 use Rattle.pearl_print.specs.Lists.{word, symbol, name_tokens, listed, maybe_bracketed, maybe}
 use Rattle.pearl_print.specs.Expressions.{expr_tokens, ref_tokens}
 use Rattle.pearl_print.specs.Formats.{by_tokens}
@@ -29,8 +29,8 @@ module _ (before tokens : List Token) where
     stmt_at depth a (Empty place) b h from to g =
         record { copy = Empty (place_of tokens from); spelled = (here tokens from _ g.0, g.0, g.1.0); same = refl }
     stmt_at depth a (Assign target value place) b h from to g =
-        let p = cut tokens from (ref_tokens target ++ symbol s.becomes ++ expr_tokens value) (symbol s.semicolon) to g in
-        let q = cut_token tokens from (ref_tokens target) (what.Symbol s.becomes) (expr_tokens value) p.0 p.1 in
+        let p = cut tokens from (ref_tokens target ++ symbol s.BECOMES ++ expr_tokens value) (symbol s.SEMICOLON) to g in
+        let q = cut_token tokens from (ref_tokens target) (what.Symbol s.BECOMES) (expr_tokens value) p.0 p.1 in
         let first = (ref_places before tokens).at a target h.0 h.3 from q.0 q.1 in
         let second = (expr_places before tokens).at (h.0 + 1) value h.1 h.5 (q.0 + 1) p.0 q.3 in
         record {
@@ -40,7 +40,7 @@ module _ (before tokens : List Token) where
         }
     stmt_at depth a (Call call name arguments place) b h from to g =
         let k = from + 1 in
-        let p = cut tokens (k + 1) (maybe_bracketed expr_tokens arguments.items.items) (symbol s.semicolon) to g.1.1 in
+        let p = cut tokens (k + 1) (maybe_bracketed expr_tokens arguments.items.items) (symbol s.SEMICOLON) to g.1.1 in
         let list = in_parts (k + 1) arguments p.0
         (maybe_bracketed_at before tokens (expr_places before tokens) arguments.items.items (h.0 + 1) h.1 h.5 (k + 1) p.0 p.1) in
         record {
@@ -49,7 +49,7 @@ module _ (before tokens : List Token) where
           same = λ i. OfCall true (plain_name name) (seen shown_expr plain_expr list.copy.items.items arguments.items.items list.same i) 0;
         }
     stmt_at depth a (If' condition shape statements otherwise place) b h from to g =
-        let p = cut3 tokens from (after_tokens w.IF condition ++ word w.THEN ++ stmts_tokens statements) (otherwise_tokens w.ELSE otherwise) (word w.FIN ++ symbol s.semicolon) to g in
+        let p = cut3 tokens from (after_tokens w.IF condition ++ word w.THEN ++ stmts_tokens statements) (otherwise_tokens w.ELSE otherwise) (word w.FIN ++ symbol s.SEMICOLON) to g in
         let q = cut_token tokens from (after_tokens w.IF condition) (what.Word w.THEN) (stmts_tokens statements) p.0 p.2 in
         let first = (after_places before tokens w.IF).at a condition h.0 h.5 from q.0 q.1 in
         let second = stmts_at (depth - 1) (h.0 + 1) _ statements h.1 h.7 (q.0 + 1) p.0 q.3 in
@@ -73,7 +73,7 @@ module _ (before tokens : List Token) where
           same = λ i. OfIf (first.same i) (second.same i) (third.same i) 0;
         }
     stmt_at depth a (Case' selector shape alternatives otherwise place) b h from to g =
-        let p = cut4 tokens from (after_tokens w.CASE selector) (alternatives_tokens alternatives) (otherwise_tokens w.OUT otherwise) (word w.FIN ++ symbol s.semicolon) to g in
+        let p = cut4 tokens from (after_tokens w.CASE selector) (alternatives_tokens alternatives) (otherwise_tokens w.OUT otherwise) (word w.FIN ++ symbol s.SEMICOLON) to g in
         let first = (after_places before tokens w.CASE).at a selector h.0 h.5 from p.0 p.3 in
         let second = alternatives_at (depth - 1) h.0 _ alternatives h.1 h.6 p.0 p.1 p.4 in
         let third = otherwise_at (depth - 1) w.OUT h.1 otherwise h.2 h.7 p.1 p.2 p.5 in
@@ -96,11 +96,11 @@ module _ (before tokens : List Token) where
         }
     stmt_at depth a (Repeat' control begin step end condition declarations shape statements body_place place) b h from to g =
         let p = cut tokens from (loop_tokens control begin step end condition)
-        (word w.REPEAT ++ (flat_map body_decl_tokens declarations.items.items ++ stmts_tokens statements) ++ (word w.END ++ symbol s.semicolon)) to g in
+        (word w.REPEAT ++ (flat_map body_decl_tokens declarations.items.items ++ stmts_tokens statements) ++ (word w.END ++ symbol s.SEMICOLON)) to g in
         let l = cut5 tokens from (maybe for_tokens control) (maybe (after_tokens w.FROM) begin) (maybe (after_tokens w.BY) step) (maybe (after_tokens w.TO) end)
         (maybe (after_tokens w.WHILE) condition) p.0 p.1 in
         let k = p.0 + 1 in
-        let q = cut3 tokens k (flat_map body_decl_tokens declarations.items.items) (stmts_tokens statements) (word w.END ++ symbol s.semicolon) to p.2.1 in
+        let q = cut3 tokens k (flat_map body_decl_tokens declarations.items.items) (stmts_tokens statements) (word w.END ++ symbol s.SEMICOLON) to p.2.1 in
         let loop = maybe_at before tokens (for_places before tokens) control a h.0 h.8 from l.0 l.4 in
         let first = maybe_after before tokens w.FROM begin h.0 h.1 h.9 l.0 l.1 l.5 in
         let second = maybe_after before tokens w.BY step h.1 h.2 h.10 l.1 l.2 l.6 in
@@ -137,7 +137,7 @@ module _ (before tokens : List Token) where
         record { copy = Exit (place_of tokens from); spelled = (here tokens from _ g.0, g.0, g.1.0, two (λ k. to ≡ k) from g.1.1.0); same = refl }
     stmt_at depth a (Begin' declarations shape statements body_place place) b h from to g =
         let k = from + 1 in
-        let q = cut3 tokens k (flat_map body_decl_tokens declarations.items.items) (stmts_tokens statements) (word w.END ++ symbol s.semicolon) to g.1 in
+        let q = cut3 tokens k (flat_map body_decl_tokens declarations.items.items) (stmts_tokens statements) (word w.END ++ symbol s.SEMICOLON) to g.1 in
         let decls = decls_at before tokens (a + 1) declarations h.4.0 h.4.2 k q.0 q.2 in
         let body = stmts_at (depth - 1) h.4.0 _ statements h.0 h.4.3 q.0 q.1 q.3 in
         record {
@@ -155,7 +155,7 @@ module _ (before tokens : List Token) where
           same = λ i. OfBegin (decls.same i) (body.same i) 0 0;
         }
     stmt_at depth a (Return value place) b h from to g =
-        let p = cut tokens (from + 1) (maybe value_tokens value) (symbol s.semicolon) to g.1 in
+        let p = cut tokens (from + 1) (maybe value_tokens value) (symbol s.SEMICOLON) to g.1 in
         let part = maybe_at before tokens (value_places before tokens) value (a + 1) h.0 h.3 (from + 1) p.0 p.1 in
         record {
           copy = Return part.copy (place_of tokens from);
@@ -163,7 +163,7 @@ module _ (before tokens : List Token) where
           same = λ i. OfReturn (seen_option shown_expr plain_expr part.copy value part.same i) 0;
         }
     stmt_at depth a (Activate start task priority place) b h from to g =
-        let p = cut3 tokens from (maybe start_tokens start ++ word w.ACTIVATE ++ name_tokens task) (maybe (after_tokens w.PRIO) priority) (symbol s.semicolon) to g in
+        let p = cut3 tokens from (maybe start_tokens start ++ word w.ACTIVATE ++ name_tokens task) (maybe (after_tokens w.PRIO) priority) (symbol s.SEMICOLON) to g in
         let q = cut_token tokens from (maybe start_tokens start) (what.Word w.ACTIVATE) (name_tokens task) p.0 p.2 in
         let first = maybe_at before tokens (start_places before tokens) start a h.0 h.3 from q.0 q.1 in
         let second = maybe_after before tokens w.PRIO priority (h.0 + 2) h.1 h.6 p.0 p.1 p.3 in
@@ -184,7 +184,7 @@ module _ (before tokens : List Token) where
               (seen_option shown_expr plain_expr second.copy priority second.same i) 0;
         }
     stmt_at depth a (Continue once task place) b h from to g =
-        let p = cut_two tokens from (maybe once_tokens once) (what.Word w.CONTINUE) (what.Id task.text) (symbol s.semicolon) to g in
+        let p = cut_two tokens from (maybe once_tokens once) (what.Word w.CONTINUE) (what.Id task.text) (symbol s.SEMICOLON) to g in
         let first = maybe_at before tokens (once_places before tokens) once a h.0 h.2 from p.0 p.1 in
         record {
           copy = Continue first.copy (record { text = task.text; place = place_of tokens (p.0 + 1) }) (place_of tokens from);
@@ -194,13 +194,13 @@ module _ (before tokens : List Token) where
             first.spelled,
             p.2,
             (p.3, here tokens (p.0 + 1) _ p.3),
-            two (λ k. HasSymbol tokens k s.semicolon) p.0 p.4.0,
+            two (λ k. HasSymbol tokens k s.SEMICOLON) p.0 p.4.0,
             three (λ k. to ≡ k) p.0 p.4.1.0,
           );
           same = λ i. OfContinue (seen_option shown_once plain_once first.copy once first.same i) (plain_name task) 0;
         }
     stmt_at depth a (Resume once place) b h from to g =
-        let p = cut_token tokens from (once_tokens once) (what.Word w.RESUME) (symbol s.semicolon) to g in
+        let p = cut_token tokens from (once_tokens once) (what.Word w.RESUME) (symbol s.SEMICOLON) to g in
         let first = (once_places before tokens).at a once h.0 h.2 from p.0 p.1 in
         record {
           copy = Resume first.copy (place_of tokens from);
@@ -208,7 +208,7 @@ module _ (before tokens : List Token) where
           same = ap (λ once. OfResume once 0) first.same;
         }
     stmt_at depth a (OnTask code task place) b h from to g =
-        let p = cut tokens (from + 1) (maybe name_tokens task) (symbol s.semicolon) to g.1 in
+        let p = cut tokens (from + 1) (maybe name_tokens task) (symbol s.SEMICOLON) to g.1 in
         let part = maybe_at before tokens (name_places before tokens) task (a + 1) h.0 h.3 (from + 1) p.0 p.1 in
         record {
           copy = OnTask code part.copy (place_of tokens from);
@@ -216,7 +216,7 @@ module _ (before tokens : List Token) where
           same = ap (λ task. OfOnTask code task 0) part.same;
         }
     stmt_at depth a (OnSemas code names place) b h from to g =
-        let p = cut tokens (from + 1) (listed name_tokens names.items.items) (symbol s.semicolon) to g.1 in
+        let p = cut tokens (from + 1) (listed name_tokens names.items.items) (symbol s.SEMICOLON) to g.1 in
         let list = in_parts (from + 1) names p.0
         (list_at before tokens (name_places before tokens) names.items.items (a + 1) h.0 h.3 (from + 1) p.0 p.1) in
         record {
@@ -230,7 +230,7 @@ module _ (before tokens : List Token) where
         here tokens from _ g.0,
         g.0,
         (g.1.0, here tokens (from + 1) _ g.1.0),
-        two (λ k. HasSymbol tokens k s.semicolon) from g.1.1.0,
+        two (λ k. HasSymbol tokens k s.SEMICOLON) from g.1.1.0,
         three (λ k. to ≡ k) from g.1.1.1.0,
       );
       same = refl;
@@ -256,7 +256,7 @@ module _ (before tokens : List Token) where
           same = λ i. OfGet (seen shown_ref plain_ref list.copy.items.items targets.items.items list.same i) (plain_name dation) (by.7 i) 0;
         }
     stmt_at depth a (Send value dation place) b h from to g =
-        let p = cut_two tokens from (after_tokens w.SEND value) (what.Word w.TO) (what.Id dation.text) (symbol s.semicolon) to g in
+        let p = cut_two tokens from (after_tokens w.SEND value) (what.Word w.TO) (what.Id dation.text) (symbol s.SEMICOLON) to g in
         let first = (after_places before tokens w.SEND).at a value h.0 h.2 from p.0 p.1 in
         record {
           copy = Send first.copy (record { text = dation.text; place = place_of tokens (p.0 + 1) }) (place_of tokens from);
@@ -266,13 +266,13 @@ module _ (before tokens : List Token) where
             first.spelled,
             p.2,
             (p.3, here tokens (p.0 + 1) _ p.3),
-            two (λ k. HasSymbol tokens k s.semicolon) p.0 p.4.0,
+            two (λ k. HasSymbol tokens k s.SEMICOLON) p.0 p.4.0,
             three (λ k. to ≡ k) p.0 p.4.1.0,
           );
           same = ap (λ value. OfSend value (plain_name dation) 0) first.same;
         }
     stmt_at depth a (Take target dation place) b h from to g =
-        let p = cut_two tokens (from + 1) (ref_tokens target) (what.Word w.FROM) (what.Id dation.text) (symbol s.semicolon) to g.1 in
+        let p = cut_two tokens (from + 1) (ref_tokens target) (what.Word w.FROM) (what.Id dation.text) (symbol s.SEMICOLON) to g.1 in
         let first = (ref_places before tokens).at (a + 1) target h.0 h.3 (from + 1) p.0 p.1 in
         record {
           copy = Take first.copy (record { text = dation.text; place = place_of tokens (p.0 + 1) }) (place_of tokens from);
@@ -283,7 +283,7 @@ module _ (before tokens : List Token) where
             first.spelled,
             p.2,
             (p.3, here tokens (p.0 + 1) _ p.3),
-            two (λ k. HasSymbol tokens k s.semicolon) p.0 p.4.0,
+            two (λ k. HasSymbol tokens k s.SEMICOLON) p.0 p.4.0,
             three (λ k. to ≡ k) p.0 p.4.1.0,
           );
           same = ap (λ target. OfTake target (plain_name dation) 0) first.same;

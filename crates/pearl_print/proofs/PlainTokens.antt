@@ -29,8 +29,8 @@ use Rattle.pearl_tree.specs.ShownExpressions.{ShownExpr, OfOperand, OfDyadic, Sh
 use Rattle.pearl_tree.specs.ShownDeclarations.{ShownNames, OfOne, OfSeveral, ShownTyping, OfBasic, OfStruct, OfNamed, ShownFields, NoFields, MoreFields, ShownItem, ShownSema, ShownDeclared, OfItem, OfSema, ShownSpec, OfInterrupt, OfDation, ShownParam}
 use Rattle.pearl_tree.specs.ShownStatements.{ShownPeriodEnd, OfUntil, OfDuring, ShownPeriod, ShownStart, OfAt, OfAfter, OfWhen, OfAll, ShownOnce, OnceAt, OnceAfter, OnceWhen, ShownBodyDecl, ShownStmt, OfEmpty, OfAssign, OfCall, OfIf, OfCase, OfRepeat, OfExit, OfBegin, OfReturn, OfActivate, OfContinue, OfResume, OfOnTask, OfOnSemas, OfOnInterrupt, OfPut, OfGet, OfSend, OfTake, ShownStmts, NoStmts, MoreStmts, ShownBranches, NoBranches, MoreBranches, ShownOtherwise, NoOtherwise, OfOtherwise}
 use Rattle.pearl_tree.specs.ShownModules.{ShownBody, ShownDecl, OfLength, OfType, OfDeclare, OfSpecify, OfTask, OfProc, ShownTree, shown_tree}
-use Rattle.pearl_tree.specs.Symbols as s
-use Rattle.pearl_tree.specs.WordCodes as w
+use Rattle.pearl_tables.specs.declared.symbol.TheConstants as s
+use Rattle.pearl_tables.specs.declared.word_code.TheConstants as w
 use Rattle.pearl_print.specs.Lists.{word, symbol, id, name_tokens, number_tokens, maybe, flag, bracketed_number}
 use Rattle.pearl_print.specs.Expressions.{carried, duration_milliseconds, literal_tokens, sign_tokens, const_tokens, monadic_tokens, dyadic_tokens}
 use Rattle.pearl_print.specs.Types.{int_tokens, upper_tokens, bound_tokens, bounds_tokens, basic_tokens}
@@ -68,7 +68,7 @@ mutual
   primary_kept : (part : ShownPrimary) → said_primary (plain_primary part) ≡ said_primary part
   primary_kept (OfLiteral part) = literal_kept part
   primary_kept (OfRef name selectors place) = λ i. name_tokens name ++ selectors_kept selectors i
-  primary_kept (OfGroup inner place) = λ i. symbol s.left_round ++ expr_kept inner i ++ symbol s.right_round
+  primary_kept (OfGroup inner place) = λ i. symbol s.LEFT_ROUND ++ expr_kept inner i ++ symbol s.RIGHT_ROUND
   primary_kept (OfNow place) = refl
   primary_kept (OfTry name place) = refl
   primary_kept (OfLimit dimension side name selectors ref_place place) =
@@ -81,7 +81,7 @@ mutual
 
   selector_kept : (selector : ShownSelector) → said_selector (plain_selector selector) ≡ said_selector selector
   selector_kept (OfSubscripts subscripts place) =
-      λ i. symbol s.left_round ++ subscripts_kept subscripts i ++ symbol s.right_round
+      λ i. symbol s.LEFT_ROUND ++ subscripts_kept subscripts i ++ symbol s.RIGHT_ROUND
   selector_kept (OfComponent name place) = refl
 
   subscripts_kept : (subscripts : ShownExprs) → said_subscripts (plain_exprs subscripts) ≡ said_subscripts subscripts
@@ -90,7 +90,7 @@ mutual
 
   more_subscripts_kept : (subscripts : ShownExprs) → more_said_subscripts (plain_exprs subscripts) ≡ more_said_subscripts subscripts
   more_subscripts_kept NoExprs = refl
-  more_subscripts_kept (MoreExprs expr rest) = λ i. (symbol s.comma ++ expr_kept expr i) ++ more_subscripts_kept rest i
+  more_subscripts_kept (MoreExprs expr rest) = λ i. (symbol s.COMMA ++ expr_kept expr i) ++ more_subscripts_kept rest i
 
 ref_kept : (reference : ShownRef) → said_ref (plain_ref reference) ≡ said_ref reference
 ref_kept reference = λ i. name_tokens reference.name ++ selectors_kept reference.selectors i
@@ -121,7 +121,7 @@ mutual
   typing_kept : (part : ShownTyping) → said_typing (plain_typing part) ≡ said_typing part
   typing_kept (OfBasic part) = basic_kept part
   typing_kept (OfStruct fields place) =
-      λ i. word w.STRUCT ++ symbol s.left_square ++ fields_kept fields i ++ symbol s.right_square
+      λ i. word w.STRUCT ++ symbol s.LEFT_SQUARE ++ fields_kept fields i ++ symbol s.RIGHT_SQUARE
   typing_kept (OfNamed name) = refl
 
   fields_kept : (fields : ShownFields) → said_fields (plain_fields fields) ≡ said_fields fields
@@ -132,7 +132,7 @@ mutual
   more_fields_kept : (fields : ShownFields) → more_said_fields (plain_fields fields) ≡ more_said_fields fields
   more_fields_kept NoFields = refl
   more_fields_kept (MoreFields names bounds part place rest) =
-      λ i. (symbol s.comma ++ names_kept names i ++ bounds_kept bounds i ++ typing_kept part i) ++ more_fields_kept rest i
+      λ i. (symbol s.COMMA ++ names_kept names i ++ bounds_kept bounds i ++ typing_kept part i) ++ more_fields_kept rest i
 
 device_word_kept : (part : DeviceWord) → device_word_tokens (plain_device_word part) ≡ device_word_tokens part
 device_word_kept (device.Id name) = refl
@@ -140,8 +140,8 @@ device_word_kept (device.Interrupt place) = refl
 
 device_kept : (part : Device) → device_tokens (plain_device part) ≡ device_tokens part
 device_kept part =
-    λ i. name_tokens part.name ++ symbol s.colon ++ device_word_kept part.word i ++ bracketed_number part.number ++
-    symbol s.semicolon
+    λ i. name_tokens part.name ++ symbol s.COLON ++ device_word_kept part.word i ++ bracketed_number part.number ++
+    symbol s.SEMICOLON
 
 item_kept : (item : ShownItem) → said_item (plain_item item) ≡ said_item item
 item_kept item =
@@ -200,11 +200,11 @@ once_kept (OnceAfter duration place) = after_kept w.AFTER duration
 once_kept (OnceWhen interrupt place) = refl
 
 value_kept : (expr : ShownExpr) → said_value (plain_expr expr) ≡ said_value expr
-value_kept expr = λ i. symbol s.left_round ++ expr_kept expr i ++ symbol s.right_round
+value_kept expr = λ i. symbol s.LEFT_ROUND ++ expr_kept expr i ++ symbol s.RIGHT_ROUND
 
 body_decl_kept : (declaration : ShownBodyDecl) → said_body_decl (plain_body_decl declaration) ≡ said_body_decl declaration
 body_decl_kept declaration =
-    λ i. word w.DCL ++ listed_same plain_item said_item said_item item_kept declaration.items i ++ symbol s.semicolon
+    λ i. word w.DCL ++ listed_same plain_item said_item said_item item_kept declaration.items i ++ symbol s.SEMICOLON
 
 body_decls_kept : (declarations : List ShownBodyDecl) → flat_map said_body_decl (map plain_body_decl declarations) ≡ flat_map said_body_decl declarations
 body_decls_kept declarations = each_same plain_body_decl said_body_decl said_body_decl body_decl_kept declarations
@@ -218,49 +218,49 @@ loop_kept control begin step end condition =
 
 by_kept : (name : Name) (formats : List Fmt) → said_by (plain_name name) (map plain_fmt formats) ≡ said_by name formats
 by_kept name formats =
-    λ i. name_tokens name ++ word w.BY ++ listed_same plain_fmt fmt_tokens fmt_tokens fmt_kept formats i ++ symbol s.semicolon
+    λ i. name_tokens name ++ word w.BY ++ listed_same plain_fmt fmt_tokens fmt_tokens fmt_kept formats i ++ symbol s.SEMICOLON
 
 mutual
   stmt_kept : (statement : ShownStmt) → said_stmt (plain_stmt statement) ≡ said_stmt statement
   stmt_kept (OfEmpty place) = refl
   stmt_kept (OfAssign target value place) =
-      λ i. ref_kept target i ++ symbol s.becomes ++ expr_kept value i ++ symbol s.semicolon
+      λ i. ref_kept target i ++ symbol s.BECOMES ++ expr_kept value i ++ symbol s.SEMICOLON
   stmt_kept (OfCall call name arguments place) =
       λ i. word w.CALL ++ name_tokens name ++ maybe_bracketed_same plain_expr said_expr said_expr expr_kept arguments i ++
-      symbol s.semicolon
+      symbol s.SEMICOLON
   stmt_kept (OfIf condition statements otherwise place) =
       λ i. after_kept w.IF condition i ++ word w.THEN ++ stmts_kept statements i ++ otherwise_kept w.ELSE otherwise i ++
-      (word w.FIN ++ symbol s.semicolon)
+      (word w.FIN ++ symbol s.SEMICOLON)
   stmt_kept (OfCase selector alternatives otherwise place) =
       λ i. after_kept w.CASE selector i ++ alternatives_kept alternatives i ++ otherwise_kept w.OUT otherwise i ++
-      (word w.FIN ++ symbol s.semicolon)
+      (word w.FIN ++ symbol s.SEMICOLON)
   stmt_kept (OfRepeat control begin step end condition declarations statements body_place place) =
       λ i. loop_kept control begin step end condition i ++
-      (word w.REPEAT ++ (body_decls_kept declarations i ++ stmts_kept statements i) ++ (word w.END ++ symbol s.semicolon))
+      (word w.REPEAT ++ (body_decls_kept declarations i ++ stmts_kept statements i) ++ (word w.END ++ symbol s.SEMICOLON))
   stmt_kept (OfExit place) = refl
   stmt_kept (OfBegin declarations statements body_place place) =
-      λ i. word w.BEGIN ++ (body_decls_kept declarations i ++ stmts_kept statements i) ++ (word w.END ++ symbol s.semicolon)
+      λ i. word w.BEGIN ++ (body_decls_kept declarations i ++ stmts_kept statements i) ++ (word w.END ++ symbol s.SEMICOLON)
   stmt_kept (OfReturn value place) =
-      λ i. word w.RETURN ++ maybe_same plain_expr said_value said_value value_kept value i ++ symbol s.semicolon
+      λ i. word w.RETURN ++ maybe_same plain_expr said_value said_value value_kept value i ++ symbol s.SEMICOLON
   stmt_kept (OfActivate start task priority place) =
       λ i. maybe_same plain_start said_start said_start start_kept start i ++ word w.ACTIVATE ++ name_tokens task ++
-      maybe_after_kept w.PRIO priority i ++ symbol s.semicolon
+      maybe_after_kept w.PRIO priority i ++ symbol s.SEMICOLON
   stmt_kept (OfContinue once task place) =
-      λ i. maybe_same plain_once said_once said_once once_kept once i ++ word w.CONTINUE ++ name_tokens task ++ symbol s.semicolon
-  stmt_kept (OfResume once place) = λ i. once_kept once i ++ word w.RESUME ++ symbol s.semicolon
+      λ i. maybe_same plain_once said_once said_once once_kept once i ++ word w.CONTINUE ++ name_tokens task ++ symbol s.SEMICOLON
+  stmt_kept (OfResume once place) = λ i. once_kept once i ++ word w.RESUME ++ symbol s.SEMICOLON
   stmt_kept (OfOnTask code task place) =
-      λ i. word (task_word code) ++ maybe_same plain_name name_tokens name_tokens (λ _. refl) task i ++ symbol s.semicolon
+      λ i. word (task_word code) ++ maybe_same plain_name name_tokens name_tokens (λ _. refl) task i ++ symbol s.SEMICOLON
   stmt_kept (OfOnSemas code names place) =
-      λ i. word (sema_word code) ++ listed_same plain_name name_tokens name_tokens (λ _. refl) names i ++ symbol s.semicolon
+      λ i. word (sema_word code) ++ listed_same plain_name name_tokens name_tokens (λ _. refl) names i ++ symbol s.SEMICOLON
   stmt_kept (OfOnInterrupt code name place) = refl
   stmt_kept (OfPut values dation formats place) =
       λ i. word w.PUT ++ listed_same plain_expr said_expr said_expr expr_kept values i ++ word w.TO ++ by_kept dation formats i
   stmt_kept (OfGet targets dation formats place) =
       λ i. word w.GET ++ listed_same plain_ref said_ref said_ref ref_kept targets i ++ word w.FROM ++ by_kept dation formats i
   stmt_kept (OfSend value dation place) =
-      λ i. after_kept w.SEND value i ++ word w.TO ++ name_tokens dation ++ symbol s.semicolon
+      λ i. after_kept w.SEND value i ++ word w.TO ++ name_tokens dation ++ symbol s.SEMICOLON
   stmt_kept (OfTake target dation place) =
-      λ i. word w.TAKE ++ ref_kept target i ++ word w.FROM ++ name_tokens dation ++ symbol s.semicolon
+      λ i. word w.TAKE ++ ref_kept target i ++ word w.FROM ++ name_tokens dation ++ symbol s.SEMICOLON
 
   stmts_kept : (statements : ShownStmts) → said_stmts (plain_stmts statements) ≡ said_stmts statements
   stmts_kept NoStmts = refl
@@ -277,28 +277,28 @@ mutual
 
 task_body_kept : (body : ShownBody) → said_task_body (plain_body body) ≡ said_task_body body
 task_body_kept body =
-    λ i. symbol s.semicolon ++
+    λ i. symbol s.SEMICOLON ++
     (body_decls_kept body.declarations i ++ each_same plain_stmt said_stmt said_stmt stmt_kept body.statements i) ++ word w.END ++
-    symbol s.semicolon
+    symbol s.SEMICOLON
 
 head_kept : (head : TaskHead) → head_tokens (plain_task_head head) ≡ head_tokens head
 head_kept (PrioFirst prio main) = λ i. maybe_same plain_prio prio_tokens prio_tokens (λ _. refl) prio i ++ flag w.MAIN main
 head_kept (MainFirst prio) = refl
 
 returns_kept : (part : Basic) → returns_tokens (plain_basic part) ≡ returns_tokens part
-returns_kept part = λ i. word w.RETURNS ++ symbol s.left_round ++ basic_kept part i ++ symbol s.right_round
+returns_kept part = λ i. word w.RETURNS ++ symbol s.LEFT_ROUND ++ basic_kept part i ++ symbol s.RIGHT_ROUND
 
 decl_kept : (declaration : ShownDecl) → said_decl (plain_decl declaration) ≡ said_decl declaration
 decl_kept (OfLength sort number place) = refl
-decl_kept (OfType name part place) = λ i. word w.TYPE ++ name_tokens name ++ typing_kept part i ++ symbol s.semicolon
+decl_kept (OfType name part place) = λ i. word w.TYPE ++ name_tokens name ++ typing_kept part i ++ symbol s.SEMICOLON
 decl_kept (OfDeclare parts place) =
-    λ i. word w.DCL ++ listed_same plain_declared said_declared said_declared declared_kept parts i ++ symbol s.semicolon
+    λ i. word w.DCL ++ listed_same plain_declared said_declared said_declared declared_kept parts i ++ symbol s.SEMICOLON
 decl_kept (OfSpecify specs place) =
-    λ i. word w.SPC ++ listed_same plain_spec said_spec said_spec spec_kept specs i ++ symbol s.semicolon
+    λ i. word w.SPC ++ listed_same plain_spec said_spec said_spec spec_kept specs i ++ symbol s.SEMICOLON
 decl_kept (OfTask name head body place) =
-    λ i. name_tokens name ++ symbol s.colon ++ word w.TASK ++ head_kept head i ++ task_body_kept body i
+    λ i. name_tokens name ++ symbol s.COLON ++ word w.TASK ++ head_kept head i ++ task_body_kept body i
 decl_kept (OfProc name params returns body place) =
-    λ i. name_tokens name ++ symbol s.colon ++ word w.PROC ++
+    λ i. name_tokens name ++ symbol s.COLON ++ word w.PROC ++
     maybe_bracketed_same plain_param said_param said_param param_kept params i ++
     maybe_same plain_basic returns_tokens returns_tokens returns_kept returns i ++ task_body_kept body i
 
@@ -308,18 +308,18 @@ module_name_kept (Bare name) = refl
 
 system_kept : (devices : List Device) → said_system (map plain_device devices) ≡ said_system devices
 system_kept devices =
-    λ i. word w.SYSTEM ++ symbol s.semicolon ++ each_same plain_device device_tokens device_tokens device_kept devices i
+    λ i. word w.SYSTEM ++ symbol s.SEMICOLON ++ each_same plain_device device_tokens device_tokens device_kept devices i
 
 front_kept : (tree : ShownTree) → said_front (plain tree) ≡ said_front tree
 front_kept tree =
     λ i. word w.MODULE ++ maybe_same plain_module_name module_name_tokens module_name_tokens module_name_kept tree.name i ++
-    symbol s.semicolon ++ maybe_same (map plain_device) said_system said_system system_kept tree.system i ++ word w.PROBLEM ++
-    symbol s.semicolon
+    symbol s.SEMICOLON ++ maybe_same (map plain_device) said_system said_system system_kept tree.system i ++ word w.PROBLEM ++
+    symbol s.SEMICOLON
 
 tree_kept : (tree : ShownTree) → said_tree (plain tree) ≡ said_tree tree
 tree_kept tree =
     λ i. front_kept tree i ++ each_same plain_decl said_decl said_decl decl_kept tree.declarations i ++ word w.MODEND ++
-    symbol s.semicolon
+    symbol s.SEMICOLON
 
 plain_tokens : (tree : Tree) → said_tree (plain (shown_tree tree)) ≡ tokens_of tree
 plain_tokens tree = tree_kept (shown_tree tree) ∙ tree_same tree

@@ -5,7 +5,7 @@ use Rattle.std.proofs.lemmas.List.Elements.{All-head, All-tail}
 use Rattle.pearl_tree.specs.declared.token.What.{What}
 use Rattle.pearl_tree.specs.declared.token.What.TheVariants as what
 use Rattle.pearl_tree.specs.declared.token.Token.{Token}
-use Rattle.pearl_tree.specs.Symbols as s
+use Rattle.pearl_tables.specs.declared.symbol.TheConstants as s
 use Rattle.pearl_lex.specs.Spelling.{space_len}
 use Rattle.pearl_lex.specs.Front.{front}
 use Rattle.pearl_lex.specs.Lexes.{IsSpace, IsToken, AreTokens}
@@ -31,7 +31,7 @@ gap_is_space (what.Decimal whole thousandths) rest = refl
 gap_is_space (what.Clock milliseconds) rest = refl
 gap_is_space (what.Bits len value) rest = refl
 gap_is_space (what.Text text) rest = refl
-gap_is_space (what.Symbol symbol) rest = either (symbol == s.semicolon) where
+gap_is_space (what.Symbol symbol) rest = either (symbol == s.SEMICOLON) where
   either : (test : Bool) → space_len ((if test then codes "\n" else codes " ") ++ rest) ≡ 1
   either true = refl
   either false = refl
@@ -44,7 +44,7 @@ gap_length (what.Decimal whole thousandths) = refl
 gap_length (what.Clock milliseconds) = refl
 gap_length (what.Bits len value) = refl
 gap_length (what.Text text) = refl
-gap_length (what.Symbol symbol) = either (symbol == s.semicolon) where
+gap_length (what.Symbol symbol) = either (symbol == s.SEMICOLON) where
   either : (test : Bool) → length (if test then codes "\n" else codes " ") ≡ 1
   either true = refl
   either false = refl

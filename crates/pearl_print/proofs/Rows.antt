@@ -13,8 +13,8 @@ use Rattle.pearl_tree.specs.declared.expression.Primary as primary
 use Rattle.pearl_tree.specs.declared.expression.Selector.{Selector, Subscripts, Subscripts', Row_of-Expr, end_of-Expr, more_of-Expr, items-the_row-Expr, items_hidden-the_row-Expr-1}
 use Rattle.pearl_tree.specs.declared.expression.Ref.{Ref, Row_of-Selector, end_of-Selector, more_of-Selector, items-the_row-Selector, items_hidden-the_row-Selector-0}
 use Rattle.pearl_tree.specs.Expressions.{side_word}
-use Rattle.pearl_tree.specs.Symbols as s
-use Rattle.pearl_tree.specs.WordCodes as w
+use Rattle.pearl_tables.specs.declared.symbol.TheConstants as s
+use Rattle.pearl_tables.specs.declared.word_code.TheConstants as w
 use Rattle.pearl_print.specs.Lists.{word, symbol, name_tokens, number_tokens, more, listed, bracketed, maybe}
 use Rattle.pearl_print.specs.Types.{names_tokens, bounds_tokens, typing_tokens, fields_tokens, more_fields_tokens, field_tokens, struct_tokens}
 use Rattle.pearl_print.specs.Expressions.{expr_tokens, primary_tokens, selectors_tokens, selector_tokens, subscripts_tokens, more_subscripts_tokens, ref_tokens, limit_tokens}
@@ -22,7 +22,7 @@ use Rattle.pearl_print.specs.Expressions.{expr_tokens, primary_tokens, selectors
 more_fields : (n : _) (row : Row_of-Field n) → more_fields_tokens row ≡ more field_tokens (items-the_row-Field n row)
 more_fields _ end_of-Field = refl
 more_fields _ (more_of-Field names bounds typing place rest) =
-    ap (λ t. (symbol s.comma ++ names_tokens names ++ bounds_tokens bounds.items.items ++ typing_tokens typing) ++ t) (more_fields _ rest)
+    ap (λ t. (symbol s.COMMA ++ names_tokens names ++ bounds_tokens bounds.items.items ++ typing_tokens typing) ++ t) (more_fields _ rest)
 
 fields_listed : (n : _) (row : Row_of-Field n) → fields_tokens row ≡ listed field_tokens (items-the_row-Field n row)
 fields_listed _ end_of-Field = refl
@@ -37,12 +37,12 @@ fields_of _ = (_, end_of-Field)
 pub struct_shown : (fields : Parts Field) (place : ℕ) → typing_tokens (Struct fields place) ≡ struct_tokens fields.items.items
 struct_shown fields place =
     let row = fields_of (Struct fields place) in
-    ap (λ t. word w.STRUCT ++ symbol s.left_square ++ t ++ symbol s.right_square)
+    ap (λ t. word w.STRUCT ++ symbol s.LEFT_SQUARE ++ t ++ symbol s.RIGHT_SQUARE)
     (fields_listed row.0 row.1 ∙ ap (λ xs. listed field_tokens xs) (items_hidden-the_row-Field-0 fields.items))
 
 more_subscripts : (n : _) (row : Row_of-Expr n) → more_subscripts_tokens row ≡ more expr_tokens (items-the_row-Expr n row)
 more_subscripts _ end_of-Expr = refl
-more_subscripts _ (more_of-Expr expr rest) = ap (λ t. (symbol s.comma ++ expr_tokens expr) ++ t) (more_subscripts _ rest)
+more_subscripts _ (more_of-Expr expr rest) = ap (λ t. (symbol s.COMMA ++ expr_tokens expr) ++ t) (more_subscripts _ rest)
 
 subscripts_listed : (n : _) (row : Row_of-Expr n) → subscripts_tokens row ≡ listed expr_tokens (items-the_row-Expr n row)
 subscripts_listed _ end_of-Expr = refl
@@ -56,7 +56,7 @@ subscripts_of _ = (_, end_of-Expr)
 pub subscripts_shown : (exprs : Parts Expr) (place : ℕ) → selector_tokens (Subscripts exprs place) ≡ bracketed expr_tokens exprs.items.items
 subscripts_shown exprs place =
     let row = subscripts_of (Subscripts exprs place) in
-    ap (λ t. symbol s.left_round ++ t ++ symbol s.right_round)
+    ap (λ t. symbol s.LEFT_ROUND ++ t ++ symbol s.RIGHT_ROUND)
     (subscripts_listed row.0 row.1 ∙ ap (λ xs. listed expr_tokens xs) (items_hidden-the_row-Expr-1 exprs.items))
 
 selectors_each : (n : _) (row : Row_of-Selector n) → selectors_tokens row ≡ flat_map selector_tokens (items-the_row-Selector n row)

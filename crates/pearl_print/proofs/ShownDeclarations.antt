@@ -14,8 +14,8 @@ use Rattle.pearl_tree.specs.declared.declaration.Param.{Param}
 use Rattle.pearl_tree.specs.declared.token.What.{What}
 use Rattle.pearl_tree.specs.Declarations.{direction_word}
 use Rattle.pearl_tree.specs.ShownDeclarations.{ShownNames, OfOne, OfSeveral, shown_names, ShownTyping, OfBasic, OfStruct, OfNamed, ShownFields, NoFields, MoreFields, shown_typing, shown_fields, ShownItem, shown_item, ShownSema, shown_sema, ShownDeclared, OfItem, OfSema, shown_declared, ShownSpec, OfInterrupt, OfDation, shown_spec, ShownParam, shown_param}
-use Rattle.pearl_tree.specs.Symbols as s
-use Rattle.pearl_tree.specs.WordCodes as w
+use Rattle.pearl_tables.specs.declared.symbol.TheConstants as s
+use Rattle.pearl_tables.specs.declared.word_code.TheConstants as w
 use Rattle.pearl_print.specs.Lists.{word, symbol, name_tokens, number_tokens, bracketed, maybe_headed, flag}
 use Rattle.pearl_print.specs.Expressions.{const_tokens}
 use Rattle.pearl_print.specs.Types.{names_tokens, bounds_tokens, basic_tokens, typing_tokens, fields_tokens, more_fields_tokens}
@@ -32,7 +32,7 @@ names_same (Several names place) = refl
 abbrev mutual
   pub said_typing : ShownTyping → List What
   said_typing (OfBasic part) = basic_tokens part
-  said_typing (OfStruct fields place) = word w.STRUCT ++ symbol s.left_square ++ said_fields fields ++ symbol s.right_square
+  said_typing (OfStruct fields place) = word w.STRUCT ++ symbol s.LEFT_SQUARE ++ said_fields fields ++ symbol s.RIGHT_SQUARE
   said_typing (OfNamed name) = name_tokens name
 
   pub said_fields : ShownFields → List What
@@ -43,13 +43,13 @@ abbrev mutual
   pub more_said_fields : ShownFields → List What
   more_said_fields NoFields = []
   more_said_fields (MoreFields names bounds part place rest) =
-      (symbol s.comma ++ said_names names ++ bounds_tokens bounds ++ said_typing part) ++ more_said_fields rest
+      (symbol s.COMMA ++ said_names names ++ bounds_tokens bounds ++ said_typing part) ++ more_said_fields rest
 
 mutual
   pub typing_same : (typing : Typing) → said_typing (shown_typing typing) ≡ typing_tokens typing
   typing_same (typing.Basic part) = refl
   typing_same (typing.Struct' _ fields place) =
-      λ i. word w.STRUCT ++ symbol s.left_square ++ fields_same _ fields i ++ symbol s.right_square
+      λ i. word w.STRUCT ++ symbol s.LEFT_SQUARE ++ fields_same _ fields i ++ symbol s.RIGHT_SQUARE
   typing_same (typing.Named name) = refl
 
   fields_same : (n : _) (row : Row_of-Field n) → said_fields (shown_fields row) ≡ fields_tokens row
@@ -60,7 +60,7 @@ mutual
   more_fields_same : (n : _) (row : Row_of-Field n) → more_said_fields (shown_fields row) ≡ more_fields_tokens row
   more_fields_same _ end_of-Field = refl
   more_fields_same _ (more_of-Field names bounds part place rest) =
-      λ i. (symbol s.comma ++ names_same names i ++ bounds_tokens bounds.items.items ++ typing_same part i) ++ more_fields_same _ rest i
+      λ i. (symbol s.COMMA ++ names_same names i ++ bounds_tokens bounds.items.items ++ typing_same part i) ++ more_fields_same _ rest i
 
 abbrev pub said_item : ShownItem → List What
 said_item item =

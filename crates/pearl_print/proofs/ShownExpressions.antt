@@ -9,8 +9,8 @@ use Rattle.pearl_tree.specs.declared.expression.Ref.{Ref, Row_of-Selector, end_o
 use Rattle.pearl_tree.specs.declared.token.What.{What}
 use Rattle.pearl_tree.specs.Expressions.{side_word}
 use Rattle.pearl_tree.specs.ShownExpressions.{ShownExpr, OfOperand, OfDyadic, ShownPrimary, OfLiteral, OfRef, OfGroup, OfNow, OfTry, OfLimit, ShownSelectors, NoSelectors, MoreSelectors, ShownSelector, OfSubscripts, OfComponent, ShownExprs, NoExprs, MoreExprs, shown_expr, shown_primary, shown_selectors, shown_selector, shown_exprs, shown_selector_list, ShownRef, shown_ref}
-use Rattle.pearl_tree.specs.Symbols as s
-use Rattle.pearl_tree.specs.WordCodes as w
+use Rattle.pearl_tables.specs.declared.symbol.TheConstants as s
+use Rattle.pearl_tables.specs.declared.word_code.TheConstants as w
 use Rattle.pearl_print.specs.Lists.{word, symbol, name_tokens, number_tokens, maybe}
 use Rattle.pearl_print.specs.Expressions.{literal_tokens, monadic_tokens, dyadic_tokens, expr_tokens, primary_tokens, selectors_tokens, selector_tokens, subscripts_tokens, more_subscripts_tokens, ref_tokens}
 
@@ -22,7 +22,7 @@ abbrev mutual
   pub said_primary : ShownPrimary → List What
   said_primary (OfLiteral part) = literal_tokens part
   said_primary (OfRef name selectors place) = name_tokens name ++ said_selectors selectors
-  said_primary (OfGroup inner place) = symbol s.left_round ++ said_expr inner ++ symbol s.right_round
+  said_primary (OfGroup inner place) = symbol s.LEFT_ROUND ++ said_expr inner ++ symbol s.RIGHT_ROUND
   said_primary (OfNow place) = word w.NOW
   said_primary (OfTry name place) = word w.TRY ++ name_tokens name
   said_primary (OfLimit dimension side name selectors ref_place place) =
@@ -33,8 +33,8 @@ abbrev mutual
   said_selectors (MoreSelectors selector rest) = said_selector selector ++ said_selectors rest
 
   pub said_selector : ShownSelector → List What
-  said_selector (OfSubscripts subscripts place) = symbol s.left_round ++ said_subscripts subscripts ++ symbol s.right_round
-  said_selector (OfComponent name place) = symbol s.period ++ name_tokens name
+  said_selector (OfSubscripts subscripts place) = symbol s.LEFT_ROUND ++ said_subscripts subscripts ++ symbol s.RIGHT_ROUND
+  said_selector (OfComponent name place) = symbol s.PERIOD ++ name_tokens name
 
   pub said_subscripts : ShownExprs → List What
   said_subscripts NoExprs = []
@@ -42,7 +42,7 @@ abbrev mutual
 
   pub more_said_subscripts : ShownExprs → List What
   more_said_subscripts NoExprs = []
-  more_said_subscripts (MoreExprs next rest) = (symbol s.comma ++ said_expr next) ++ more_said_subscripts rest
+  more_said_subscripts (MoreExprs next rest) = (symbol s.COMMA ++ said_expr next) ++ more_said_subscripts rest
 
 abbrev pub said_ref : ShownRef → List What
 said_ref reference = name_tokens reference.name ++ said_selectors reference.selectors
@@ -55,7 +55,7 @@ mutual
   primary_same : (part : Primary) → said_primary (shown_primary part) ≡ primary_tokens part
   primary_same (primary.Literal part) = refl
   primary_same (primary.Ref' name _ selectors place) = λ i. name_tokens name ++ selectors_same _ selectors i
-  primary_same (primary.Group' _ inner place) = λ i. symbol s.left_round ++ expr_same inner i ++ symbol s.right_round
+  primary_same (primary.Group' _ inner place) = λ i. symbol s.LEFT_ROUND ++ expr_same inner i ++ symbol s.RIGHT_ROUND
   primary_same (primary.Now place) = refl
   primary_same (primary.Try name place) = refl
   primary_same (primary.Limit' dimension side name _ selectors ref_place place) =
@@ -66,7 +66,7 @@ mutual
   selectors_same _ (more_of-Selector selector rest) = λ i. selector_same selector i ++ selectors_same _ rest i
 
   selector_same : (selector : Selector) → said_selector (shown_selector selector) ≡ selector_tokens selector
-  selector_same (Subscripts' _ subscripts place) = λ i. symbol s.left_round ++ subscripts_same _ subscripts i ++ symbol s.right_round
+  selector_same (Subscripts' _ subscripts place) = λ i. symbol s.LEFT_ROUND ++ subscripts_same _ subscripts i ++ symbol s.RIGHT_ROUND
   selector_same (Component name place) = refl
 
   subscripts_same : (n : _) (row : Row_of-Expr n) → said_subscripts (shown_exprs row) ≡ subscripts_tokens row
@@ -75,7 +75,7 @@ mutual
 
   more_subscripts_same : (n : _) (row : Row_of-Expr n) → more_said_subscripts (shown_exprs row) ≡ more_subscripts_tokens row
   more_subscripts_same _ end_of-Expr = refl
-  more_subscripts_same _ (more_of-Expr expr rest) = λ i. (symbol s.comma ++ expr_same expr i) ++ more_subscripts_same _ rest i
+  more_subscripts_same _ (more_of-Expr expr rest) = λ i. (symbol s.COMMA ++ expr_same expr i) ++ more_subscripts_same _ rest i
 
 selector_list_same : (xs : List Selector) → said_selectors (shown_selector_list xs) ≡ flat_map selector_tokens xs
 selector_list_same [] = refl

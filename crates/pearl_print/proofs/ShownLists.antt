@@ -2,7 +2,7 @@
 use Rattle.std.proofs.Common.{◌≡◌, ℕ, List, [], ◌∷◌, ◌++◌, Option, Some, None, map, option_map, refl}
 use Rattle.std.specs.List.{flat_map}
 use Rattle.pearl_tree.specs.declared.token.What.{What}
-use Rattle.pearl_tree.specs.Symbols as s
+use Rattle.pearl_tables.specs.declared.symbol.TheConstants as s
 use Rattle.pearl_print.specs.Lists.{word, symbol, more, listed, bracketed, maybe_bracketed, maybe_headed, maybe}
 
 module _ {X S : Type 0} (show : X → S) (said : S → List What) (tokens : X → List What) (same : (x : X) → said (show x) ≡ tokens x) where
@@ -12,14 +12,14 @@ module _ {X S : Type 0} (show : X → S) (said : S → List What) (tokens : X �
 
   more_same : (xs : List X) → more said (map show xs) ≡ more tokens xs
   more_same [] = refl
-  more_same (x ∷ xs) = λ i. (symbol s.comma ++ same x i) ++ more_same xs i
+  more_same (x ∷ xs) = λ i. (symbol s.COMMA ++ same x i) ++ more_same xs i
 
   pub listed_same : (xs : List X) → listed said (map show xs) ≡ listed tokens xs
   listed_same [] = refl
   listed_same (x ∷ xs) = λ i. same x i ++ more_same xs i
 
   pub bracketed_same : (xs : List X) → bracketed said (map show xs) ≡ bracketed tokens xs
-  bracketed_same xs = λ i. symbol s.left_round ++ listed_same xs i ++ symbol s.right_round
+  bracketed_same xs = λ i. symbol s.LEFT_ROUND ++ listed_same xs i ++ symbol s.RIGHT_ROUND
 
   pub maybe_bracketed_same : (xs : List X) → maybe_bracketed said (map show xs) ≡ maybe_bracketed tokens xs
   maybe_bracketed_same [] = refl

@@ -8,8 +8,8 @@ use Rattle.pearl_tree.specs.declared.expression.Expr.{Expr}
 use Rattle.pearl_tree.specs.declared.statement.Stmt.{Stmt, If, If', Case, Case', Repeat, Repeat', Begin, Begin', Row_of-Stmt, end_of-Stmt, more_of-Stmt, items-the_row-Stmt, items_shown-the_row-Stmt-0, items_hidden-the_row-Stmt-0, Row_of-Branch, end_of-Branch, more_of-Branch, items-the_row-Branch, items_hidden-the_row-Branch-1, Held-Stmt-If-2, None', Some', back-Stmt-If-2}
 use Rattle.pearl_tree.specs.declared.statement.Body.{Body}
 use Rattle.pearl_tree.specs.declared.statement.Branch.{Branch}
-use Rattle.pearl_tree.specs.Symbols as s
-use Rattle.pearl_tree.specs.WordCodes as w
+use Rattle.pearl_tables.specs.declared.symbol.TheConstants as s
+use Rattle.pearl_tables.specs.declared.word_code.TheConstants as w
 use Rattle.pearl_print.specs.Lists.{word, symbol, maybe}
 use Rattle.pearl_print.specs.Schedules.{after_tokens}
 use Rattle.pearl_print.specs.Statements.{body_decl_tokens, loop_tokens, stmt_tokens, stmts_tokens, alternatives_tokens, otherwise_tokens, branch_tokens, block_tokens}
@@ -48,23 +48,23 @@ alternatives_of _ = (_, end_of-Branch)
 pub if_shown : (condition : Expr) (statements : Parts Stmt) (otherwise : Option Branch) (place : ℕ) →
     stmt_tokens (If condition statements otherwise place) ≡
     after_tokens w.IF condition ++ word w.THEN ++ flat_map stmt_tokens statements.items.items ++
-    maybe (branch_tokens w.ELSE) otherwise ++ (word w.FIN ++ symbol s.semicolon)
+    maybe (branch_tokens w.ELSE) otherwise ++ (word w.FIN ++ symbol s.SEMICOLON)
 if_shown condition statements otherwise place =
     let row = statements_of (If condition statements otherwise place) in
     λ i. after_tokens w.IF condition ++ word w.THEN ++
     (stmts_each row.0 row.1 ∙ ap (λ xs. flat_map stmt_tokens xs) (items_hidden-the_row-Stmt-0 statements.items)) i ++
-    otherwise_shown w.ELSE otherwise i ++ (word w.FIN ++ symbol s.semicolon)
+    otherwise_shown w.ELSE otherwise i ++ (word w.FIN ++ symbol s.SEMICOLON)
 
 -- CASE expr ALT { stmt } { ALT { stmt } } [ OUT { stmt } ] FIN ";"
 pub case_shown : (selector : Expr) (alternatives : Parts Branch) (otherwise : Option Branch) (place : ℕ) →
     stmt_tokens (Case selector alternatives otherwise place) ≡
     after_tokens w.CASE selector ++ flat_map (branch_tokens w.ALT) alternatives.items.items ++
-    maybe (branch_tokens w.OUT) otherwise ++ (word w.FIN ++ symbol s.semicolon)
+    maybe (branch_tokens w.OUT) otherwise ++ (word w.FIN ++ symbol s.SEMICOLON)
 case_shown selector alternatives otherwise place =
     let row = alternatives_of (Case selector alternatives otherwise place) in
     λ i. after_tokens w.CASE selector ++
     (alternatives_each row.0 row.1 ∙ ap (λ xs. flat_map (branch_tokens w.ALT) xs) (items_hidden-the_row-Branch-1 alternatives.items)) i ++
-    otherwise_shown w.OUT otherwise i ++ (word w.FIN ++ symbol s.semicolon)
+    otherwise_shown w.OUT otherwise i ++ (word w.FIN ++ symbol s.SEMICOLON)
 
 -- REPEAT, and what stands before it
 pub repeat_shown : (control : Option Name) (begin step end condition : Option Expr) (body : Body) (place : ℕ) →
@@ -73,12 +73,12 @@ pub repeat_shown : (control : Option Name) (begin step end condition : Option Ex
 repeat_shown control begin step end condition body place =
     let row = statements_of (Repeat control begin step end condition body place) in
     ap (λ t. loop_tokens control begin step end condition ++
-    (word w.REPEAT ++ (flat_map body_decl_tokens body.declarations.items.items ++ t) ++ (word w.END ++ symbol s.semicolon)))
+    (word w.REPEAT ++ (flat_map body_decl_tokens body.declarations.items.items ++ t) ++ (word w.END ++ symbol s.SEMICOLON)))
     (stmts_each row.0 row.1 ∙ ap (λ xs. flat_map stmt_tokens xs) (items_hidden-the_row-Stmt-0 body.statements.items))
 
 -- BEGIN body END ";"
 pub begin_shown : (body : Body) (place : ℕ) → stmt_tokens (Begin body place) ≡ block_tokens w.BEGIN body
 begin_shown body place =
     let row = statements_of (Begin body place) in
-    ap (λ t. word w.BEGIN ++ (flat_map body_decl_tokens body.declarations.items.items ++ t) ++ (word w.END ++ symbol s.semicolon))
+    ap (λ t. word w.BEGIN ++ (flat_map body_decl_tokens body.declarations.items.items ++ t) ++ (word w.END ++ symbol s.SEMICOLON))
     (stmts_each row.0 row.1 ∙ ap (λ xs. flat_map stmt_tokens xs) (items_hidden-the_row-Stmt-0 body.statements.items))

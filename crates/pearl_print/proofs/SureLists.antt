@@ -14,9 +14,9 @@ use Rattle.pearl_tree.specs.declared.format.FreeCode.TheVariants.{A, B, B1, B2, 
 use Rattle.pearl_tree.specs.declared.format.WideCode.{WideCode}
 use Rattle.pearl_tree.specs.declared.format.WideCode.TheVariants.{F, T, D}
 use Rattle.pearl_tree.specs.Formats.{free_text, wide_text}
-use Rattle.pearl_tree.specs.Symbols as s
-use Rattle.pearl_tree.specs.Symbols.{symbol_count}
-use Rattle.pearl_tree.specs.WordCodes.{code_count, words}
+use Rattle.pearl_tables.specs.declared.symbol.TheConstants as s
+use Rattle.pearl_tables.specs.Symbols.{symbol_count}
+use Rattle.pearl_tables.specs.Words.{code_count, words}
 use Rattle.pearl_tree.specs.Tokens.{IsIdByte, IsLawfulWhat}
 use Rattle.pearl_tree.specs.Lawful.{IsLawfulName, IsLawfulNumber}
 use Rattle.pearl_lex.proofs.Passes.{and_front, and_back}
@@ -53,7 +53,7 @@ flag_sure code true is = word_sure code is
 
 pub bracketed_number_sure : (number : Number) → IsLawfulNumber number → Sure (bracketed_number number)
 bracketed_number_sure number is =
-    symbol_sure s.left_round (omega arith) & number_sure number is & symbol_sure s.right_round (omega arith)
+    symbol_sure s.LEFT_ROUND (omega arith) & number_sure number is & symbol_sure s.RIGHT_ROUND (omega arith)
 
 -- each part of a list with this has such tokens
 module _ {X : Type 0} (P : X → Type 0) (tokens : X → List What) (sure : (x : X) → P x → Sure (tokens x)) where
@@ -64,7 +64,7 @@ module _ {X : Type 0} (P : X → Type 0) (tokens : X → List What) (sure : (x :
   more_sure : (xs : List X) → All P xs → Sure (more tokens xs)
   more_sure [] all = none
   more_sure (x ∷ xs) all =
-      (symbol_sure s.comma (omega arith) & sure x (All-head P x xs all)) & more_sure xs (All-tail P x xs all)
+      (symbol_sure s.COMMA (omega arith) & sure x (All-head P x xs all)) & more_sure xs (All-tail P x xs all)
 
   pub listed_sure : (xs : List X) → All P xs → Sure (listed tokens xs)
   listed_sure [] all = none
@@ -72,7 +72,7 @@ module _ {X : Type 0} (P : X → Type 0) (tokens : X → List What) (sure : (x :
 
   pub bracketed_sure : (xs : List X) → All P xs → Sure (bracketed tokens xs)
   bracketed_sure xs all =
-      symbol_sure s.left_round (omega arith) & listed_sure xs all & symbol_sure s.right_round (omega arith)
+      symbol_sure s.LEFT_ROUND (omega arith) & listed_sure xs all & symbol_sure s.RIGHT_ROUND (omega arith)
 
   pub maybe_bracketed_sure : (xs : List X) → All P xs → Sure (maybe_bracketed tokens xs)
   maybe_bracketed_sure [] all = none

@@ -71,9 +71,9 @@ use Rattle.pearl_tree.specs.declared.statement.SemaWord.{SemaWord}
 use Rattle.pearl_tree.specs.declared.statement.SemaWord.TheVariants.{Request, Release}
 use Rattle.pearl_tree.specs.declared.statement.InterruptWord.{InterruptWord}
 use Rattle.pearl_tree.specs.declared.statement.InterruptWord.TheVariants.{Enable, Disable, Trigger}
-use Rattle.pearl_tree.specs.Symbols as s
-use Rattle.pearl_tree.specs.WordCodes as w
-use Rattle.pearl_tree.specs.WordCodes.{code_count}
+use Rattle.pearl_tables.specs.declared.symbol.TheConstants as s
+use Rattle.pearl_tables.specs.declared.word_code.TheConstants as w
+use Rattle.pearl_tables.specs.Words.{code_count}
 use Rattle.pearl_tree.specs.Tokens.{IsNumberValue}
 use Rattle.pearl_tree.specs.Expressions.{monad_what, side_word}
 use Rattle.pearl_tree.specs.Types.{sort_word}
@@ -94,8 +94,8 @@ use Rattle.pearl_print.specs.Reading.{HasFittingHours, FitsHours, Reads, LawfulT
 use Rattle.pearl_print.proofs.LawfulRead.{lawful_text_reads}
 use Rattle.pearl_print.proofs.SureLists.{Sure, none, one, ◌&◌, word_sure, symbol_sure, name_sure, number_sure, flag_sure, bracketed_number_sure, each_sure, listed_sure, bracketed_sure, maybe_bracketed_sure, maybe_headed_sure, maybe_sure, each_both, listed_both, maybe_bracketed_both, maybe_headed_both, maybe_both, any_sure, free_sure, wide_sure}
 
-end_sure : Sure (symbol s.semicolon)
-end_sure = symbol_sure s.semicolon (omega arith)
+end_sure : Sure (symbol s.SEMICOLON)
+end_sure = symbol_sure s.SEMICOLON (omega arith)
 
 names_sure : (names : Names) → AreLawfulNames names → Sure (names_tokens names)
 names_sure (One name) is = name_sure name is
@@ -115,8 +115,8 @@ literal_sure (literal.Clock milliseconds place) is fits = one (what.Clock millis
 literal_sure (literal.Duration duration) is fits = carried_sure (duration_milliseconds duration) fits
 
 sign_sure : (part : Sign) → Sure (sign_tokens part)
-sign_sure sign.Plus = symbol_sure s.plus (omega arith)
-sign_sure sign.Minus = symbol_sure s.minus (omega arith)
+sign_sure sign.Plus = symbol_sure s.PLUS (omega arith)
+sign_sure sign.Minus = symbol_sure s.MINUS (omega arith)
 
 maybe_sign : (part : Option Sign) → Sure (maybe sign_tokens part)
 maybe_sign None = none
@@ -126,8 +126,8 @@ const_sure : (constant : Const) → IsLawfulConst constant → HasFittingHours c
 const_sure constant is fits = maybe_sign constant.sign & literal_sure constant.literal is fits
 
 monad_sure : (part : Monad) → Sure (monad_what part ∷ [])
-monad_sure monad.Plus = symbol_sure s.plus (omega arith)
-monad_sure monad.Minus = symbol_sure s.minus (omega arith)
+monad_sure monad.Plus = symbol_sure s.PLUS (omega arith)
+monad_sure monad.Minus = symbol_sure s.MINUS (omega arith)
 monad_sure monad.Abs = word_sure w.ABS (omega arith)
 monad_sure monad.Sign = word_sure w.SIGN (omega arith)
 monad_sure monad.Not = word_sure w.NOT (omega arith)
@@ -136,21 +136,21 @@ monadic_sure : (part : Monadic) → Sure (monadic_tokens part)
 monadic_sure part = monad_sure part.operator
 
 dyad_sure : (part : Dyad) → Sure (dyad_what part ∷ [])
-dyad_sure dyad.Power = symbol_sure s.power (omega arith)
-dyad_sure dyad.Times = symbol_sure s.star (omega arith)
-dyad_sure dyad.Over = symbol_sure s.over (omega arith)
+dyad_sure dyad.Power = symbol_sure s.POWER (omega arith)
+dyad_sure dyad.Times = symbol_sure s.TIMES (omega arith)
+dyad_sure dyad.Over = symbol_sure s.DIVIDE (omega arith)
 dyad_sure dyad.Rem = word_sure w.REM (omega arith)
-dyad_sure dyad.Cat = symbol_sure s.joined (omega arith)
-dyad_sure dyad.Plus = symbol_sure s.plus (omega arith)
-dyad_sure dyad.Minus = symbol_sure s.minus (omega arith)
-dyad_sure dyad.Cshift = symbol_sure s.turned (omega arith)
+dyad_sure dyad.Cat = symbol_sure s.CONCATENATE (omega arith)
+dyad_sure dyad.Plus = symbol_sure s.PLUS (omega arith)
+dyad_sure dyad.Minus = symbol_sure s.MINUS (omega arith)
+dyad_sure dyad.Cshift = symbol_sure s.ROTATE (omega arith)
 dyad_sure dyad.Shift = word_sure w.SHIFT (omega arith)
-dyad_sure dyad.Lt = symbol_sure s.less (omega arith)
-dyad_sure dyad.Gt = symbol_sure s.more (omega arith)
-dyad_sure dyad.Le = symbol_sure s.at_most (omega arith)
-dyad_sure dyad.Ge = symbol_sure s.at_least (omega arith)
-dyad_sure dyad.Eq = symbol_sure s.same (omega arith)
-dyad_sure dyad.Ne = symbol_sure s.differs (omega arith)
+dyad_sure dyad.Lt = symbol_sure s.LESS (omega arith)
+dyad_sure dyad.Gt = symbol_sure s.GREATER (omega arith)
+dyad_sure dyad.Le = symbol_sure s.AT_MOST (omega arith)
+dyad_sure dyad.Ge = symbol_sure s.AT_LEAST (omega arith)
+dyad_sure dyad.Eq = symbol_sure s.EQUAL (omega arith)
+dyad_sure dyad.Ne = symbol_sure s.UNEQUAL (omega arith)
 dyad_sure dyad.And = word_sure w.AND (omega arith)
 dyad_sure dyad.Or = word_sure w.OR (omega arith)
 dyad_sure dyad.Exor = word_sure w.EXOR (omega arith)
@@ -170,7 +170,7 @@ mutual
   primary_sure depth (primary.Literal part) is fits = literal_sure part is fits
   primary_sure depth (primary.Ref' name _ selectors place) is fits = name_sure name is.0 & selectors_sure depth _ selectors is.1 fits
   primary_sure depth (primary.Group' _ inner place) is fits =
-      symbol_sure s.left_round (omega arith) & expr_sure (depth - 1) inner is.1.0 fits & symbol_sure s.right_round (omega arith)
+      symbol_sure s.LEFT_ROUND (omega arith) & expr_sure (depth - 1) inner is.1.0 fits & symbol_sure s.RIGHT_ROUND (omega arith)
   primary_sure depth (primary.Now place) is fits = word_sure w.NOW (omega arith)
   primary_sure depth (primary.Try name place) is fits = word_sure w.TRY (omega arith) & name_sure name is
   primary_sure depth (primary.Limit' dimension side name _ selectors ref_place place) is fits =
@@ -184,8 +184,8 @@ mutual
 
   selector_sure : (depth : ℕ) (selector : Selector) → IsLawfulSelector depth selector → InSelector HasFittingHours selector → Sure (selector_tokens selector)
   selector_sure depth (Subscripts' _ subscripts place) is fits =
-      symbol_sure s.left_round (omega arith) & subscripts_sure (depth - 1) _ subscripts is.1 fits & symbol_sure s.right_round (omega arith)
-  selector_sure depth (Component name place) is fits = symbol_sure s.period (omega arith) & name_sure name is
+      symbol_sure s.LEFT_ROUND (omega arith) & subscripts_sure (depth - 1) _ subscripts is.1 fits & symbol_sure s.RIGHT_ROUND (omega arith)
+  selector_sure depth (Component name place) is fits = symbol_sure s.PERIOD (omega arith) & name_sure name is
 
   subscripts_sure : (depth : ℕ) (n : _) (row : Row_of-Expr n) → AreLawfulSubscripts depth row → InSubscripts HasFittingHours row → Sure (subscripts_tokens row)
   subscripts_sure depth _ end_of-Expr is fits = none
@@ -195,7 +195,7 @@ mutual
   more_subscripts_sure : (depth : ℕ) (n : _) (row : Row_of-Expr n) → AreLawfulSubscripts depth row → InSubscripts HasFittingHours row → Sure (more_subscripts_tokens row)
   more_subscripts_sure depth _ end_of-Expr is fits = none
   more_subscripts_sure depth _ (more_of-Expr expr rest) is fits =
-      (symbol_sure s.comma (omega arith) & expr_sure depth expr is.0.0 fits.0) & more_subscripts_sure depth _ rest is.1 fits.1
+      (symbol_sure s.COMMA (omega arith) & expr_sure depth expr is.0.0 fits.0) & more_subscripts_sure depth _ rest is.1 fits.1
 
 whole_sure : (expr : Expr) → IsLawfulExpr expr → InExpr HasFittingHours expr → Sure (expr_tokens expr)
 whole_sure expr is fits = expr_sure 32 expr is.0 fits
@@ -216,13 +216,13 @@ by_sure name formats is all =
 
 minus_sure : (minus : Bool) → Sure (minus_tokens minus)
 minus_sure false = none
-minus_sure true = symbol_sure s.minus (omega arith)
+minus_sure true = symbol_sure s.MINUS (omega arith)
 
 int_sure : (int : Int) → IsLawfulNumber int.number → Sure (int_tokens int)
 int_sure int is = minus_sure int.minus & number_sure int.number is
 
 upper_sure : (int : Int) → IsLawfulNumber int.number → Sure (upper_tokens int)
-upper_sure int is = symbol_sure s.colon (omega arith) & int_sure int is
+upper_sure int is = symbol_sure s.COLON (omega arith) & int_sure int is
 
 bound_sure : (bound : Bound) → IsLawfulBound bound → Sure (bound_tokens bound)
 bound_sure bound is =
@@ -246,8 +246,8 @@ mutual
   typing_sure : (depth : ℕ) (part : Typing) → HasLawfulTyping depth part → Sure (typing_tokens part)
   typing_sure depth (typing.Basic part) is = basic_sure part is
   typing_sure depth (typing.Struct' _ fields place) is =
-      word_sure w.STRUCT (omega arith) & symbol_sure s.left_square (omega arith) & fields_sure (depth - 1) _ fields is.1 &
-      symbol_sure s.right_square (omega arith)
+      word_sure w.STRUCT (omega arith) & symbol_sure s.LEFT_SQUARE (omega arith) & fields_sure (depth - 1) _ fields is.1 &
+      symbol_sure s.RIGHT_SQUARE (omega arith)
   typing_sure depth (typing.Named name) is = name_sure name is
 
   fields_sure : (depth : ℕ) (n : _) (row : Row_of-Field n) → AreLawfulFields depth row → Sure (fields_tokens row)
@@ -258,7 +258,7 @@ mutual
   more_fields_sure : (depth : ℕ) (n : _) (row : Row_of-Field n) → AreLawfulFields depth row → Sure (more_fields_tokens row)
   more_fields_sure depth _ end_of-Field is = none
   more_fields_sure depth _ (more_of-Field names bounds part place rest) is =
-      (symbol_sure s.comma (omega arith) & names_sure names is.0.0 & bounds_sure bounds.items.items is.0.1 &
+      (symbol_sure s.COMMA (omega arith) & names_sure names is.0.0 & bounds_sure bounds.items.items is.0.1 &
       typing_sure depth part is.0.2) & more_fields_sure depth _ rest is.1
 
 device_word_sure : (part : DeviceWord) → IsLawfulDeviceWord part → Sure (device_word_tokens part)
@@ -267,7 +267,7 @@ device_word_sure (device.Interrupt place) is = word_sure w.INTERRUPT (omega arit
 
 device_sure : (part : Device) → IsLawfulDevice part → Sure (device_tokens part)
 device_sure part is =
-    name_sure part.name is.0 & symbol_sure s.colon (omega arith) & device_word_sure part.word is.1 &
+    name_sure part.name is.0 & symbol_sure s.COLON (omega arith) & device_word_sure part.word is.1 &
     bracketed_number_sure part.number is.2 & end_sure
 
 prio_sure : (prio : Prio) → IsLawfulNumber prio.number → Sure (prio_tokens prio)
@@ -343,7 +343,7 @@ for_sure name is = word_sure w.FOR (omega arith) & name_sure name is
 
 value_sure : (expr : Expr) → IsLawfulExpr expr → InExpr HasFittingHours expr → Sure (value_tokens expr)
 value_sure expr is fits =
-    symbol_sure s.left_round (omega arith) & whole_sure expr is fits & symbol_sure s.right_round (omega arith)
+    symbol_sure s.LEFT_ROUND (omega arith) & whole_sure expr is fits & symbol_sure s.RIGHT_ROUND (omega arith)
 
 body_decl_sure : (part : BodyDecl) → IsLawfulBodyDecl part → InBodyDecl HasFittingHours part → Sure (body_decl_tokens part)
 body_decl_sure part is fits =
@@ -371,7 +371,7 @@ mutual
   stmt_sure : (depth : ℕ) (statement : Stmt) → IsLawfulStmt depth statement → InStmt HasFittingHours statement → Sure (stmt_tokens statement)
   stmt_sure depth (Empty place) is fits = end_sure
   stmt_sure depth (Assign target value place) is fits =
-      ref_sure target is.0 fits.0 & symbol_sure s.becomes (omega arith) & whole_sure value is.1 fits.1 & end_sure
+      ref_sure target is.0 fits.0 & symbol_sure s.BECOMES (omega arith) & whole_sure value is.1 fits.1 & end_sure
   stmt_sure depth (Call call name arguments place) is fits =
       word_sure w.CALL (omega arith) & name_sure name is.0 &
       maybe_bracketed_both IsLawfulExpr (InExpr HasFittingHours) expr_tokens whole_sure arguments.items.items is.1 fits & end_sure
@@ -449,8 +449,8 @@ head_sure (MainFirst prio) is = prio_sure prio is & word_sure w.MAIN (omega arit
 
 returns_sure : (part : Basic) → IsLawfulBasic part → Sure (returns_tokens part)
 returns_sure part is =
-    word_sure w.RETURNS (omega arith) & symbol_sure s.left_round (omega arith) & basic_sure part is &
-    symbol_sure s.right_round (omega arith)
+    word_sure w.RETURNS (omega arith) & symbol_sure s.LEFT_ROUND (omega arith) & basic_sure part is &
+    symbol_sure s.RIGHT_ROUND (omega arith)
 
 decl_sure : (part : Decl) → IsLawfulDecl part → InDecl HasFittingHours part → Sure (decl_tokens part)
 decl_sure (decl.Length sort number place) is fits =
@@ -463,16 +463,16 @@ decl_sure (decl.Declare parts place) is fits =
 decl_sure (decl.Specify specs place) is fits =
     word_sure w.SPC (omega arith) & listed_sure IsLawfulSpec spec_tokens spec_sure specs.items.items is & end_sure
 decl_sure (decl.Task name head body place) is fits =
-    name_sure name is.0 & symbol_sure s.colon (omega arith) & word_sure w.TASK (omega arith) & head_sure head is.1 &
+    name_sure name is.0 & symbol_sure s.COLON (omega arith) & word_sure w.TASK (omega arith) & head_sure head is.1 &
     task_body_sure body is.2 fits
 decl_sure (decl.Proc name params returns body place) is fits =
-    name_sure name is.0 & symbol_sure s.colon (omega arith) & word_sure w.PROC (omega arith) &
+    name_sure name is.0 & symbol_sure s.COLON (omega arith) & word_sure w.PROC (omega arith) &
     maybe_bracketed_sure IsLawfulParam param_tokens param_sure params.items.items is.1 &
     maybe_sure IsLawfulBasic returns_tokens returns_sure returns is.2 & task_body_sure body is.3 fits
 
 bracketed_name_sure : (name : Name) → IsLawfulName name → Sure (module_name_tokens (Bracketed name))
 bracketed_name_sure name is =
-    symbol_sure s.left_round (omega arith) & name_sure name is & symbol_sure s.right_round (omega arith)
+    symbol_sure s.LEFT_ROUND (omega arith) & name_sure name is & symbol_sure s.RIGHT_ROUND (omega arith)
 
 module_name_sure : (name : ModuleName) → IsLawfulModuleName name → Sure (module_name_tokens name)
 module_name_sure (Bracketed name) is = bracketed_name_sure name is

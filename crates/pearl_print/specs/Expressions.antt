@@ -25,8 +25,8 @@ use Rattle.pearl_tree.specs.declared.expression.Ref.{Ref, Row_of-Selector, end_o
 use Rattle.pearl_tree.specs.declared.token.What.{What}
 use Rattle.pearl_tree.specs.declared.token.What.TheVariants as what
 use Rattle.pearl_tree.specs.Expressions.{monad_what, side_word}
-use Rattle.pearl_tree.specs.Symbols as s
-use Rattle.pearl_tree.specs.WordCodes as w
+use Rattle.pearl_tables.specs.declared.symbol.TheConstants as s
+use Rattle.pearl_tables.specs.declared.word_code.TheConstants as w
 use Rattle.pearl_print.specs.Lists.{word, symbol, name_tokens, number_tokens, maybe}
 
 abbrev pub secs_milliseconds : Secs → ℕ
@@ -63,8 +63,8 @@ literal_tokens (literal.Duration duration) = carried (duration_milliseconds dura
 
 -- "+" | "-"
 abbrev pub sign_tokens : Sign → List What
-sign_tokens sign.Plus = symbol s.plus
-sign_tokens sign.Minus = symbol s.minus
+sign_tokens sign.Plus = symbol s.PLUS
+sign_tokens sign.Minus = symbol s.MINUS
 
 -- const = [ "+" | "-" ] literal
 abbrev pub const_tokens : Const → List What
@@ -76,21 +76,21 @@ monadic_tokens monadic = monad_what monadic.operator ∷ []
 
 -- the symbol of an operator, or its word where it has none
 abbrev pub dyad_what : Dyad → What
-dyad_what dyad.Power = what.Symbol s.power
-dyad_what dyad.Times = what.Symbol s.star
-dyad_what dyad.Over = what.Symbol s.over
+dyad_what dyad.Power = what.Symbol s.POWER
+dyad_what dyad.Times = what.Symbol s.TIMES
+dyad_what dyad.Over = what.Symbol s.DIVIDE
 dyad_what dyad.Rem = what.Word w.REM
-dyad_what dyad.Cat = what.Symbol s.joined
-dyad_what dyad.Plus = what.Symbol s.plus
-dyad_what dyad.Minus = what.Symbol s.minus
-dyad_what dyad.Cshift = what.Symbol s.turned
+dyad_what dyad.Cat = what.Symbol s.CONCATENATE
+dyad_what dyad.Plus = what.Symbol s.PLUS
+dyad_what dyad.Minus = what.Symbol s.MINUS
+dyad_what dyad.Cshift = what.Symbol s.ROTATE
 dyad_what dyad.Shift = what.Word w.SHIFT
-dyad_what dyad.Lt = what.Symbol s.less
-dyad_what dyad.Gt = what.Symbol s.more
-dyad_what dyad.Le = what.Symbol s.at_most
-dyad_what dyad.Ge = what.Symbol s.at_least
-dyad_what dyad.Eq = what.Symbol s.same
-dyad_what dyad.Ne = what.Symbol s.differs
+dyad_what dyad.Lt = what.Symbol s.LESS
+dyad_what dyad.Gt = what.Symbol s.GREATER
+dyad_what dyad.Le = what.Symbol s.AT_MOST
+dyad_what dyad.Ge = what.Symbol s.AT_LEAST
+dyad_what dyad.Eq = what.Symbol s.EQUAL
+dyad_what dyad.Ne = what.Symbol s.UNEQUAL
 dyad_what dyad.And = what.Word w.AND
 dyad_what dyad.Or = what.Word w.OR
 dyad_what dyad.Exor = what.Word w.EXOR
@@ -108,7 +108,7 @@ abbrev mutual
   pub primary_tokens : Primary → List What
   primary_tokens (primary.Literal part) = literal_tokens part
   primary_tokens (primary.Ref' name _ selectors place) = name_tokens name ++ selectors_tokens selectors
-  primary_tokens (primary.Group' _ inner place) = symbol s.left_round ++ expr_tokens inner ++ symbol s.right_round
+  primary_tokens (primary.Group' _ inner place) = symbol s.LEFT_ROUND ++ expr_tokens inner ++ symbol s.RIGHT_ROUND
   primary_tokens (primary.Now place) = word w.NOW
   primary_tokens (primary.Try name place) = word w.TRY ++ name_tokens name
   primary_tokens (primary.Limit' dimension side name _ selectors ref_place place) =
@@ -121,8 +121,8 @@ abbrev mutual
 
   pub selector_tokens : Selector → List What
   selector_tokens (Subscripts' _ subscripts place) =
-      symbol s.left_round ++ subscripts_tokens subscripts ++ symbol s.right_round
-  selector_tokens (Component name place) = symbol s.period ++ name_tokens name
+      symbol s.LEFT_ROUND ++ subscripts_tokens subscripts ++ symbol s.RIGHT_ROUND
+  selector_tokens (Component name place) = symbol s.PERIOD ++ name_tokens name
 
   -- expr { "," expr }
   pub subscripts_tokens : {n : _} → Row_of-Expr n → List What
@@ -133,7 +133,7 @@ abbrev mutual
   pub more_subscripts_tokens : {n : _} → Row_of-Expr n → List What
   more_subscripts_tokens end_of-Expr = []
   more_subscripts_tokens (more_of-Expr next rest) =
-      (symbol s.comma ++ expr_tokens next) ++ more_subscripts_tokens rest
+      (symbol s.COMMA ++ expr_tokens next) ++ more_subscripts_tokens rest
 
 -- ref = id { "(" expr { "," expr } ")" | "." id }
 abbrev pub ref_tokens : Ref → List What

@@ -5,7 +5,7 @@ use Rattle.pearl_tree.specs.declared.name.Name.{Name}
 use Rattle.pearl_tree.specs.declared.name.Number.{Number}
 use Rattle.pearl_tree.specs.declared.token.What.{What}
 use Rattle.pearl_tree.specs.declared.token.What.TheVariants as what
-use Rattle.pearl_tree.specs.Symbols as s
+use Rattle.pearl_tables.specs.declared.symbol.TheConstants as s
 
 abbrev pub word : ℕ → List What
 word code = what.Word code ∷ []
@@ -24,7 +24,7 @@ number_tokens number = what.Number number.value ∷ []
 
 -- { "," part }
 abbrev pub more : {X : Type 0} → (X → List What) → List X → List What
-more each parts = flat_map (λ part. symbol s.comma ++ each part) parts
+more each parts = flat_map (λ part. symbol s.COMMA ++ each part) parts
 
 -- part { "," part }
 abbrev pub listed : {X : Type 0} → (X → List What) → List X → List What
@@ -33,7 +33,7 @@ listed each (first ∷ rest) = each first ++ more each rest
 
 -- "(" part { "," part } ")"
 abbrev pub bracketed : {X : Type 0} → (X → List What) → List X → List What
-bracketed each parts = symbol s.left_round ++ listed each parts ++ symbol s.right_round
+bracketed each parts = symbol s.LEFT_ROUND ++ listed each parts ++ symbol s.RIGHT_ROUND
 
 -- [ "(" part { "," part } ")" ]
 abbrev pub maybe_bracketed : {X : Type 0} → (X → List What) → List X → List What
@@ -57,4 +57,4 @@ flag code true = word code
 
 -- "(" number ")"
 abbrev pub bracketed_number : Number → List What
-bracketed_number number = symbol s.left_round ++ number_tokens number ++ symbol s.right_round
+bracketed_number number = symbol s.LEFT_ROUND ++ number_tokens number ++ symbol s.RIGHT_ROUND

@@ -4,7 +4,7 @@ use Rattle.std.specs.Fmt.{decimal}
 use Rattle.std.specs.List.{flat_map}
 use Rattle.pearl_tree.specs.declared.token.What.{What}
 use Rattle.pearl_tree.specs.declared.token.What.TheVariants as what
-use Rattle.pearl_tree.specs.Symbols as s
+use Rattle.pearl_tables.specs.declared.symbol.TheConstants as s
 
 -- the words in the order of their codes: of those that mean the same, the one that the grammar names
 unfoldable pub word_texts : List (List ℕ)
@@ -79,7 +79,7 @@ spelled (what.Symbol symbol) = symbol_text symbol
 
 -- what follows a token: a line end after `;`, and a blank after any other
 abbrev pub gap : What → List ℕ
-gap (what.Symbol symbol) = if symbol == s.semicolon then codes "\n" else codes " "
+gap (what.Symbol symbol) = if symbol == s.SEMICOLON then codes "\n" else codes " "
 gap _ = codes " "
 
 -- the text of tokens in order

@@ -9,8 +9,8 @@ use Rattle.pearl_tree.specs.declared.statement.Body.{Body}
 use Rattle.pearl_tree.specs.declared.statement.Branch.{Branch}
 use Rattle.pearl_tree.specs.declared.token.What.{What}
 use Rattle.pearl_tree.specs.Statements.{task_word, sema_word, interrupt_word}
-use Rattle.pearl_tree.specs.Symbols as s
-use Rattle.pearl_tree.specs.WordCodes as w
+use Rattle.pearl_tables.specs.declared.symbol.TheConstants as s
+use Rattle.pearl_tables.specs.declared.word_code.TheConstants as w
 use Rattle.pearl_print.specs.Lists.{word, symbol, name_tokens, listed, maybe_bracketed, maybe}
 use Rattle.pearl_print.specs.Expressions.{expr_tokens, ref_tokens}
 use Rattle.pearl_print.specs.Formats.{by_tokens}
@@ -23,12 +23,12 @@ for_tokens name = word w.FOR ++ name_tokens name
 
 -- "(" expr ")"
 abbrev pub value_tokens : Expr → List What
-value_tokens expr = symbol s.left_round ++ expr_tokens expr ++ symbol s.right_round
+value_tokens expr = symbol s.LEFT_ROUND ++ expr_tokens expr ++ symbol s.RIGHT_ROUND
 
 -- DCL item { "," item } ";"
 abbrev pub body_decl_tokens : BodyDecl → List What
 body_decl_tokens declaration =
-    word w.DCL ++ listed item_tokens declaration.items.items.items ++ symbol s.semicolon
+    word w.DCL ++ listed item_tokens declaration.items.items.items ++ symbol s.SEMICOLON
 
 -- [ FOR id ] [ FROM expr ] [ BY expr ] [ TO expr ] [ WHILE expr ]
 abbrev pub loop_tokens : Option Name → Option Expr → Option Expr → Option Expr → Option Expr → List What
@@ -39,50 +39,50 @@ loop_tokens control begin step end condition =
 abbrev mutual
   pub stmt_tokens : Stmt → List What
   -- ";"
-  stmt_tokens (Empty place) = symbol s.semicolon
+  stmt_tokens (Empty place) = symbol s.SEMICOLON
   -- ref ":=" expr ";"
   stmt_tokens (Assign target value place) =
-      ref_tokens target ++ symbol s.becomes ++ expr_tokens value ++ symbol s.semicolon
+      ref_tokens target ++ symbol s.BECOMES ++ expr_tokens value ++ symbol s.SEMICOLON
   -- CALL id [ "(" expr { "," expr } ")" ] ";"
   stmt_tokens (Call call name arguments place) =
-      word w.CALL ++ name_tokens name ++ maybe_bracketed expr_tokens arguments.items.items ++ symbol s.semicolon
+      word w.CALL ++ name_tokens name ++ maybe_bracketed expr_tokens arguments.items.items ++ symbol s.SEMICOLON
   -- IF expr THEN { stmt } [ ELSE { stmt } ] FIN ";"
   stmt_tokens (If' condition _ statements otherwise place) =
       after_tokens w.IF condition ++ word w.THEN ++ stmts_tokens statements ++ otherwise_tokens w.ELSE otherwise ++
-      (word w.FIN ++ symbol s.semicolon)
+      (word w.FIN ++ symbol s.SEMICOLON)
   -- CASE expr ALT { stmt } { ALT { stmt } } [ OUT { stmt } ] FIN ";"
   stmt_tokens (Case' selector _ alternatives otherwise place) =
       after_tokens w.CASE selector ++ alternatives_tokens alternatives ++ otherwise_tokens w.OUT otherwise ++
-      (word w.FIN ++ symbol s.semicolon)
+      (word w.FIN ++ symbol s.SEMICOLON)
   -- [ FOR id ] [ FROM expr ] [ BY expr ] [ TO expr ] [ WHILE expr ] REPEAT body END ";"
   stmt_tokens (Repeat' control begin step end condition declarations _ statements body_place place) =
       loop_tokens control begin step end condition ++
       (word w.REPEAT ++ (flat_map body_decl_tokens declarations.items.items ++ stmts_tokens statements) ++
-      (word w.END ++ symbol s.semicolon))
+      (word w.END ++ symbol s.SEMICOLON))
   -- EXIT ";"
-  stmt_tokens (Exit place) = word w.EXIT ++ symbol s.semicolon
+  stmt_tokens (Exit place) = word w.EXIT ++ symbol s.SEMICOLON
   -- BEGIN body END ";"
   stmt_tokens (Begin' declarations _ statements body_place place) =
       word w.BEGIN ++ (flat_map body_decl_tokens declarations.items.items ++ stmts_tokens statements) ++
-      (word w.END ++ symbol s.semicolon)
+      (word w.END ++ symbol s.SEMICOLON)
   -- RETURN [ "(" expr ")" ] ";"
-  stmt_tokens (Return value place) = word w.RETURN ++ maybe value_tokens value ++ symbol s.semicolon
+  stmt_tokens (Return value place) = word w.RETURN ++ maybe value_tokens value ++ symbol s.SEMICOLON
   -- [ start ] ACTIVATE id [ PRIO expr ] ";"
   stmt_tokens (Activate start task priority place) =
       maybe start_tokens start ++ word w.ACTIVATE ++ name_tokens task ++ maybe (after_tokens w.PRIO) priority ++
-      symbol s.semicolon
+      symbol s.SEMICOLON
   -- [ once ] CONTINUE id ";"
   stmt_tokens (Continue once task place) =
-      maybe once_tokens once ++ word w.CONTINUE ++ name_tokens task ++ symbol s.semicolon
+      maybe once_tokens once ++ word w.CONTINUE ++ name_tokens task ++ symbol s.SEMICOLON
   -- once RESUME ";"
-  stmt_tokens (Resume once place) = once_tokens once ++ word w.RESUME ++ symbol s.semicolon
+  stmt_tokens (Resume once place) = once_tokens once ++ word w.RESUME ++ symbol s.SEMICOLON
   -- ( SUSPEND | TERMINATE | PREVENT ) [ id ] ";"
-  stmt_tokens (OnTask code task place) = word (task_word code) ++ maybe name_tokens task ++ symbol s.semicolon
+  stmt_tokens (OnTask code task place) = word (task_word code) ++ maybe name_tokens task ++ symbol s.SEMICOLON
   -- ( REQUEST | RELEASE ) id { "," id } ";"
   stmt_tokens (OnSemas code names place) =
-      word (sema_word code) ++ listed name_tokens names.items.items ++ symbol s.semicolon
+      word (sema_word code) ++ listed name_tokens names.items.items ++ symbol s.SEMICOLON
   -- ( ENABLE | DISABLE | TRIGGER ) id ";"
-  stmt_tokens (OnInterrupt code name place) = word (interrupt_word code) ++ name_tokens name ++ symbol s.semicolon
+  stmt_tokens (OnInterrupt code name place) = word (interrupt_word code) ++ name_tokens name ++ symbol s.SEMICOLON
   -- PUT [ expr { "," expr } ] TO id BY fmt { "," fmt } ";"
   stmt_tokens (Put values dation formats place) =
       word w.PUT ++ listed expr_tokens values.items.items ++ word w.TO ++ by_tokens dation formats
@@ -91,10 +91,10 @@ abbrev mutual
       word w.GET ++ listed ref_tokens targets.items.items ++ word w.FROM ++ by_tokens dation formats
   -- SEND expr TO id ";"
   stmt_tokens (Send value dation place) =
-      after_tokens w.SEND value ++ word w.TO ++ name_tokens dation ++ symbol s.semicolon
+      after_tokens w.SEND value ++ word w.TO ++ name_tokens dation ++ symbol s.SEMICOLON
   -- TAKE ref FROM id ";"
   stmt_tokens (Take target dation place) =
-      word w.TAKE ++ ref_tokens target ++ word w.FROM ++ name_tokens dation ++ symbol s.semicolon
+      word w.TAKE ++ ref_tokens target ++ word w.FROM ++ name_tokens dation ++ symbol s.SEMICOLON
 
   -- { stmt }
   pub stmts_tokens : {n : _} → Row_of-Stmt n → List What
@@ -123,4 +123,4 @@ body_tokens body =
 
 -- word body END ";"
 abbrev pub block_tokens : ℕ → Body → List What
-block_tokens code body = word code ++ body_tokens body ++ (word w.END ++ symbol s.semicolon)
+block_tokens code body = word code ++ body_tokens body ++ (word w.END ++ symbol s.SEMICOLON)

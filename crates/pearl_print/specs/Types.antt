@@ -11,8 +11,8 @@ use Rattle.pearl_tree.specs.declared.typing.Typing as typing
 use Rattle.pearl_tree.specs.declared.typing.Field.{Field}
 use Rattle.pearl_tree.specs.declared.token.What.{What}
 use Rattle.pearl_tree.specs.Types.{sort_word}
-use Rattle.pearl_tree.specs.Symbols as s
-use Rattle.pearl_tree.specs.WordCodes as w
+use Rattle.pearl_tables.specs.declared.symbol.TheConstants as s
+use Rattle.pearl_tables.specs.declared.word_code.TheConstants as w
 use Rattle.pearl_print.specs.Lists.{word, symbol, name_tokens, number_tokens, listed, bracketed, maybe_bracketed, maybe, bracketed_number}
 
 -- names = id | "(" id { "," id } ")"
@@ -23,7 +23,7 @@ names_tokens (Several names place) = bracketed name_tokens names.items.items
 -- [ "-" ]
 abbrev pub minus_tokens : Bool → List What
 minus_tokens false = []
-minus_tokens true = symbol s.minus
+minus_tokens true = symbol s.MINUS
 
 -- int = [ "-" ] number
 abbrev pub int_tokens : Int → List What
@@ -31,7 +31,7 @@ int_tokens int = minus_tokens int.minus ++ number_tokens int.number
 
 -- ":" int
 abbrev pub upper_tokens : Int → List What
-upper_tokens int = symbol s.colon ++ int_tokens int
+upper_tokens int = symbol s.COLON ++ int_tokens int
 
 -- bound = int [ ":" int ]
 abbrev pub bound_tokens : Bound → List What
@@ -52,7 +52,7 @@ abbrev mutual
   pub typing_tokens : Typing → List What
   typing_tokens (typing.Basic part) = basic_tokens part
   typing_tokens (typing.Struct' _ fields place) =
-      word w.STRUCT ++ symbol s.left_square ++ fields_tokens fields ++ symbol s.right_square
+      word w.STRUCT ++ symbol s.LEFT_SQUARE ++ fields_tokens fields ++ symbol s.RIGHT_SQUARE
   typing_tokens (typing.Named name) = name_tokens name
 
   -- field { "," field }, field = names [ bounds ] type
@@ -65,7 +65,7 @@ abbrev mutual
   pub more_fields_tokens : {n : _} → Row_of-Field n → List What
   more_fields_tokens end_of-Field = []
   more_fields_tokens (more_of-Field names bounds part place rest) =
-      (symbol s.comma ++ names_tokens names ++ bounds_tokens bounds.items.items ++ typing_tokens part) ++ more_fields_tokens rest
+      (symbol s.COMMA ++ names_tokens names ++ bounds_tokens bounds.items.items ++ typing_tokens part) ++ more_fields_tokens rest
 
 -- field = names [ bounds ] type
 abbrev pub field_tokens : Field → List What
@@ -73,4 +73,4 @@ field_tokens field = names_tokens field.names ++ bounds_tokens field.bounds.item
 
 -- STRUCT "[" field { "," field } "]"
 abbrev pub struct_tokens : List Field → List What
-struct_tokens fields = word w.STRUCT ++ symbol s.left_square ++ listed field_tokens fields ++ symbol s.right_square
+struct_tokens fields = word w.STRUCT ++ symbol s.LEFT_SQUARE ++ listed field_tokens fields ++ symbol s.RIGHT_SQUARE

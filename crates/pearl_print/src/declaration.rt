@@ -11,7 +11,7 @@ use crate::put::{put_symbol, put_word};
 use crate::symbol::{COLON, SEMICOLON};
 use crate::typing::{put_basic, put_bounds, put_names, put_typing};
 use pearl_tables::word_code::{
-    ALPHIC, BASIC, DATION, IDENTICAL, IN, INIT, INOUT, INTERRUPT, INV, OUT, PRESET, PRIORITY, SEMA,
+    ALPHIC, BASIC, DATION, IDENT, IN, INIT, INOUT, INTERRUPT, INV, OUT, PRESET, PRIO, SEMA,
 };
 use pearl_tree::declaration::{
     Class, Declared, Device, DeviceWord, Direction, Item, Param, Prio, Sema, Spec,
@@ -44,7 +44,7 @@ impl Part for Prio {
     ghost tokens = { prio_tokens };
 
     fn put(&self, into: &mut Vec<u8>) -> Result<(), NoMemory> {
-        put_word(into, PRIORITY)?;
+        put_word(into, PRIO)?;
         self.number.put(into)?;
         Ok(())
     }
@@ -138,7 +138,7 @@ impl Part for Param {
     fn put(&self, into: &mut Vec<u8>) -> Result<(), NoMemory> {
         put_names(into, &self.names)?;
         put_basic(into, &self.basic)?;
-        put_flag(into, IDENTICAL, self.ident)?;
+        put_flag(into, IDENT, self.ident)?;
         Ok(())
     }
 }

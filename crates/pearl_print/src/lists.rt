@@ -4,7 +4,7 @@
 ghost use Rattle.std.specs.Prelude.{◌≡◌, ◌<◌, ◌++◌, List, OnOk};
 ghost use Rattle.std.specs.List.{flat_map};
 ghost use Rattle.pearl_tree.specs.declared.token.What.{What};
-ghost use Rattle.pearl_tree.specs.WordCodes.{code_count};
+ghost use Rattle.pearl_tables.specs.Words.{code_count};
 ghost use Rattle.pearl_print.specs.Spelled.{text_of};
 ghost use Rattle.pearl_print.specs.Lists.{listed, bracketed, maybe_bracketed, maybe_headed, maybe, flag, bracketed_number, name_tokens, number_tokens};
 

@@ -14,7 +14,7 @@ use crate::statement::put_body;
 use crate::symbol::{COLON, LEFT_ROUND, RIGHT_ROUND, SEMICOLON};
 use crate::typing::{put_basic, put_typing, sort_word};
 use pearl_tables::word_code::{
-    DECLARE, END, LENGTH, MAIN, MODEND, MODULE, PROBLEM, PROCEDURE, RETURNS, SPECIFY, SYSTEM, TASK,
+    DCL, END, LENGTH, MAIN, MODEND, MODULE, PROBLEM, PROC, RETURNS, SPC, SYSTEM, TASK,
     TYPE,
 };
 use pearl_tree::declaration::{Device, Param};
@@ -88,7 +88,7 @@ fn put_proc(
 {
     name.put(into)?;
     put_symbol(into, COLON)?;
-    put_word(into, PROCEDURE)?;
+    put_word(into, PROC)?;
     put_maybe_bracketed(into, params.as_slice())?;
     put_returns(into, returns)?;
     put_block(into, body)?;
@@ -115,13 +115,13 @@ impl Part for Decl {
                 Ok(())
             }
             Decl::Declare { declared, .. } => {
-                put_word(into, DECLARE)?;
+                put_word(into, DCL)?;
                 put_listed(into, declared.as_slice())?;
                 put_symbol(into, SEMICOLON)?;
                 Ok(())
             }
             Decl::Specify { specs, .. } => {
-                put_word(into, SPECIFY)?;
+                put_word(into, SPC)?;
                 put_listed(into, specs.as_slice())?;
                 put_symbol(into, SEMICOLON)?;
                 Ok(())

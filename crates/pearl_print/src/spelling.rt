@@ -1,8 +1,8 @@
 // The texts of words and symbols.
 
 ghost use Rattle.std.specs.Prelude.{◌≡◌, ◌<◌, map};
-ghost use Rattle.pearl_tree.specs.Symbols.{symbol_count};
-ghost use Rattle.pearl_tree.specs.WordCodes.{code_count};
+ghost use Rattle.pearl_tables.specs.Symbols.{symbol_count};
+ghost use Rattle.pearl_tables.specs.Words.{code_count};
 ghost use Rattle.pearl_print.specs.Spelled as spec;
 
 // The words in the order of their codes: of those that mean the same, the one that the grammar names.

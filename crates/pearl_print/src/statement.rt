@@ -3,9 +3,9 @@
 
 ghost use Rattle.std.specs.Prelude.{◌≡◌, ◌<◌, ◌++◌, OnOk};
 ghost use Rattle.std.specs.List.{flat_map};
-ghost use Rattle.pearl_tree.specs.Symbols as s;
-ghost use Rattle.pearl_tree.specs.WordCodes as w;
-ghost use Rattle.pearl_tree.specs.WordCodes.{code_count};
+ghost use Rattle.pearl_tables.specs.declared.symbol.TheConstants as s;
+ghost use Rattle.pearl_tables.specs.declared.word_code.TheConstants as w;
+ghost use Rattle.pearl_tables.specs.Words.{code_count};
 ghost use Rattle.pearl_print.specs.Lists.{word, symbol, name_tokens, maybe_bracketed, maybe};
 ghost use Rattle.pearl_print.specs.Spelled.{text_of};
 ghost use Rattle.pearl_print.specs.Expressions.{expr_tokens, ref_tokens};
@@ -21,7 +21,7 @@ use crate::tasking::{
 };
 use crate::transfer::{put_get, put_put, put_send, put_take};
 use pearl_tables::word_code::{
-    ALT, BEGIN, BY, CALL, CASE, DECLARE, ELSE, END, EXIT, FIN, FOR, FROM, IF, OUT, REPEAT, RETURN,
+    ALT, BEGIN, BY, CALL, CASE, DCL, ELSE, END, EXIT, FIN, FOR, FROM, IF, OUT, REPEAT, RETURN,
     THEN, TO, WHILE,
 };
 use pearl_tree::expression::{Expr, Ref};
@@ -34,7 +34,7 @@ impl Part for BodyDecl {
     ghost tokens = { body_decl_tokens };
 
     fn put(&self, into: &mut Vec<u8>) -> Result<(), NoMemory> {
-        put_word(into, DECLARE)?;
+        put_word(into, DCL)?;
         put_listed(into, self.items.as_slice())?;
         put_symbol(into, SEMICOLON)?;
         Ok(())
@@ -43,7 +43,7 @@ impl Part for BodyDecl {
 
 fn put_assign(into: &mut Vec<u8>, target: &Ref, value: &Expr) -> Result<(), NoMemory>
     ensures { OnOk result
-        (let tokens = ref_tokens target.now ++ symbol s.becomes ++ expr_tokens value.now ++ symbol s.semicolon in
+        (let tokens = ref_tokens target.now ++ symbol s.BECOMES ++ expr_tokens value.now ++ symbol s.SEMICOLON in
         into.new.items ≡ into.old.items ++ text_of tokens) }
 {
     put_ref(into, target)?;
@@ -56,7 +56,7 @@ fn put_assign(into: &mut Vec<u8>, target: &Ref, value: &Expr) -> Result<(), NoMe
 fn put_call(into: &mut Vec<u8>, name: &Name, arguments: &Parts<Expr>) -> Result<(), NoMemory>
     ensures { OnOk result
         (let tokens = word w.CALL ++ name_tokens name.now ++ maybe_bracketed expr_tokens arguments.now.items.items ++
-        symbol s.semicolon in
+        symbol s.SEMICOLON in
         into.new.items ≡ into.old.items ++ text_of tokens) }
 {
     put_word(into, CALL)?;
@@ -68,7 +68,7 @@ fn put_call(into: &mut Vec<u8>, name: &Name, arguments: &Parts<Expr>) -> Result<
 
 fn put_return(into: &mut Vec<u8>, value: &Option<Expr>) -> Result<(), NoMemory>
     ensures { OnOk result
-        (let tokens = word w.RETURN ++ maybe value_tokens value.now ++ symbol s.semicolon in
+        (let tokens = word w.RETURN ++ maybe value_tokens value.now ++ symbol s.SEMICOLON in
         into.new.items ≡ into.old.items ++ text_of tokens) }
 {
     put_word(into, RETURN)?;
@@ -90,7 +90,7 @@ fn put_returned(into: &mut Vec<u8>, value: &Option<Expr>) -> Result<(), NoMemory
 
 fn put_ended(into: &mut Vec<u8>, code: u8) -> Result<(), NoMemory>
     requires { code < code_count }
-    ensures { OnOk result (into.new.items ≡ into.old.items ++ text_of (word code ++ symbol s.semicolon)) }
+    ensures { OnOk result (into.new.items ≡ into.old.items ++ text_of (word code ++ symbol s.SEMICOLON)) }
 {
     put_word(into, code)?;
     put_symbol(into, SEMICOLON)?;

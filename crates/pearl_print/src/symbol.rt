@@ -18,28 +18,28 @@ pub(crate) const PERIOD: u8 = 7;
 
 pub(crate) const BECOMES: u8 = 8;
 
-pub(crate) const SAME: u8 = 10;
+pub(crate) const EQUAL: u8 = 10;
 
-pub(crate) const DIFFERS: u8 = 11;
+pub(crate) const UNEQUAL: u8 = 11;
 
 pub(crate) const LESS: u8 = 12;
 
-pub(crate) const MORE: u8 = 13;
+pub(crate) const GREATER: u8 = 13;
 
 pub(crate) const AT_MOST: u8 = 14;
 
 pub(crate) const AT_LEAST: u8 = 15;
 
-pub(crate) const JOINED: u8 = 16;
+pub(crate) const CONCATENATE: u8 = 16;
 
-pub(crate) const TURNED: u8 = 17;
+pub(crate) const ROTATE: u8 = 17;
 
 pub(crate) const PLUS: u8 = 18;
 
 pub(crate) const MINUS: u8 = 19;
 
-pub(crate) const STAR: u8 = 20;
+pub(crate) const TIMES: u8 = 20;
 
-pub(crate) const OVER: u8 = 21;
+pub(crate) const DIVIDE: u8 = 21;
 
 pub(crate) const POWER: u8 = 22;

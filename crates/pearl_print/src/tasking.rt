@@ -3,8 +3,8 @@
 
 ghost use Rattle.std.specs.Prelude.{◌≡◌, ◌++◌, OnOk};
 ghost use Rattle.pearl_tree.specs.Statements.{task_word, sema_word, interrupt_word};
-ghost use Rattle.pearl_tree.specs.Symbols as s;
-ghost use Rattle.pearl_tree.specs.WordCodes as w;
+ghost use Rattle.pearl_tables.specs.declared.symbol.TheConstants as s;
+ghost use Rattle.pearl_tables.specs.declared.word_code.TheConstants as w;
 ghost use Rattle.pearl_print.specs.Lists.{word, symbol, name_tokens, listed, maybe};
 ghost use Rattle.pearl_print.specs.Spelled.{text_of};
 ghost use Rattle.pearl_print.specs.Schedules.{after_tokens, start_tokens, once_tokens};
@@ -14,7 +14,7 @@ use crate::put::{put_symbol, put_word};
 use crate::schedule::put_maybe_after;
 use crate::symbol::SEMICOLON;
 use pearl_tables::word_code::{
-    ACTIVATE, CONTINUE, DISABLE, ENABLE, PREVENT, PRIORITY, RELEASE, REQUEST, RESUME, SUSPEND,
+    ACTIVATE, CONTINUE, DISABLE, ENABLE, PREVENT, PRIO, RELEASE, REQUEST, RESUME, SUSPEND,
     TERMINATE, TRIGGER,
 };
 use pearl_tree::expression::Expr;
@@ -31,13 +31,13 @@ pub(crate) fn put_activate(
 ) -> Result<(), NoMemory>
     ensures { OnOk result
         (let tokens = maybe start_tokens start.now ++ word w.ACTIVATE ++ name_tokens task.now ++
-        maybe (after_tokens w.PRIO) priority.now ++ symbol s.semicolon in
+        maybe (after_tokens w.PRIO) priority.now ++ symbol s.SEMICOLON in
         into.new.items ≡ into.old.items ++ text_of tokens) }
 {
     put_maybe(into, start)?;
     put_word(into, ACTIVATE)?;
     task.put(into)?;
-    put_maybe_after(into, PRIORITY, priority)?;
+    put_maybe_after(into, PRIO, priority)?;
     put_symbol(into, SEMICOLON)?;
     Ok(())
 }
@@ -49,7 +49,7 @@ pub(crate) fn put_continue(
 ) -> Result<(), NoMemory>
     ensures { OnOk result
         (let tokens = maybe once_tokens once.now ++ word w.CONTINUE ++ name_tokens task.now ++
-        symbol s.semicolon in
+        symbol s.SEMICOLON in
         into.new.items ≡ into.old.items ++ text_of tokens) }
 {
     put_maybe(into, once)?;
@@ -61,7 +61,7 @@ pub(crate) fn put_continue(
 
 pub(crate) fn put_resume(into: &mut Vec<u8>, once: &Once) -> Result<(), NoMemory>
     ensures { OnOk result
-        (let tokens = once_tokens once.now ++ word w.RESUME ++ symbol s.semicolon in
+        (let tokens = once_tokens once.now ++ word w.RESUME ++ symbol s.SEMICOLON in
         into.new.items ≡ into.old.items ++ text_of tokens) }
 {
     once.put(into)?;
@@ -86,7 +86,7 @@ pub(crate) fn put_on_task(
     task: &Option<Name>,
 ) -> Result<(), NoMemory>
     ensures { OnOk result
-        (let tokens = word (task_word code) ++ maybe name_tokens task.now ++ symbol s.semicolon in
+        (let tokens = word (task_word code) ++ maybe name_tokens task.now ++ symbol s.SEMICOLON in
         into.new.items ≡ into.old.items ++ text_of tokens) }
 {
     put_word(into, task_word(code))?;
@@ -110,7 +110,7 @@ pub(crate) fn put_on_semas(
     names: &Parts<Name>,
 ) -> Result<(), NoMemory>
     ensures { OnOk result
-        (let tokens = word (sema_word code) ++ listed name_tokens names.now.items.items ++ symbol s.semicolon in
+        (let tokens = word (sema_word code) ++ listed name_tokens names.now.items.items ++ symbol s.SEMICOLON in
         into.new.items ≡ into.old.items ++ text_of tokens) }
 {
     put_word(into, sema_word(code))?;
@@ -135,7 +135,7 @@ pub(crate) fn put_on_interrupt(
     name: &Name,
 ) -> Result<(), NoMemory>
     ensures { OnOk result
-        (let tokens = word (interrupt_word code) ++ name_tokens name.now ++ symbol s.semicolon in
+        (let tokens = word (interrupt_word code) ++ name_tokens name.now ++ symbol s.SEMICOLON in
         into.new.items ≡ into.old.items ++ text_of tokens) }
 {
     put_word(into, interrupt_word(code))?;

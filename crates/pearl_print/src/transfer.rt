@@ -2,8 +2,8 @@
 #![tactic(auto, using(crate::proofs::Texts::text_steps, std::proofs::lemmas::Grind::common_steps))]
 
 ghost use Rattle.std.specs.Prelude.{◌≡◌, ◌++◌, OnOk};
-ghost use Rattle.pearl_tree.specs.Symbols as s;
-ghost use Rattle.pearl_tree.specs.WordCodes as w;
+ghost use Rattle.pearl_tables.specs.declared.symbol.TheConstants as s;
+ghost use Rattle.pearl_tables.specs.declared.word_code.TheConstants as w;
 ghost use Rattle.pearl_print.specs.Lists.{word, symbol, name_tokens, listed};
 ghost use Rattle.pearl_print.specs.Spelled.{text_of};
 ghost use Rattle.pearl_print.specs.Expressions.{expr_tokens, ref_tokens};
@@ -70,7 +70,7 @@ pub(crate) fn put_get(
 
 pub(crate) fn put_send(into: &mut Vec<u8>, value: &Expr, dation: &Name) -> Result<(), NoMemory>
     ensures { OnOk result
-        (let tokens = after_tokens w.SEND value.now ++ word w.TO ++ name_tokens dation.now ++ symbol s.semicolon in
+        (let tokens = after_tokens w.SEND value.now ++ word w.TO ++ name_tokens dation.now ++ symbol s.SEMICOLON in
         into.new.items ≡ into.old.items ++ text_of tokens) }
 {
     put_after(into, SEND, value)?;
@@ -83,7 +83,7 @@ pub(crate) fn put_send(into: &mut Vec<u8>, value: &Expr, dation: &Name) -> Resul
 pub(crate) fn put_take(into: &mut Vec<u8>, target: &Ref, dation: &Name) -> Result<(), NoMemory>
     ensures { OnOk result
         (let tokens = word w.TAKE ++ ref_tokens target.now ++ word w.FROM ++ name_tokens dation.now ++
-        symbol s.semicolon in
+        symbol s.SEMICOLON in
         into.new.items ≡ into.old.items ++ text_of tokens) }
 {
     put_word(into, TAKE)?;

@@ -10,7 +10,7 @@ ghost use Rattle.pearl_print.specs.Types.{names_tokens, int_tokens, bound_tokens
 use crate::lists::{Part, put_bracketed, put_bracketed_number, put_maybe_bracketed};
 use crate::put::{put_symbol, put_word};
 use crate::symbol::{COLON, COMMA, LEFT_SQUARE, MINUS, RIGHT_SQUARE};
-use pearl_tables::word_code::{BIT, CHARACTER, CLOCK, DURATION, FIXED, STRUCT};
+use pearl_tables::word_code::{BIT, CHAR, CLOCK, DURATION, FIXED, STRUCT};
 use pearl_tree::name::Names;
 use pearl_tree::parts::Parts;
 use pearl_tree::typing::{Basic, Bound, Field, Int, Sort, Typing};
@@ -60,7 +60,7 @@ pub(crate) fn sort_word(sort: Sort) -> u8
     match sort {
         Sort::Fixed => FIXED,
         Sort::Bit => BIT,
-        Sort::Char => CHARACTER,
+        Sort::Char => CHAR,
     }
 }
 

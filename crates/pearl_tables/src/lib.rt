@@ -6,5 +6,6 @@ pub mod instruction;
 pub mod laws;
 pub mod opcode;
 pub mod operator;
+pub mod symbol;
 pub mod word;
 pub mod word_code;

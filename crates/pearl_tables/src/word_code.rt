@@ -1,5 +1,5 @@
 // The codes of the words, one for each meaning, numbered from 0 as the language lists its words. Words with the same
-// meaning share a code, which is named after the first of them.
+// meaning share a code, which has the name of the word that the grammar uses.
 
 pub const MODULE: u8 = 0;
 
@@ -8,10 +8,10 @@ pub const MODEND: u8 = 1;
 pub const SYSTEM: u8 = 2;
 
 pub const PROBLEM: u8 = 3;
-/// Also DCL.
-pub const DECLARE: u8 = 4;
-/// Also SPC.
-pub const SPECIFY: u8 = 5;
+/// Also DECLARE.
+pub const DCL: u8 = 4;
+/// Also SPECIFY.
+pub const SPC: u8 = 5;
 
 pub const INV: u8 = 6;
 
@@ -28,8 +28,8 @@ pub const LENGTH: u8 = 11;
 pub const FIXED: u8 = 12;
 
 pub const BIT: u8 = 13;
-/// Also CHAR.
-pub const CHARACTER: u8 = 14;
+/// Also CHARACTER.
+pub const CHAR: u8 = 14;
 
 pub const CLOCK: u8 = 15;
 /// Also DUR.
@@ -52,14 +52,14 @@ pub const ALPHIC: u8 = 23;
 pub const BASIC: u8 = 24;
 
 pub const TASK: u8 = 25;
-/// Also PROC.
-pub const PROCEDURE: u8 = 26;
+/// Also PROCEDURE.
+pub const PROC: u8 = 26;
 
 pub const MAIN: u8 = 27;
-/// Also PRIO.
-pub const PRIORITY: u8 = 28;
-/// Also IDENT.
-pub const IDENTICAL: u8 = 29;
+/// Also PRIORITY.
+pub const PRIO: u8 = 28;
+/// Also IDENTICAL.
+pub const IDENT: u8 = 29;
 
 pub const RETURNS: u8 = 30;
 

@@ -16,8 +16,8 @@ use Rattle.pearl_tree.specs.Standing.{IsAt, SpellsEach, what_at}
 use Rattle.pearl_tree.specs.Expressions.{SpellsTerms, SpellsPrimary, SpellsRef, dyad_of, dyad_count, HasDyad}
 use Rattle.pearl_tree.specs.Chains.{SpellsOperand, Link, SpellsLink, first_operand, links, IsLongestOperand, SpellsLongestLink, HasLongestOperands, HasNoLink, HasNoOperand, HasNoTerms, IsLongestExpr}
 use Rattle.pearl_tree.specs.Following.{lengthens_ref, lengthens_operand, lengthens_expr, HasOneOf, Meet}
-use Rattle.pearl_tree.specs.Symbols as s
-use Rattle.pearl_tree.specs.WordCodes as w
+use Rattle.pearl_tables.specs.declared.symbol.TheConstants as s
+use Rattle.pearl_tables.specs.declared.word_code.TheConstants as w
 use Rattle.pearl_tree.proofs.ExpressionsForward.{primary_after, monadics_after}
 use Rattle.pearl_tree.proofs.ListEnds.{each_joined}
 use Rattle.pearl_tree.proofs.OperandEnds.{ExprsMeet, operand_meets, primary_meets, ref_meets, has_also}
@@ -76,7 +76,7 @@ module _ (tokens : List Token) (depth : ℕ) where
 
       symbols : (symbol : ℕ) → lengthens_operand (what.Symbol symbol) ≡ true → dyad_of (what.Symbol symbol) ≡ Some operator → ⊥
       symbols symbol e d =
-          ⊎_elim (λ x. is what.Symbol symbol s.left_round x refl d) (λ x. is what.Symbol symbol s.period x refl d) (or_cases _ _ e)
+          ⊎_elim (λ x. is what.Symbol symbol s.LEFT_ROUND x refl d) (λ x. is what.Symbol symbol s.PERIOD x refl d) (or_cases _ _ e)
 
       by : (o : Option What) → option_map lengthens_operand o ≡ Some true → option_and_then dyad_of o ≡ Some operator → ⊥
       by None e d = absurd (let e = e in cc e)

@@ -16,8 +16,8 @@ use Rattle.pearl_tree.specs.declared.tree.Decl.{Decl}
 use Rattle.pearl_tree.specs.Statements.{SpellsStmt}
 use Rattle.pearl_tree.specs.Modules.{Spells}
 use Rattle.pearl_tree.proofs.StatementLists.{spells_if}
-use Rattle.pearl_tree.specs.Symbols as s
-use Rattle.pearl_tree.specs.WordCodes as w
+use Rattle.pearl_tables.specs.declared.symbol.TheConstants as s
+use Rattle.pearl_tables.specs.declared.word_code.TheConstants as w
 
 abbrev token : ℕ → What → Token
 token place what = record { place = place; what = what }
@@ -25,13 +25,13 @@ token place what = record { place = place; what = what }
 -- 1 + 2 * 3
 abbrev sum_of_product : List Token
 sum_of_product =
-    token 0 (what.Number 1) ∷ token 2 (what.Symbol s.plus) ∷ token 4 (what.Number 2) ∷ token 6 (what.Symbol s.star) ∷
+    token 0 (what.Number 1) ∷ token 2 (what.Symbol s.PLUS) ∷ token 4 (what.Number 2) ∷ token 6 (what.Symbol s.TIMES) ∷
     token 8 (what.Number 3) ∷ []
 
 -- 1 * 2 + 3
 abbrev product_and_sum : List Token
 product_and_sum =
-    token 0 (what.Number 1) ∷ token 2 (what.Symbol s.star) ∷ token 4 (what.Number 2) ∷ token 6 (what.Symbol s.plus) ∷
+    token 0 (what.Number 1) ∷ token 2 (what.Symbol s.TIMES) ∷ token 4 (what.Number 2) ∷ token 6 (what.Symbol s.PLUS) ∷
     token 8 (what.Number 3) ∷ []
 
 module _ (none : Parts Monadic) (empty : none.items.items ≡ []) where
@@ -84,7 +84,7 @@ module _ (none : Parts Monadic) (empty : none.items.items ≡ []) where
 abbrev if_exit : List Token
 if_exit =
     token 0 (what.Word w.IF) ∷ token 3 (what.Number 1) ∷ token 5 (what.Word w.THEN) ∷ token 10 (what.Word w.EXIT) ∷
-    token 14 (what.Symbol s.semicolon) ∷ token 16 (what.Word w.FIN) ∷ token 19 (what.Symbol s.semicolon) ∷ []
+    token 14 (what.Symbol s.SEMICOLON) ∷ token 16 (what.Word w.FIN) ∷ token 19 (what.Symbol s.SEMICOLON) ∷ []
 
 -- the statements within are seen as the list that the field shows
 ifs_statement : (none : Parts Monadic) (empty : none.items.items ≡ []) → (statements : Parts Stmt) →
@@ -108,8 +108,8 @@ ifs_statement none empty statements one =
 -- MODULE; PROBLEM; MODEND
 abbrev least_module : List Token
 least_module =
-    token 0 (what.Word w.MODULE) ∷ token 6 (what.Symbol s.semicolon) ∷ token 8 (what.Word w.PROBLEM) ∷
-    token 15 (what.Symbol s.semicolon) ∷ token 17 (what.Word w.MODEND) ∷ []
+    token 0 (what.Word w.MODULE) ∷ token 6 (what.Symbol s.SEMICOLON) ∷ token 8 (what.Word w.PROBLEM) ∷
+    token 15 (what.Symbol s.SEMICOLON) ∷ token 17 (what.Word w.MODEND) ∷ []
 
 modules_least : (none : Parts Decl) → none.items.items ≡ [] →
     Spells (record { name = None; system = None; declarations = none; semicolon = false; place = 0 }) least_module

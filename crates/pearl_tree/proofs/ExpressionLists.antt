@@ -15,7 +15,7 @@ use Rattle.pearl_tree.specs.declared.expression.Ref.{Ref, Row_of-Selector, end_o
 use Rattle.pearl_tree.specs.declared.token.Token.{Token}
 use Rattle.pearl_tree.specs.Standing.{IsAt, HasWord, HasSymbol, IsName, SpellsEach, SpellsMore, SpellsList, SpellsMaybe, SpellsNumber}
 use Rattle.pearl_tree.specs.Expressions.{SpellsTerms, SpellsExpr, SpellsPrimary, SpellsRef, SpellsSelectors, SpellsSelector, SpellsSubscripts, SpellsMoreSubscripts, SpellsMonadic, HasDyad, rank, rank_of, side_word}
-use Rattle.pearl_tree.specs.Symbols as s
+use Rattle.pearl_tables.specs.declared.symbol.TheConstants as s
 
 module _ (tokens : List Token) where
   pub selectors : (depth from : ℕ) (n : _) (row : Row_of-Selector n) (to : ℕ) →
@@ -30,7 +30,7 @@ module _ (tokens : List Token) where
       SpellsMore tokens (SpellsExpr tokens depth) from (items-the_row-Expr n row) to
   more_subscripts depth from _ end_of-Expr to = refl
   more_subscripts depth from _ (more_of-Expr expr rest) to =
-      λ i. (m : ℕ) × HasSymbol tokens from s.comma × SpellsExpr tokens depth (from + 1) expr m ×
+      λ i. (m : ℕ) × HasSymbol tokens from s.COMMA × SpellsExpr tokens depth (from + 1) expr m ×
       more_subscripts depth m _ rest to i
 
   pub subscripts : (depth from : ℕ) (n : _) (row : Row_of-Expr n) (to : ℕ) →
@@ -47,14 +47,14 @@ module _ (tokens : List Token) where
   -- "(" expr { "," expr } ")"
   pub spells_subscripts : (depth from : ℕ) (exprs : Parts Expr) (place to : ℕ) →
       SpellsSelector tokens depth from (Subscripts exprs place) to ≡
-      ((m : ℕ) × IsAt tokens from place × HasSymbol tokens from s.left_round × (0 < depth) ×
+      ((m : ℕ) × IsAt tokens from place × HasSymbol tokens from s.LEFT_ROUND × (0 < depth) ×
       SpellsList tokens (SpellsExpr tokens (depth - 1)) (from + 1) exprs.items.items m ×
-      HasSymbol tokens m s.right_round × (to ≡ m + 1))
+      HasSymbol tokens m s.RIGHT_ROUND × (to ≡ m + 1))
   spells_subscripts depth from exprs place to =
       let row = subscripts_of (Subscripts exprs place) in
-      λ i. (m : ℕ) × IsAt tokens from place × HasSymbol tokens from s.left_round × (0 < depth) ×
+      λ i. (m : ℕ) × IsAt tokens from place × HasSymbol tokens from s.LEFT_ROUND × (0 < depth) ×
       (subscripts (depth - 1) (from + 1) row.0 row.1 m ∙ ap (λ xs. SpellsList tokens (SpellsExpr tokens (depth - 1)) (from + 1) xs m) (items_hidden-the_row-Expr-1 exprs.items)) i ×
-      HasSymbol tokens m s.right_round × (to ≡ m + 1)
+      HasSymbol tokens m s.RIGHT_ROUND × (to ≡ m + 1)
 
   abbrev selectors_of : Primary → (n : Count) × Row_of-Selector n
   selectors_of (primary.Ref' _ _ row _) = (_, row)
@@ -86,8 +86,8 @@ module _ (tokens : List Token) where
   -- "(" expr ")"
   pub spells_group : (depth from : ℕ) (inner : Box Expr Global) (place to : ℕ) →
       SpellsPrimary tokens depth from (primary.Group inner place) to ≡
-      ((m : ℕ) × IsAt tokens from place × HasSymbol tokens from s.left_round × (0 < depth) ×
-      SpellsExpr tokens (depth - 1) (from + 1) inner.value m × HasSymbol tokens m s.right_round × (to ≡ m + 1))
+      ((m : ℕ) × IsAt tokens from place × HasSymbol tokens from s.LEFT_ROUND × (0 < depth) ×
+      SpellsExpr tokens (depth - 1) (from + 1) inner.value m × HasSymbol tokens m s.RIGHT_ROUND × (to ≡ m + 1))
   spells_group depth from inner place to = refl
 
   -- operand

@@ -3,7 +3,7 @@ use Rattle.std.proofs.Common.{◌≡◌, inl, inr, ℕ, ◌+◌, ◌<◌, ◌≤
 use Rattle.pearl_tree.specs.declared.token.Token.{Token}
 use Rattle.pearl_tree.specs.Standing.{Spelling, HasSymbol, SpellsEach, SpellsMore, SpellsList}
 use Rattle.pearl_tree.specs.Following.{Meet}
-use Rattle.pearl_tree.specs.Symbols as s
+use Rattle.pearl_tables.specs.declared.symbol.TheConstants as s
 use Rattle.pearl_tree.proofs.Meeting.{meets_once}
 
 -- parts of which all that begin at a token end at the same one
@@ -28,9 +28,9 @@ module _ {X : Type 0} (spells : Spelling X) (goes : ℕ → Type 0)
 -- parts that end at the same token, or the shorter one before a token that is neither a comma nor what ends the list
 module _ {X : Type 0} (tokens : List Token) (spells : Spelling X) (goes closes : ℕ → Type 0)
     (meets : (from : ℕ) (x y : X) (to end : ℕ) → spells from x to → spells from y end → Meet goes to end)
-    (no_comma : (k : ℕ) → HasSymbol tokens k s.comma → goes k → ⊥)
+    (no_comma : (k : ℕ) → HasSymbol tokens k s.COMMA → goes k → ⊥)
     (no_close : (k : ℕ) → closes k → goes k → ⊥)
-    (apart : (k : ℕ) → HasSymbol tokens k s.comma → closes k → ⊥) where
+    (apart : (k : ℕ) → HasSymbol tokens k s.COMMA → closes k → ⊥) where
   -- a list that goes on from there, or ends there, doesn't lengthen the part before it
   still : (xs : List X) (from to : ℕ) → SpellsMore tokens spells from xs to → closes to → goes from → ⊥
   still [] from to h c g = no_close from (subst closes h c) g

@@ -22,8 +22,8 @@ use Rattle.pearl_tree.specs.Expressions.{SpellsLiteral, SpellsMonadic, SpellsTer
 use Rattle.pearl_tree.specs.Chains.{SpellsOperand, Link, SpellsLink, first_operand, links}
 use Rattle.pearl_tree.specs.Following.{lengthens_operand, lengthens_expr, HasOneOf, Meet}
 use Rattle.pearl_tree.specs.ShownExpressions.{OfLiteral, OfRef, OfGroup, OfNow, OfTry, OfLimit, MoreSelectors, OfSubscripts, OfComponent, MoreExprs, shown_expr, shown_primary, shown_selectors, shown_selector, shown_exprs, shown_selector_list, shown_ref}
-use Rattle.pearl_tree.specs.Symbols as s
-use Rattle.pearl_tree.specs.WordCodes as w
+use Rattle.pearl_tables.specs.declared.symbol.TheConstants as s
+use Rattle.pearl_tables.specs.declared.word_code.TheConstants as w
 use Rattle.pearl_tree.proofs.Meeting.{meets_once, has_none, same_word, same_symbol}
 use Rattle.pearl_tree.proofs.LiteralEnds.{literal_begins, begins_literal, literal_single}
 use Rattle.pearl_tree.proofs.ExpressionsForward.{selector_after, monadics_after}
@@ -69,11 +69,11 @@ module _ (tokens : List Token) where
 
   same_monad : (k : ℕ) (a b : Monad) → what_at tokens k ≡ Some (monad_what a) → what_at tokens k ≡ Some (monad_what b) → a ≡ b
   same_monad k monad.Plus monad.Plus h g = refl
-  same_monad k monad.Plus monad.Minus h g = absurd (omega (arith, same_symbol tokens k s.plus s.minus h g))
+  same_monad k monad.Plus monad.Minus h g = absurd (omega (arith, same_symbol tokens k s.PLUS s.MINUS h g))
   same_monad k monad.Plus monad.Abs h g = absurd (let e = sym h ∙ g in cc e)
   same_monad k monad.Plus monad.Sign h g = absurd (let e = sym h ∙ g in cc e)
   same_monad k monad.Plus monad.Not h g = absurd (let e = sym h ∙ g in cc e)
-  same_monad k monad.Minus monad.Plus h g = absurd (omega (arith, same_symbol tokens k s.minus s.plus h g))
+  same_monad k monad.Minus monad.Plus h g = absurd (omega (arith, same_symbol tokens k s.MINUS s.PLUS h g))
   same_monad k monad.Minus monad.Minus h g = refl
   same_monad k monad.Minus monad.Abs h g = absurd (let e = sym h ∙ g in cc e)
   same_monad k monad.Minus monad.Sign h g = absurd (let e = sym h ∙ g in cc e)
@@ -126,23 +126,23 @@ module _ (tokens : List Token) where
   module _ (depth : ℕ) (inner : 0 < depth → ExprsSame (depth - 1)) where
     -- ---- subscripts
 
-    no_comma : (k : ℕ) → HasSymbol tokens k s.comma → HasOneOf lengthens_expr tokens k → ⊥
-    no_comma k h g = has_none tokens lengthens_expr k (what.Symbol s.comma) h refl g
+    no_comma : (k : ℕ) → HasSymbol tokens k s.COMMA → HasOneOf lengthens_expr tokens k → ⊥
+    no_comma k h g = has_none tokens lengthens_expr k (what.Symbol s.COMMA) h refl g
 
-    still : (below from : ℕ) (n : _) (row : Row_of-Expr n) (to : ℕ) → SpellsMoreSubscripts tokens below from row to → HasSymbol tokens to s.right_round →
+    still : (below from : ℕ) (n : _) (row : Row_of-Expr n) (to : ℕ) → SpellsMoreSubscripts tokens below from row to → HasSymbol tokens to s.RIGHT_ROUND →
         HasOneOf lengthens_expr tokens from → ⊥
     still below from _ end_of-Expr to h c g =
-        has_none tokens lengthens_expr from (what.Symbol s.right_round) (subst (λ k. HasSymbol tokens k s.right_round) h c) refl g
+        has_none tokens lengthens_expr from (what.Symbol s.RIGHT_ROUND) (subst (λ k. HasSymbol tokens k s.RIGHT_ROUND) h c) refl g
     still below from _ (more_of-Expr expr rest) to h c g = no_comma from h.1 g
 
     same_more_subscripts : (below : ℕ) → ExprsSame below → (from : ℕ) (n m : _) (row : Row_of-Expr n) (other : Row_of-Expr m) (to end : ℕ) →
-        SpellsMoreSubscripts tokens below from row to → HasSymbol tokens to s.right_round →
-        SpellsMoreSubscripts tokens below from other end → HasSymbol tokens end s.right_round → (shown_exprs row ≡ shown_exprs other) × (to ≡ end)
+        SpellsMoreSubscripts tokens below from row to → HasSymbol tokens to s.RIGHT_ROUND →
+        SpellsMoreSubscripts tokens below from other end → HasSymbol tokens end s.RIGHT_ROUND → (shown_exprs row ≡ shown_exprs other) × (to ≡ end)
     same_more_subscripts below same from _ _ end_of-Expr end_of-Expr to end h c g d = (refl, h ∙ sym g)
     same_more_subscripts below same from _ _ end_of-Expr (more_of-Expr y ys) to end h c g d =
-        absurd (omega (arith, same_symbol tokens from s.comma s.right_round g.1 (subst (λ k. HasSymbol tokens k s.right_round) h c)))
+        absurd (omega (arith, same_symbol tokens from s.COMMA s.RIGHT_ROUND g.1 (subst (λ k. HasSymbol tokens k s.RIGHT_ROUND) h c)))
     same_more_subscripts below same from _ _ (more_of-Expr x xs) end_of-Expr to end h c g d =
-        absurd (omega (arith, same_symbol tokens from s.comma s.right_round h.1 (subst (λ k. HasSymbol tokens k s.right_round) g d)))
+        absurd (omega (arith, same_symbol tokens from s.COMMA s.RIGHT_ROUND h.1 (subst (λ k. HasSymbol tokens k s.RIGHT_ROUND) g d)))
     same_more_subscripts below same from _ _ (more_of-Expr x xs) (more_of-Expr y ys) to end h c g d =
         let next : h.0 ≡ g.0 = meets_once (HasOneOf lengthens_expr tokens) (still below h.0 _ xs to h.3 c) (still below g.0 _ ys end g.3 d)
         (exprs_meet tokens below (from + 1) x y h.0 g.0 h.2.0 g.2.0) in
@@ -151,8 +151,8 @@ module _ (tokens : List Token) where
         ((λ i. MoreExprs (first i) (rest.0 i)), rest.1)
 
     same_subscripts : (below : ℕ) → ExprsSame below → (from : ℕ) (n m : _) (row : Row_of-Expr n) (other : Row_of-Expr m) (to end : ℕ) →
-        SpellsSubscripts tokens below from row to → HasSymbol tokens to s.right_round →
-        SpellsSubscripts tokens below from other end → HasSymbol tokens end s.right_round → shown_exprs row ≡ shown_exprs other
+        SpellsSubscripts tokens below from row to → HasSymbol tokens to s.RIGHT_ROUND →
+        SpellsSubscripts tokens below from other end → HasSymbol tokens end s.RIGHT_ROUND → shown_exprs row ≡ shown_exprs other
     same_subscripts below same from _ _ end_of-Expr other to end h c g d = absurd h
     same_subscripts below same from _ _ (more_of-Expr x xs) end_of-Expr to end h c g d = absurd g
     same_subscripts below same from _ _ (more_of-Expr x xs) (more_of-Expr y ys) to end h c g d =
@@ -175,9 +175,9 @@ module _ (tokens : List Token) where
         let place = same_place tokens from p q h.0 g.0 in
         λ i. OfComponent (name i) (place i)
     same_selector from (Subscripts' _ xs p) (Component b q) to end h g =
-        absurd (omega (arith, same_symbol tokens from s.left_round s.period h.2 g.1))
+        absurd (omega (arith, same_symbol tokens from s.LEFT_ROUND s.PERIOD h.2 g.1))
     same_selector from (Component a p) (Subscripts' _ ys q) to end h g =
-        absurd (omega (arith, same_symbol tokens from s.period s.left_round h.1 g.2))
+        absurd (omega (arith, same_symbol tokens from s.PERIOD s.LEFT_ROUND h.1 g.2))
 
     selectors_after : (from : ℕ) (n : _) (row : Row_of-Selector n) (to : ℕ) → SpellsSelectors tokens depth from row to → from ≤ to
     selectors_after from _ end_of-Selector to h = omega (arith, h)
@@ -273,7 +273,7 @@ module _ (tokens : List Token) where
     same_primary from (primary.Literal a_part) (primary.Ref' b_name _ b_row b_place) to h g =
         absurd (has_none tokens begins_literal from (what.Id b_name.text) g.1.0 refl (literal_begins tokens from a_part to h))
     same_primary from (primary.Literal a_part) (primary.Group' _ b_inner b_place) to h g =
-        absurd (has_none tokens begins_literal from (what.Symbol s.left_round) g.2 refl (literal_begins tokens from a_part to h))
+        absurd (has_none tokens begins_literal from (what.Symbol s.LEFT_ROUND) g.2 refl (literal_begins tokens from a_part to h))
     same_primary from (primary.Literal a_part) (primary.Now b_place) to h g =
         absurd (has_none tokens begins_literal from (what.Word w.NOW) g.1 refl (literal_begins tokens from a_part to h))
     same_primary from (primary.Literal a_part) (primary.Try b_name b_place) to h g =
@@ -288,7 +288,7 @@ module _ (tokens : List Token) where
         let place = same_place tokens from a_place b_place h.0 g.0 in
         λ i. OfRef (name i) (all i) (place i)
     same_primary from (primary.Ref' a_name _ a_row a_place) (primary.Group' _ b_inner b_place) to h g =
-        absurd (omega (arith, leads_apart from 1 2 (has_lead from (what.Id a_name.text) 1 h.1.0 refl) (has_lead from (what.Symbol s.left_round) 2 g.2 refl)))
+        absurd (omega (arith, leads_apart from 1 2 (has_lead from (what.Id a_name.text) 1 h.1.0 refl) (has_lead from (what.Symbol s.LEFT_ROUND) 2 g.2 refl)))
     same_primary from (primary.Ref' a_name _ a_row a_place) (primary.Now b_place) to h g =
         absurd (omega (arith, leads_apart from 1 3 (has_lead from (what.Id a_name.text) 1 h.1.0 refl) (has_lead from (what.Word w.NOW) 3 g.1 refl)))
     same_primary from (primary.Ref' a_name _ a_row a_place) (primary.Try b_name b_place) to h g =
@@ -297,27 +297,27 @@ module _ (tokens : List Token) where
         let lead = limit_lead from b_dim b_side g.0 g.2 g.3 in
         absurd (omega (arith, lead.1, leads_apart from lead.0 1 lead.2 (has_lead from (what.Id a_name.text) 1 h.1.0 refl)))
     same_primary from (primary.Group' _ a_inner a_place) (primary.Literal b_part) to h g =
-        absurd (has_none tokens begins_literal from (what.Symbol s.left_round) h.2 refl (literal_begins tokens from b_part to g))
+        absurd (has_none tokens begins_literal from (what.Symbol s.LEFT_ROUND) h.2 refl (literal_begins tokens from b_part to g))
     same_primary from (primary.Group' _ a_inner a_place) (primary.Ref' b_name _ b_row b_place) to h g =
-        absurd (omega (arith, leads_apart from 2 1 (has_lead from (what.Symbol s.left_round) 2 h.2 refl) (has_lead from (what.Id b_name.text) 1 g.1.0 refl)))
+        absurd (omega (arith, leads_apart from 2 1 (has_lead from (what.Symbol s.LEFT_ROUND) 2 h.2 refl) (has_lead from (what.Id b_name.text) 1 g.1.0 refl)))
     same_primary from (primary.Group' _ a_inner a_place) (primary.Group' _ b_inner b_place) to h g =
         let at : h.0 ≡ g.0 = omega (arith, h.6, g.6) in
         let part = inner h.3 (from + 1) a_inner b_inner g.0 (subst (λ k. SpellsTerms tokens (depth - 1) (from + 1) a_inner k) at h.4.0) g.4.0 in
         let place = same_place tokens from a_place b_place h.1 g.1 in
         λ i. OfGroup (part i) (place i)
     same_primary from (primary.Group' _ a_inner a_place) (primary.Now b_place) to h g =
-        absurd (omega (arith, leads_apart from 2 3 (has_lead from (what.Symbol s.left_round) 2 h.2 refl) (has_lead from (what.Word w.NOW) 3 g.1 refl)))
+        absurd (omega (arith, leads_apart from 2 3 (has_lead from (what.Symbol s.LEFT_ROUND) 2 h.2 refl) (has_lead from (what.Word w.NOW) 3 g.1 refl)))
     same_primary from (primary.Group' _ a_inner a_place) (primary.Try b_name b_place) to h g =
-        absurd (omega (arith, leads_apart from 2 4 (has_lead from (what.Symbol s.left_round) 2 h.2 refl) (has_lead from (what.Word w.TRY) 4 g.1 refl)))
+        absurd (omega (arith, leads_apart from 2 4 (has_lead from (what.Symbol s.LEFT_ROUND) 2 h.2 refl) (has_lead from (what.Word w.TRY) 4 g.1 refl)))
     same_primary from (primary.Group' _ a_inner a_place) (primary.Limit' b_dim b_side b_name _ b_row b_ref b_place) to h g =
         let lead = limit_lead from b_dim b_side g.0 g.2 g.3 in
-        absurd (omega (arith, lead.1, leads_apart from lead.0 2 lead.2 (has_lead from (what.Symbol s.left_round) 2 h.2 refl)))
+        absurd (omega (arith, lead.1, leads_apart from lead.0 2 lead.2 (has_lead from (what.Symbol s.LEFT_ROUND) 2 h.2 refl)))
     same_primary from (primary.Now a_place) (primary.Literal b_part) to h g =
         absurd (has_none tokens begins_literal from (what.Word w.NOW) h.1 refl (literal_begins tokens from b_part to g))
     same_primary from (primary.Now a_place) (primary.Ref' b_name _ b_row b_place) to h g =
         absurd (omega (arith, leads_apart from 3 1 (has_lead from (what.Word w.NOW) 3 h.1 refl) (has_lead from (what.Id b_name.text) 1 g.1.0 refl)))
     same_primary from (primary.Now a_place) (primary.Group' _ b_inner b_place) to h g =
-        absurd (omega (arith, leads_apart from 3 2 (has_lead from (what.Word w.NOW) 3 h.1 refl) (has_lead from (what.Symbol s.left_round) 2 g.2 refl)))
+        absurd (omega (arith, leads_apart from 3 2 (has_lead from (what.Word w.NOW) 3 h.1 refl) (has_lead from (what.Symbol s.LEFT_ROUND) 2 g.2 refl)))
     same_primary from (primary.Now a_place) (primary.Now b_place) to h g = ap OfNow (same_place tokens from a_place b_place h.0 g.0)
     same_primary from (primary.Now a_place) (primary.Try b_name b_place) to h g =
         absurd (omega (arith, leads_apart from 3 4 (has_lead from (what.Word w.NOW) 3 h.1 refl) (has_lead from (what.Word w.TRY) 4 g.1 refl)))
@@ -329,7 +329,7 @@ module _ (tokens : List Token) where
     same_primary from (primary.Try a_name a_place) (primary.Ref' b_name _ b_row b_place) to h g =
         absurd (omega (arith, leads_apart from 4 1 (has_lead from (what.Word w.TRY) 4 h.1 refl) (has_lead from (what.Id b_name.text) 1 g.1.0 refl)))
     same_primary from (primary.Try a_name a_place) (primary.Group' _ b_inner b_place) to h g =
-        absurd (omega (arith, leads_apart from 4 2 (has_lead from (what.Word w.TRY) 4 h.1 refl) (has_lead from (what.Symbol s.left_round) 2 g.2 refl)))
+        absurd (omega (arith, leads_apart from 4 2 (has_lead from (what.Word w.TRY) 4 h.1 refl) (has_lead from (what.Symbol s.LEFT_ROUND) 2 g.2 refl)))
     same_primary from (primary.Try a_name a_place) (primary.Now b_place) to h g =
         absurd (omega (arith, leads_apart from 4 3 (has_lead from (what.Word w.TRY) 4 h.1 refl) (has_lead from (what.Word w.NOW) 3 g.1 refl)))
     same_primary from (primary.Try a_name a_place) (primary.Try b_name b_place) to h g =
@@ -346,7 +346,7 @@ module _ (tokens : List Token) where
         absurd (omega (arith, lead.1, leads_apart from lead.0 1 lead.2 (has_lead from (what.Id b_name.text) 1 g.1.0 refl)))
     same_primary from (primary.Limit' a_dim a_side a_name _ a_row a_ref a_place) (primary.Group' _ b_inner b_place) to h g =
         let lead = limit_lead from a_dim a_side h.0 h.2 h.3 in
-        absurd (omega (arith, lead.1, leads_apart from lead.0 2 lead.2 (has_lead from (what.Symbol s.left_round) 2 g.2 refl)))
+        absurd (omega (arith, lead.1, leads_apart from lead.0 2 lead.2 (has_lead from (what.Symbol s.LEFT_ROUND) 2 g.2 refl)))
     same_primary from (primary.Limit' a_dim a_side a_name _ a_row a_ref a_place) (primary.Now b_place) to h g =
         let lead = limit_lead from a_dim a_side h.0 h.2 h.3 in
         absurd (omega (arith, lead.1, leads_apart from lead.0 3 lead.2 (has_lead from (what.Word w.NOW) 3 g.1 refl)))

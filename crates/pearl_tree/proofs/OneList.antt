@@ -3,7 +3,7 @@ use Rattle.std.proofs.Common.{◌≡◌, ℕ, ◌+◌, List, [], ◌∷◌, Bool
 use mathlib.Core.List.{map-id}
 use Rattle.pearl_tree.specs.declared.token.Token.{Token}
 use Rattle.pearl_tree.specs.Standing.{Spelling, HasSymbol, HasWord, SpellsEach, SpellsMore, SpellsList, SpellsBracketed, SpellsMaybeBracketed, SpellsMaybeHeaded, SpellsMaybe, SpellsFlag}
-use Rattle.pearl_tree.specs.Symbols as s
+use Rattle.pearl_tables.specs.declared.symbol.TheConstants as s
 use Rattle.pearl_tree.proofs.Meeting.{same_symbol}
 
 module _ (tokens : List Token) where
@@ -26,8 +26,8 @@ module _ {X S : Type 0} (spells : Spelling X) (show : X → S) (begins : ℕ →
 
 -- parts of which one alone stands before a token at which it stops
 module _ {X S : Type 0} (tokens : List Token) (spells : Spelling X) (show : X → S) (stops closes : ℕ → Type 0)
-    (comma_stops : (k : ℕ) → HasSymbol tokens k s.comma → stops k) (close_stops : (k : ℕ) → closes k → stops k)
-    (apart : (k : ℕ) → HasSymbol tokens k s.comma → closes k → ⊥)
+    (comma_stops : (k : ℕ) → HasSymbol tokens k s.COMMA → stops k) (close_stops : (k : ℕ) → closes k → stops k)
+    (apart : (k : ℕ) → HasSymbol tokens k s.COMMA → closes k → ⊥)
     (one : (from : ℕ) (x y : X) (to end : ℕ) → spells from x to → stops to → spells from y end → stops end → (show x ≡ show y) × (to ≡ end)) where
   stopped : (xs : List X) (from to : ℕ) → SpellsMore tokens spells from xs to → closes to → stops from
   stopped [] from to h c = close_stops from (subst closes h c)
@@ -54,22 +54,22 @@ module _ {X S : Type 0} (tokens : List Token) (spells : Spelling X) (show : X �
 
 -- lists between brackets
 module _ {X S : Type 0} (tokens : List Token) (spells : Spelling X) (show : X → S) (stops : ℕ → Type 0)
-    (comma_stops : (k : ℕ) → HasSymbol tokens k s.comma → stops k) (close_stops : (k : ℕ) → HasSymbol tokens k s.right_round → stops k)
+    (comma_stops : (k : ℕ) → HasSymbol tokens k s.COMMA → stops k) (close_stops : (k : ℕ) → HasSymbol tokens k s.RIGHT_ROUND → stops k)
     (one : (from : ℕ) (x y : X) (to end : ℕ) → spells from x to → stops to → spells from y end → stops end → (show x ≡ show y) × (to ≡ end)) where
-  apart : (k : ℕ) → HasSymbol tokens k s.comma → HasSymbol tokens k s.right_round → ⊥
-  apart k h g = omega (arith, same_symbol tokens k s.comma s.right_round h g)
+  apart : (k : ℕ) → HasSymbol tokens k s.COMMA → HasSymbol tokens k s.RIGHT_ROUND → ⊥
+  apart k h g = omega (arith, same_symbol tokens k s.COMMA s.RIGHT_ROUND h g)
 
   pub bracketed_one : (xs ys : List X) (from to end : ℕ) → SpellsBracketed tokens spells from xs to → SpellsBracketed tokens spells from ys end →
       (map show xs ≡ map show ys) × (to ≡ end)
   bracketed_one xs ys from to end h g =
-      let all = list_one tokens spells show stops (λ k. HasSymbol tokens k s.right_round) comma_stops close_stops apart one xs ys (from + 1) h.0 g.0 h.2 h.3 g.2 g.3 in
+      let all = list_one tokens spells show stops (λ k. HasSymbol tokens k s.RIGHT_ROUND) comma_stops close_stops apart one xs ys (from + 1) h.0 g.0 h.2 h.3 g.2 g.3 in
       (all.0, omega (arith, all.1, h.4, g.4))
 
-  pub maybe_bracketed_one : (xs ys : List X) (from to end : ℕ) → SpellsMaybeBracketed tokens spells from xs to → (HasSymbol tokens to s.left_round → ⊥) →
-      SpellsMaybeBracketed tokens spells from ys end → (HasSymbol tokens end s.left_round → ⊥) → (map show xs ≡ map show ys) × (to ≡ end)
+  pub maybe_bracketed_one : (xs ys : List X) (from to end : ℕ) → SpellsMaybeBracketed tokens spells from xs to → (HasSymbol tokens to s.LEFT_ROUND → ⊥) →
+      SpellsMaybeBracketed tokens spells from ys end → (HasSymbol tokens end s.LEFT_ROUND → ⊥) → (map show xs ≡ map show ys) × (to ≡ end)
   maybe_bracketed_one [] [] from to end h i g j = (refl, h ∙ sym g)
-  maybe_bracketed_one [] (y ∷ ys) from to end h i g j = absurd (i (subst (λ k. HasSymbol tokens k s.left_round) (sym h) g.1))
-  maybe_bracketed_one (x ∷ xs) [] from to end h i g j = absurd (j (subst (λ k. HasSymbol tokens k s.left_round) (sym g) h.1))
+  maybe_bracketed_one [] (y ∷ ys) from to end h i g j = absurd (i (subst (λ k. HasSymbol tokens k s.LEFT_ROUND) (sym h) g.1))
+  maybe_bracketed_one (x ∷ xs) [] from to end h i g j = absurd (j (subst (λ k. HasSymbol tokens k s.LEFT_ROUND) (sym g) h.1))
   maybe_bracketed_one (x ∷ xs) (y ∷ ys) from to end h i g j = bracketed_one (x ∷ xs) (y ∷ ys) from to end h g
 
   pub maybe_headed_one : (word : ℕ) (xs ys : List X) (from to end : ℕ) → SpellsMaybeHeaded tokens word spells from xs to → (HasWord tokens to word → ⊥) →

@@ -17,8 +17,8 @@ use Rattle.pearl_tree.specs.declared.token.Token.{Token}
 use Rattle.pearl_tree.specs.Standing.{IsAt, HasSymbol, IsName, IsNumber, SpellsMaybe}
 use Rattle.pearl_tree.specs.Expressions.{SpellsSecs, SpellsSeconds, SpellsMinutes, SpellsDuration, SpellsLiteral, SpellsSign, SpellsConst}
 use Rattle.pearl_tree.specs.Following.{HasOneOf}
-use Rattle.pearl_tree.specs.Symbols as s
-use Rattle.pearl_tree.specs.WordCodes as w
+use Rattle.pearl_tables.specs.declared.symbol.TheConstants as s
+use Rattle.pearl_tables.specs.declared.word_code.TheConstants as w
 use Rattle.pearl_tree.proofs.Meeting.{has_one, has_none, same_word, same_symbol}
 use Rattle.pearl_tree.proofs.LiteralEnds.{seconds_end, unit_of, unit_stands, no_literal}
 
@@ -162,8 +162,8 @@ module _ (tokens : List Token) where
   same_sign : (from : ℕ) (a b : Sign) (to end : ℕ) → SpellsSign tokens from a to → SpellsSign tokens from b end → a ≡ b
   same_sign from sign.Plus sign.Plus to end h g = refl
   same_sign from sign.Minus sign.Minus to end h g = refl
-  same_sign from sign.Plus sign.Minus to end h g = absurd (omega (arith, same_symbol tokens from s.plus s.minus h.0 g.0))
-  same_sign from sign.Minus sign.Plus to end h g = absurd (omega (arith, same_symbol tokens from s.minus s.plus h.0 g.0))
+  same_sign from sign.Plus sign.Minus to end h g = absurd (omega (arith, same_symbol tokens from s.PLUS s.MINUS h.0 g.0))
+  same_sign from sign.Minus sign.Plus to end h g = absurd (omega (arith, same_symbol tokens from s.MINUS s.PLUS h.0 g.0))
 
   sign_end : (from : ℕ) (a : Sign) (to : ℕ) → SpellsSign tokens from a to → (to ≡ from + 1) × ((symbol : ℕ) × HasSymbol tokens from symbol)
   sign_end from sign.Plus to h = (h.1, (_, h.0))

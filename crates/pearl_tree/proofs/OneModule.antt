@@ -42,8 +42,8 @@ use Rattle.pearl_tree.specs.Modules.{SpellsTaskHead, SpellsReturns, SpellsBlock,
 use Rattle.pearl_tree.specs.ShownDeclarations.{shown_sema, OfItem, OfSema, shown_declared, OfInterrupt, OfDation, shown_spec, shown_param}
 use Rattle.pearl_tree.specs.ShownStatements.{shown_body_decl, shown_stmt}
 use Rattle.pearl_tree.specs.ShownModules.{shown_body, OfLength, OfType, OfDeclare, OfSpecify, OfTask, OfProc, shown_decl, shown_devices, shown_tree}
-use Rattle.pearl_tree.specs.Symbols as s
-use Rattle.pearl_tree.specs.WordCodes as w
+use Rattle.pearl_tables.specs.declared.symbol.TheConstants as s
+use Rattle.pearl_tables.specs.declared.word_code.TheConstants as w
 use Rattle.pearl_tree.proofs.Meeting.{same_word, same_symbol}
 use Rattle.pearl_tree.proofs.OneLiteral.{same_place, same_name, same_number}
 use Rattle.pearl_tree.proofs.OneList.{symbol_no_word, each_one, list_one, maybe_one, maybe_bracketed_one, maybe_headed_one, flag_one, as_they_are, option_as_it_is}
@@ -105,7 +105,7 @@ module _ (tokens : List Token) where
 
       by_bounds : (xs : List Bound) → BoundsAt a xs b → ⊥
       by_bounds [] h = by_flag inv i (subst (λ k. HasWord tokens k w.SEMA) (sym h) g)
-      by_bounds (x ∷ xs) h = symbol_no_word tokens a s.left_round w.SEMA h.1 g
+      by_bounds (x ∷ xs) h = symbol_no_word tokens a s.LEFT_ROUND w.SEMA h.1 g
 
   item_is_no_sema : (from : ℕ) (a : Item) (b : Sema) (to end : ℕ) → SpellsItem tokens from a to → SpellsSema tokens from b end → ⊥
   item_is_no_sema from a b to end h g =
@@ -180,7 +180,7 @@ module _ (tokens : List Token) where
 
   before_ident : (from : ℕ) (a : Bool) (to : ℕ) → SpellsFlag tokens w.IDENT from a to → ParamStops to → NoBracket tokens from
   before_ident from false to h i e = subst (NoBracket tokens) h i.0 e
-  before_ident from true to h i e = symbol_no_word tokens from s.left_round w.IDENT e h.0
+  before_ident from true to h i e = symbol_no_word tokens from s.LEFT_ROUND w.IDENT e h.0
 
   one_param : (from : ℕ) (a b : Param) (to end : ℕ) → SpellsParam tokens from a to → ParamStops to → SpellsParam tokens from b end → ParamStops end →
       (shown_param a ≡ shown_param b) × (to ≡ end)
@@ -201,25 +201,25 @@ module _ (tokens : List Token) where
       ((λ i. record { number = number i; place = place i }), h.3 ∙ sym g.3)
 
   abbrev Ends : ℕ → Type 0
-  Ends k = HasSymbol tokens k s.semicolon
+  Ends k = HasSymbol tokens k s.SEMICOLON
 
   before_main : (m : ℕ) (a : Bool) (to : ℕ) → SpellsFlag tokens w.MAIN m a to → Ends to → HasWord tokens m w.PRIO → ⊥
-  before_main m false to h i e = symbol_no_word tokens m s.semicolon w.PRIO (subst Ends h i) e
+  before_main m false to h i e = symbol_no_word tokens m s.SEMICOLON w.PRIO (subst Ends h i) e
   before_main m true to h i e = absurd (omega (arith, same_word tokens m w.MAIN w.PRIO h.0 e))
 
   not_main_first : (from : ℕ) (a : Option Prio) (main : Bool) (m to : ℕ) (b : Prio) (end : ℕ) → SpellsMaybe (SpellsPrio tokens) from a m →
       SpellsFlag tokens w.MAIN m main to → Ends to → HasWord tokens from w.MAIN → SpellsPrio tokens (from + 1) b end → ⊥
   not_main_first from (Some a) main m to b end h g i j k = absurd (omega (arith, same_word tokens from w.PRIO w.MAIN h.1 j))
-  not_main_first from None false m to b end h g i j k = symbol_no_word tokens from s.semicolon w.MAIN (subst Ends (g ∙ h) i) j
+  not_main_first from None false m to b end h g i j k = symbol_no_word tokens from s.SEMICOLON w.MAIN (subst Ends (g ∙ h) i) j
   not_main_first from None true m to b end h g i j k =
-      let at : to ≡ from + 1 = omega (arith, g.1, h) in symbol_no_word tokens (from + 1) s.semicolon w.PRIO (subst Ends at i) k.1
+      let at : to ≡ from + 1 = omega (arith, g.1, h) in symbol_no_word tokens (from + 1) s.SEMICOLON w.PRIO (subst Ends at i) k.1
 
   one_head : (from : ℕ) (a b : TaskHead) (to end : ℕ) → SpellsTaskHead tokens from a to → Ends to → SpellsTaskHead tokens from b end → Ends end → (a ≡ b) × (to ≡ end)
   one_head from (PrioFirst a x) (PrioFirst b y) to end h i g j =
       let prio = maybe_one (SpellsPrio tokens) (λ x. x) (λ k. HasWord tokens k w.PRIO) (λ k. Unit {0}) (λ k x m h. h.1) (λ k x y m n h _ g _. one_prio k x y m n h g)
       a b from h.0 g.0 h.1 (before_main h.0 x to h.2 i) tt g.1 (before_main g.0 y end g.2 j) tt in
-      let main = flag_one tokens w.MAIN g.0 x y to end (subst (λ k. SpellsFlag tokens w.MAIN k x to) prio.1 h.2) (symbol_no_word tokens to s.semicolon w.MAIN i)
-      g.2 (symbol_no_word tokens end s.semicolon w.MAIN j) in
+      let main = flag_one tokens w.MAIN g.0 x y to end (subst (λ k. SpellsFlag tokens w.MAIN k x to) prio.1 h.2) (symbol_no_word tokens to s.SEMICOLON w.MAIN i)
+      g.2 (symbol_no_word tokens end s.SEMICOLON w.MAIN j) in
       let same = option_as_it_is a b prio.0 in
       ((λ i. PrioFirst (same i) (main.0 i)), main.1)
   one_head from (MainFirst a) (MainFirst b) to end h i g j = let same = one_prio (from + 1) a b to end h.1 g.1 in (ap MainFirst same.0, same.1)
@@ -228,8 +228,8 @@ module _ (tokens : List Token) where
 
   one_returns : (from : ℕ) (a b : Basic) (to end : ℕ) → SpellsReturns tokens from a to → SpellsReturns tokens from b end → (a ≡ b) × (to ≡ end)
   one_returns from a b to end h g =
-      let same = one_basic tokens (from + 2) a b h.0 g.0 h.3 (no_bracket tokens h.0 s.right_round h.4 (λ e. absurd (omega (arith, e)))) g.3
-      (no_bracket tokens g.0 s.right_round g.4 (λ e. absurd (omega (arith, e)))) in
+      let same = one_basic tokens (from + 2) a b h.0 g.0 h.3 (no_bracket tokens h.0 s.RIGHT_ROUND h.4 (λ e. absurd (omega (arith, e)))) g.3
+      (no_bracket tokens g.0 s.RIGHT_ROUND g.4 (λ e. absurd (omega (arith, e)))) in
       (same.0, omega (arith, same.1, h.5, g.5))
 
   one_whole_body : (from : ℕ) (a b : Body) (to end : ℕ) → SpellsWholeBody tokens from a to → HasWord tokens to w.END → SpellsWholeBody tokens from b end →
@@ -275,11 +275,11 @@ module _ (tokens : List Token) where
   decl_leads from (decl.Task n x b p) to h = ap (option_and_then decl_words) h.2.0
   decl_leads from (decl.Proc n xs r b p) to h = ap (option_and_then decl_words) h.3.0
 
-  semicolon_stops : (k : ℕ) → HasSymbol tokens k s.semicolon → NoBracket tokens k
-  semicolon_stops k h = no_bracket tokens k s.semicolon h (λ e. absurd (omega (arith, e)))
+  semicolon_stops : (k : ℕ) → HasSymbol tokens k s.SEMICOLON → NoBracket tokens k
+  semicolon_stops k h = no_bracket tokens k s.SEMICOLON h (λ e. absurd (omega (arith, e)))
 
-  comma_stops : (k : ℕ) → HasSymbol tokens k s.comma → NoBracket tokens k
-  comma_stops k h = no_bracket tokens k s.comma h (λ e. absurd (omega (arith, e)))
+  comma_stops : (k : ℕ) → HasSymbol tokens k s.COMMA → NoBracket tokens k
+  comma_stops k h = no_bracket tokens k s.COMMA h (λ e. absurd (omega (arith, e)))
 
   no_control : (k symbol : ℕ) → HasSymbol tokens k symbol → HasId tokens k (codes "CONTROL") → ⊥
   no_control k symbol h g = absurd (let e = sym h ∙ g in cc e)
@@ -287,7 +287,7 @@ module _ (tokens : List Token) where
   -- what follows the head of a procedure: RETURNS or a semicolon
   before_block : (a : ℕ) (r : Option Basic) (b : ℕ) (body : Body) (to : ℕ) → SpellsMaybe (SpellsReturns tokens) a r b → SpellsBlock tokens b body to → NoBracket tokens a
   before_block a None b body to h g e = subst (NoBracket tokens) h (semicolon_stops b g.1) e
-  before_block a (Some r) b body to h g e = symbol_no_word tokens a s.left_round w.RETURNS e h.1
+  before_block a (Some r) b body to h g e = symbol_no_word tokens a s.LEFT_ROUND w.RETURNS e h.1
 
   one_decl : (from : ℕ) (a b : Decl) (to end : ℕ) → SpellsDecl tokens from a to → SpellsDecl tokens from b end → (shown_decl a ≡ shown_decl b) × (to ≡ end)
   one_decl from a b to end h g = by a b (yes_eqb groups) h g
@@ -309,14 +309,14 @@ module _ (tokens : List Token) where
           ((λ i. OfType (name i) (part.0 i) (place i)), omega (arith, h.6, g.6, part.1))
       by (decl.Declare xs p) (decl.Declare ys q) e h g =
           let all = list_one tokens (SpellsDeclared tokens) shown_declared DeclaredStops Ends
-          (λ k h. ((comma_stops k h, symbol_no_word tokens k s.comma w.INIT h), symbol_no_word tokens k s.comma w.PRESET h))
-          (λ k h. ((semicolon_stops k h, symbol_no_word tokens k s.semicolon w.INIT h), symbol_no_word tokens k s.semicolon w.PRESET h)) (ends_no_comma tokens) one_declared
+          (λ k h. ((comma_stops k h, symbol_no_word tokens k s.COMMA w.INIT h), symbol_no_word tokens k s.COMMA w.PRESET h))
+          (λ k h. ((semicolon_stops k h, symbol_no_word tokens k s.SEMICOLON w.INIT h), symbol_no_word tokens k s.SEMICOLON w.PRESET h)) (ends_no_comma tokens) one_declared
           xs.items.items ys.items.items (from + 1) h.0 g.0 h.3 h.4 g.3 g.4 in
           let place = same_place tokens from p q h.1 g.1 in
           ((λ i. OfDeclare (all.0 i) (place i)), omega (arith, h.5, g.5, all.1))
       by (decl.Specify xs p) (decl.Specify ys q) e h g =
-          let all = list_one tokens (SpellsSpec tokens) shown_spec SpecStops Ends (λ k h. (comma_stops k h, no_control k s.comma h))
-          (λ k h. (semicolon_stops k h, no_control k s.semicolon h)) (ends_no_comma tokens) one_spec xs.items.items ys.items.items (from + 1) h.0 g.0 h.3 h.4 g.3 g.4 in
+          let all = list_one tokens (SpellsSpec tokens) shown_spec SpecStops Ends (λ k h. (comma_stops k h, no_control k s.COMMA h))
+          (λ k h. (semicolon_stops k h, no_control k s.SEMICOLON h)) (ends_no_comma tokens) one_spec xs.items.items ys.items.items (from + 1) h.0 g.0 h.3 h.4 g.3 g.4 in
           let place = same_place tokens from p q h.1 g.1 in
           ((λ i. OfSpecify (all.0 i) (place i)), omega (arith, h.5, g.5, all.1))
       by (decl.Task n x b p) (decl.Task m y c q) e h g =
@@ -327,12 +327,12 @@ module _ (tokens : List Token) where
           ((λ i. OfTask (name i) (head.0 i) (body.0 i) (place i)), body.1)
       by (decl.Proc n xs r b p) (decl.Proc m ys u c q) e h g =
           let name = same_name tokens from n m h.3 g.3 in
-          let all = maybe_bracketed_one tokens (SpellsParam tokens) shown_param ParamStops (λ k h. (comma_stops k h, symbol_no_word tokens k s.comma w.IDENT h))
-          (λ k h. (no_bracket tokens k s.right_round h (λ e. absurd (omega (arith, e))), symbol_no_word tokens k s.right_round w.IDENT h)) one_param
+          let all = maybe_bracketed_one tokens (SpellsParam tokens) shown_param ParamStops (λ k h. (comma_stops k h, symbol_no_word tokens k s.COMMA w.IDENT h))
+          (λ k h. (no_bracket tokens k s.RIGHT_ROUND h (λ e. absurd (omega (arith, e))), symbol_no_word tokens k s.RIGHT_ROUND w.IDENT h)) one_param
           xs.items.items ys.items.items (from + 3) h.0 g.0 h.6 (before_block h.0 r h.1 b to h.7 h.8) g.6 (before_block g.0 u g.1 c end g.7 g.8) in
           let returns = maybe_one (SpellsReturns tokens) (λ x. x) (λ k. HasWord tokens k w.RETURNS) (λ k. Unit {0}) (λ k x m h. h.1) (λ k x y m n h _ g _. one_returns k x y m n h g)
-          r u g.0 h.1 g.1 (subst (λ k. SpellsMaybe (SpellsReturns tokens) k r h.1) all.1 h.7) (symbol_no_word tokens h.1 s.semicolon w.RETURNS h.8.1) tt
-          g.7 (symbol_no_word tokens g.1 s.semicolon w.RETURNS g.8.1) tt in
+          r u g.0 h.1 g.1 (subst (λ k. SpellsMaybe (SpellsReturns tokens) k r h.1) all.1 h.7) (symbol_no_word tokens h.1 s.SEMICOLON w.RETURNS h.8.1) tt
+          g.7 (symbol_no_word tokens g.1 s.SEMICOLON w.RETURNS g.8.1) tt in
           let result = option_as_it_is r u returns.0 in
           let body = one_block g.1 b c to end (subst (λ k. SpellsBlock tokens k b to) returns.1 h.8) g.8 in
           let place = same_place tokens from p q h.2 g.2 in
@@ -350,7 +350,7 @@ module _ (tokens : List Token) where
   one_module_name from (Bare b) (Bracketed a) to end h g = absurd (let e = sym g.0 ∙ h.0.0 in cc e)
 
   name_no_end : (from : ℕ) (a : ModuleName) (to : ℕ) → SpellsModuleName tokens from a to → Ends from → ⊥
-  name_no_end from (Bracketed a) to h e = absurd (omega (arith, same_symbol tokens from s.left_round s.semicolon h.0 e))
+  name_no_end from (Bracketed a) to h e = absurd (omega (arith, same_symbol tokens from s.LEFT_ROUND s.SEMICOLON h.0 e))
   name_no_end from (Bare a) to h e = absurd (let e = sym h.0.0 ∙ e in cc e)
 
   one_system : (from : ℕ) (a b : Parts Device) (to end : ℕ) → SpellsSystem tokens from a to → HasWord tokens to w.PROBLEM → SpellsSystem tokens from b end →
@@ -363,7 +363,7 @@ module _ (tokens : List Token) where
   decl_begins : (k : ℕ) → HasWord tokens k w.MODEND → ((n : ℕ) × (option_and_then decl_words (what_at tokens k) ≡ Some n)) → ⊥
   decl_begins k h g = absurd (let e = sym g.1 ∙ ap (option_and_then decl_words) h in cc e)
 
-  same_semicolon : (from : ℕ) (a b : Bool) (to : ℕ) → SpellsSymbolFlag tokens s.semicolon from a to → SpellsSymbolFlag tokens s.semicolon from b to → a ≡ b
+  same_semicolon : (from : ℕ) (a b : Bool) (to : ℕ) → SpellsSymbolFlag tokens s.SEMICOLON from a to → SpellsSymbolFlag tokens s.SEMICOLON from b to → a ≡ b
   same_semicolon from false false to h g = refl
   same_semicolon from true true to h g = refl
   same_semicolon from false true to h g = absurd (omega (arith, h, g.1))
@@ -381,7 +381,7 @@ module _ (tokens : List Token) where
       let all = each_one (SpellsDecl tokens) shown_decl (λ k. (n : ℕ) × (option_and_then decl_words (what_at tokens k) ≡ Some n)) (λ k x m h. (decl_group x, decl_leads k x m h)) one_decl
       a.declarations.items.items b.declarations.items.items (g.1 + 2) h.2 g.2
       (subst (λ k. SpellsEach (SpellsDecl tokens) (k + 2) a.declarations.items.items h.2) system.1 h.10) (decl_begins h.2 h.11) g.10 (decl_begins g.2 g.11) in
-      let semicolon = same_semicolon (g.2 + 1) a.semicolon b.semicolon to (subst (λ k. SpellsSymbolFlag tokens s.semicolon (k + 1) a.semicolon to) all.1 h.12) g.12 in
+      let semicolon = same_semicolon (g.2 + 1) a.semicolon b.semicolon to (subst (λ k. SpellsSymbolFlag tokens s.SEMICOLON (k + 1) a.semicolon to) all.1 h.12) g.12 in
       let place = same_place tokens from a.place b.place h.3 g.3 in
       λ i. record { name = name i; system = system.0 i; declarations = all.0 i; semicolon = semicolon i; place = place i }
 

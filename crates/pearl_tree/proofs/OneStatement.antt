@@ -31,8 +31,8 @@ use Rattle.pearl_tree.specs.Following.{lengthens_ref, lengthens_expr, HasOneOf}
 use Rattle.pearl_tree.specs.ShownExpressions.{shown_expr, shown_ref}
 use Rattle.pearl_tree.specs.ShownDeclarations.{shown_item}
 use Rattle.pearl_tree.specs.ShownStatements.{OfEmpty, OfAssign, OfCall, OfIf, OfCase, OfRepeat, OfExit, OfBegin, OfReturn, OfActivate, OfContinue, OfResume, OfOnTask, OfOnSemas, OfOnInterrupt, OfPut, OfGet, OfSend, OfTake, MoreStmts, MoreBranches, OfOtherwise, shown_start, shown_once, shown_body_decl, shown_stmt, shown_stmts, shown_branches, shown_otherwise}
-use Rattle.pearl_tree.specs.Symbols as s
-use Rattle.pearl_tree.specs.WordCodes as w
+use Rattle.pearl_tables.specs.declared.symbol.TheConstants as s
+use Rattle.pearl_tables.specs.declared.word_code.TheConstants as w
 use Rattle.pearl_tree.proofs.ExpressionLists.{spells_subscripts}
 use Rattle.pearl_tree.proofs.Meeting.{same_word, same_symbol, has_none, meets_once}
 use Rattle.pearl_tree.proofs.Chains.{exprs_meet}
@@ -55,7 +55,7 @@ group_in [] code = None
 group_in (row ∷ rows) code = if row.0 == code then Some row.1 else group_in rows code
 
 abbrev pub group_of : What → Option ℕ
-group_of (what.Symbol symbol) = if symbol == s.semicolon then Some 0 else None
+group_of (what.Symbol symbol) = if symbol == s.SEMICOLON then Some 0 else None
 group_of (what.Id _) = Some 1
 group_of (what.Word code) = group_in group_rows code
 group_of _ = None
@@ -115,7 +115,7 @@ module _ (tokens : List Token) where
   lead_once from (once.When n p) to h = leads from (what.Word w.WHEN) 9 h.1 refl
 
   stmt_leads : (depth from : ℕ) (a : Stmt) (to : ℕ) → SpellsStmt tokens depth from a to → Leads from (group a)
-  stmt_leads depth from (Empty p) to h = leads from (what.Symbol s.semicolon) 0 h.1 refl
+  stmt_leads depth from (Empty p) to h = leads from (what.Symbol s.SEMICOLON) 0 h.1 refl
   stmt_leads depth from (Assign target x p) to h = leads from (what.Id target.name.text) 1 h.3.1.0 refl
   stmt_leads depth from (Call false name xs p) to h = leads from (what.Id name.text) 1 (subst (λ k. IsName tokens k name) h.3 h.4).0 refl
   stmt_leads depth from (Call true name xs p) to h = leads from (what.Word w.CALL) 1 h.3.0 refl
@@ -150,31 +150,31 @@ module _ (tokens : List Token) where
 
   -- ---- parts of statements
 
-  semicolon_stops : (k : ℕ) → HasSymbol tokens k s.semicolon → ExprStops tokens k
-  semicolon_stops k h = symbol_stops tokens k s.semicolon h refl
+  semicolon_stops : (k : ℕ) → HasSymbol tokens k s.SEMICOLON → ExprStops tokens k
+  semicolon_stops k h = symbol_stops tokens k s.SEMICOLON h refl
 
-  comma_stops : (k : ℕ) → HasSymbol tokens k s.comma → ExprStops tokens k
-  comma_stops k h = symbol_stops tokens k s.comma h refl
+  comma_stops : (k : ℕ) → HasSymbol tokens k s.COMMA → ExprStops tokens k
+  comma_stops k h = symbol_stops tokens k s.COMMA h refl
 
-  close_stops : (k : ℕ) → HasSymbol tokens k s.right_round → ExprStops tokens k
-  close_stops k h = symbol_stops tokens k s.right_round h refl
+  close_stops : (k : ℕ) → HasSymbol tokens k s.RIGHT_ROUND → ExprStops tokens k
+  close_stops k h = symbol_stops tokens k s.RIGHT_ROUND h refl
 
   becomes_stops : (k : ℕ) → HasBecomes tokens k → RefStops tokens k
-  becomes_stops k (inl h) g = has_none tokens lengthens_ref k (what.Symbol s.becomes) h refl g
-  becomes_stops k (inr h) g = has_none tokens lengthens_ref k (what.Symbol s.equals) h refl g
+  becomes_stops k (inl h) g = has_none tokens lengthens_ref k (what.Symbol s.BECOMES) h refl g
+  becomes_stops k (inr h) g = has_none tokens lengthens_ref k (what.Symbol s.EQUALS_SIGN) h refl g
 
-  becomes_no_end : (k : ℕ) → HasBecomes tokens k → HasSymbol tokens k s.semicolon → ⊥
-  becomes_no_end k (inl h) g = absurd (omega (arith, same_symbol tokens k s.becomes s.semicolon h g))
-  becomes_no_end k (inr h) g = absurd (omega (arith, same_symbol tokens k s.equals s.semicolon h g))
+  becomes_no_end : (k : ℕ) → HasBecomes tokens k → HasSymbol tokens k s.SEMICOLON → ⊥
+  becomes_no_end k (inl h) g = absurd (omega (arith, same_symbol tokens k s.BECOMES s.SEMICOLON h g))
+  becomes_no_end k (inr h) g = absurd (omega (arith, same_symbol tokens k s.EQUALS_SIGN s.SEMICOLON h g))
 
-  pub no_bracket : (k symbol : ℕ) → HasSymbol tokens k symbol → symbol ≢ s.left_round → NoBracket tokens k
-  no_bracket k symbol h other g = other (same_symbol tokens k symbol s.left_round h g)
+  pub no_bracket : (k symbol : ℕ) → HasSymbol tokens k symbol → symbol ≢ s.LEFT_ROUND → NoBracket tokens k
+  no_bracket k symbol h other g = other (same_symbol tokens k symbol s.LEFT_ROUND h g)
 
-  one_arguments : (from : ℕ) (xs ys : List Expr) (to end : ℕ) → SpellsMaybeBracketed tokens (SpellsWhole tokens) from xs to → HasSymbol tokens to s.semicolon →
-      SpellsMaybeBracketed tokens (SpellsWhole tokens) from ys end → HasSymbol tokens end s.semicolon → (map shown_expr xs ≡ map shown_expr ys) × (to ≡ end)
+  one_arguments : (from : ℕ) (xs ys : List Expr) (to end : ℕ) → SpellsMaybeBracketed tokens (SpellsWhole tokens) from xs to → HasSymbol tokens to s.SEMICOLON →
+      SpellsMaybeBracketed tokens (SpellsWhole tokens) from ys end → HasSymbol tokens end s.SEMICOLON → (map shown_expr xs ≡ map shown_expr ys) × (to ≡ end)
   one_arguments from xs ys to end h i g j =
       maybe_bracketed_one tokens (SpellsWhole tokens) shown_expr (ExprStops tokens) comma_stops close_stops (one_whole tokens) xs ys from to end
-      h (no_bracket to s.semicolon i (λ e. absurd (omega (arith, e)))) g (no_bracket end s.semicolon j (λ e. absurd (omega (arith, e))))
+      h (no_bracket to s.SEMICOLON i (λ e. absurd (omega (arith, e)))) g (no_bracket end s.SEMICOLON j (λ e. absurd (omega (arith, e))))
 
   place_of : (k symbol : ℕ) → HasSymbol tokens k symbol → (place : ℕ) × IsAt tokens k place
   place_of k symbol h = by (slice_get tokens k) h
@@ -193,16 +193,16 @@ module _ (tokens : List Token) where
           (xs : List Selector) × SpellsEach (SpellsSelector tokens 33) from xs to
       by [] e h = ([], h)
       by (y ∷ ys) e h =
-          let place = place_of from s.left_round h.1 in
+          let place = place_of from s.LEFT_ROUND h.1 in
           let list = subst (λ zs. SpellsList tokens (SpellsWhole tokens) (from + 1) zs h.0) (sym e) h.2 in
           let selector = subst (λ X. X) (sym (spells_subscripts tokens 33 from arguments place.0 to)) (h.0, place.1, h.1, omega arith, list, h.3, h.4) in
           (Subscripts arguments place.0 ∷ [], (to, selector, refl))
 
   assign_no_call : (from : ℕ) (target : Ref) (a : ℕ) (arguments : Parts Expr) (b : ℕ) → SpellsOwnRef tokens from target a → HasBecomes tokens a →
-      SpellsMaybeBracketed tokens (SpellsWhole tokens) (from + 1) arguments.items.items b → HasSymbol tokens b s.semicolon → ⊥
+      SpellsMaybeBracketed tokens (SpellsWhole tokens) (from + 1) arguments.items.items b → HasSymbol tokens b s.SEMICOLON → ⊥
   assign_no_call from target a arguments b h i g j =
       let other = as_selectors (from + 1) arguments b g in
-      let same = meets_once (HasOneOf lengthens_ref tokens) (becomes_stops a i) (λ e. has_none tokens lengthens_ref b (what.Symbol s.semicolon) j refl e)
+      let same = meets_once (HasOneOf lengthens_ref tokens) (becomes_stops a i) (λ e. has_none tokens lengthens_ref b (what.Symbol s.SEMICOLON) j refl e)
       (selector_lists_meet tokens 33 (λ h. exprs_meet tokens 32) (from + 1) target.selectors.items.items other.0 a b h.2 other.1) in
       becomes_no_end b (subst (HasBecomes tokens) same i) j
 
@@ -211,34 +211,34 @@ module _ (tokens : List Token) where
       let same = one_whole tokens (from + 1) a b h.0 g.0 h.2 (close_stops h.0 h.3) g.2 (close_stops g.0 g.3) in
       (same.0, omega (arith, same.1, h.4, g.4))
 
-  maybe_value : (from : ℕ) (a b : Option Expr) (to end : ℕ) → SpellsMaybe (SpellsValue tokens) from a to → HasSymbol tokens to s.semicolon →
-      SpellsMaybe (SpellsValue tokens) from b end → HasSymbol tokens end s.semicolon → (option_map shown_expr a ≡ option_map shown_expr b) × (to ≡ end)
+  maybe_value : (from : ℕ) (a b : Option Expr) (to end : ℕ) → SpellsMaybe (SpellsValue tokens) from a to → HasSymbol tokens to s.SEMICOLON →
+      SpellsMaybe (SpellsValue tokens) from b end → HasSymbol tokens end s.SEMICOLON → (option_map shown_expr a ≡ option_map shown_expr b) × (to ≡ end)
   maybe_value from a b to end h i g j =
-      maybe_one (SpellsValue tokens) shown_expr (λ k. HasSymbol tokens k s.left_round) (λ k. Unit {0}) (λ k x m h. h.1) (λ k x y m n h _ g _. one_value k x y m n h g)
-      a b from to end h (no_bracket to s.semicolon i (λ e. absurd (omega (arith, e)))) tt g (no_bracket end s.semicolon j (λ e. absurd (omega (arith, e)))) tt
+      maybe_one (SpellsValue tokens) shown_expr (λ k. HasSymbol tokens k s.LEFT_ROUND) (λ k. Unit {0}) (λ k x m h. h.1) (λ k x y m n h _ g _. one_value k x y m n h g)
+      a b from to end h (no_bracket to s.SEMICOLON i (λ e. absurd (omega (arith, e)))) tt g (no_bracket end s.SEMICOLON j (λ e. absurd (omega (arith, e)))) tt
 
-  maybe_name : (from : ℕ) (a b : Option Name) (to end : ℕ) → SpellsMaybe (SpellsName tokens) from a to → HasSymbol tokens to s.semicolon →
-      SpellsMaybe (SpellsName tokens) from b end → HasSymbol tokens end s.semicolon → (a ≡ b) × (to ≡ end)
+  maybe_name : (from : ℕ) (a b : Option Name) (to end : ℕ) → SpellsMaybe (SpellsName tokens) from a to → HasSymbol tokens to s.SEMICOLON →
+      SpellsMaybe (SpellsName tokens) from b end → HasSymbol tokens end s.SEMICOLON → (a ≡ b) × (to ≡ end)
   maybe_name from a b to end h i g j =
       let same = maybe_one (SpellsName tokens) (λ x. x) (λ k. (name : Name) × IsName tokens k name) (λ k. Unit {0}) (λ k x m h. (x, h.0))
       (λ k x y m n h _ g _. one_name tokens k x y m n h g) a b from to end h (λ e. absurd (let e = sym i ∙ e.1.0 in cc e)) tt g (λ e. absurd (let e = sym j ∙ e.1.0 in cc e)) tt in
       (option_as_it_is a b same.0, same.1)
 
-  pub ends_no_comma : (k : ℕ) → HasSymbol tokens k s.comma → HasSymbol tokens k s.semicolon → ⊥
-  ends_no_comma k h g = absurd (omega (arith, same_symbol tokens k s.comma s.semicolon h g))
+  pub ends_no_comma : (k : ℕ) → HasSymbol tokens k s.COMMA → HasSymbol tokens k s.SEMICOLON → ⊥
+  ends_no_comma k h g = absurd (omega (arith, same_symbol tokens k s.COMMA s.SEMICOLON h g))
 
-  one_name_list : (from : ℕ) (xs ys : List Name) (to end : ℕ) → SpellsList tokens (SpellsName tokens) from xs to → HasSymbol tokens to s.semicolon →
-      SpellsList tokens (SpellsName tokens) from ys end → HasSymbol tokens end s.semicolon → (xs ≡ ys) × (to ≡ end)
+  one_name_list : (from : ℕ) (xs ys : List Name) (to end : ℕ) → SpellsList tokens (SpellsName tokens) from xs to → HasSymbol tokens to s.SEMICOLON →
+      SpellsList tokens (SpellsName tokens) from ys end → HasSymbol tokens end s.SEMICOLON → (xs ≡ ys) × (to ≡ end)
   one_name_list from xs ys to end h i g j =
-      let same = list_one tokens (SpellsName tokens) (λ x. x) (λ k. Unit {0}) (λ k. HasSymbol tokens k s.semicolon) (λ k _. tt) (λ k _. tt) ends_no_comma
+      let same = list_one tokens (SpellsName tokens) (λ x. x) (λ k. Unit {0}) (λ k. HasSymbol tokens k s.SEMICOLON) (λ k _. tt) (λ k _. tt) ends_no_comma
       (λ k x y m n h _ g _. one_name tokens k x y m n h g) xs ys from to end h i g j in
       (as_they_are xs ys same.0, same.1)
 
-  one_formats : (from : ℕ) (xs ys : List Fmt) (to end : ℕ) → SpellsList tokens (SpellsFmt tokens) from xs to → HasSymbol tokens to s.semicolon →
-      SpellsList tokens (SpellsFmt tokens) from ys end → HasSymbol tokens end s.semicolon → (xs ≡ ys) × (to ≡ end)
+  one_formats : (from : ℕ) (xs ys : List Fmt) (to end : ℕ) → SpellsList tokens (SpellsFmt tokens) from xs to → HasSymbol tokens to s.SEMICOLON →
+      SpellsList tokens (SpellsFmt tokens) from ys end → HasSymbol tokens end s.SEMICOLON → (xs ≡ ys) × (to ≡ end)
   one_formats from xs ys to end h i g j =
-      let same = list_one tokens (SpellsFmt tokens) (λ x. x) (NoBracket tokens) (λ k. HasSymbol tokens k s.semicolon)
-      (λ k h. no_bracket k s.comma h (λ e. absurd (omega (arith, e)))) (λ k h. no_bracket k s.semicolon h (λ e. absurd (omega (arith, e)))) ends_no_comma
+      let same = list_one tokens (SpellsFmt tokens) (λ x. x) (NoBracket tokens) (λ k. HasSymbol tokens k s.SEMICOLON)
+      (λ k h. no_bracket k s.COMMA h (λ e. absurd (omega (arith, e)))) (λ k h. no_bracket k s.SEMICOLON h (λ e. absurd (omega (arith, e)))) ends_no_comma
       (one_fmt tokens) xs ys from to end h i g j in
       (as_they_are xs ys same.0, same.1)
 
@@ -255,7 +255,7 @@ module _ (tokens : List Token) where
   one_values from (x ∷ xs) [] to end h i g j = absurd (no_value from x h.0 (subst (λ k. HasWord tokens k w.TO) g j) h.1)
   one_values from (x ∷ xs) (y ∷ ys) to end h i g j =
       list_one tokens (SpellsWhole tokens) shown_expr (ExprStops tokens) (λ k. HasWord tokens k w.TO) comma_stops (λ k h. word_stops tokens k w.TO h refl)
-      (λ k h g. symbol_no_word tokens k s.comma w.TO h g) (one_whole tokens) (x ∷ xs) (y ∷ ys) from to end h i g j
+      (λ k h g. symbol_no_word tokens k s.COMMA w.TO h g) (one_whole tokens) (x ∷ xs) (y ∷ ys) from to end h i g j
 
   -- [ ref { "," ref } ] FROM
   one_targets : (from : ℕ) (xs ys : List Ref) (to end : ℕ) → SpellsMaybeList tokens (SpellsOwnRef tokens) from xs to → HasWord tokens to w.FROM →
@@ -265,15 +265,15 @@ module _ (tokens : List Token) where
   one_targets from (x ∷ xs) [] to end h i g j = absurd (let e = sym (subst (λ k. HasWord tokens k w.FROM) g j) ∙ h.1.1.0 in cc e)
   one_targets from (x ∷ xs) (y ∷ ys) to end h i g j =
       list_one tokens (SpellsOwnRef tokens) shown_ref (RefStops tokens) (λ k. HasWord tokens k w.FROM)
-      (λ k h g. has_none tokens lengthens_ref k (what.Symbol s.comma) h refl g) (λ k h g. has_none tokens lengthens_ref k (what.Word w.FROM) h refl g)
-      (λ k h g. symbol_no_word tokens k s.comma w.FROM h g) (one_own_ref tokens) (x ∷ xs) (y ∷ ys) from to end h i g j
+      (λ k h g. has_none tokens lengthens_ref k (what.Symbol s.COMMA) h refl g) (λ k h g. has_none tokens lengthens_ref k (what.Word w.FROM) h refl g)
+      (λ k h g. symbol_no_word tokens k s.COMMA w.FROM h g) (one_own_ref tokens) (x ∷ xs) (y ∷ ys) from to end h i g j
 
   pub one_body_decl : (from : ℕ) (a b : BodyDecl) (to end : ℕ) → SpellsBodyDecl tokens from a to → SpellsBodyDecl tokens from b end →
       (shown_body_decl a ≡ shown_body_decl b) × (to ≡ end)
   one_body_decl from a b to end h g =
-      let all = list_one tokens (SpellsItem tokens) shown_item (ItemStops tokens) (λ k. HasSymbol tokens k s.semicolon)
-      (λ k h. (no_bracket k s.comma h (λ e. absurd (omega (arith, e))), symbol_no_word tokens k s.comma w.INIT h))
-      (λ k h. (no_bracket k s.semicolon h (λ e. absurd (omega (arith, e))), symbol_no_word tokens k s.semicolon w.INIT h)) ends_no_comma (one_item tokens)
+      let all = list_one tokens (SpellsItem tokens) shown_item (ItemStops tokens) (λ k. HasSymbol tokens k s.SEMICOLON)
+      (λ k h. (no_bracket k s.COMMA h (λ e. absurd (omega (arith, e))), symbol_no_word tokens k s.COMMA w.INIT h))
+      (λ k h. (no_bracket k s.SEMICOLON h (λ e. absurd (omega (arith, e))), symbol_no_word tokens k s.SEMICOLON w.INIT h)) ends_no_comma (one_item tokens)
       a.items.items.items b.items.items.items (from + 1) h.0 g.0 h.3 h.4 g.3 g.4 in
       let place = same_place tokens from a.place b.place h.1 g.1 in
       ((λ i. record { items = all.0 i; place = place i }), omega (arith, all.1, h.5, g.5))
@@ -545,7 +545,7 @@ module _ (tokens : List Token) where
           x y from h.0 g.0 h.3 (start_no_activate h.0 h.4) h.4 g.3 (start_no_activate g.0 g.4) g.4 in
           let task = same_name tokens (g.0 + 1) n m (subst (λ k. IsName tokens (k + 1) n) start.1 h.5) g.5 in
           let priority = maybe_after tokens w.PRIO (g.0 + 2) v u h.1 g.1 (subst (λ k. SpellsMaybe (SpellsAfter tokens w.PRIO) (k + 2) v h.1) start.1 h.6)
-          (symbol_no_word tokens h.1 s.semicolon w.PRIO h.7) (semicolon_stops h.1 h.7) g.6 (symbol_no_word tokens g.1 s.semicolon w.PRIO g.7) (semicolon_stops g.1 g.7) in
+          (symbol_no_word tokens h.1 s.SEMICOLON w.PRIO h.7) (semicolon_stops h.1 h.7) g.6 (symbol_no_word tokens g.1 s.SEMICOLON w.PRIO g.7) (semicolon_stops g.1 g.7) in
           let place = same_place tokens from p q h.2 g.2 in
           ((λ i. OfActivate (start.0 i) (task i) (priority.0 i) (place i)), omega (arith, h.8, g.8, priority.1))
       by (Continue x n p) (Continue y m q) e h g =

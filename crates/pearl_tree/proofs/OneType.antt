@@ -23,8 +23,8 @@ use Rattle.pearl_tree.specs.Types.{SpellsNames, SpellsInt, SpellsUpper, SpellsBo
 use Rattle.pearl_tree.specs.Declarations.{SpellsItem}
 use Rattle.pearl_tree.specs.Following.{lengthens_literal, HasOneOf}
 use Rattle.pearl_tree.specs.ShownDeclarations.{OfOne, OfSeveral, shown_names, OfBasic, OfStruct, OfNamed, MoreFields, shown_typing, shown_fields, shown_item}
-use Rattle.pearl_tree.specs.Symbols as s
-use Rattle.pearl_tree.specs.WordCodes as w
+use Rattle.pearl_tables.specs.declared.symbol.TheConstants as s
+use Rattle.pearl_tables.specs.declared.word_code.TheConstants as w
 use Rattle.pearl_tree.proofs.Meeting.{same_word, same_symbol, has_none, meets_once}
 use Rattle.pearl_tree.proofs.LiteralEnds.{const_ends}
 use Rattle.pearl_tree.proofs.OneLiteral.{same_place, same_name, same_number, same_const}
@@ -33,7 +33,7 @@ use Rattle.pearl_tree.proofs.OneList.{symbol_no_word, bracketed_one, maybe_brack
 module _ (tokens : List Token) where
   -- what the token is not
   abbrev pub NoBracket : ℕ → Type 0
-  NoBracket k = HasSymbol tokens k s.left_round → ⊥
+  NoBracket k = HasSymbol tokens k s.LEFT_ROUND → ⊥
 
   pub one_name : (from : ℕ) (a b : Name) (to end : ℕ) → SpellsName tokens from a to → SpellsName tokens from b end → (a ≡ b) × (to ≡ end)
   one_name from a b to end h g = (same_name tokens from a b h.0 g.0, h.1 ∙ sym g.1)
@@ -49,7 +49,7 @@ module _ (tokens : List Token) where
   pub maybe_number : (from : ℕ) (a b : Option Number) (to end : ℕ) → SpellsMaybe (SpellsBracketedNumber tokens) from a to → NoBracket to →
       SpellsMaybe (SpellsBracketedNumber tokens) from b end → NoBracket end → (a ≡ b) × (to ≡ end)
   maybe_number from a b to end h i g j =
-      let same = maybe_one (SpellsBracketedNumber tokens) (λ x. x) (λ k. HasSymbol tokens k s.left_round) (λ k. Unit {0}) (λ k x m h. h.0)
+      let same = maybe_one (SpellsBracketedNumber tokens) (λ x. x) (λ k. HasSymbol tokens k s.LEFT_ROUND) (λ k. Unit {0}) (λ k x m h. h.0)
       (λ k x y m n h _ g _. one_bracketed_number k x y m n h g) a b from to end h i tt g j tt in
       (option_as_it_is a b same.0, same.1)
 
@@ -67,8 +67,8 @@ module _ (tokens : List Token) where
 
   -- ---- bounds
 
-  one_minus : (from : ℕ) (a b : Bool) (to end : ℕ) (x y : Number) → SpellsSymbolFlag tokens s.minus from a to → IsNumber tokens to x →
-      SpellsSymbolFlag tokens s.minus from b end → IsNumber tokens end y → (a ≡ b) × (to ≡ end)
+  one_minus : (from : ℕ) (a b : Bool) (to end : ℕ) (x y : Number) → SpellsSymbolFlag tokens s.MINUS from a to → IsNumber tokens to x →
+      SpellsSymbolFlag tokens s.MINUS from b end → IsNumber tokens end y → (a ≡ b) × (to ≡ end)
   one_minus from false false to end x y h i g j = (refl, h ∙ sym g)
   one_minus from true true to end x y h i g j = (refl, h.1 ∙ sym g.1)
   one_minus from false true to end x y h i g j = absurd (let e = sym (subst (λ k. IsNumber tokens k x) h i).0 ∙ g.0 in cc e)
@@ -82,13 +82,13 @@ module _ (tokens : List Token) where
       ((λ i. record { minus = minus.0 i; number = number i; place = place i }), omega (arith, h.4, g.4, minus.1))
 
   abbrev NoColon : ℕ → Type 0
-  NoColon k = HasSymbol tokens k s.colon → ⊥
+  NoColon k = HasSymbol tokens k s.COLON → ⊥
 
   one_bound : (from : ℕ) (a b : Bound) (to end : ℕ) → SpellsBound tokens from a to → NoColon to → SpellsBound tokens from b end → NoColon end →
       (a ≡ b) × (to ≡ end)
   one_bound from a b to end h i g j =
       let first = one_int from a.first b.first h.0 g.0 h.2 g.2 in
-      let second = maybe_one (SpellsUpper tokens) (λ x. x) (λ k. HasSymbol tokens k s.colon) (λ k. Unit {0}) (λ k x m h. h.0)
+      let second = maybe_one (SpellsUpper tokens) (λ x. x) (λ k. HasSymbol tokens k s.COLON) (λ k. Unit {0}) (λ k x m h. h.0)
       (λ k x y m n h _ g _. one_int (k + 1) x y m n h.1 g.1) a.second b.second g.0 to end
       (subst (λ k. SpellsMaybe (SpellsUpper tokens) k a.second to) first.1 h.3) i tt g.3 j tt in
       let upper = option_as_it_is a.second b.second second.0 in
@@ -98,8 +98,8 @@ module _ (tokens : List Token) where
   pub one_bounds : (from : ℕ) (a b : Parts Bound) (to end : ℕ) → SpellsBounds tokens from a to → NoBracket to → SpellsBounds tokens from b end →
       NoBracket end → (a.items.items ≡ b.items.items) × (to ≡ end)
   one_bounds from a b to end h i g j =
-      let all = maybe_bracketed_one tokens (SpellsBound tokens) (λ x. x) NoColon (λ k e f. absurd (omega (arith, same_symbol tokens k s.comma s.colon e f)))
-      (λ k e f. absurd (omega (arith, same_symbol tokens k s.right_round s.colon e f))) one_bound a.items.items b.items.items from to end h i g j in
+      let all = maybe_bracketed_one tokens (SpellsBound tokens) (λ x. x) NoColon (λ k e f. absurd (omega (arith, same_symbol tokens k s.COMMA s.COLON e f)))
+      (λ k e f. absurd (omega (arith, same_symbol tokens k s.RIGHT_ROUND s.COLON e f))) one_bound a.items.items b.items.items from to end h i g j in
       (as_they_are a.items.items b.items.items all.0, all.1)
 
   -- ---- types
@@ -162,21 +162,21 @@ module _ (tokens : List Token) where
   typing_no_bracket depth from a to h e = by (typing_begins depth from a to h)
     where
       by : ((code : ℕ) × HasWord tokens from code) ⊎ ((name : Name) × IsName tokens from name) → ⊥
-      by (inl g) = symbol_no_word tokens from s.left_round g.0 e g.1
+      by (inl g) = symbol_no_word tokens from s.LEFT_ROUND g.0 e g.1
       by (inr g) = absurd (let e = sym e ∙ g.1.0 in cc e)
 
   abbrev pub TypingOne : ℕ → Type 0
   TypingOne depth = (from : ℕ) (a b : Typing) (to end : ℕ) → SpellsTyping tokens depth from a to → NoBracket to → SpellsTyping tokens depth from b end →
       NoBracket end → (shown_typing a ≡ shown_typing b) × (to ≡ end)
 
-  comma_no_bracket : (k : ℕ) → HasSymbol tokens k s.comma → NoBracket k
-  comma_no_bracket k h g = absurd (omega (arith, same_symbol tokens k s.comma s.left_round h g))
+  comma_no_bracket : (k : ℕ) → HasSymbol tokens k s.COMMA → NoBracket k
+  comma_no_bracket k h g = absurd (omega (arith, same_symbol tokens k s.COMMA s.LEFT_ROUND h g))
 
-  square_no_bracket : (k : ℕ) → HasSymbol tokens k s.right_square → NoBracket k
-  square_no_bracket k h g = absurd (omega (arith, same_symbol tokens k s.right_square s.left_round h g))
+  square_no_bracket : (k : ℕ) → HasSymbol tokens k s.RIGHT_SQUARE → NoBracket k
+  square_no_bracket k h g = absurd (omega (arith, same_symbol tokens k s.RIGHT_SQUARE s.LEFT_ROUND h g))
 
-  field_stops : (depth from : ℕ) (n : _) (row : Row_of-Field n) (to : ℕ) → SpellsMoreFields tokens depth from row to → HasSymbol tokens to s.right_square → NoBracket from
-  field_stops depth from _ end_of-Field to h c = square_no_bracket from (subst (λ k. HasSymbol tokens k s.right_square) h c)
+  field_stops : (depth from : ℕ) (n : _) (row : Row_of-Field n) (to : ℕ) → SpellsMoreFields tokens depth from row to → HasSymbol tokens to s.RIGHT_SQUARE → NoBracket from
+  field_stops depth from _ end_of-Field to h c = square_no_bracket from (subst (λ k. HasSymbol tokens k s.RIGHT_SQUARE) h c)
   field_stops depth from _ (more_of-Field names bounds part place rest) to h c = comma_no_bracket from h.1
 
   -- names [ bounds ] type
@@ -195,21 +195,21 @@ module _ (tokens : List Token) where
       (first.0, second.0, third.0, same_place tokens from place at h.2 g.2, third.1)
 
   one_more_fields : (depth : ℕ) → TypingOne depth → (from : ℕ) (n m : _) (row : Row_of-Field n) (other : Row_of-Field m) (to end : ℕ) →
-      SpellsMoreFields tokens depth from row to → HasSymbol tokens to s.right_square → SpellsMoreFields tokens depth from other end →
-      HasSymbol tokens end s.right_square → (shown_fields row ≡ shown_fields other) × (to ≡ end)
+      SpellsMoreFields tokens depth from row to → HasSymbol tokens to s.RIGHT_SQUARE → SpellsMoreFields tokens depth from other end →
+      HasSymbol tokens end s.RIGHT_SQUARE → (shown_fields row ≡ shown_fields other) × (to ≡ end)
   one_more_fields depth one from _ _ end_of-Field end_of-Field to end h c g d = (refl, h ∙ sym g)
   one_more_fields depth one from _ _ end_of-Field (more_of-Field a b x p rest) to end h c g d =
-      absurd (omega (arith, same_symbol tokens from s.comma s.right_square g.1 (subst (λ k. HasSymbol tokens k s.right_square) h c)))
+      absurd (omega (arith, same_symbol tokens from s.COMMA s.RIGHT_SQUARE g.1 (subst (λ k. HasSymbol tokens k s.RIGHT_SQUARE) h c)))
   one_more_fields depth one from _ _ (more_of-Field a b x p rest) end_of-Field to end h c g d =
-      absurd (omega (arith, same_symbol tokens from s.comma s.right_square h.1 (subst (λ k. HasSymbol tokens k s.right_square) g d)))
+      absurd (omega (arith, same_symbol tokens from s.COMMA s.RIGHT_SQUARE h.1 (subst (λ k. HasSymbol tokens k s.RIGHT_SQUARE) g d)))
   one_more_fields depth one from _ _ (more_of-Field a b x p xs) (more_of-Field a' b' y q ys) to end h c g d =
       let first = one_field depth one (from + 1) a a' b b' x y p q h.0 g.0 h.2 (field_stops depth h.0 _ xs to h.3 c) g.2 (field_stops depth g.0 _ ys end g.3 d) in
       let rest = one_more_fields depth one g.0 _ _ xs ys to end (subst (λ k. SpellsMoreFields tokens depth k xs to) first.4 h.3) c g.3 d in
       ((λ i. MoreFields (first.0 i) (first.1 i) (first.2 i) (first.3 i) (rest.0 i)), rest.1)
 
   one_fields : (depth : ℕ) → TypingOne depth → (from : ℕ) (n m : _) (row : Row_of-Field n) (other : Row_of-Field m) (to end : ℕ) →
-      SpellsFields tokens depth from row to → HasSymbol tokens to s.right_square → SpellsFields tokens depth from other end →
-      HasSymbol tokens end s.right_square → (shown_fields row ≡ shown_fields other) × (to ≡ end)
+      SpellsFields tokens depth from row to → HasSymbol tokens to s.RIGHT_SQUARE → SpellsFields tokens depth from other end →
+      HasSymbol tokens end s.RIGHT_SQUARE → (shown_fields row ≡ shown_fields other) × (to ≡ end)
   one_fields depth one from _ _ end_of-Field other to end h c g d = absurd h
   one_fields depth one from _ _ (more_of-Field a b x p xs) end_of-Field to end h c g d = absurd g
   one_fields depth one from _ _ (more_of-Field a b x p xs) (more_of-Field a' b' y q ys) to end h c g d =
@@ -260,11 +260,11 @@ module _ (tokens : List Token) where
 
   init_stops : (d to : ℕ) (xs : List Const) → Maybe d xs to → ItemStops to → NoBracket d
   init_stops d to [] h i e = subst NoBracket h i.0 e
-  init_stops d to (x ∷ xs) h i e = symbol_no_word tokens d s.left_round w.INIT e h.0
+  init_stops d to (x ∷ xs) h i e = symbol_no_word tokens d s.LEFT_ROUND w.INIT e h.0
 
   inv_no_bracket : (b c : ℕ) (inv : Bool) (part : Typing) (to : ℕ) → Flag b inv c → SpellsTyping tokens 8 c part to → NoBracket b
   inv_no_bracket b c false part to h g e = subst NoBracket h (typing_no_bracket 8 c part to g) e
-  inv_no_bracket b c true part to h g e = symbol_no_word tokens b s.left_round w.INV e h.0
+  inv_no_bracket b c true part to h g e = symbol_no_word tokens b s.LEFT_ROUND w.INV e h.0
 
   typing_no_inv : (c : ℕ) (part : Typing) (to : ℕ) → SpellsTyping tokens 8 c part to → HasWord tokens c w.INV → ⊥
   typing_no_inv c (typing.Basic a) to h e = by (basic_word c a to h)
@@ -284,8 +284,8 @@ module _ (tokens : List Token) where
       g.7 (typing_no_inv g.2 b.typing g.3 g.8) in
       let part = one_typing 8 g.2 a.typing b.typing h.3 g.3 (subst (λ k. SpellsTyping tokens 8 k a.typing h.3) inv.1 h.8)
       (init_stops h.3 to a.init.items.items h.9 i) g.8 (init_stops g.3 end b.init.items.items g.9 j) in
-      let all = maybe_headed_one tokens (SpellsConst tokens) (λ x. x) (λ k. HasOneOf lengthens_literal tokens k → ⊥) (λ k. const_stops k s.comma)
-      (λ k. const_stops k s.right_round) one_const w.INIT a.init.items.items b.init.items.items g.3 to end
+      let all = maybe_headed_one tokens (SpellsConst tokens) (λ x. x) (λ k. HasOneOf lengthens_literal tokens k → ⊥) (λ k. const_stops k s.COMMA)
+      (λ k. const_stops k s.RIGHT_ROUND) one_const w.INIT a.init.items.items b.init.items.items g.3 to end
       (subst (λ k. Maybe k a.init.items.items to) part.1 h.9) i.1 g.9 j.1 in
       let init = as_they_are a.init.items.items b.init.items.items all.0 in
       let place = same_place tokens from a.place b.place h.4 g.4 in

@@ -21,8 +21,8 @@ use Rattle.pearl_tree.specs.Standing.{HasWord, HasSymbol, SpellsEach, SpellsList
 use Rattle.pearl_tree.specs.Expressions.{SpellsLiteral, SpellsMonadic, SpellsTerms, SpellsExpr, SpellsPrimary, SpellsSelector, SpellsRef, monad_what, dyad_count, side_word}
 use Rattle.pearl_tree.specs.Chains.{SpellsOperand}
 use Rattle.pearl_tree.specs.Following.{is_monadic, lengthens_literal, lengthens_ref, lengthens_operand, lengthens_expr, HasOneOf, Meet}
-use Rattle.pearl_tree.specs.Symbols as s
-use Rattle.pearl_tree.specs.WordCodes as w
+use Rattle.pearl_tables.specs.declared.symbol.TheConstants as s
+use Rattle.pearl_tables.specs.declared.word_code.TheConstants as w
 use Rattle.pearl_tree.proofs.ExpressionLists.{selectors, subscripts}
 use Rattle.pearl_tree.proofs.Meeting.{meets_as, meets_once, has_one, has_none, same_word, same_symbol}
 use Rattle.pearl_tree.proofs.LiteralEnds.{literal_single, literal_ends, literal_begins, begins_literal}
@@ -47,23 +47,23 @@ module _ (tokens : List Token) where
     abbrev LongerRef : ℕ → Type 0
     LongerRef = HasOneOf lengthens_ref tokens
 
-    no_comma : (k : ℕ) → HasSymbol tokens k s.comma → HasOneOf lengthens_expr tokens k → ⊥
-    no_comma k h g = has_none tokens lengthens_expr k (what.Symbol s.comma) h refl g
+    no_comma : (k : ℕ) → HasSymbol tokens k s.COMMA → HasOneOf lengthens_expr tokens k → ⊥
+    no_comma k h g = has_none tokens lengthens_expr k (what.Symbol s.COMMA) h refl g
 
-    no_close : (k : ℕ) → HasSymbol tokens k s.right_round → HasOneOf lengthens_expr tokens k → ⊥
-    no_close k h g = has_none tokens lengthens_expr k (what.Symbol s.right_round) h refl g
+    no_close : (k : ℕ) → HasSymbol tokens k s.RIGHT_ROUND → HasOneOf lengthens_expr tokens k → ⊥
+    no_close k h g = has_none tokens lengthens_expr k (what.Symbol s.RIGHT_ROUND) h refl g
 
-    comma_is_not_close : (k : ℕ) → HasSymbol tokens k s.comma → HasSymbol tokens k s.right_round → ⊥
-    comma_is_not_close k h g = omega (arith, same_symbol tokens k s.comma s.right_round h g)
+    comma_is_not_close : (k : ℕ) → HasSymbol tokens k s.COMMA → HasSymbol tokens k s.RIGHT_ROUND → ⊥
+    comma_is_not_close k h g = omega (arith, same_symbol tokens k s.COMMA s.RIGHT_ROUND h g)
 
     -- ---- selectors
 
     -- "(" expr { "," expr } ")", or "." id
     abbrev pub Selects : ℕ → ℕ → Type 0
     Selects from to =
-        ((xs : List Expr) × (m : ℕ) × (0 < depth) × HasSymbol tokens from s.left_round ×
-        SpellsList tokens (SpellsExpr tokens (depth - 1)) (from + 1) xs m × HasSymbol tokens m s.right_round × (to ≡ m + 1))
-        ⊎ (HasSymbol tokens from s.period × (to ≡ from + 2))
+        ((xs : List Expr) × (m : ℕ) × (0 < depth) × HasSymbol tokens from s.LEFT_ROUND ×
+        SpellsList tokens (SpellsExpr tokens (depth - 1)) (from + 1) xs m × HasSymbol tokens m s.RIGHT_ROUND × (to ≡ m + 1))
+        ⊎ (HasSymbol tokens from s.PERIOD × (to ≡ from + 2))
 
     pub selects : (from : ℕ) (selector : Selector) (to : ℕ) → SpellsSelector tokens depth from selector to → Selects from to
     selects from (Subscripts' _ row _) to h =
@@ -71,16 +71,16 @@ module _ (tokens : List Token) where
     selects from (Component _ _) to h = inr (h.1, h.3)
 
     selector_lengthens : (from to : ℕ) → Selects from to → LongerRef from
-    selector_lengthens from to (inl h) = has_one tokens lengthens_ref from (what.Symbol s.left_round) h.3 refl
-    selector_lengthens from to (inr h) = has_one tokens lengthens_ref from (what.Symbol s.period) h.0 refl
+    selector_lengthens from to (inl h) = has_one tokens lengthens_ref from (what.Symbol s.LEFT_ROUND) h.3 refl
+    selector_lengthens from to (inr h) = has_one tokens lengthens_ref from (what.Symbol s.PERIOD) h.0 refl
 
     selectors_once : (from to end : ℕ) → Selects from to → Selects from end → to ≡ end
     selectors_once from to end (inl h) (inl g) =
-        let same = list_once tokens (SpellsExpr tokens (depth - 1)) (HasOneOf lengthens_expr tokens) (λ k. HasSymbol tokens k s.right_round)
+        let same = list_once tokens (SpellsExpr tokens (depth - 1)) (HasOneOf lengthens_expr tokens) (λ k. HasSymbol tokens k s.RIGHT_ROUND)
         (λ k a b m n i j. inner h.2 k a b m n i.0 j.0) no_comma no_close comma_is_not_close h.0 g.0 (from + 1) h.1 g.1 h.4 h.5 g.4 g.5 in
         omega (arith, h.6, g.6, same)
-    selectors_once from to end (inl h) (inr g) = absurd (omega (arith, same_symbol tokens from s.left_round s.period h.3 g.0))
-    selectors_once from to end (inr h) (inl g) = absurd (omega (arith, same_symbol tokens from s.period s.left_round h.0 g.3))
+    selectors_once from to end (inl h) (inr g) = absurd (omega (arith, same_symbol tokens from s.LEFT_ROUND s.PERIOD h.3 g.0))
+    selectors_once from to end (inr h) (inl g) = absurd (omega (arith, same_symbol tokens from s.PERIOD s.LEFT_ROUND h.0 g.3))
     selectors_once from to end (inr h) (inr g) = h.1 ∙ sym g.1
 
     pub selector_once : (from : ℕ) (a b : Selector) (to end : ℕ) → SpellsSelector tokens depth from a to →
@@ -116,7 +116,7 @@ module _ (tokens : List Token) where
     Reads (what.Id _) from to = Selected (from + 1) to
     Reads (what.Symbol symbol) from to =
         (part : Expr) × (m : ℕ) × (0 < depth) × (SpellsTerms tokens (depth - 1) (from + 1) part m × (dyad_count part ≤ 100)) ×
-        HasSymbol tokens m s.right_round × (to ≡ m + 1) × (symbol ≡ s.left_round)
+        HasSymbol tokens m s.RIGHT_ROUND × (to ≡ m + 1) × (symbol ≡ s.LEFT_ROUND)
     Reads (what.Word code) from to =
         ((code ≡ w.NOW) × (to ≡ from + 1)) ⊎ (((code ≡ w.TRY) × (to ≡ from + 2)) ⊎ Sided from to)
     Reads (what.Number _) from to = Literally from to ⊎ Sided (from + 1) to
@@ -151,7 +151,7 @@ module _ (tokens : List Token) where
     read from (primary.Literal part) to h = literally from to (what_at tokens from) refl (literal_begins tokens from part to h) (part, h)
     read from (primary.Ref' name _ row place) to h =
         (what.Id name.text, h.1.0, (items-the_row-Selector _ row, subst (λ X. X) (selectors tokens depth (from + 1) _ row to) h.2))
-    read from (primary.Group' _ part place) to h = (what.Symbol s.left_round, h.2, (part, h.0, h.3, h.4, h.5, h.6, refl))
+    read from (primary.Group' _ part place) to h = (what.Symbol s.LEFT_ROUND, h.2, (part, h.0, h.3, h.4, h.5, h.6, refl))
     read from (primary.Now place) to h = (what.Word w.NOW, h.1, inl (refl, h.2))
     read from (primary.Try name place) to h = (what.Word w.TRY, h.1, inr (inl (refl, h.3)))
     read from (primary.Limit' dimension side name _ row ref_place place) to h =
@@ -296,7 +296,7 @@ module _ (tokens : List Token) where
     pub primary_no_monadic : (from : ℕ) (part : Primary) (to : ℕ) → SpellsPrimary tokens depth from part to → HasOneOf is_monadic tokens from → ⊥
     primary_no_monadic from (primary.Literal part) to h d = literal_no_monadic from (literal_begins tokens from part to h) d
     primary_no_monadic from (primary.Ref' name _ row place) to h d = has_none tokens is_monadic from (what.Id name.text) h.1.0 refl d
-    primary_no_monadic from (primary.Group' _ part place) to h d = has_none tokens is_monadic from (what.Symbol s.left_round) h.2 refl d
+    primary_no_monadic from (primary.Group' _ part place) to h d = has_none tokens is_monadic from (what.Symbol s.LEFT_ROUND) h.2 refl d
     primary_no_monadic from (primary.Now place) to h d = has_none tokens is_monadic from (what.Word w.NOW) h.1 refl d
     primary_no_monadic from (primary.Try name place) to h d = has_none tokens is_monadic from (what.Word w.TRY) h.1 refl d
     primary_no_monadic from (primary.Limit' dimension side name _ row ref_place place) to h d = limit_no_monadic from dimension side h.0 h.2 h.3 d

@@ -12,7 +12,7 @@ use Rattle.pearl_tree.specs.Standing.{HasSymbol, SpellsEach, SpellsMore, SpellsL
 use Rattle.pearl_tree.specs.Expressions.{SpellsMonadic, SpellsPrimary, SpellsTerms, SpellsExpr, SpellsSelector, dyad_count}
 use Rattle.pearl_tree.specs.Chains.{SpellsOperand, IsLongestPrimary, HasNoPrimary, IsLongestOperand, HasNoOperand, IsLongestExpr, HasNoTerms}
 use Rattle.pearl_tree.specs.Following.{is_monadic, lengthens_operand, lengthens_expr, HasOneOf, Meet}
-use Rattle.pearl_tree.specs.Symbols as s
+use Rattle.pearl_tables.specs.declared.symbol.TheConstants as s
 use Rattle.pearl_tree.proofs.Meeting.{meets_after, same_symbol, has_none}
 use Rattle.pearl_tree.proofs.OperandEnds as ends
 use Rattle.pearl_tree.proofs.Chains.{exprs_meet, primaries_meet}
@@ -102,18 +102,18 @@ module _ (tokens : List Token) (depth : ℕ) where
   -- a list of expressions that a bracket closes passes through this token: the expression before it ended here
   abbrev pub Passes : ℕ → ℕ → Type 0
   Passes from at =
-      (ys : List Expr) (end : ℕ) → SpellsList tokens (SpellsExpr tokens depth) from ys end → HasSymbol tokens end s.right_round →
+      (ys : List Expr) (end : ℕ) → SpellsList tokens (SpellsExpr tokens depth) from ys end → HasSymbol tokens end s.RIGHT_ROUND →
       (rest : List Expr) × SpellsMore tokens (SpellsExpr tokens depth) at rest end
 
-  no_comma : (k : ℕ) → HasSymbol tokens k s.comma → HasOneOf lengthens_expr tokens k → ⊥
-  no_comma k h g = has_none tokens lengthens_expr k (what.Symbol s.comma) h refl g
+  no_comma : (k : ℕ) → HasSymbol tokens k s.COMMA → HasOneOf lengthens_expr tokens k → ⊥
+  no_comma k h g = has_none tokens lengthens_expr k (what.Symbol s.COMMA) h refl g
 
-  no_close : (k : ℕ) → HasSymbol tokens k s.right_round → HasOneOf lengthens_expr tokens k → ⊥
-  no_close k h g = has_none tokens lengthens_expr k (what.Symbol s.right_round) h refl g
+  no_close : (k : ℕ) → HasSymbol tokens k s.RIGHT_ROUND → HasOneOf lengthens_expr tokens k → ⊥
+  no_close k h g = has_none tokens lengthens_expr k (what.Symbol s.RIGHT_ROUND) h refl g
 
-  stops_at : (k : ℕ) (rest : List Expr) (end : ℕ) → SpellsMore tokens (SpellsExpr tokens depth) k rest end → HasSymbol tokens end s.right_round →
+  stops_at : (k : ℕ) (rest : List Expr) (end : ℕ) → SpellsMore tokens (SpellsExpr tokens depth) k rest end → HasSymbol tokens end s.RIGHT_ROUND →
       HasOneOf lengthens_expr tokens k → ⊥
-  stops_at k [] end h c g = no_close k (subst (λ k. HasSymbol tokens k s.right_round) h c) g
+  stops_at k [] end h c g = no_close k (subst (λ k. HasSymbol tokens k s.RIGHT_ROUND) h c) g
   stops_at k (y ∷ ys) end h c g = no_comma k h.1 g
 
   pub passes_first : (from : ℕ) (a : Expr) (to : ℕ) → SpellsTerms tokens depth from a to → IsLongestExpr tokens depth 100 from to → Passes from to
@@ -122,33 +122,33 @@ module _ (tokens : List Token) (depth : ℕ) where
       let same = closed_once 100 from a y to g.0 h longest g.1.0 g.1.1 (stops_at g.0 ys end g.2 c) in
       (ys, subst (λ k. SpellsMore tokens (SpellsExpr tokens depth) k ys end) same g.2)
 
-  pub passes_next : (from at : ℕ) (a : Expr) (to : ℕ) → Passes from at → HasSymbol tokens at s.comma → SpellsTerms tokens depth (at + 1) a to →
+  pub passes_next : (from at : ℕ) (a : Expr) (to : ℕ) → Passes from at → HasSymbol tokens at s.COMMA → SpellsTerms tokens depth (at + 1) a to →
       IsLongestExpr tokens depth 100 (at + 1) to → Passes from to
   passes_next from at a to passes comma h longest ys end g c = by (passes ys end g c)
     where
       by : (rest : List Expr) × SpellsMore tokens (SpellsExpr tokens depth) at rest end →
           (rest : List Expr) × SpellsMore tokens (SpellsExpr tokens depth) to rest end
-      by ([], h) = absurd (omega (arith, same_symbol tokens at s.comma s.right_round comma (subst (λ k. HasSymbol tokens k s.right_round) h c)))
+      by ([], h) = absurd (omega (arith, same_symbol tokens at s.COMMA s.RIGHT_ROUND comma (subst (λ k. HasSymbol tokens k s.RIGHT_ROUND) h c)))
       by (z ∷ zs, g) =
           let same = closed_once 100 (at + 1) a z to g.0 h longest g.2.0 g.2.1 (stops_at g.0 zs end g.3 c) in
           (zs, subst (λ k. SpellsMore tokens (SpellsExpr tokens depth) k zs end) same g.3)
 
-  pub passes_end : (from at : ℕ) → Passes from at → HasSymbol tokens at s.right_round → (ys : List Expr) (end : ℕ) →
-      SpellsList tokens (SpellsExpr tokens depth) from ys end → HasSymbol tokens end s.right_round → end ≡ at
+  pub passes_end : (from at : ℕ) → Passes from at → HasSymbol tokens at s.RIGHT_ROUND → (ys : List Expr) (end : ℕ) →
+      SpellsList tokens (SpellsExpr tokens depth) from ys end → HasSymbol tokens end s.RIGHT_ROUND → end ≡ at
   passes_end from at passes close ys end g c = by (passes ys end g c)
     where
       by : (rest : List Expr) × SpellsMore tokens (SpellsExpr tokens depth) at rest end → end ≡ at
       by ([], h) = h
-      by (z ∷ zs, g) = absurd (omega (arith, same_symbol tokens at s.comma s.right_round g.1 close))
+      by (z ∷ zs, g) = absurd (omega (arith, same_symbol tokens at s.COMMA s.RIGHT_ROUND g.1 close))
 
   -- no such list is there: behind the expression neither a bracket nor a comma with an expression
-  pub passes_none : (from at : ℕ) → Passes from at → (HasSymbol tokens at s.right_round → ⊥) →
-      (HasSymbol tokens at s.comma → HasNoTerms tokens depth (at + 1)) → (ys : List Expr) (end : ℕ) →
-      SpellsList tokens (SpellsExpr tokens depth) from ys end → HasSymbol tokens end s.right_round → ⊥
+  pub passes_none : (from at : ℕ) → Passes from at → (HasSymbol tokens at s.RIGHT_ROUND → ⊥) →
+      (HasSymbol tokens at s.COMMA → HasNoTerms tokens depth (at + 1)) → (ys : List Expr) (end : ℕ) →
+      SpellsList tokens (SpellsExpr tokens depth) from ys end → HasSymbol tokens end s.RIGHT_ROUND → ⊥
   passes_none from at passes not_closed comma ys end g c = by (passes ys end g c)
     where
       by : (rest : List Expr) × SpellsMore tokens (SpellsExpr tokens depth) at rest end → ⊥
-      by ([], h) = not_closed (subst (λ k. HasSymbol tokens k s.right_round) h c)
+      by ([], h) = not_closed (subst (λ k. HasSymbol tokens k s.RIGHT_ROUND) h c)
       by (z ∷ zs, g) = comma g.1 z g.0 g.2.0
 
   -- selectors behind which none stands are all that stand there

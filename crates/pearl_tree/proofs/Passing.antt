@@ -3,7 +3,7 @@
 use Rattle.std.proofs.Common.{◌≡◌, ℕ, ◌+◌, List, [], ◌∷◌, subst}
 use Rattle.pearl_tree.specs.declared.token.Token.{Token}
 use Rattle.pearl_tree.specs.Standing.{Spelling, HasSymbol, SpellsEach, SpellsMore, SpellsList}
-use Rattle.pearl_tree.specs.Symbols as s
+use Rattle.pearl_tables.specs.declared.symbol.TheConstants as s
 
 -- { part }: `closes` holds of the tokens before which such a list may end, and no part begins with one of them
 module _ {X : Type 0} (spells : Spelling X) (closes : ℕ → Type 0)
@@ -44,8 +44,8 @@ module _ {X : Type 0} (spells : Spelling X) (closes : ℕ → Type 0)
 -- part { "," part }: `closes` holds of the tokens that may stand behind such a list, and a part stops before them and
 -- before a comma
 module _ {X : Type 0} (tokens : List Token) (spells : Spelling X) (stops closes : ℕ → Type 0)
-    (comma_stops : (k : ℕ) → HasSymbol tokens k s.comma → stops k) (close_stops : (k : ℕ) → closes k → stops k)
-    (apart : (k : ℕ) → HasSymbol tokens k s.comma → closes k → ⊥) where
+    (comma_stops : (k : ℕ) → HasSymbol tokens k s.COMMA → stops k) (close_stops : (k : ℕ) → closes k → stops k)
+    (apart : (k : ℕ) → HasSymbol tokens k s.COMMA → closes k → ⊥) where
   -- a part that begins at `from` and stops, ends at `to`
   abbrev pub StopsAt : ℕ → ℕ → Type 0
   StopsAt from to = (y : X) (end : ℕ) → spells from y end → stops end → end ≡ to
@@ -64,7 +64,7 @@ module _ {X : Type 0} (tokens : List Token) (spells : Spelling X) (stops closes 
       let same = one y g.0 g.1 (stopped ys g.0 end g.2 c) in
       (ys, subst (λ k. SpellsMore tokens spells k ys end) same g.2)
 
-  pub list_next : (from at : ℕ) → ListPasses from at → HasSymbol tokens at s.comma → (to : ℕ) → StopsAt (at + 1) to → ListPasses from to
+  pub list_next : (from at : ℕ) → ListPasses from at → HasSymbol tokens at s.COMMA → (to : ℕ) → StopsAt (at + 1) to → ListPasses from to
   list_next from at passes comma to one ys end g c = by (passes ys end g c)
     where
       by : (rest : List X) × SpellsMore tokens spells at rest end → (rest : List X) × SpellsMore tokens spells to rest end
@@ -82,7 +82,7 @@ module _ {X : Type 0} (tokens : List Token) (spells : Spelling X) (stops closes 
 
   -- where the list may not end, and no comma stands with a part behind it, there is none
   pub list_none : (from at : ℕ) → ListPasses from at → (closes at → ⊥) →
-      (HasSymbol tokens at s.comma → (y : X) (end : ℕ) → spells (at + 1) y end → ⊥) →
+      (HasSymbol tokens at s.COMMA → (y : X) (end : ℕ) → spells (at + 1) y end → ⊥) →
       (ys : List X) (end : ℕ) → SpellsList tokens spells from ys end → closes end → ⊥
   list_none from at passes more none ys end g c = by (passes ys end g c)
     where

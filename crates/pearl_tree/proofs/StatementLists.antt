@@ -10,8 +10,8 @@ use Rattle.pearl_tree.specs.declared.statement.Branch.{Branch}
 use Rattle.pearl_tree.specs.declared.token.Token.{Token}
 use Rattle.pearl_tree.specs.Standing.{IsAt, HasWord, HasSymbol, SpellsEach, SpellsSome, SpellsMaybe}
 use Rattle.pearl_tree.specs.Statements.{SpellsStmt, SpellsStmts, SpellsAlternatives, SpellsMoreAlternatives, SpellsOtherwise, SpellsBranch, SpellsBody, SpellsBodyDecl, SpellsAfter, SpellsFor}
-use Rattle.pearl_tree.specs.Symbols as s
-use Rattle.pearl_tree.specs.WordCodes as w
+use Rattle.pearl_tables.specs.declared.symbol.TheConstants as s
+use Rattle.pearl_tables.specs.declared.word_code.TheConstants as w
 
 module _ (tokens : List Token) where
   statements_each : (depth from : ℕ) (n : _) (row : Row_of-Stmt n) (to : ℕ) →
@@ -71,7 +71,7 @@ module _ (tokens : List Token) where
       ((a : ℕ) × (b : ℕ) × (c : ℕ) × IsAt tokens from place × (0 < depth) × SpellsAfter tokens w.IF from condition a ×
       HasWord tokens a w.THEN × SpellsEach (SpellsStmt tokens (depth - 1)) (a + 1) statements.items.items b ×
       SpellsMaybe (SpellsBranch tokens (depth - 1) w.ELSE) b otherwise c × HasWord tokens c w.FIN ×
-      HasSymbol tokens (c + 1) s.semicolon × (to ≡ c + 2))
+      HasSymbol tokens (c + 1) s.SEMICOLON × (to ≡ c + 2))
   spells_if depth from condition statements otherwise place to =
       let row = statements_of (If condition statements otherwise place) in
       λ i. (a : ℕ) × (b : ℕ) × (c : ℕ) × IsAt tokens from place × (0 < depth) × SpellsAfter tokens w.IF from condition a ×
@@ -79,7 +79,7 @@ module _ (tokens : List Token) where
       (statements_each (depth - 1) (a + 1) row.0 row.1 b ∙
       ap (λ xs. SpellsEach (SpellsStmt tokens (depth - 1)) (a + 1) xs b) (items_hidden-the_row-Stmt-0 statements.items)) i ×
       otherwise_maybe (depth - 1) w.ELSE b otherwise c i × HasWord tokens c w.FIN ×
-      HasSymbol tokens (c + 1) s.semicolon × (to ≡ c + 2)
+      HasSymbol tokens (c + 1) s.SEMICOLON × (to ≡ c + 2)
 
   -- CASE expr ALT { stmt } { ALT { stmt } } [ OUT { stmt } ] FIN ";"
   pub spells_case : (depth from : ℕ) (selector : Expr) (alternatives : Parts Branch) (otherwise : Option Branch) (place to : ℕ) →
@@ -87,14 +87,14 @@ module _ (tokens : List Token) where
       ((a : ℕ) × (b : ℕ) × (c : ℕ) × IsAt tokens from place × (0 < depth) × SpellsAfter tokens w.CASE from selector a ×
       SpellsSome (SpellsBranch tokens (depth - 1) w.ALT) a alternatives.items.items b ×
       SpellsMaybe (SpellsBranch tokens (depth - 1) w.OUT) b otherwise c × HasWord tokens c w.FIN ×
-      HasSymbol tokens (c + 1) s.semicolon × (to ≡ c + 2))
+      HasSymbol tokens (c + 1) s.SEMICOLON × (to ≡ c + 2))
   spells_case depth from selector alternatives otherwise place to =
       let row = alternatives_of (Case selector alternatives otherwise place) in
       λ i. (a : ℕ) × (b : ℕ) × (c : ℕ) × IsAt tokens from place × (0 < depth) × SpellsAfter tokens w.CASE from selector a ×
       (alternatives_some (depth - 1) a row.0 row.1 b ∙
       ap (λ xs. SpellsSome (SpellsBranch tokens (depth - 1) w.ALT) a xs b) (items_hidden-the_row-Branch-1 alternatives.items)) i ×
       otherwise_maybe (depth - 1) w.OUT b otherwise c i × HasWord tokens c w.FIN ×
-      HasSymbol tokens (c + 1) s.semicolon × (to ≡ c + 2)
+      HasSymbol tokens (c + 1) s.SEMICOLON × (to ≡ c + 2)
 
   -- a body within a statement
   body_spelled : (depth from : ℕ) (body : Body) (n : _) (row : Row_of-Stmt n) →
@@ -112,12 +112,12 @@ module _ (tokens : List Token) where
       SpellsStmt tokens depth from (Begin body place) to ≡
       ((a : ℕ) × IsAt tokens from place × (0 < depth) × HasWord tokens from w.BEGIN ×
       SpellsBody tokens (depth - 1) (from + 1) body a × HasWord tokens a w.END ×
-      HasSymbol tokens (a + 1) s.semicolon × (to ≡ a + 2))
+      HasSymbol tokens (a + 1) s.SEMICOLON × (to ≡ a + 2))
   spells_begin depth from body place to =
       let row = statements_of (Begin body place) in
       λ i. (a : ℕ) × IsAt tokens from place × (0 < depth) × HasWord tokens from w.BEGIN ×
       body_spelled (depth - 1) (from + 1) body row.0 row.1 (items_hidden-the_row-Stmt-0 body.statements.items) a i ×
-      HasWord tokens a w.END × HasSymbol tokens (a + 1) s.semicolon × (to ≡ a + 2)
+      HasWord tokens a w.END × HasSymbol tokens (a + 1) s.SEMICOLON × (to ≡ a + 2)
 
   -- [ FOR id ] [ FROM expr ] [ BY expr ] [ TO expr ] [ WHILE expr ] REPEAT body END ";"
   pub spells_repeat : (depth from : ℕ) (control : Option Name) (begin step end condition : Option Expr) (body : Body) (place to : ℕ) →
@@ -127,7 +127,7 @@ module _ (tokens : List Token) where
       SpellsMaybe (SpellsAfter tokens w.BY) b step c × SpellsMaybe (SpellsAfter tokens w.TO) c end d ×
       SpellsMaybe (SpellsAfter tokens w.WHILE) d condition e × HasWord tokens e w.REPEAT ×
       SpellsBody tokens (depth - 1) (e + 1) body f × HasWord tokens f w.END ×
-      HasSymbol tokens (f + 1) s.semicolon × (to ≡ f + 2))
+      HasSymbol tokens (f + 1) s.SEMICOLON × (to ≡ f + 2))
   spells_repeat depth from control begin step end condition body place to =
       let row = statements_of (Repeat control begin step end condition body place) in
       λ i. (a : ℕ) × (b : ℕ) × (c : ℕ) × (d : ℕ) × (e : ℕ) × (f : ℕ) × IsAt tokens from place × (0 < depth) ×
@@ -135,4 +135,4 @@ module _ (tokens : List Token) where
       SpellsMaybe (SpellsAfter tokens w.BY) b step c × SpellsMaybe (SpellsAfter tokens w.TO) c end d ×
       SpellsMaybe (SpellsAfter tokens w.WHILE) d condition e × HasWord tokens e w.REPEAT ×
       body_spelled (depth - 1) (e + 1) body row.0 row.1 (items_hidden-the_row-Stmt-0 body.statements.items) f i ×
-      HasWord tokens f w.END × HasSymbol tokens (f + 1) s.semicolon × (to ≡ f + 2)
+      HasWord tokens f w.END × HasSymbol tokens (f + 1) s.SEMICOLON × (to ≡ f + 2)

@@ -19,8 +19,8 @@ use Rattle.pearl_tree.specs.declared.token.Token.{Token}
 use Rattle.pearl_tree.specs.Standing.{Spelling, IsAt, HasWord, HasSymbol, HasId, IsName, IsNumber, SpellsNumber, SpellsFlag, SpellsMaybeHeaded}
 use Rattle.pearl_tree.specs.Expressions.{SpellsConst}
 use Rattle.pearl_tree.specs.Types.{SpellsNames, SpellsBounds, SpellsBasic, SpellsWholeTyping}
-use Rattle.pearl_tree.specs.Symbols as s
-use Rattle.pearl_tree.specs.WordCodes as w
+use Rattle.pearl_tables.specs.declared.symbol.TheConstants as s
+use Rattle.pearl_tables.specs.declared.word_code.TheConstants as w
 
 -- id | INTERRUPT
 abbrev pub IsDeviceWord : List Token → ℕ → DeviceWord → Type 0
@@ -30,10 +30,10 @@ IsDeviceWord tokens k (device.Interrupt place) = IsAt tokens k place × HasWord 
 -- device = id ":" ( id | INTERRUPT ) "(" number ")" ";"
 abbrev pub SpellsDevice : List Token → Spelling Device
 SpellsDevice tokens from device to =
-    IsAt tokens from device.place × IsName tokens from device.name × HasSymbol tokens (from + 1) s.colon ×
-    IsDeviceWord tokens (from + 2) device.word × HasSymbol tokens (from + 3) s.left_round ×
-    IsNumber tokens (from + 4) device.number × HasSymbol tokens (from + 5) s.right_round ×
-    HasSymbol tokens (from + 6) s.semicolon × (to ≡ from + 7)
+    IsAt tokens from device.place × IsName tokens from device.name × HasSymbol tokens (from + 1) s.COLON ×
+    IsDeviceWord tokens (from + 2) device.word × HasSymbol tokens (from + 3) s.LEFT_ROUND ×
+    IsNumber tokens (from + 4) device.number × HasSymbol tokens (from + 5) s.RIGHT_ROUND ×
+    HasSymbol tokens (from + 6) s.SEMICOLON × (to ≡ from + 7)
 
 -- prio = PRIO number
 abbrev pub SpellsPrio : List Token → Spelling Prio
@@ -76,8 +76,8 @@ SpellsClass tokens from (class.Basic basic place) to =
 abbrev pub SpellsControl : List Token → Spelling Bool
 SpellsControl tokens from false to = to ≡ from
 SpellsControl tokens from true to =
-    HasId tokens from (codes "CONTROL") × HasSymbol tokens (from + 1) s.left_round × HasWord tokens (from + 2) w.ALL ×
-    HasSymbol tokens (from + 3) s.right_round × (to ≡ from + 4)
+    HasId tokens from (codes "CONTROL") × HasSymbol tokens (from + 1) s.LEFT_ROUND × HasWord tokens (from + 2) w.ALL ×
+    HasSymbol tokens (from + 3) s.RIGHT_ROUND × (to ≡ from + 4)
 
 -- spec = names INTERRUPT | names DATION ( IN | OUT | INOUT ) ( ALPHIC | BASIC basic ) [ "CONTROL" "(" ALL ")" ]
 abbrev pub SpellsSpec : List Token → Spelling Spec

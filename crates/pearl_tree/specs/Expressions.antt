@@ -28,8 +28,8 @@ use Rattle.pearl_tree.specs.declared.token.What.{What}
 use Rattle.pearl_tree.specs.declared.token.What.TheVariants as what
 use Rattle.pearl_tree.specs.declared.token.Token.{Token}
 use Rattle.pearl_tree.specs.Standing.{Spelling, IsAt, HasWord, HasSymbol, IsName, IsNumber, SpellsEach, SpellsMaybe, SpellsNumber, what_at}
-use Rattle.pearl_tree.specs.Symbols as s
-use Rattle.pearl_tree.specs.WordCodes as w
+use Rattle.pearl_tables.specs.declared.symbol.TheConstants as s
+use Rattle.pearl_tables.specs.declared.word_code.TheConstants as w
 
 -- secs = number | decimal
 abbrev pub SpellsSecs : List Token → Spelling Secs
@@ -71,8 +71,8 @@ SpellsLiteral tokens from (literal.Duration duration) to = SpellsDuration tokens
 
 -- "+" | "-"
 abbrev pub SpellsSign : List Token → Spelling Sign
-SpellsSign tokens from sign.Plus to = HasSymbol tokens from s.plus × (to ≡ from + 1)
-SpellsSign tokens from sign.Minus to = HasSymbol tokens from s.minus × (to ≡ from + 1)
+SpellsSign tokens from sign.Plus to = HasSymbol tokens from s.PLUS × (to ≡ from + 1)
+SpellsSign tokens from sign.Minus to = HasSymbol tokens from s.MINUS × (to ≡ from + 1)
 
 -- const = [ "+" | "-" ] literal
 abbrev pub SpellsConst : List Token → Spelling Const
@@ -82,8 +82,8 @@ SpellsConst tokens from constant to =
 
 -- + | - | ABS | SIGN | NOT
 abbrev pub monad_what : Monad → What
-monad_what monad.Plus = what.Symbol s.plus
-monad_what monad.Minus = what.Symbol s.minus
+monad_what monad.Plus = what.Symbol s.PLUS
+monad_what monad.Minus = what.Symbol s.MINUS
 monad_what monad.Abs = what.Word w.ABS
 monad_what monad.Sign = what.Word w.SIGN
 monad_what monad.Not = what.Word w.NOT
@@ -95,9 +95,9 @@ SpellsMonadic tokens from monadic to =
 -- the dyadic operators that are symbols, and those that are words
 abbrev pub dyad_symbols : List (ℕ × Dyad)
 dyad_symbols =
-    (s.power, dyad.Power) ∷ (s.star, dyad.Times) ∷ (s.over, dyad.Over) ∷ (s.joined, dyad.Cat) ∷ (s.plus, dyad.Plus) ∷
-    (s.minus, dyad.Minus) ∷ (s.turned, dyad.Cshift) ∷ (s.less, dyad.Lt) ∷ (s.more, dyad.Gt) ∷ (s.at_most, dyad.Le) ∷
-    (s.at_least, dyad.Ge) ∷ (s.same, dyad.Eq) ∷ (s.differs, dyad.Ne) ∷ []
+    (s.POWER, dyad.Power) ∷ (s.TIMES, dyad.Times) ∷ (s.DIVIDE, dyad.Over) ∷ (s.CONCATENATE, dyad.Cat) ∷ (s.PLUS, dyad.Plus) ∷
+    (s.MINUS, dyad.Minus) ∷ (s.ROTATE, dyad.Cshift) ∷ (s.LESS, dyad.Lt) ∷ (s.GREATER, dyad.Gt) ∷ (s.AT_MOST, dyad.Le) ∷
+    (s.AT_LEAST, dyad.Ge) ∷ (s.EQUAL, dyad.Eq) ∷ (s.UNEQUAL, dyad.Ne) ∷ []
 
 abbrev pub dyad_words : List (ℕ × Dyad)
 dyad_words =
@@ -173,9 +173,9 @@ abbrev mutual
   SpellsPrimary tokens depth from (primary.Ref' name _ selectors place) to =
       IsAt tokens from place × IsName tokens from name × SpellsSelectors tokens depth (from + 1) selectors to
   SpellsPrimary tokens depth from (primary.Group' _ inner place) to =
-      (m : ℕ) × IsAt tokens from place × HasSymbol tokens from s.left_round × (0 < depth) ×
+      (m : ℕ) × IsAt tokens from place × HasSymbol tokens from s.LEFT_ROUND × (0 < depth) ×
       (SpellsTerms tokens (depth - 1) (from + 1) inner m × (dyad_count inner ≤ 100)) ×
-      HasSymbol tokens m s.right_round × (to ≡ m + 1)
+      HasSymbol tokens m s.RIGHT_ROUND × (to ≡ m + 1)
   SpellsPrimary tokens depth from (primary.Now place) to =
       IsAt tokens from place × HasWord tokens from w.NOW × (to ≡ from + 1)
   SpellsPrimary tokens depth from (primary.Try name place) to =
@@ -194,10 +194,10 @@ abbrev mutual
 
   pub SpellsSelector : List Token → ℕ → ℕ → Selector → ℕ → Type 0
   SpellsSelector tokens depth from (Subscripts' _ subscripts place) to =
-      (m : ℕ) × IsAt tokens from place × HasSymbol tokens from s.left_round × (0 < depth) ×
-      SpellsSubscripts tokens (depth - 1) (from + 1) subscripts m × HasSymbol tokens m s.right_round × (to ≡ m + 1)
+      (m : ℕ) × IsAt tokens from place × HasSymbol tokens from s.LEFT_ROUND × (0 < depth) ×
+      SpellsSubscripts tokens (depth - 1) (from + 1) subscripts m × HasSymbol tokens m s.RIGHT_ROUND × (to ≡ m + 1)
   SpellsSelector tokens depth from (Component name place) to =
-      IsAt tokens from place × HasSymbol tokens from s.period × IsName tokens (from + 1) name × (to ≡ from + 2)
+      IsAt tokens from place × HasSymbol tokens from s.PERIOD × IsName tokens (from + 1) name × (to ≡ from + 2)
 
   -- expr { "," expr }
   pub SpellsSubscripts : {n : _} → List Token → ℕ → ℕ → Row_of-Expr n → ℕ → Type 0
@@ -210,7 +210,7 @@ abbrev mutual
   pub SpellsMoreSubscripts : {n : _} → List Token → ℕ → ℕ → Row_of-Expr n → ℕ → Type 0
   SpellsMoreSubscripts tokens depth from end_of-Expr to = to ≡ from
   SpellsMoreSubscripts tokens depth from (more_of-Expr next rest) to =
-      (m : ℕ) × HasSymbol tokens from s.comma ×
+      (m : ℕ) × HasSymbol tokens from s.COMMA ×
       (SpellsTerms tokens depth (from + 1) next m × (dyad_count next ≤ 100)) ×
       SpellsMoreSubscripts tokens depth m rest to
 

@@ -6,8 +6,8 @@ use Rattle.pearl_tree.specs.declared.token.What.TheVariants as what
 use Rattle.pearl_tree.specs.declared.token.Token.{Token}
 use Rattle.pearl_tree.specs.Standing.{what_at}
 use Rattle.pearl_tree.specs.Expressions.{dyad_of}
-use Rattle.pearl_tree.specs.Symbols as s
-use Rattle.pearl_tree.specs.WordCodes as w
+use Rattle.pearl_tables.specs.declared.symbol.TheConstants as s
+use Rattle.pearl_tables.specs.declared.word_code.TheConstants as w
 
 -- behind a literal: a unit, or what a unit stands behind
 abbrev pub lengthens_literal : What → Bool
@@ -18,7 +18,7 @@ lengthens_literal _ = false
 
 -- behind a ref
 abbrev pub lengthens_ref : What → Bool
-lengthens_ref (what.Symbol symbol) = (symbol == s.left_round) || (symbol == s.period)
+lengthens_ref (what.Symbol symbol) = (symbol == s.LEFT_ROUND) || (symbol == s.PERIOD)
 lengthens_ref _ = false
 
 -- behind an operand: also LWB or UPB, since a number may stand before it
@@ -27,7 +27,7 @@ lengthens_operand (what.Number _) = true
 lengthens_operand (what.Decimal _ _) = true
 lengthens_operand (what.Word code) =
     (code == w.HRS) || ((code == w.MIN) || ((code == w.SEC) || ((code == w.LWB) || (code == w.UPB))))
-lengthens_operand (what.Symbol symbol) = (symbol == s.left_round) || (symbol == s.period)
+lengthens_operand (what.Symbol symbol) = (symbol == s.LEFT_ROUND) || (symbol == s.PERIOD)
 lengthens_operand _ = false
 
 -- behind an expression: also a dyadic operator
@@ -36,7 +36,7 @@ lengthens_expr what = lengthens_operand what || is_some (dyad_of what)
 
 -- a token that is a monadic operator
 abbrev pub is_monadic : What → Bool
-is_monadic (what.Symbol symbol) = (symbol == s.plus) || (symbol == s.minus)
+is_monadic (what.Symbol symbol) = (symbol == s.PLUS) || (symbol == s.MINUS)
 is_monadic (what.Word code) = (code == w.ABS) || ((code == w.SIGN) || (code == w.NOT))
 is_monadic _ = false
 

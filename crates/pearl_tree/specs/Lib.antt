@@ -1,5 +1,3 @@
-pub mod WordCodes
-pub mod Symbols
 pub mod Standing
 pub mod Expressions
 pub mod Following

@@ -7,7 +7,7 @@ use Rattle.pearl_tree.specs.declared.name.Number.{Number}
 use Rattle.pearl_tree.specs.declared.token.What.{What}
 use Rattle.pearl_tree.specs.declared.token.What.TheVariants as what
 use Rattle.pearl_tree.specs.declared.token.Token.{Token}
-use Rattle.pearl_tree.specs.Symbols as s
+use Rattle.pearl_tables.specs.declared.symbol.TheConstants as s
 
 -- what the token is; none past the end
 abbrev pub what_at : List Token → ℕ → Option What
@@ -53,7 +53,7 @@ SpellsSome spells from (x ∷ xs) to = (m : ℕ) × spells from x m × SpellsEac
 abbrev pub SpellsMore : {X : Type 0} → List Token → Spelling X → Spelling (List X)
 SpellsMore tokens spells from [] to = to ≡ from
 SpellsMore tokens spells from (x ∷ xs) to =
-    (m : ℕ) × HasSymbol tokens from s.comma × spells (from + 1) x m × SpellsMore tokens spells m xs to
+    (m : ℕ) × HasSymbol tokens from s.COMMA × spells (from + 1) x m × SpellsMore tokens spells m xs to
 
 -- part { "," part }
 abbrev pub SpellsList : {X : Type 0} → List Token → Spelling X → Spelling (List X)
@@ -63,8 +63,8 @@ SpellsList tokens spells from (x ∷ xs) to = (m : ℕ) × spells from x m × Sp
 -- "(" part { "," part } ")"
 abbrev pub SpellsBracketed : {X : Type 0} → List Token → Spelling X → Spelling (List X)
 SpellsBracketed tokens spells from xs to =
-    (m : ℕ) × HasSymbol tokens from s.left_round × SpellsList tokens spells (from + 1) xs m ×
-    HasSymbol tokens m s.right_round × (to ≡ m + 1)
+    (m : ℕ) × HasSymbol tokens from s.LEFT_ROUND × SpellsList tokens spells (from + 1) xs m ×
+    HasSymbol tokens m s.RIGHT_ROUND × (to ≡ m + 1)
 
 -- [ "(" part { "," part } ")" ]: an empty list where it is missing
 abbrev pub SpellsMaybeBracketed : {X : Type 0} → List Token → Spelling X → Spelling (List X)
@@ -103,5 +103,5 @@ SpellsNumber tokens from number to = IsNumber tokens from number × (to ≡ from
 -- "(" number ")"
 abbrev pub SpellsBracketedNumber : List Token → Spelling Number
 SpellsBracketedNumber tokens from number to =
-    HasSymbol tokens from s.left_round × IsNumber tokens (from + 1) number × HasSymbol tokens (from + 2) s.right_round ×
+    HasSymbol tokens from s.LEFT_ROUND × IsNumber tokens (from + 1) number × HasSymbol tokens (from + 2) s.RIGHT_ROUND ×
     (to ≡ from + 3)

@@ -25,12 +25,12 @@ use Rattle.pearl_tree.specs.Standing.{Spelling, IsAt, HasWord, HasSymbol, IsName
 use Rattle.pearl_tree.specs.Expressions.{SpellsWhole, SpellsOwnRef}
 use Rattle.pearl_tree.specs.Declarations.{SpellsItem}
 use Rattle.pearl_tree.specs.Formats.{SpellsFmt}
-use Rattle.pearl_tree.specs.Symbols as s
-use Rattle.pearl_tree.specs.WordCodes as w
+use Rattle.pearl_tables.specs.declared.symbol.TheConstants as s
+use Rattle.pearl_tables.specs.declared.word_code.TheConstants as w
 
 -- `:=` and `=` mean the same
 abbrev pub HasBecomes : List Token → ℕ → Type 0
-HasBecomes tokens k = HasSymbol tokens k s.becomes ⊎ HasSymbol tokens k s.equals
+HasBecomes tokens k = HasSymbol tokens k s.BECOMES ⊎ HasSymbol tokens k s.EQUALS_SIGN
 
 -- word expr
 abbrev pub SpellsAfter : List Token → ℕ → Spelling Expr
@@ -43,8 +43,8 @@ SpellsFor tokens from name to = HasWord tokens from w.FOR × IsName tokens (from
 -- "(" expr ")"
 abbrev pub SpellsValue : List Token → Spelling Expr
 SpellsValue tokens from expr to =
-    (m : ℕ) × HasSymbol tokens from s.left_round × SpellsWhole tokens (from + 1) expr m ×
-    HasSymbol tokens m s.right_round × (to ≡ m + 1)
+    (m : ℕ) × HasSymbol tokens from s.LEFT_ROUND × SpellsWhole tokens (from + 1) expr m ×
+    HasSymbol tokens m s.RIGHT_ROUND × (to ≡ m + 1)
 
 -- [ part { "," part } ]
 abbrev pub SpellsMaybeList : {X : Type 0} → List Token → Spelling X → Spelling (List X)
@@ -106,35 +106,35 @@ abbrev pub SpellsBodyDecl : List Token → Spelling BodyDecl
 SpellsBodyDecl tokens from declaration to =
     (m : ℕ) × IsAt tokens from declaration.place × HasWord tokens from w.DCL ×
     SpellsList tokens (SpellsItem tokens) (from + 1) declaration.items.items.items m ×
-    HasSymbol tokens m s.semicolon × (to ≡ m + 1)
+    HasSymbol tokens m s.SEMICOLON × (to ≡ m + 1)
 
 -- `depth` is the number of IF, CASE, REPEAT and BEGIN that may still stand within one another
 abbrev mutual
   pub SpellsStmt : List Token → ℕ → ℕ → Stmt → ℕ → Type 0
   -- ";"
   SpellsStmt tokens depth from (Empty place) to =
-      IsAt tokens from place × HasSymbol tokens from s.semicolon × (to ≡ from + 1)
+      IsAt tokens from place × HasSymbol tokens from s.SEMICOLON × (to ≡ from + 1)
   -- ref ":=" expr ";"
   SpellsStmt tokens depth from (Assign target value place) to =
       (a : ℕ) × (b : ℕ) × IsAt tokens from place × SpellsOwnRef tokens from target a × HasBecomes tokens a ×
-      SpellsWhole tokens (a + 1) value b × HasSymbol tokens b s.semicolon × (to ≡ b + 1)
+      SpellsWhole tokens (a + 1) value b × HasSymbol tokens b s.SEMICOLON × (to ≡ b + 1)
   -- [ CALL ] id [ "(" expr { "," expr } ")" ] ";"
   SpellsStmt tokens depth from (Call call name arguments place) to =
       (a : ℕ) × (b : ℕ) × IsAt tokens from place × SpellsFlag tokens w.CALL from call a × IsName tokens a name ×
       SpellsMaybeBracketed tokens (SpellsWhole tokens) (a + 1) arguments.items.items b ×
-      HasSymbol tokens b s.semicolon × (to ≡ b + 1)
+      HasSymbol tokens b s.SEMICOLON × (to ≡ b + 1)
   -- IF expr THEN { stmt } [ ELSE { stmt } ] FIN ";"
   SpellsStmt tokens depth from (If' condition _ statements otherwise place) to =
       (a : ℕ) × (b : ℕ) × (c : ℕ) × IsAt tokens from place × (0 < depth) × SpellsAfter tokens w.IF from condition a ×
       HasWord tokens a w.THEN × SpellsStmts tokens (depth - 1) (a + 1) statements b ×
       SpellsOtherwise tokens (depth - 1) w.ELSE b otherwise c × HasWord tokens c w.FIN ×
-      HasSymbol tokens (c + 1) s.semicolon × (to ≡ c + 2)
+      HasSymbol tokens (c + 1) s.SEMICOLON × (to ≡ c + 2)
   -- CASE expr ALT { stmt } { ALT { stmt } } [ OUT { stmt } ] FIN ";"
   SpellsStmt tokens depth from (Case' selector _ alternatives otherwise place) to =
       (a : ℕ) × (b : ℕ) × (c : ℕ) × IsAt tokens from place × (0 < depth) × SpellsAfter tokens w.CASE from selector a ×
       SpellsAlternatives tokens (depth - 1) a alternatives b ×
       SpellsOtherwise tokens (depth - 1) w.OUT b otherwise c × HasWord tokens c w.FIN ×
-      HasSymbol tokens (c + 1) s.semicolon × (to ≡ c + 2)
+      HasSymbol tokens (c + 1) s.SEMICOLON × (to ≡ c + 2)
   -- [ FOR id ] [ FROM expr ] [ BY expr ] [ TO expr ] [ WHILE expr ] REPEAT body END ";"
   SpellsStmt tokens depth from (Repeat' control begin step end condition declarations _ statements body_place place) to =
       (a : ℕ) × (b : ℕ) × (c : ℕ) × (d : ℕ) × (e : ℕ) × (f : ℕ) × IsAt tokens from place × (0 < depth) ×
@@ -144,67 +144,67 @@ abbrev mutual
       ((m : ℕ) × IsAt tokens (e + 1) body_place ×
       SpellsEach (SpellsBodyDecl tokens) (e + 1) declarations.items.items m ×
       SpellsStmts tokens (depth - 1) m statements f) ×
-      HasWord tokens f w.END × HasSymbol tokens (f + 1) s.semicolon × (to ≡ f + 2)
+      HasWord tokens f w.END × HasSymbol tokens (f + 1) s.SEMICOLON × (to ≡ f + 2)
   -- EXIT ";"
   SpellsStmt tokens depth from (Exit place) to =
-      IsAt tokens from place × HasWord tokens from w.EXIT × HasSymbol tokens (from + 1) s.semicolon × (to ≡ from + 2)
+      IsAt tokens from place × HasWord tokens from w.EXIT × HasSymbol tokens (from + 1) s.SEMICOLON × (to ≡ from + 2)
   -- BEGIN body END ";"
   SpellsStmt tokens depth from (Begin' declarations _ statements body_place place) to =
       (a : ℕ) × IsAt tokens from place × (0 < depth) × HasWord tokens from w.BEGIN ×
       ((m : ℕ) × IsAt tokens (from + 1) body_place ×
       SpellsEach (SpellsBodyDecl tokens) (from + 1) declarations.items.items m ×
       SpellsStmts tokens (depth - 1) m statements a) ×
-      HasWord tokens a w.END × HasSymbol tokens (a + 1) s.semicolon × (to ≡ a + 2)
+      HasWord tokens a w.END × HasSymbol tokens (a + 1) s.SEMICOLON × (to ≡ a + 2)
   -- RETURN [ "(" expr ")" ] ";"
   SpellsStmt tokens depth from (Return value place) to =
       (a : ℕ) × IsAt tokens from place × HasWord tokens from w.RETURN ×
-      SpellsMaybe (SpellsValue tokens) (from + 1) value a × HasSymbol tokens a s.semicolon × (to ≡ a + 1)
+      SpellsMaybe (SpellsValue tokens) (from + 1) value a × HasSymbol tokens a s.SEMICOLON × (to ≡ a + 1)
   -- [ start ] ACTIVATE id [ PRIO expr ] ";"
   SpellsStmt tokens depth from (Activate start task priority place) to =
       (a : ℕ) × (b : ℕ) × IsAt tokens from place × SpellsMaybe (SpellsStart tokens) from start a ×
       HasWord tokens a w.ACTIVATE × IsName tokens (a + 1) task ×
-      SpellsMaybe (SpellsAfter tokens w.PRIO) (a + 2) priority b × HasSymbol tokens b s.semicolon × (to ≡ b + 1)
+      SpellsMaybe (SpellsAfter tokens w.PRIO) (a + 2) priority b × HasSymbol tokens b s.SEMICOLON × (to ≡ b + 1)
   -- [ once ] CONTINUE id ";"
   SpellsStmt tokens depth from (Continue once task place) to =
       (a : ℕ) × IsAt tokens from place × SpellsMaybe (SpellsOnce tokens) from once a × HasWord tokens a w.CONTINUE ×
-      IsName tokens (a + 1) task × HasSymbol tokens (a + 2) s.semicolon × (to ≡ a + 3)
+      IsName tokens (a + 1) task × HasSymbol tokens (a + 2) s.SEMICOLON × (to ≡ a + 3)
   -- once RESUME ";"
   SpellsStmt tokens depth from (Resume once place) to =
       (a : ℕ) × IsAt tokens from place × SpellsOnce tokens from once a × HasWord tokens a w.RESUME ×
-      HasSymbol tokens (a + 1) s.semicolon × (to ≡ a + 2)
+      HasSymbol tokens (a + 1) s.SEMICOLON × (to ≡ a + 2)
   -- ( SUSPEND | TERMINATE | PREVENT ) [ id ] ";"
   SpellsStmt tokens depth from (OnTask word task place) to =
       (a : ℕ) × IsAt tokens from place × HasWord tokens from (task_word word) ×
-      SpellsMaybe (SpellsName tokens) (from + 1) task a × HasSymbol tokens a s.semicolon × (to ≡ a + 1)
+      SpellsMaybe (SpellsName tokens) (from + 1) task a × HasSymbol tokens a s.SEMICOLON × (to ≡ a + 1)
   -- ( REQUEST | RELEASE ) id { "," id } ";"
   SpellsStmt tokens depth from (OnSemas word names place) to =
       (a : ℕ) × IsAt tokens from place × HasWord tokens from (sema_word word) ×
-      SpellsList tokens (SpellsName tokens) (from + 1) names.items.items a × HasSymbol tokens a s.semicolon ×
+      SpellsList tokens (SpellsName tokens) (from + 1) names.items.items a × HasSymbol tokens a s.SEMICOLON ×
       (to ≡ a + 1)
   -- ( ENABLE | DISABLE | TRIGGER ) id ";"
   SpellsStmt tokens depth from (OnInterrupt word name place) to =
       IsAt tokens from place × HasWord tokens from (interrupt_word word) × IsName tokens (from + 1) name ×
-      HasSymbol tokens (from + 2) s.semicolon × (to ≡ from + 3)
+      HasSymbol tokens (from + 2) s.SEMICOLON × (to ≡ from + 3)
   -- PUT [ expr { "," expr } ] TO id BY fmt { "," fmt } ";"
   SpellsStmt tokens depth from (Put values dation formats place) to =
       (a : ℕ) × (b : ℕ) × IsAt tokens from place × HasWord tokens from w.PUT ×
       SpellsMaybeList tokens (SpellsWhole tokens) (from + 1) values.items.items a × HasWord tokens a w.TO ×
       IsName tokens (a + 1) dation × HasWord tokens (a + 2) w.BY ×
-      SpellsList tokens (SpellsFmt tokens) (a + 3) formats.items.items b × HasSymbol tokens b s.semicolon × (to ≡ b + 1)
+      SpellsList tokens (SpellsFmt tokens) (a + 3) formats.items.items b × HasSymbol tokens b s.SEMICOLON × (to ≡ b + 1)
   -- GET [ ref { "," ref } ] FROM id BY fmt { "," fmt } ";"
   SpellsStmt tokens depth from (Get targets dation formats place) to =
       (a : ℕ) × (b : ℕ) × IsAt tokens from place × HasWord tokens from w.GET ×
       SpellsMaybeList tokens (SpellsOwnRef tokens) (from + 1) targets.items.items a × HasWord tokens a w.FROM ×
       IsName tokens (a + 1) dation × HasWord tokens (a + 2) w.BY ×
-      SpellsList tokens (SpellsFmt tokens) (a + 3) formats.items.items b × HasSymbol tokens b s.semicolon × (to ≡ b + 1)
+      SpellsList tokens (SpellsFmt tokens) (a + 3) formats.items.items b × HasSymbol tokens b s.SEMICOLON × (to ≡ b + 1)
   -- SEND expr TO id ";"
   SpellsStmt tokens depth from (Send value dation place) to =
       (a : ℕ) × IsAt tokens from place × SpellsAfter tokens w.SEND from value a × HasWord tokens a w.TO ×
-      IsName tokens (a + 1) dation × HasSymbol tokens (a + 2) s.semicolon × (to ≡ a + 3)
+      IsName tokens (a + 1) dation × HasSymbol tokens (a + 2) s.SEMICOLON × (to ≡ a + 3)
   -- TAKE ref FROM id ";"
   SpellsStmt tokens depth from (Take target dation place) to =
       (a : ℕ) × IsAt tokens from place × HasWord tokens from w.TAKE × SpellsOwnRef tokens (from + 1) target a ×
-      HasWord tokens a w.FROM × IsName tokens (a + 1) dation × HasSymbol tokens (a + 2) s.semicolon × (to ≡ a + 3)
+      HasWord tokens a w.FROM × IsName tokens (a + 1) dation × HasSymbol tokens (a + 2) s.SEMICOLON × (to ≡ a + 3)
 
   -- { stmt }
   pub SpellsStmts : {n : _} → List Token → ℕ → ℕ → Row_of-Stmt n → ℕ → Type 0

@@ -15,8 +15,8 @@ use Rattle.pearl_tree.specs.declared.typing.Field.{Field}
 use Rattle.pearl_tree.specs.declared.parts.Parts.{Parts}
 use Rattle.pearl_tree.specs.declared.token.Token.{Token}
 use Rattle.pearl_tree.specs.Standing.{Spelling, IsAt, HasWord, HasSymbol, IsNumber, SpellsName, SpellsMaybe, SpellsBracketed, SpellsMaybeBracketed, SpellsBracketedNumber, SpellsSymbolFlag}
-use Rattle.pearl_tree.specs.Symbols as s
-use Rattle.pearl_tree.specs.WordCodes as w
+use Rattle.pearl_tables.specs.declared.symbol.TheConstants as s
+use Rattle.pearl_tables.specs.declared.word_code.TheConstants as w
 
 -- names = id | "(" id { "," id } ")"
 abbrev pub SpellsNames : List Token → Spelling Names
@@ -27,12 +27,12 @@ SpellsNames tokens from (Several names place) to =
 -- int = [ "-" ] number
 abbrev pub SpellsInt : List Token → Spelling Int
 SpellsInt tokens from int to =
-    (m : ℕ) × IsAt tokens from int.place × SpellsSymbolFlag tokens s.minus from int.minus m ×
+    (m : ℕ) × IsAt tokens from int.place × SpellsSymbolFlag tokens s.MINUS from int.minus m ×
     IsNumber tokens m int.number × (to ≡ m + 1)
 
 -- ":" int
 abbrev pub SpellsUpper : List Token → Spelling Int
-SpellsUpper tokens from int to = HasSymbol tokens from s.colon × SpellsInt tokens (from + 1) int to
+SpellsUpper tokens from int to = HasSymbol tokens from s.COLON × SpellsInt tokens (from + 1) int to
 
 -- bound = int [ ":" int ]
 abbrev pub SpellsBound : List Token → Spelling Bound
@@ -67,8 +67,8 @@ abbrev mutual
   SpellsTyping tokens depth from (typing.Basic part) to = SpellsBasic tokens from part to
   SpellsTyping tokens depth from (typing.Struct' _ fields place) to =
       (m : ℕ) × IsAt tokens from place × HasWord tokens from w.STRUCT × (0 < depth) ×
-      HasSymbol tokens (from + 1) s.left_square × SpellsFields tokens (depth - 1) (from + 2) fields m ×
-      HasSymbol tokens m s.right_square × (to ≡ m + 1)
+      HasSymbol tokens (from + 1) s.LEFT_SQUARE × SpellsFields tokens (depth - 1) (from + 2) fields m ×
+      HasSymbol tokens m s.RIGHT_SQUARE × (to ≡ m + 1)
   SpellsTyping tokens depth from (typing.Named name) to = SpellsName tokens from name to
 
   -- field { "," field }, field = names [ bounds ] type
@@ -84,7 +84,7 @@ abbrev mutual
   pub SpellsMoreFields : {n : _} → List Token → ℕ → ℕ → Row_of-Field n → ℕ → Type 0
   SpellsMoreFields tokens depth from end_of-Field to = to ≡ from
   SpellsMoreFields tokens depth from (more_of-Field names bounds part place rest) to =
-      (m : ℕ) × HasSymbol tokens from s.comma ×
+      (m : ℕ) × HasSymbol tokens from s.COMMA ×
       ((a : ℕ) × (b : ℕ) × IsAt tokens (from + 1) place × SpellsNames tokens (from + 1) names a ×
       SpellsBounds tokens a bounds b × SpellsTyping tokens depth b part m) ×
       SpellsMoreFields tokens depth m rest to

@@ -1,8 +1,8 @@
 use Rattle.std.proofs.Common.{◌+◌, sym, ap, subst, arith}
 use Rattle.pearl_tree.specs.Statements.{SpellsWholeBody}
 use Rattle.pearl_tree.specs.Modules.{SpellsBlock}
-use Rattle.pearl_tree.specs.Symbols as s
-use Rattle.pearl_tree.specs.WordCodes as w
+use Rattle.pearl_tables.specs.declared.symbol.TheConstants as s
+use Rattle.pearl_tables.specs.declared.word_code.TheConstants as w
 use Rattle.pearl_parse_expr.specs.Stops.{is_symbol, is_word}
 use Rattle.pearl_parse.specs.Stops.{IsStopped}
 use Rattle.pearl_parse_decl.specs.Readings.{behind}
@@ -16,8 +16,8 @@ returns-in_err-symbol-clause-refused c =
     let from = c.args.from in
     let low = c.args.low in
     err_told _ _ c.in_err-symbol.field-0.0 c.from_residual.result c.from_residual.ensures (λ e is. is)
-    (missing_behind SpellsBlock tokens from low (is_symbol s.semicolon) opened_rest from low from c.in_err-symbol.field-0.0 (opened_goes tokens from low)
-    (λ others to h. ap (is_symbol s.semicolon) h.0) c.requires.low.0 (omega arith) (omega (arith, c.requires.low)) c.requires.low.1 c.in_err-symbol.ensures.missing)
+    (missing_behind SpellsBlock tokens from low (is_symbol s.SEMICOLON) opened_rest from low from c.in_err-symbol.field-0.0 (opened_goes tokens from low)
+    (λ others to h. ap (is_symbol s.SEMICOLON) h.0) c.requires.low.0 (omega arith) (omega (arith, c.requires.low)) c.requires.low.1 c.in_err-symbol.ensures.missing)
 
 pub returns-in-Err-clause-refused : goal.returns-in-Err-clause-refused
 returns-in-Err-clause-refused c =
@@ -51,7 +51,7 @@ returns-in_err-symbol-2-clause-refused c =
     let stop = c.max-stop.result in
     let go = end_goes tokens from low body.end body.stop stop (omega (arith, c.max-stop.ensures)) (omega (arith, c.max-stop.ensures)) read.sure in
     err_told _ _ c.in_err-symbol-2.field-0.0 c.from_residual-in_err-symbol-2.result c.from_residual-in_err-symbol-2.ensures (λ e is. is)
-    (missing_behind SpellsBlock tokens from low (is_symbol s.semicolon) end_rest body.end stop (body.end + 1) c.in_err-symbol-2.field-0.0 go (λ others to h. ap (is_symbol s.semicolon) h.1)
+    (missing_behind SpellsBlock tokens from low (is_symbol s.SEMICOLON) end_rest body.end stop (body.end + 1) c.in_err-symbol-2.field-0.0 go (λ others to h. ap (is_symbol s.SEMICOLON) h.1)
     (omega (arith, read.on, c.max-stop.ensures)) (omega (arith, c.max-stop.ensures)) (omega (arith, c.in_ok-word.ensures.within)) (omega (arith, read.on, c.max-stop.ensures, c.requires.low)) c.in_err-symbol-2.ensures.missing)
 
 pub returns-clause-sure : goal.returns-clause-sure

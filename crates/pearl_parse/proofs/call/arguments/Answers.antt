@@ -1,7 +1,7 @@
 use Rattle.std.proofs.Common.{◌+◌, refl, ap, arith}
 use Rattle.pearl_tree.specs.Standing.{SpellsList}
 use Rattle.pearl_tree.specs.Expressions.{SpellsWhole}
-use Rattle.pearl_tree.specs.Symbols as s
+use Rattle.pearl_tables.specs.declared.symbol.TheConstants as s
 use Rattle.pearl_parse_expr.specs.Stops.{is_symbol}
 use Rattle.pearl_parse_expr.proofs.Halts.{stuck_of}
 use Rattle.pearl_parse.specs.Calls.{SpellsArguments}
@@ -18,8 +18,8 @@ returns-in_err-symbol-in-Ok-clause-refused c =
     let stop = c.max-in-Ok.result in
     let go = arguments_go tokens from list.end list.stop stop (c.if-not-is_symbol.ensures.stands refl) (omega (arith, c.max-in-Ok.ensures, read.ahead)) (omega (arith, c.max-in-Ok.ensures)) read.sure in
     err_told _ _ c.in_err-symbol-in-Ok.field-0.0 c.from_residual-in_err-symbol-in-Ok.result c.from_residual-in_err-symbol-in-Ok.ensures (λ e is. is)
-    (missing_behind SpellsArguments tokens from c.args.low (is_symbol s.right_round) closed_rest list.end stop list.end c.in_err-symbol-in-Ok.field-0.0 go
-    (λ others to h. ap (is_symbol s.right_round) h.0) (omega (arith, c.max-in-Ok.ensures, read.ahead)) (omega (arith, c.max-in-Ok.ensures)) (omega (arith, read.ahead)) (omega (arith, c.max-in-Ok.ensures, read.ahead, c.requires.low))
+    (missing_behind SpellsArguments tokens from c.args.low (is_symbol s.RIGHT_ROUND) closed_rest list.end stop list.end c.in_err-symbol-in-Ok.field-0.0 go
+    (λ others to h. ap (is_symbol s.RIGHT_ROUND) h.0) (omega (arith, c.max-in-Ok.ensures, read.ahead)) (omega (arith, c.max-in-Ok.ensures)) (omega (arith, read.ahead)) (omega (arith, c.max-in-Ok.ensures, read.ahead, c.requires.low))
     c.in_err-symbol-in-Ok.ensures.missing)
 
 pub returns-in_err-symbol-in-Ok-2-clause-refused : goal.returns-in_err-symbol-in-Ok-2-clause-refused
@@ -31,8 +31,8 @@ returns-in_err-symbol-in-Ok-2-clause-refused c =
     let stop = c.max-in-Ok-2.result in
     let go = arguments_go tokens from list.end list.stop stop (c.if-not-is_symbol.ensures.stands refl) (omega (arith, c.max-in-Ok-2.ensures, read.ahead)) (omega (arith, c.max-in-Ok-2.ensures)) read.sure in
     err_told _ _ c.in_err-symbol-in-Ok-2.field-0.0 c.from_residual-in_err-symbol-in-Ok-2.result c.from_residual-in_err-symbol-in-Ok-2.ensures (λ e is. is)
-    (missing_behind SpellsArguments tokens from c.args.low (is_symbol s.semicolon) closed_rest list.end stop (list.end + 1) c.in_err-symbol-in-Ok-2.field-0.0 go
-    (λ others to h. ap (is_symbol s.semicolon) h.1) (omega (arith, c.max-in-Ok-2.ensures, read.ahead)) (omega (arith, c.max-in-Ok-2.ensures)) (omega (arith, c.in_ok-symbol-in-Ok.ensures.within)) (omega (arith, c.max-in-Ok-2.ensures, read.ahead, c.requires.low))
+    (missing_behind SpellsArguments tokens from c.args.low (is_symbol s.SEMICOLON) closed_rest list.end stop (list.end + 1) c.in_err-symbol-in-Ok-2.field-0.0 go
+    (λ others to h. ap (is_symbol s.SEMICOLON) h.1) (omega (arith, c.max-in-Ok-2.ensures, read.ahead)) (omega (arith, c.max-in-Ok-2.ensures)) (omega (arith, c.in_ok-symbol-in-Ok.ensures.within)) (omega (arith, c.max-in-Ok-2.ensures, read.ahead, c.requires.low))
     c.in_err-symbol-in-Ok-2.ensures.missing)
 
 pub returns-in_ok-symbol-in-Ok-2-clause-sure : goal.returns-in_ok-symbol-in-Ok-2-clause-sure

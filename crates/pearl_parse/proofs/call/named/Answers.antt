@@ -1,6 +1,6 @@
 use Rattle.std.proofs.Common.{◌+◌, ap, sym, arith}
 use Rattle.pearl_tree.specs.Expressions.{SpellsWhole}
-use Rattle.pearl_tree.specs.Symbols as s
+use Rattle.pearl_tables.specs.declared.symbol.TheConstants as s
 use Rattle.pearl_parse_expr.specs.Stops.{extends_expression, is_symbol}
 use Rattle.pearl_parse.specs.Calls.{SpellsArguments}
 use Rattle.pearl_parse.proofs.Steps.{Ends, err_told, past, past_exact, missing, no_part, ends}
@@ -37,8 +37,8 @@ returns-in_err-symbol-clause-refused c =
     (λ depth.
     let first = assign_goes tokens depth from target.end target.stop c.requires.name (omega (arith, read.ahead)) (omega (arith, read.ahead)) read.named (sym c.if-becomes.ensures.value) in
     let go = past (Spelled depth) tokens from SpellsWhole extends_expression exit_rest (target.end + 1) target.stop value.end value.stop first next.on.2 next.sure (λ others at to h. ap extends_expression h.0) in
-    missing (Spelled depth) tokens from (is_symbol s.semicolon) exit_rest value.end value.stop value.end c.in_err-symbol.field-0.0 go
-    (λ others to h. ap (is_symbol s.semicolon) h.0) (omega (arith, next.on, read.ahead)) (omega (arith, next.on)) (omega (arith, next.on)) c.in_err-symbol.ensures.missing)
+    missing (Spelled depth) tokens from (is_symbol s.SEMICOLON) exit_rest value.end value.stop value.end c.in_err-symbol.field-0.0 go
+    (λ others to h. ap (is_symbol s.SEMICOLON) h.0) (omega (arith, next.on, read.ahead)) (omega (arith, next.on)) (omega (arith, next.on)) c.in_err-symbol.ensures.missing)
 
 pub returns-then-becomes-clause-sure : goal.returns-then-becomes-clause-sure
 returns-then-becomes-clause-sure c = λ depth.

@@ -1,6 +1,6 @@
 use Rattle.std.proofs.Common.{◌≡◌, true, ◌+◌, refl, sym, ap, subst, arith}
 use Rattle.pearl_tree.specs.Standing.{HasSymbol, what_at}
-use Rattle.pearl_tree.specs.Symbols as s
+use Rattle.pearl_tables.specs.declared.symbol.TheConstants as s
 use Rattle.pearl_parse_expr.specs.Stops.{extends_expression, is_symbol, is_name}
 use Rattle.pearl_parse.specs.Schedules.{SpellsOptionalAfter, SpellsBegun}
 use Rattle.pearl_parse.proofs.Steps.{Ends, err_told, past, past_exact, missing, no_part, ends}
@@ -31,8 +31,8 @@ returns-in_err-symbol-clause-refused c =
     let tokens = c.args.tokens.now in
     let from = c.args.from in
     err_told _ _ c.in_err-symbol.field-0.0 c.from_residual-in_err-symbol.result c.from_residual-in_err-symbol.ensures (λ e is. is)
-    (λ depth. missing (Spelled depth) tokens from (is_symbol s.semicolon) continue_rest (from + 2) (from + 2) (from + 4) c.in_err-symbol.field-0.0 (when_continues tokens depth from c.requires.word (c.if-is_word.ensures.stands refl))
-    (λ others to h. ap (is_symbol s.semicolon) (subst (λ k. HasSymbol others k s.semicolon) (omega arith) h.1)) (omega arith) (omega (arith, c.in_ok-task.ensures.within)) (omega (arith, c.in_ok-interrupt.ensures.within)) c.in_err-symbol.ensures.missing)
+    (λ depth. missing (Spelled depth) tokens from (is_symbol s.SEMICOLON) continue_rest (from + 2) (from + 2) (from + 4) c.in_err-symbol.field-0.0 (when_continues tokens depth from c.requires.word (c.if-is_word.ensures.stands refl))
+    (λ others to h. ap (is_symbol s.SEMICOLON) (subst (λ k. HasSymbol others k s.SEMICOLON) (omega arith) h.1)) (omega arith) (omega (arith, c.in_ok-task.ensures.within)) (omega (arith, c.in_ok-interrupt.ensures.within)) c.in_err-symbol.ensures.missing)
 
 pub returns-then-is_word-clause-sure : goal.returns-then-is_word-clause-sure
 returns-then-is_word-clause-sure c = λ depth.
@@ -46,8 +46,8 @@ returns-in_err-symbol-2-clause-refused c =
     let tokens = c.args.tokens.now in
     let from = c.args.from in
     err_told _ _ c.in_err-symbol-2.field-0.0 c.from_residual-in_err-symbol-2.result c.from_residual-in_err-symbol-2.ensures (λ e is. is)
-    (λ depth. missing (Spelled depth) tokens from (is_symbol s.semicolon) resume_rest (from + 2) (from + 2) (from + 3) c.in_err-symbol-2.field-0.0 (when_resumes tokens depth from c.requires.word (c.if-is_word-2.ensures.stands refl))
-    (λ others to h. ap (is_symbol s.semicolon) (subst (λ k. HasSymbol others k s.semicolon) (omega arith) h.0)) (omega arith) (omega (arith, c.if-is_word-2.ensures.within refl)) (omega (arith, c.in_ok-interrupt.ensures.within)) c.in_err-symbol-2.ensures.missing)
+    (λ depth. missing (Spelled depth) tokens from (is_symbol s.SEMICOLON) resume_rest (from + 2) (from + 2) (from + 3) c.in_err-symbol-2.field-0.0 (when_resumes tokens depth from c.requires.word (c.if-is_word-2.ensures.stands refl))
+    (λ others to h. ap (is_symbol s.SEMICOLON) (subst (λ k. HasSymbol others k s.SEMICOLON) (omega arith) h.0)) (omega arith) (omega (arith, c.if-is_word-2.ensures.within refl)) (omega (arith, c.in_ok-interrupt.ensures.within)) c.in_err-symbol-2.ensures.missing)
 
 pub returns-then-is_word-2-clause-sure : goal.returns-then-is_word-2-clause-sure
 returns-then-is_word-2-clause-sure c = λ depth.

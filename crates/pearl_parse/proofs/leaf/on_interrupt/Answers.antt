@@ -1,6 +1,6 @@
 use Rattle.std.proofs.Common.{◌+◌, ap, subst, arith}
 use Rattle.pearl_tree.specs.Standing.{HasSymbol}
-use Rattle.pearl_tree.specs.Symbols as s
+use Rattle.pearl_tables.specs.declared.symbol.TheConstants as s
 use Rattle.pearl_parse_expr.specs.Stops.{is_symbol, is_name}
 use Rattle.pearl_parse.proofs.Steps.{err_told, missing_is_refused, missing, ends}
 use Rattle.pearl_parse.proofs.LeafRests.{Spelled, interrupt_rest, interrupt_goes}
@@ -19,8 +19,8 @@ returns-in_err-symbol-clause-refused c =
     let tokens = c.args.tokens.now in
     let from = c.args.from in
     err_told _ _ c.in_err-symbol.field-0.0 c.from_residual-in_err-symbol.result c.from_residual-in_err-symbol.ensures (λ e is. is)
-    (λ depth. missing (Spelled depth) tokens from (is_symbol s.semicolon) interrupt_rest (from + 1) from (from + 2) c.in_err-symbol.field-0.0 (interrupt_goes tokens depth from c.args.word c.requires.word)
-    (λ others to h. ap (is_symbol s.semicolon) (subst (λ k. HasSymbol others k s.semicolon) (omega arith) h.1)) (omega arith) (omega (arith, c.in_ok-interrupt.ensures.within)) (omega (arith, c.requires.within)) c.in_err-symbol.ensures.missing)
+    (λ depth. missing (Spelled depth) tokens from (is_symbol s.SEMICOLON) interrupt_rest (from + 1) from (from + 2) c.in_err-symbol.field-0.0 (interrupt_goes tokens depth from c.args.word c.requires.word)
+    (λ others to h. ap (is_symbol s.SEMICOLON) (subst (λ k. HasSymbol others k s.SEMICOLON) (omega arith) h.1)) (omega arith) (omega (arith, c.in_ok-interrupt.ensures.within)) (omega (arith, c.requires.within)) c.in_err-symbol.ensures.missing)
 
 pub returns-clause-sure : goal.returns-clause-sure
 returns-clause-sure c = λ depth.
@@ -36,4 +36,4 @@ returns-in_err-interrupt-clause-memory c =
 pub returns-in_err-symbol-clause-memory : goal.returns-in_err-symbol-clause-memory
 returns-in_err-symbol-clause-memory c =
     err_told _ _ c.in_err-symbol.field-0.0 c.from_residual-in_err-symbol.result c.from_residual-in_err-symbol.ensures (λ e is. is)
-    (missing_is_refused c.args.tokens.now (is_symbol s.semicolon) (c.args.from + 2) c.args.from c.in_err-symbol.field-0.0 c.in_err-symbol.ensures.missing)
+    (missing_is_refused c.args.tokens.now (is_symbol s.SEMICOLON) (c.args.from + 2) c.args.from c.in_err-symbol.field-0.0 c.in_err-symbol.ensures.missing)

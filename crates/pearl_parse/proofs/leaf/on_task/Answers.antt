@@ -1,6 +1,6 @@
 use Rattle.std.proofs.Common.{◌+◌, ap, arith}
 use Rattle.pearl_tree.specs.Standing.{SpellsName}
-use Rattle.pearl_tree.specs.Symbols as s
+use Rattle.pearl_tables.specs.declared.symbol.TheConstants as s
 use Rattle.pearl_parse_expr.specs.Stops.{is_symbol, is_name}
 use Rattle.pearl_parse.specs.Stops.{SpellsOptional}
 use Rattle.pearl_parse.proofs.Steps.{err_told, missing_is_refused, past_exact, missing, ends}
@@ -16,8 +16,8 @@ returns-in_err-symbol-clause-refused c =
     err_told _ _ c.in_err-symbol.field-0.0 c.from_residual.result c.from_residual.ensures (λ e is. is)
     (λ depth.
     let go = past_exact (Spelled depth) tokens from (SpellsOptional is_name SpellsName) exit_rest (from + 1) from task.end task.stop (task_goes tokens depth from c.args.word c.requires.word) (omega (arith, read.on)) read.sure in
-    missing (Spelled depth) tokens from (is_symbol s.semicolon) exit_rest task.end task.stop task.end c.in_err-symbol.field-0.0 go
-    (λ others to h. ap (is_symbol s.semicolon) h.0) (omega (arith, read.on)) (omega (arith, read.on)) (omega (arith, read.on)) c.in_err-symbol.ensures.missing)
+    missing (Spelled depth) tokens from (is_symbol s.SEMICOLON) exit_rest task.end task.stop task.end c.in_err-symbol.field-0.0 go
+    (λ others to h. ap (is_symbol s.SEMICOLON) h.0) (omega (arith, read.on)) (omega (arith, read.on)) (omega (arith, read.on)) c.in_err-symbol.ensures.missing)
 
 pub returns-clause-sure : goal.returns-clause-sure
 returns-clause-sure c = λ depth.
@@ -31,4 +31,4 @@ returns-clause-sure c = λ depth.
 pub returns-in_err-symbol-clause-memory : goal.returns-in_err-symbol-clause-memory
 returns-in_err-symbol-clause-memory c =
     err_told _ _ c.in_err-symbol.field-0.0 c.from_residual.result c.from_residual.ensures (λ e is. is)
-    (missing_is_refused c.args.tokens.now (is_symbol s.semicolon) c.maybe_name-task.result.end c.maybe_name-task.result.stop c.in_err-symbol.field-0.0 c.in_err-symbol.ensures.missing)
+    (missing_is_refused c.args.tokens.now (is_symbol s.SEMICOLON) c.maybe_name-task.result.end c.maybe_name-task.result.stop c.in_err-symbol.field-0.0 c.in_err-symbol.ensures.missing)

@@ -1,7 +1,7 @@
 use Rattle.std.proofs.Common.{◌+◌, ap, arith}
 use Rattle.pearl_tree.specs.Expressions.{SpellsWhole}
-use Rattle.pearl_tree.specs.Symbols as s
-use Rattle.pearl_tree.specs.WordCodes as w
+use Rattle.pearl_tables.specs.declared.symbol.TheConstants as s
+use Rattle.pearl_tables.specs.declared.word_code.TheConstants as w
 use Rattle.pearl_parse_expr.specs.Stops.{extends_expression, is_symbol, is_word, is_name}
 use Rattle.pearl_parse.proofs.Steps.{err_told, past, missing, no_part, ends}
 use Rattle.pearl_parse.proofs.LeafRests.{Spelled, station_rest, send_goes}
@@ -48,8 +48,8 @@ returns-in_err-symbol-clause-refused c =
     err_told _ _ c.in_err-symbol.field-0.0 c.from_residual-in_err-symbol.result c.from_residual-in_err-symbol.ensures (λ e is. is)
     (λ depth.
     let go = past (Spelled depth) tokens from SpellsWhole extends_expression (station_rest w.TO) (from + 1) from value.end value.stop (send_goes tokens depth from c.requires.word) read.on.2 read.sure (λ others at to h. ap extends_expression h.0) in
-    missing (Spelled depth) tokens from (is_symbol s.semicolon) (station_rest w.TO) value.end value.stop (value.end + 2) c.in_err-symbol.field-0.0 go
-    (λ others to h. ap (is_symbol s.semicolon) h.2) (omega (arith, read.on)) (omega (arith, c.in_ok-dation.ensures.within)) (omega (arith, read.on)) c.in_err-symbol.ensures.missing)
+    missing (Spelled depth) tokens from (is_symbol s.SEMICOLON) (station_rest w.TO) value.end value.stop (value.end + 2) c.in_err-symbol.field-0.0 go
+    (λ others to h. ap (is_symbol s.SEMICOLON) h.2) (omega (arith, read.on)) (omega (arith, c.in_ok-dation.ensures.within)) (omega (arith, read.on)) c.in_err-symbol.ensures.missing)
 
 pub returns-clause-sure : goal.returns-clause-sure
 returns-clause-sure c = λ depth.

@@ -1,6 +1,6 @@
 use Rattle.std.proofs.Common.{◌+◌, ap, arith}
-use Rattle.pearl_tree.specs.Symbols as s
-use Rattle.pearl_tree.specs.WordCodes as w
+use Rattle.pearl_tables.specs.declared.symbol.TheConstants as s
+use Rattle.pearl_tables.specs.declared.word_code.TheConstants as w
 use Rattle.pearl_parse_expr.specs.Stops.{is_symbol, is_word}
 use Rattle.pearl_parse.specs.Modules.{SpellsOptionalName, SpellsHead}
 use Rattle.pearl_parse.proofs.Steps.{err_told, missing_is_refused, past_exact, missing, no_first, ends}
@@ -31,8 +31,8 @@ returns-in_err-symbol-clause-refused c =
     let read = c.in_ok-name.ensures in
     let go = past_exact SpellsHead tokens from SpellsOptionalName exit_rest (from + 1) from name.end name.stop (name_goes tokens from) (omega (arith, read.on)) read.sure in
     err_told _ _ c.in_err-symbol.field-0.0 c.from_residual-in_err-symbol.result c.from_residual-in_err-symbol.ensures (λ e is. is)
-    (missing SpellsHead tokens from (is_symbol s.semicolon) exit_rest name.end name.stop name.end c.in_err-symbol.field-0.0 go
-    (λ others to h. ap (is_symbol s.semicolon) h.0) (omega (arith, read.on)) (omega (arith, read.on)) read.on.3 c.in_err-symbol.ensures.missing)
+    (missing SpellsHead tokens from (is_symbol s.SEMICOLON) exit_rest name.end name.stop name.end c.in_err-symbol.field-0.0 go
+    (λ others to h. ap (is_symbol s.SEMICOLON) h.0) (omega (arith, read.on)) (omega (arith, read.on)) read.on.3 c.in_err-symbol.ensures.missing)
 
 pub returns-clause-sure : goal.returns-clause-sure
 returns-clause-sure c =
@@ -56,4 +56,4 @@ pub returns-in_err-symbol-clause-memory : goal.returns-in_err-symbol-clause-memo
 returns-in_err-symbol-clause-memory c =
     let name = c.in_ok-name.name in
     err_told _ _ c.in_err-symbol.field-0.0 c.from_residual-in_err-symbol.result c.from_residual-in_err-symbol.ensures (λ e is. is)
-    (missing_is_refused c.args.tokens.now (is_symbol s.semicolon) name.end name.stop c.in_err-symbol.field-0.0 c.in_err-symbol.ensures.missing)
+    (missing_is_refused c.args.tokens.now (is_symbol s.SEMICOLON) name.end name.stop c.in_err-symbol.field-0.0 c.in_err-symbol.ensures.missing)

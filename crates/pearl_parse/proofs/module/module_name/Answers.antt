@@ -1,7 +1,7 @@
 use Rattle.std.proofs.Common.{◌+◌, refl, sym, ap, arith}
 use Rattle.pearl_tree.specs.Standing.{what_at}
 use Rattle.pearl_tree.specs.Modules.{SpellsModuleName}
-use Rattle.pearl_tree.specs.Symbols as s
+use Rattle.pearl_tables.specs.declared.symbol.TheConstants as s
 use Rattle.pearl_parse_expr.specs.Stops.{is_name, is_symbol}
 use Rattle.pearl_parse.specs.Modules.{begins_module_name, SpellsOptionalName}
 use Rattle.pearl_parse.proofs.Steps.{err_told, missing_is_refused, missing, ends, optional_is_none}
@@ -23,7 +23,7 @@ returns-in_err-symbol-clause-refused c =
     let from = c.args.from in
     let two = c.in_ok-name.ensures.within in
     err_told _ _ c.in_err-symbol.field-0.0 c.from_residual-in_err-symbol.result c.from_residual-in_err-symbol.ensures (λ e is. is)
-    (missing SpellsOptionalName tokens from (is_symbol s.right_round) bracketed_rest (from + 1) from (from + 2) c.in_err-symbol.field-0.0 (bracketed_goes tokens from (c.if-is_symbol.ensures.stands refl))
+    (missing SpellsOptionalName tokens from (is_symbol s.RIGHT_ROUND) bracketed_rest (from + 1) from (from + 2) c.in_err-symbol.field-0.0 (bracketed_goes tokens from (c.if-is_symbol.ensures.stands refl))
     (λ others to h. bracket_closes others from to h) (omega arith) (omega (arith, two)) c.requires c.in_err-symbol.ensures.missing)
 
 pub returns-then-is_symbol-clause-sure : goal.returns-then-is_symbol-clause-sure
@@ -56,4 +56,4 @@ returns-in_err-name-clause-memory c =
 pub returns-in_err-symbol-clause-memory : goal.returns-in_err-symbol-clause-memory
 returns-in_err-symbol-clause-memory c =
     err_told _ _ c.in_err-symbol.field-0.0 c.from_residual-in_err-symbol.result c.from_residual-in_err-symbol.ensures (λ e is. is)
-    (missing_is_refused c.args.tokens.now (is_symbol s.right_round) (c.args.from + 2) c.args.from c.in_err-symbol.field-0.0 c.in_err-symbol.ensures.missing)
+    (missing_is_refused c.args.tokens.now (is_symbol s.RIGHT_ROUND) (c.args.from + 2) c.args.from c.in_err-symbol.field-0.0 c.in_err-symbol.ensures.missing)

@@ -1,5 +1,5 @@
 use Rattle.std.proofs.Common.{◌+◌}
-use Rattle.pearl_tree.specs.Symbols as s
+use Rattle.pearl_tables.specs.declared.symbol.TheConstants as s
 use Rattle.pearl_parse_expr.specs.Stops.{is_symbol, is_word}
 use Rattle.pearl_parse_expr.proofs.Halts.{err_map}
 use Rattle.pearl_parse.proofs.Steps.{err_told, missing_is_refused}
@@ -12,4 +12,4 @@ returns-in_err-word-clause-memory c =
 
 pub returns-clause-memory : goal.returns-clause-memory
 returns-clause-memory c =
-    err_map _ _ c.symbol.result (λ halt missing. missing_is_refused c.args.tokens.now (is_symbol s.semicolon) (c.args.from + 1) c.args.low halt missing) c.symbol.ensures.missing
+    err_map _ _ c.symbol.result (λ halt missing. missing_is_refused c.args.tokens.now (is_symbol s.SEMICOLON) (c.args.from + 1) c.args.low halt missing) c.symbol.ensures.missing

@@ -1,5 +1,5 @@
 use Rattle.std.proofs.Common.{◌+◌, ap, arith}
-use Rattle.pearl_tree.specs.Symbols as s
+use Rattle.pearl_tables.specs.declared.symbol.TheConstants as s
 use Rattle.pearl_parse_expr.specs.Stops.{extends_expression, is_symbol}
 use Rattle.pearl_parse.specs.Schedules.{SpellsOptionalPriority, SpellsActivation}
 use Rattle.pearl_parse.proofs.Steps.{err_told, past, missing_behind, no_part_behind, ends}
@@ -24,8 +24,8 @@ returns-in_err-symbol-clause-refused c =
     let read = c.in_ok-priority.ensures in
     let go = past SpellsActivation tokens from SpellsOptionalPriority extends_expression exit_rest (from + 2) low priority.end priority.stop (activation_goes tokens from low) read.on.2 read.sure (λ others at to h. ap extends_expression h.0) in
     err_told _ _ c.in_err-symbol.field-0.0 c.from_residual-in_err-symbol.result c.from_residual-in_err-symbol.ensures (λ e is. is)
-    (missing_behind SpellsActivation tokens from low (is_symbol s.semicolon) exit_rest priority.end priority.stop priority.end c.in_err-symbol.field-0.0 go
-    (λ others to h. ap (is_symbol s.semicolon) h.0) (omega (arith, read.on)) read.on.2 (omega (arith, read.on)) (omega (arith, read.on)) c.in_err-symbol.ensures.missing)
+    (missing_behind SpellsActivation tokens from low (is_symbol s.SEMICOLON) exit_rest priority.end priority.stop priority.end c.in_err-symbol.field-0.0 go
+    (λ others to h. ap (is_symbol s.SEMICOLON) h.0) (omega (arith, read.on)) read.on.2 (omega (arith, read.on)) (omega (arith, read.on)) c.in_err-symbol.ensures.missing)
 
 pub returns-clause-sure : goal.returns-clause-sure
 returns-clause-sure c =

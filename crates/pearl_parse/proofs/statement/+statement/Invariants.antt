@@ -1,7 +1,7 @@
 use Rattle.std.proofs.Common.{◌+◌, ◌-◌, ◌*◌, length}
 use Rattle.pearl_tree.specs.Standing.{SpellsEach}
 use Rattle.pearl_tree.specs.Statements.{SpellsStmt, SpellsBranch}
-use Rattle.pearl_tree.specs.WordCodes as w
+use Rattle.pearl_tables.specs.declared.word_code.TheConstants as w
 use Rattle.pearl_parse.specs.Stops.{IsOn, begins_statement}
 use Rattle.pearl_parse.specs.Bodies.{SpellsStatements}
 use Rattle.pearl_parse.proofs.Repetitions.{EachGoes}

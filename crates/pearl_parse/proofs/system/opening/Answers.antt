@@ -1,6 +1,6 @@
 use Rattle.std.proofs.Common.{◌+◌, ap, arith}
-use Rattle.pearl_tree.specs.Symbols as s
-use Rattle.pearl_tree.specs.WordCodes as w
+use Rattle.pearl_tables.specs.declared.symbol.TheConstants as s
+use Rattle.pearl_tables.specs.declared.word_code.TheConstants as w
 use Rattle.pearl_parse_expr.specs.Stops.{is_name, is_symbol, is_word}
 use Rattle.pearl_parse.specs.Modules.{SpellsOptionalSystem, SpellsOpening}
 use Rattle.pearl_parse.proofs.Steps.{err_told, past, missing, no_first, ends}
@@ -34,8 +34,8 @@ returns-in_err-symbol-clause-refused c =
     let read = c.in_ok-system.ensures in
     let go = past SpellsOpening tokens from SpellsOptionalSystem is_name problem_rest from from system.end system.stop (opening_goes tokens from) read.on.2 read.sure problem_stops in
     err_told _ _ c.in_err-symbol.field-0.0 c.from_residual-in_err-symbol.result c.from_residual-in_err-symbol.ensures (λ e is. is)
-    (missing SpellsOpening tokens from (is_symbol s.semicolon) problem_rest system.end system.stop (system.end + 1) c.in_err-symbol.field-0.0 go
-    (λ others to h. ap (is_symbol s.semicolon) h.1) read.on.2 (omega (arith, c.in_ok-word.ensures.within)) read.on.3 c.in_err-symbol.ensures.missing)
+    (missing SpellsOpening tokens from (is_symbol s.SEMICOLON) problem_rest system.end system.stop (system.end + 1) c.in_err-symbol.field-0.0 go
+    (λ others to h. ap (is_symbol s.SEMICOLON) h.1) read.on.2 (omega (arith, c.in_ok-word.ensures.within)) read.on.3 c.in_err-symbol.ensures.missing)
 
 pub returns-clause-sure : goal.returns-clause-sure
 returns-clause-sure c =

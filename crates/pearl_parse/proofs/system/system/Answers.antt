@@ -1,6 +1,6 @@
 use Rattle.std.proofs.Common.{◌+◌, ap, arith}
 use Rattle.pearl_tree.specs.Modules.{SpellsSystem}
-use Rattle.pearl_tree.specs.Symbols as s
+use Rattle.pearl_tables.specs.declared.symbol.TheConstants as s
 use Rattle.pearl_parse_expr.specs.Stops.{is_symbol}
 use Rattle.pearl_parse.proofs.Steps.{err_told, missing}
 use Rattle.pearl_parse.proofs.ModuleRests.{devices_rest, devices_go, system_is_sure}
@@ -11,8 +11,8 @@ returns-in_err-symbol-clause-refused c =
     let tokens = c.args.tokens.now in
     let from = c.args.from in
     err_told _ _ c.in_err-symbol.field-0.0 c.from_residual.result c.from_residual.ensures (λ e is. is)
-    (missing SpellsSystem tokens from (is_symbol s.semicolon) devices_rest (from + 1) from (from + 1) c.in_err-symbol.field-0.0 (devices_go tokens from)
-    (λ others to h. ap (is_symbol s.semicolon) h.0) (omega arith) (omega (arith, c.requires.within)) (omega (arith, c.requires.within)) c.in_err-symbol.ensures.missing)
+    (missing SpellsSystem tokens from (is_symbol s.SEMICOLON) devices_rest (from + 1) from (from + 1) c.in_err-symbol.field-0.0 (devices_go tokens from)
+    (λ others to h. ap (is_symbol s.SEMICOLON) h.0) (omega arith) (omega (arith, c.requires.within)) (omega (arith, c.requires.within)) c.in_err-symbol.ensures.missing)
 
 pub returns-in-Ok-clause-sure : goal.returns-in-Ok-clause-sure
 returns-in-Ok-clause-sure c =

@@ -1,5 +1,5 @@
 use Rattle.std.proofs.Common.{◌+◌, refl, sym, ap, arith}
-use Rattle.pearl_tree.specs.Symbols as s
+use Rattle.pearl_tables.specs.declared.symbol.TheConstants as s
 use Rattle.pearl_parse_expr.specs.Stops.{is_symbol, is_name}
 use Rattle.pearl_parse.specs.Schedules.{SpellsBegun}
 use Rattle.pearl_parse.proofs.Steps.{Ends, err_told, past_exact, missing, no_part, ends}
@@ -33,9 +33,9 @@ returns-in_err-symbol-clause-refused c =
     let time = c.in_ok-time.time in
     let read = c.in_ok-time.ensures in
     err_told _ _ c.in_err-symbol.field-0.0 c.from_residual-in_err-symbol.result c.from_residual-in_err-symbol.ensures (λ e is. is)
-    (λ depth. missing (Spelled depth) tokens from (is_symbol s.semicolon) continue_rest time.end time.stop (time.end + 2) c.in_err-symbol.field-0.0
+    (λ depth. missing (Spelled depth) tokens from (is_symbol s.SEMICOLON) continue_rest time.end time.stop (time.end + 2) c.in_err-symbol.field-0.0
     (continued_goes tokens depth from later c.time_word.result time.end time.stop c.requires.word c.time_word.ensures read.on.2 (omega (arith, read.on)) read.sure (c.if-is_word.ensures.stands refl))
-    (λ others to h. ap (is_symbol s.semicolon) h.1) read.on.2 (omega (arith, c.in_ok-task.ensures.within)) (omega (arith, read.on)) c.in_err-symbol.ensures.missing)
+    (λ others to h. ap (is_symbol s.SEMICOLON) h.1) read.on.2 (omega (arith, c.in_ok-task.ensures.within)) (omega (arith, read.on)) c.in_err-symbol.ensures.missing)
 
 pub returns-then-is_word-clause-sure : goal.returns-then-is_word-clause-sure
 returns-then-is_word-clause-sure c = λ depth.
@@ -55,9 +55,9 @@ returns-in_err-symbol-2-clause-refused c =
     let time = c.in_ok-time.time in
     let read = c.in_ok-time.ensures in
     err_told _ _ c.in_err-symbol-2.field-0.0 c.from_residual-in_err-symbol-2.result c.from_residual-in_err-symbol-2.ensures (λ e is. is)
-    (λ depth. missing (Spelled depth) tokens from (is_symbol s.semicolon) resume_rest time.end time.stop (time.end + 1) c.in_err-symbol-2.field-0.0
+    (λ depth. missing (Spelled depth) tokens from (is_symbol s.SEMICOLON) resume_rest time.end time.stop (time.end + 1) c.in_err-symbol-2.field-0.0
     (resumed_goes tokens depth from later c.time_word.result time.end time.stop c.requires.word c.time_word.ensures read.on.2 (omega (arith, read.on)) read.sure (c.if-is_word-2.ensures.stands refl))
-    (λ others to h. ap (is_symbol s.semicolon) h.0) read.on.2 (omega (arith, c.if-is_word-2.ensures.within refl)) (omega (arith, read.on)) c.in_err-symbol-2.ensures.missing)
+    (λ others to h. ap (is_symbol s.SEMICOLON) h.0) read.on.2 (omega (arith, c.if-is_word-2.ensures.within refl)) (omega (arith, read.on)) c.in_err-symbol-2.ensures.missing)
 
 pub returns-then-is_word-2-clause-sure : goal.returns-then-is_word-2-clause-sure
 returns-then-is_word-2-clause-sure c = λ depth.

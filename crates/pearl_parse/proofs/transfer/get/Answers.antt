@@ -1,6 +1,6 @@
 use Rattle.std.proofs.Common.{◌+◌, arith}
 use Rattle.pearl_tree.specs.Expressions.{SpellsOwnRef}
-use Rattle.pearl_tree.specs.WordCodes as w
+use Rattle.pearl_tables.specs.declared.word_code.TheConstants as w
 use Rattle.pearl_parse.specs.Stops.{SpellsBefore, SpellsStation}
 use Rattle.pearl_parse.proofs.Steps.{Ends, err_told, past_exact, no_first, no_part}
 use Rattle.pearl_parse.proofs.LeafRests.{Spelled}

@@ -1,5 +1,5 @@
 use Rattle.std.proofs.Common.{◌+◌, ap, arith}
-use Rattle.pearl_tree.specs.Symbols as s
+use Rattle.pearl_tables.specs.declared.symbol.TheConstants as s
 use Rattle.pearl_parse_expr.specs.Stops.{is_symbol}
 use Rattle.pearl_parse_decl.specs.Readings.{by_comma, never}
 use Rattle.pearl_parse.specs.Stops.{SpellsNameList}
@@ -25,8 +25,8 @@ returns-in_err-symbol-clause-refused c =
     err_told _ _ c.in_err-symbol.field-0.0 c.from_residual-in_err-symbol.result c.from_residual-in_err-symbol.ensures (λ e is. is)
     (λ depth.
     let go = past (Spelled depth) tokens from SpellsNameList (by_comma never) exit_rest (from + 1) from names.end names.stop (semas_goes tokens depth from c.args.word c.requires.word) (omega (arith, read.ahead)) read.sure (λ others at to h. ap (by_comma never) h.0) in
-    missing (Spelled depth) tokens from (is_symbol s.semicolon) exit_rest names.end names.stop names.end c.in_err-symbol.field-0.0 go
-    (λ others to h. ap (is_symbol s.semicolon) h.0) (omega (arith, read.ahead)) (omega (arith, read.ahead)) (omega (arith, read.ahead)) c.in_err-symbol.ensures.missing)
+    missing (Spelled depth) tokens from (is_symbol s.SEMICOLON) exit_rest names.end names.stop names.end c.in_err-symbol.field-0.0 go
+    (λ others to h. ap (is_symbol s.SEMICOLON) h.0) (omega (arith, read.ahead)) (omega (arith, read.ahead)) (omega (arith, read.ahead)) c.in_err-symbol.ensures.missing)
 
 pub returns-clause-sure : goal.returns-clause-sure
 returns-clause-sure c = λ depth.

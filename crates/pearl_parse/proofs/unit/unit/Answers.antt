@@ -1,7 +1,7 @@
 use Rattle.std.proofs.Common.{◌+◌, sym, ap, arith}
 use Rattle.pearl_tree.specs.Modules.{SpellsDecl}
-use Rattle.pearl_tree.specs.Symbols as s
-use Rattle.pearl_tree.specs.WordCodes as w
+use Rattle.pearl_tables.specs.declared.symbol.TheConstants as s
+use Rattle.pearl_tables.specs.declared.word_code.TheConstants as w
 use Rattle.pearl_parse_expr.specs.Stops.{is_name, is_symbol, is_word}
 use Rattle.pearl_parse.proofs.Steps.{err_told, missing}
 use Rattle.pearl_parse.proofs.UnitRests.{unit_rest, word_rest, unit_goes, word_goes}
@@ -12,8 +12,8 @@ returns-in_err-symbol-clause-refused c =
     let tokens = c.args.tokens.now in
     let from = c.args.from in
     err_told _ _ c.in_err-symbol.field-0.0 c.from_residual.result c.from_residual.ensures (λ e is. is)
-    (missing SpellsDecl tokens from (is_symbol s.colon) unit_rest (from + 1) from (from + 1) c.in_err-symbol.field-0.0 (unit_goes tokens from (ap is_name c.requires.name.0))
-    (λ others to h. ap (is_symbol s.colon) h) (omega arith) (omega (arith, c.requires.within)) (omega (arith, c.requires.within)) c.in_err-symbol.ensures.missing)
+    (missing SpellsDecl tokens from (is_symbol s.COLON) unit_rest (from + 1) from (from + 1) c.in_err-symbol.field-0.0 (unit_goes tokens from (ap is_name c.requires.name.0))
+    (λ others to h. ap (is_symbol s.COLON) h) (omega arith) (omega (arith, c.requires.within)) (omega (arith, c.requires.within)) c.in_err-symbol.ensures.missing)
 
 pub returns-in_err-word-clause-refused : goal.returns-in_err-word-clause-refused
 returns-in_err-word-clause-refused c =

@@ -1,8 +1,8 @@
 use Rattle.std.proofs.Common.{◌+◌, ◌-◌, ◌<◌, ◌≤◌, length, [], ◌∷◌, ◌++◌, inl, refl, sym, ap, subst, ◌∙◌, arith}
 use Rattle.pearl_tree.specs.Standing.{SpellsList}
 use Rattle.pearl_tree.specs.Types as grammar
-use Rattle.pearl_tree.specs.WordCodes as w
-use Rattle.pearl_tree.specs.Symbols as s
+use Rattle.pearl_tables.specs.declared.word_code.TheConstants as w
+use Rattle.pearl_tables.specs.declared.symbol.TheConstants as s
 use Rattle.pearl_tree.proofs.TypeLists.{spells_struct}
 use Rattle.pearl_parse_expr.specs.Stops as stops
 use Rattle.pearl_parse_expr.proofs.Lists.{list_one_more}
@@ -108,8 +108,8 @@ structure-returns-then-depth-eq0-clause-refused t c = (
 pub structure-returns-then-not-is_symbol-clause-refused : goal.structure-returns-then-not-is_symbol-clause-refused
 structure-returns-then-not-is_symbol-clause-refused t c = (
   λ others agree x to h. clash _
-      (ap (stops.is_symbol s.left_square) (only_struct others c.args.depth c.args.from (sym (agree c.args.from (omega arith)) ∙ c.requires.word) x to h).1)
-      (ap (stops.is_symbol s.left_square) (sym (agree (c.args.from + 1) (omega arith))) ∙ sym c.if-not-is_symbol.ensures.value),
+      (ap (stops.is_symbol s.LEFT_SQUARE) (only_struct others c.args.depth c.args.from (sym (agree c.args.from (omega arith)) ∙ c.requires.word) x to h).1)
+      (ap (stops.is_symbol s.LEFT_SQUARE) (sym (agree (c.args.from + 1) (omega arith))) ∙ sym c.if-not-is_symbol.ensures.value),
   omega arith,
   omega (arith, word_within c.args.tokens.now c.args.from w.STRUCT c.requires.word),
 )

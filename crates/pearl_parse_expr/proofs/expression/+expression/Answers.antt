@@ -1,6 +1,6 @@
 use Rattle.std.proofs.Common.{◌≡◌, ℕ, ◌+◌, ◌-◌, ◌<◌, ◌≤◌, length, inl, refl, sym, ap, subst, ◌∙◌, arith, rules, [], ◌∷◌, ◌++◌}
 use Rattle.pearl_tree.specs.Expressions as grammar
-use Rattle.pearl_tree.specs.Symbols as s
+use Rattle.pearl_tables.specs.declared.symbol.TheConstants as s
 use Rattle.pearl_tree.proofs.ExpressionLists.{spells_ref, spells_limit, spells_subscripts}
 use Rattle.pearl_parse_expr.specs.Stops as spec
 use Rattle.pearl_parse_expr.proofs.Primaries.{clash, symbol_within, only_group, only_bracketed, only_named, only_now, no_selector, selector_extends}
@@ -65,7 +65,7 @@ group-returns-then-depth-eq0-clause-refused t c = (
 pub group-level-requires : goal.group-level-requires
 group-level-requires t c =
     let deep : 0 < c.args.depth = omega (arith, c.if-depth-eq0.false) in
-    (search rules, omega (arith, symbol_within c.args.tokens.now c.args.from s.left_round c.requires.bracket))
+    (search rules, omega (arith, symbol_within c.args.tokens.now c.args.from s.LEFT_ROUND c.requires.bracket))
 
 pub group-returns-in-Err-clause-refused : goal.group-returns-in-Err-clause-refused
 group-returns-in-Err-clause-refused t c =
@@ -215,8 +215,8 @@ selector-returns-then-is_symbol-clause-refused t c = err_map _ _ c.component.res
 pub selector-returns-clause-refused : goal.selector-returns-clause-refused
 selector-returns-clause-refused t c = (
   λ others agree x to h. no_selector others c.args.depth c.args.from
-      (ap (spec.is_symbol s.period) (sym (agree c.args.from (omega arith))) ∙ sym c.if-is_symbol.ensures.value)
-      (λ stands deep. elim c.else-depth-gt0.branch [ selector-else-depth-gt0-via-then-depth-gt0+else-is_symbol-2 w ↦ clash _ stands (ap (spec.is_symbol s.left_round) (sym (agree c.args.from (omega arith))) ∙ sym w.if-is_symbol-2.ensures.value) | selector-else-depth-gt0-via-else-depth-gt0 w ↦ omega (arith, deep, w.if-depth-gt0.false) ]) x to h,
+      (ap (spec.is_symbol s.PERIOD) (sym (agree c.args.from (omega arith))) ∙ sym c.if-is_symbol.ensures.value)
+      (λ stands deep. elim c.else-depth-gt0.branch [ selector-else-depth-gt0-via-then-depth-gt0+else-is_symbol-2 w ↦ clash _ stands (ap (spec.is_symbol s.LEFT_ROUND) (sym (agree c.args.from (omega arith))) ∙ sym w.if-is_symbol-2.ensures.value) | selector-else-depth-gt0-via-else-depth-gt0 w ↦ omega (arith, deep, w.if-depth-gt0.false) ]) x to h,
   omega arith,
   c.requires,
 )

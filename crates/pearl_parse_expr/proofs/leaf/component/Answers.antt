@@ -1,5 +1,5 @@
 use Rattle.std.proofs.Common.{◌+◌, refl, sym, arith, ap, ◌∙◌}
-use Rattle.pearl_tree.specs.Symbols as s
+use Rattle.pearl_tables.specs.declared.symbol.TheConstants as s
 use Rattle.pearl_parse_expr.specs.Stops.{is_name}
 use Rattle.pearl_parse_expr.proofs.Primaries.{clash, symbol_within, only_component}
 use Rattle.pearl_parse_expr.proofs.leaf.component.Goals as goal
@@ -14,5 +14,5 @@ returns-in-None-clause-refused c = λ depth. (
       (only_component others depth c.args.from (sym (agree c.args.from (omega arith)) ∙ c.requires.period) x to h).0
       (ap is_name (sym (agree (c.args.from + 1) (omega arith))) ∙ c.in-None.ensures.none refl),
   omega arith,
-  omega (arith, symbol_within c.args.tokens.now c.args.from s.period c.requires.period),
+  omega (arith, symbol_within c.args.tokens.now c.args.from s.PERIOD c.requires.period),
 )
