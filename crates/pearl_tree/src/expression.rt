@@ -3,68 +3,13 @@
 use crate::literal::Literal;
 use crate::name::{Name, Number};
 use crate::parts::Parts;
-
-/// What a monadic operator does.
-#[derive(Clone, Copy, PartialEq, Eq, Debug)]
-pub enum Monad {
-    /// `+`
-    Plus,
-    /// `-`
-    Minus,
-    /// `ABS`
-    Abs,
-    /// `SIGN`
-    Sign,
-    /// `NOT`
-    Not,
-}
+use pearl_value::operator::{Dyad, Monad};
 
 /// A monadic operator, and the place where it stands.
 #[derive(Clone, Copy)]
 pub struct Monadic {
     pub operator: Monad,
     pub place: u32,
-}
-
-/// What a dyadic operator does.
-#[derive(Clone, Copy, PartialEq, Eq, Debug)]
-pub enum Dyad {
-    /// `**`
-    Power,
-    /// `*`
-    Times,
-    /// `//`
-    Over,
-    /// `REM`
-    Rem,
-    /// `><` or `CAT`
-    Cat,
-    /// `+`
-    Plus,
-    /// `-`
-    Minus,
-    /// `<>` or `CSHIFT`
-    Cshift,
-    /// `SHIFT`
-    Shift,
-    /// `<` or `LT`
-    Lt,
-    /// `>` or `GT`
-    Gt,
-    /// `<=` or `LE`
-    Le,
-    /// `>=` or `GE`
-    Ge,
-    /// `==` or `EQ`
-    Eq,
-    /// `/=` or `NE`
-    Ne,
-    /// `AND`
-    And,
-    /// `OR`
-    Or,
-    /// `EXOR`
-    Exor,
 }
 
 /// A dyadic operator, and the place where it stands.
@@ -132,7 +77,7 @@ pub enum Primary {
     Limit {
         dimension: Option<Number>,
         side: Side,
-        array: Ref,
+        array: Box<Ref>,
         place: u32,
     },
 }

@@ -39,7 +39,7 @@ pub enum Duration {
     },
 }
 
-/// The rule `literal`.
+/// The rule `literal`. What takes much room stands in a box.
 #[derive(Drop)]
 pub enum Literal {
     /// `number`
@@ -47,11 +47,14 @@ pub enum Literal {
     /// `bits`
     Bits { len: u8, value: u64, place: u32 },
     /// `text`
-    Text { text: ArrayVec<u8, 255>, place: u32 },
+    Text {
+        text: Box<ArrayVec<u8, 255>>,
+        place: u32,
+    },
     /// `clock`, as milliseconds since midnight
     Clock { milliseconds: u32, place: u32 },
     /// `duration`
-    Duration(Duration),
+    Duration(Box<Duration>),
 }
 
 /// `"+" | "-"` before a constant

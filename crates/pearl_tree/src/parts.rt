@@ -10,11 +10,20 @@ pub struct Parts<T> {
 }
 
 impl<T> Parts<T> {
-    /// These parts, in the memory that holds them.
-    pub fn new(items: Vec<T>) -> Parts<T>
-        ensures { result.items ≡ items }
+    /// These parts. What memory the list had to spare is given back.
+    pub fn new(mut items: Vec<T>) -> Parts<T>
+        ensures { result.items.items ≡ items.items }
     {
+        items.shrink_to_fit();
         Parts { items }
+    }
+
+    /// The parts as they were handed in.
+    pub fn into_vec(self) -> Vec<T>
+        ensures { result ≡ self.items }
+    {
+        let Parts { items } = self;
+        items
     }
 
     /// The parts, in order.

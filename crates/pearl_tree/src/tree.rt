@@ -70,6 +70,8 @@ pub struct Tree {
     /// The devices of the system part, if there is one.
     pub system: Option<Parts<Device>>,
     pub declarations: Parts<Decl>,
+    /// The place of MODEND.
+    pub modend: u32,
     /// Whether a semicolon ends the module.
     pub semicolon: bool,
     pub place: u32,
