@@ -2,6 +2,7 @@ pub mod Standing
 pub mod Expressions
 pub mod Following
 pub mod Chains
+pub mod ShownLiterals
 pub mod ShownExpressions
 pub mod ShownDeclarations
 pub mod ShownStatements
@@ -14,4 +15,5 @@ pub mod Declarations
 pub mod Statements
 pub mod Modules
 pub mod Tokens
+pub mod Lawfulness
 pub mod Lawful
