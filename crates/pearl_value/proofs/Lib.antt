@@ -3,3 +3,4 @@ pub mod Powers
 pub mod Held
 pub mod Turns
 pub mod Filled
+pub mod Values

@@ -2,13 +2,13 @@
 
 ghost use Rattle.std.specs.Prelude.{◌≡◌, ◌↔◌, ◌-◌, ◌*◌, ◌^◌, ◌≤◌, ◌<◌, pos, negsuc, ◌≤ℤ◌, IsTrue, IfOk, length};
 ghost use Rattle.pearl_value.specs.Kinds.{IsKind};
-ghost use Rattle.pearl_value.specs.Cells.{kind_of};
+ghost use Rattle.pearl_value.specs.Cells.{kind_of, cell_kind_of};
 ghost use Rattle.pearl_value.specs.WellFormed.{IsWellFormed};
 ghost use Rattle.pearl_value.specs.Blanks.{filled_to, widened, blank_of};
 ghost use Rattle.pearl_value.specs.Conversions.{SuitsKind, fits_fixed, fixed_of, converted};
 
 use crate::cell::Cell;
-use crate::kind::Kind;
+use crate::kind::{CellKind, Kind};
 use crate::trap::Trap;
 use arrayvec::ArrayVec;
 
@@ -36,6 +36,16 @@ pub fn kind(cell: &Cell) -> Kind
         Cell::Clock(_) => Kind::Clock,
         Cell::Span(_) => Kind::Span,
         Cell::Ref { kind, .. } => *kind,
+    }
+}
+
+/// The kind of a cell, in which a reference is told from a value.
+pub fn cell_kind(cell: &Cell) -> CellKind
+    ensures { result ≡ cell_kind_of cell.now }
+{
+    match cell {
+        Cell::Ref { kind, .. } => CellKind::RefTo(*kind),
+        _ => CellKind::Plain(kind(cell)),
     }
 }
 
