@@ -4,3 +4,4 @@ pub mod Held
 pub mod Turns
 pub mod Filled
 pub mod Values
+pub mod Results
