@@ -49,7 +49,8 @@ span_gives value = by (fits_span value) refl
     by true e = record { is_value = record { low = grind (arith, ints); high = grind (arith, ints) }; same_kind = refl }
     by false e = tt
 
-rem_below : (value : ℤ) (n : ℕ) → 0 < n → unsigned_abs (int_rem_euclid value (pos n)) < n
+-- what is left of a number is below the divisor
+pub rem_below : (value : ℤ) (n : ℕ) → 0 < n → unsigned_abs (int_rem_euclid value (pos n)) < n
 rem_below (pos a) n some = mod_below a n some
 rem_below (negsuc a) n some = omega arith
 
