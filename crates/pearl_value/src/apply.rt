@@ -3,7 +3,7 @@
 ghost use Rattle.std.specs.Prelude.{◌≡◌, ◌<◌, ◌≤◌, ◌-◌, ◌^◌, neg_ℤ, pos, unsigned_abs, IfOk, IsSome};
 ghost use Rattle.std.specs.Int.{int_signum};
 ghost use Rattle.pearl_value.specs.Cells.{kind_of};
-ghost use Rattle.pearl_value.specs.WellFormed.{IsWellFormed};
+ghost use Rattle.pearl_value.specs.WellFormed.{IsValue};
 ghost use Rattle.pearl_value.specs.Rows.{row1, row2};
 ghost use Rattle.pearl_value.specs.Applied.{applied1, applied2};
 
@@ -45,11 +45,11 @@ fn opposite_bits(len: u8, value: u64) -> u64
 
 /// What the operator makes of the value.
 pub fn apply1(op: Monad, x: &Cell) -> Result<Cell, Trap>
-    requires well_formed { IsWellFormed x.now }
+    requires value { IsValue x.now }
     requires row { IsSome (row1 op (kind_of x.now)) }
     ensures value { result ≡ applied1 op x.now }
     ensures same_kind { IfOk result (λ cell. row1 op (kind_of x.now) ≡ Some (kind_of cell)) }
-    ensures well_formed { IfOk result IsWellFormed }
+    ensures is_value { IfOk result IsValue }
 {
     match (op, x) {
         (Monad::Plus, Cell::Fixed { len, value }) => fixed(*len, *value as i128),
@@ -70,12 +70,12 @@ pub fn apply1(op: Monad, x: &Cell) -> Result<Cell, Trap>
 
 /// What the operator makes of the values, in the order in which they are written.
 pub fn apply2(op: Dyad, x: &Cell, y: &Cell) -> Result<Cell, Trap>
-    requires left { IsWellFormed x.now }
-    requires right { IsWellFormed y.now }
+    requires left { IsValue x.now }
+    requires right { IsValue y.now }
     requires row { IsSome (row2 op (kind_of x.now) (kind_of y.now)) }
     ensures value { result ≡ applied2 op x.now y.now }
     ensures same_kind { IfOk result (λ cell. row2 op (kind_of x.now) (kind_of y.now) ≡ Some (kind_of cell)) }
-    ensures well_formed { IfOk result IsWellFormed }
+    ensures is_value { IfOk result IsValue }
 {
     macro_rules! by_operator {
         ($($operator:ident: $meaning:ident),+) => {

@@ -3,7 +3,7 @@
 ghost use Rattle.std.specs.Prelude.{◌≡◌, ◌<◌, ◌≤◌, ◌+◌, ◌-◌, ◌*◌, ◌/◌, ◌%◌, ◌^◌, ◌++◌, length, IfOk, IsSome, bit_and, bit_or, bit_xor, unsigned_abs, pos};
 ghost use Rattle.std.specs.Int.{int_rem_euclid};
 ghost use Rattle.pearl_value.specs.Cells.{kind_of};
-ghost use Rattle.pearl_value.specs.WellFormed.{IsWellFormed};
+ghost use Rattle.pearl_value.specs.WellFormed.{IsValue};
 ghost use Rattle.pearl_value.specs.Rows.{joined_row, moved_row, bitwise_row};
 ghost use Rattle.pearl_value.specs.Strings.{joined_of, turned, turned_of, shifted, shifted_of, and_of, or_of, exor_of};
 
@@ -35,12 +35,12 @@ fn joined_bits(len: u8, value: u64, more: u8, other: u64) -> u64
 
 /// The first value's bytes or bits, then the second's.
 pub(crate) fn joined(x: &Cell, y: &Cell) -> Result<Cell, Trap>
-    requires left { IsWellFormed x.now }
-    requires right { IsWellFormed y.now }
+    requires left { IsValue x.now }
+    requires right { IsValue y.now }
     requires row { IsSome (joined_row (kind_of x.now) (kind_of y.now)) }
     ensures value { result ≡ joined_of x.now y.now }
     ensures same_kind { IfOk result (λ cell. joined_row (kind_of x.now) (kind_of y.now) ≡ Some (kind_of cell)) }
-    ensures well_formed { IfOk result IsWellFormed }
+    ensures is_value { IfOk result IsValue }
 {
     match (x, y) {
         (Cell::Chars(text), Cell::Chars(other)) => Ok(Cell::Chars(joined_text(text, other))),
@@ -88,11 +88,11 @@ fn turned_left(len: u8, value: u64, by: u8) -> u64
 
 /// The bits turned left by the number modulo their length.
 pub(crate) fn cyclic(x: &Cell, y: &Cell) -> Result<Cell, Trap>
-    requires left { IsWellFormed x.now }
-    requires right { IsWellFormed y.now }
+    requires left { IsValue x.now }
+    requires right { IsValue y.now }
     ensures value { result ≡ turned_of x.now y.now }
     ensures same_kind { IfOk result (λ cell. moved_row (kind_of x.now) (kind_of y.now) ≡ Some (kind_of cell)) }
-    ensures well_formed { IfOk result IsWellFormed }
+    ensures is_value { IfOk result IsValue }
 {
     match (x, y) {
         (Cell::Bits { len, value }, Cell::Fixed { value: by, .. }) => {
@@ -131,11 +131,11 @@ fn moved(len: u8, value: u64, by: i64) -> u64
 
 /// The bits moved left, or right where the number is negative, zeros coming in.
 pub(crate) fn shift(x: &Cell, y: &Cell) -> Result<Cell, Trap>
-    requires left { IsWellFormed x.now }
-    requires right { IsWellFormed y.now }
+    requires left { IsValue x.now }
+    requires right { IsValue y.now }
     ensures value { result ≡ shifted_of x.now y.now }
     ensures same_kind { IfOk result (λ cell. moved_row (kind_of x.now) (kind_of y.now) ≡ Some (kind_of cell)) }
-    ensures well_formed { IfOk result IsWellFormed }
+    ensures is_value { IfOk result IsValue }
 {
     match (x, y) {
         (Cell::Bits { len, value }, Cell::Fixed { value: by, .. }) => Ok(Cell::Bits {
@@ -175,11 +175,11 @@ fn different_bits(a: u64, b: u64, room: u8) -> u64
 
 /// AND, bit by bit.
 pub(crate) fn both(x: &Cell, y: &Cell) -> Result<Cell, Trap>
-    requires left { IsWellFormed x.now }
-    requires right { IsWellFormed y.now }
+    requires left { IsValue x.now }
+    requires right { IsValue y.now }
     ensures value { result ≡ and_of x.now y.now }
     ensures same_kind { IfOk result (λ cell. bitwise_row (kind_of x.now) (kind_of y.now) ≡ Some (kind_of cell)) }
-    ensures well_formed { IfOk result IsWellFormed }
+    ensures is_value { IfOk result IsValue }
 {
     match (x, y) {
         (
@@ -205,11 +205,11 @@ pub(crate) fn both(x: &Cell, y: &Cell) -> Result<Cell, Trap>
 
 /// OR, bit by bit.
 pub(crate) fn either(x: &Cell, y: &Cell) -> Result<Cell, Trap>
-    requires left { IsWellFormed x.now }
-    requires right { IsWellFormed y.now }
+    requires left { IsValue x.now }
+    requires right { IsValue y.now }
     ensures value { result ≡ or_of x.now y.now }
     ensures same_kind { IfOk result (λ cell. bitwise_row (kind_of x.now) (kind_of y.now) ≡ Some (kind_of cell)) }
-    ensures well_formed { IfOk result IsWellFormed }
+    ensures is_value { IfOk result IsValue }
 {
     match (x, y) {
         (
@@ -235,11 +235,11 @@ pub(crate) fn either(x: &Cell, y: &Cell) -> Result<Cell, Trap>
 
 /// EXOR, bit by bit.
 pub(crate) fn different(x: &Cell, y: &Cell) -> Result<Cell, Trap>
-    requires left { IsWellFormed x.now }
-    requires right { IsWellFormed y.now }
+    requires left { IsValue x.now }
+    requires right { IsValue y.now }
     ensures value { result ≡ exor_of x.now y.now }
     ensures same_kind { IfOk result (λ cell. bitwise_row (kind_of x.now) (kind_of y.now) ≡ Some (kind_of cell)) }
-    ensures well_formed { IfOk result IsWellFormed }
+    ensures is_value { IfOk result IsValue }
 {
     match (x, y) {
         (
