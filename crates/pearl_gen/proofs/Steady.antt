@@ -11,36 +11,36 @@ use Rattle.pearl_code.specs.declared.instr.Instr.{Instr}
 use Rattle.pearl_code.specs.declared.instr.Instr.TheVariants as instr
 use Rattle.pearl_code.specs.Rows.{below, last, second}
 use Rattle.pearl_code.specs.Valid.{Shape, kinds_of, FitsConv, FitsRead, FitsWrite, FitsDyadic, FitsPut, RunsFrom}
-use Rattle.pearl_gen.specs.Plain.{Plain, Const, Conv, Read, Write, Dyadic, Put, End, plain_of}
+use Rattle.pearl_gen.specs.TaskCode.{Unboxed, Const, Conv, Read, Write, Dyadic, Put, End, unboxed_of}
 use Rattle.pearl_gen.proofs.Zips.{zip_push, zip_length}
 use Rattle.pearl_gen.proofs.Straight.{below_append, last_append, last_two, second_two}
 
--- the rule of valid code again, for plain instructions
-abbrev pub PlainRuns : Setup → ℕ → Shape → List Plain → Type 0
-PlainRuns setup depth shape [] = shape ≡ None
-PlainRuns setup depth shape (Const value ∷ rest) =
-    IsWellFormed value × (length (kinds_of shape) < depth) × PlainRuns setup depth (Some (kinds_of shape ++ kind_of value ∷ [])) rest
-PlainRuns setup depth shape (Conv to ∷ rest) =
-    (left : List Kind) × FitsConv to (kinds_of shape) left × PlainRuns setup depth (Some (left ++ to ∷ [])) rest
-PlainRuns setup depth shape (Read slot ∷ rest) =
-    FitsRead setup depth slot (kinds_of shape) × PlainRuns setup depth (Some (kinds_of shape ++ slot_kind setup slot ∷ [])) rest
-PlainRuns setup depth shape (Write slot ∷ rest) =
-    (left : List Kind) × FitsWrite setup slot (kinds_of shape) left × PlainRuns setup depth (Some left) rest
-PlainRuns setup depth shape (Dyadic op ∷ rest) =
-    (left : List Kind) × (result : Kind) × FitsDyadic op (kinds_of shape) left result × PlainRuns setup depth (Some (left ++ result ∷ [])) rest
-PlainRuns setup depth shape (Put device format ∷ rest) =
-    (left : List Kind) × FitsPut setup device format (kinds_of shape) left × PlainRuns setup depth (Some left) rest
-PlainRuns setup depth shape (End ∷ rest) = (kinds_of shape ≡ []) × PlainRuns setup depth None rest
+-- the rule of valid code again, for unboxed instructions
+abbrev pub UnboxedRuns : Setup → ℕ → Shape → List Unboxed → Type 0
+UnboxedRuns setup depth shape [] = shape ≡ None
+UnboxedRuns setup depth shape (Const value ∷ rest) =
+    IsWellFormed value × (length (kinds_of shape) < depth) × UnboxedRuns setup depth (Some (kinds_of shape ++ kind_of value ∷ [])) rest
+UnboxedRuns setup depth shape (Conv to ∷ rest) =
+    (left : List Kind) × FitsConv to (kinds_of shape) left × UnboxedRuns setup depth (Some (left ++ to ∷ [])) rest
+UnboxedRuns setup depth shape (Read slot ∷ rest) =
+    FitsRead setup depth slot (kinds_of shape) × UnboxedRuns setup depth (Some (kinds_of shape ++ slot_kind setup slot ∷ [])) rest
+UnboxedRuns setup depth shape (Write slot ∷ rest) =
+    (left : List Kind) × FitsWrite setup slot (kinds_of shape) left × UnboxedRuns setup depth (Some left) rest
+UnboxedRuns setup depth shape (Dyadic op ∷ rest) =
+    (left : List Kind) × (result : Kind) × FitsDyadic op (kinds_of shape) left result × UnboxedRuns setup depth (Some (left ++ result ∷ [])) rest
+UnboxedRuns setup depth shape (Put device format ∷ rest) =
+    (left : List Kind) × FitsPut setup device format (kinds_of shape) left × UnboxedRuns setup depth (Some left) rest
+UnboxedRuns setup depth shape (End ∷ rest) = (kinds_of shape ≡ []) × UnboxedRuns setup depth None rest
 
-pub runs_plain : (setup : Setup) (depth : ℕ) (shape : Shape) (code : List Instr) → PlainRuns setup depth shape (map plain_of code) → RunsFrom setup depth shape code
-runs_plain setup depth shape [] runs = runs
-runs_plain setup depth shape (instr.Const x ∷ code) runs = (runs.0, runs.1, runs_plain setup depth (Some (kinds_of shape ++ kind_of x.value ∷ [])) code runs.2)
-runs_plain setup depth shape (instr.Conv to ∷ code) runs = (runs.0, runs.1, runs_plain setup depth (Some (runs.0 ++ to ∷ [])) code runs.2)
-runs_plain setup depth shape (instr.Read slot ∷ code) runs = (runs.0, runs_plain setup depth (Some (kinds_of shape ++ slot_kind setup slot ∷ [])) code runs.1)
-runs_plain setup depth shape (instr.Write slot ∷ code) runs = (runs.0, runs.1, runs_plain setup depth (Some runs.0) code runs.2)
-runs_plain setup depth shape (instr.Dyadic op ∷ code) runs = (runs.0, runs.1, runs.2, runs_plain setup depth (Some (runs.0 ++ runs.1 ∷ [])) code runs.3)
-runs_plain setup depth shape (instr.Put device format ∷ code) runs = (runs.0, runs.1, runs_plain setup depth (Some runs.0) code runs.2)
-runs_plain setup depth shape (instr.End ∷ code) runs = (runs.0, runs_plain setup depth None code runs.1)
+pub runs_unboxed : (setup : Setup) (depth : ℕ) (shape : Shape) (code : List Instr) → UnboxedRuns setup depth shape (map unboxed_of code) → RunsFrom setup depth shape code
+runs_unboxed setup depth shape [] runs = runs
+runs_unboxed setup depth shape (instr.Const x ∷ code) runs = (runs.0, runs.1, runs_unboxed setup depth (Some (kinds_of shape ++ kind_of x.value ∷ [])) code runs.2)
+runs_unboxed setup depth shape (instr.Conv to ∷ code) runs = (runs.0, runs.1, runs_unboxed setup depth (Some (runs.0 ++ to ∷ [])) code runs.2)
+runs_unboxed setup depth shape (instr.Read slot ∷ code) runs = (runs.0, runs_unboxed setup depth (Some (kinds_of shape ++ slot_kind setup slot ∷ [])) code runs.1)
+runs_unboxed setup depth shape (instr.Write slot ∷ code) runs = (runs.0, runs.1, runs_unboxed setup depth (Some runs.0) code runs.2)
+runs_unboxed setup depth shape (instr.Dyadic op ∷ code) runs = (runs.0, runs.1, runs.2, runs_unboxed setup depth (Some (runs.0 ++ runs.1 ∷ [])) code runs.3)
+runs_unboxed setup depth shape (instr.Put device format ∷ code) runs = (runs.0, runs.1, runs_unboxed setup depth (Some runs.0) code runs.2)
+runs_unboxed setup depth shape (instr.End ∷ code) runs = (runs.0, runs_unboxed setup depth None code runs.1)
 
 -- the operands are well-formed values of these kinds
 abbrev pub AreOf : List Kind → List Cell → Type 0

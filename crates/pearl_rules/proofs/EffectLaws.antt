@@ -12,7 +12,7 @@ use Rattle.pearl_rules.specs.declared.event.Event.TheVariants as event
 use Rattle.pearl_rules.specs.declared.action.Answer.{Answer}
 use Rattle.pearl_rules.specs.declared.action.Answer.TheVariants.{Nothing, One}
 use Rattle.pearl_rules.specs.declared.setup.Setup.{Setup}
-use Rattle.pearl_rules.specs.Core.{Core, Said, Happened, value_at, row_of, with_row}
+use Rattle.pearl_rules.specs.Core.{Core, Report, Happened, value_at, row_of, with_row}
 use Rattle.pearl_rules.specs.Effect.{Reply, Hears, Ends, effect, ended, on_row}
 use Rattle.pearl_rules.specs.Slots.{Suits, Fits, IsLike, HasKinds}
 
@@ -43,7 +43,7 @@ ended-told core t = by_row (row_of core t)
     by_row (Some row) = refl
 
 -- what was told before an action stays, and what the action tells comes after it
-pub effect-told : (core : Core) (t : ℕ) (action : Action) → (more : List (ℕ × Said)) × ((effect core t action).core.told ≡ core.told ++ more)
+pub effect-told : (core : Core) (t : ℕ) (action : Action) → (more : List (ℕ × Report)) × ((effect core t action).core.told ≡ core.told ++ more)
 unfolding effect
 effect-told core t (Read slot) = ([], sym (append-nil core.told))
 effect-told core t (Write slot value) = ([], sym (append-nil core.told))

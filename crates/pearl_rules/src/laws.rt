@@ -7,7 +7,7 @@ ghost use Rattle.pearl_rules.specs.declared.action.Action.{Action};
 ghost use Rattle.pearl_rules.specs.declared.action.Answer.{Answer};
 ghost use Rattle.pearl_rules.specs.declared.entry.Entry.{Entry};
 ghost use Rattle.pearl_rules.specs.declared.setup.Setup.{Setup};
-ghost use Rattle.pearl_rules.specs.Core.{Core, Said, first_events};
+ghost use Rattle.pearl_rules.specs.Core.{Core, Report, first_events};
 ghost use Rattle.pearl_rules.specs.Effect.{Hears, effect};
 ghost use Rattle.pearl_rules.specs.Slots.{Suits, Fits, HasKinds};
 ghost use Rattle.pearl_rules.specs.Pick.{Offered, is_eligible, pick, IsPicked, states};
@@ -96,7 +96,7 @@ pub fn always_ends()
 /// What was told stays: later marks only tell more after it.
 pub fn tells_more()
     ensures { (offer : Supplier) (setup : Setup) (es : List Entry) (m k : ℕ) →
-        (more : List (ℕ × Said)) × ((source_run offer setup es (m + k)).core.told ≡ (source_run offer setup es m).core.told ++ more) }
+        (more : List (ℕ × Report)) × ((source_run offer setup es (m + k)).core.told ≡ (source_run offer setup es m).core.told ++ more) }
 {}
 
 /// A run comes to an end at which all that was told after any number of marks stands first.
@@ -110,7 +110,7 @@ pub fn opens_with()
     ensures at_start { (offer : Supplier) (setup : Setup) (es : List Entry) →
         (source_run offer setup es 0).core.told ≡ first_events 0 setup.tasks }
     ensures later { (offer : Supplier) (setup : Setup) (es : List Entry) (m : ℕ) →
-        (more : List (ℕ × Said)) × ((source_run offer setup es m).core.told ≡ first_events 0 setup.tasks ++ more) }
+        (more : List (ℕ × Report)) × ((source_run offer setup es m).core.told ≡ first_events 0 setup.tasks ++ more) }
 {}
 
 /// For as long as marks come of a journal's first entries, its run is the run over those, with the other entries still to come.

@@ -28,7 +28,7 @@ use Rattle.pearl_code.specs.declared.instr.Instr.{Instr}
 use Rattle.pearl_code.specs.declared.instr.Instr.TheVariants.{Const, Conv, Read, Write, Dyadic, Put}
 use Rattle.pearl_code.specs.declared.object.Object.{Object}
 use Rattle.pearl_rules.specs.Runs.{Stepped, Silent, Offers}
-use Rattle.pearl_code.specs.Rows.{Stack, row, fetched, code_of, put_action, pushes, next_with, top, below, last, second}
+use Rattle.pearl_code.specs.Rows.{Stack, executed, fetched, code_of, put_action, pushes, next_with, top, below, last, second}
 use Rattle.pearl_code.specs.Valid.{FitsConv, FitsPut, RunsFrom}
 use Rattle.pearl_run.specs.declared.frame.Frame.{Frame}
 use Rattle.pearl_run.specs.Frame.{stack_of, IsSteady, IsReady, CanHear, Does, IsLawful, depth_of}
@@ -247,7 +247,7 @@ offers_same x a b e f = cc
 pub hears_value : (o : Object) (stack : Stack) (slot : ℕ) (answer : Answer) → fetched o 0 stack ≡ Some (Read slot) → CanHear o stack answer →
     IsValueOf (slot_kind o.setup slot) (heard_value answer)
 hears_value o stack slot answer e hears =
-    let same : hears.0 ≡ action.Read slot = offers_same (row o (fetched o 0 stack) stack) (action.Read slot) hears.0 (ap (λ i. row o i stack) e) hears.1 in
+    let same : hears.0 ≡ action.Read slot = offers_same (executed o (fetched o 0 stack) stack) (action.Read slot) hears.0 (ap (λ i. executed o i stack) e) hears.1 in
     let suits : SuitsAction o.setup (action.Read slot) answer = subst (λ a. SuitsAction o.setup a answer) same hears.2 in
     subst (λ x. IsValueOf (slot_kind o.setup slot) (heard_value x)) (sym suits.1) suits.2
 

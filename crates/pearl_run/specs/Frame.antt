@@ -11,7 +11,7 @@ use Rattle.pearl_rules.specs.Slots.{Fits, Suits}
 use Rattle.pearl_rules.specs.Runs.{Stepped, Silent, Offers}
 use Rattle.pearl_code.specs.declared.object.Code.{Code}
 use Rattle.pearl_code.specs.declared.object.Object.{Object}
-use Rattle.pearl_code.specs.Rows.{Stack, row, fetched, code_of}
+use Rattle.pearl_code.specs.Rows.{Stack, executed, fetched, code_of}
 use Rattle.pearl_code.specs.Valid.{RunsFrom}
 use Rattle.pearl_run.specs.declared.frame.Frame.{Frame}
 
@@ -45,13 +45,13 @@ Does stepped before after (Some action) = (stepped ≡ Offers action) × (after 
 abbrev pub Silently : Object → Stack → ℕ → Stack → Type 0
 Silently o stack zero after = stack ≡ after
 Silently o stack (suc n) after =
-    (before : Stack) × Silently o stack n before × (row o (fetched o 0 before) before ≡ Silent after)
+    (before : Stack) × Silently o stack n before × (executed o (fetched o 0 before) before ≡ Silent after)
 
 -- silent instructions lead to a stack, and the next one offers this action
 pub record Settles (o : Object) (stack after : Stack) (action : Action) : Type 0 where
   pub steps : ℕ
   pub silent : Silently o stack steps after
-  pub offers : row o (fetched o 0 after) after ≡ Offers action
+  pub offers : executed o (fetched o 0 after) after ≡ Offers action
 
 -- a text is for a terminal that takes texts
 abbrev pub HasTerminal : Setup → Action → Type 0
@@ -68,9 +68,9 @@ pub record IsLawful (setup : Setup) (action : Action) : Type 0 where
 
 -- the action at which the stack stands
 pub record IsOffer (o : Object) (stack : Stack) (action : Action) : Type 0 where
-  pub offers : row o (fetched o 0 stack) stack ≡ Offers action
+  pub offers : executed o (fetched o 0 stack) stack ≡ Offers action
   pub lawful : IsLawful o.setup action
 
 -- an answer that this action can have
 abbrev pub CanHear : Object → Stack → Answer → Type 0
-CanHear o stack answer = (action : Action) × (row o (fetched o 0 stack) stack ≡ Offers action) × Suits o.setup action answer
+CanHear o stack answer = (action : Action) × (executed o (fetched o 0 stack) stack ≡ Offers action) × Suits o.setup action answer

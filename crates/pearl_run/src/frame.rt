@@ -8,7 +8,7 @@ ghost use Rattle.pearl_format.specs.Texts.{text_of};
 ghost use Rattle.pearl_rules.specs.Tables.{format_of};
 ghost use Rattle.pearl_rules.specs.Core.{value_at};
 ghost use Rattle.pearl_rules.specs.Slots.{heard_value};
-ghost use Rattle.pearl_code.specs.Rows.{code_of, fetched, row, row_after, pushes, next_with, put_action as put_action_of, top, below};
+ghost use Rattle.pearl_code.specs.Rows.{code_of, fetched, executed, continued, pushes, next_with, put_action as put_action_of, top, below};
 ghost use Rattle.pearl_code.specs.Valid.{FitsPut};
 ghost use Rattle.pearl_run.specs.Frame.{stack_of, depth_of, IsReady, CanHear, Does, Settles, IsOffer, IsLawful};
 
@@ -159,7 +159,7 @@ fn step(object: &Object, instr: &Instr, frame: &mut Frame) -> Option<Action>
     requires here { fetched object.now 0 (stack_of frame.old) ≡ Some instr.now }
     requires next { frame.old.place + 1 < 2 ^ 64 }
     requires ready { IsReady object.now frame.old }
-    ensures does { Does (row object.now (Some instr.now) (stack_of frame.old)) (stack_of frame.old) (stack_of frame.new) result }
+    ensures does { Does (executed object.now (Some instr.now) (stack_of frame.old)) (stack_of frame.old) (stack_of frame.new) result }
     ensures next { result ≡ None → frame.new.place ≡ frame.old.place + 1 }
     ensures ready { IsReady object.now frame.new }
     ensures lawful { IfSome result (IsLawful object.now.setup) }
@@ -216,7 +216,7 @@ pub fn go_on(object: &Object, frame: &mut Frame, answer: Answer)
     requires ready { IsReady object.now frame.old }
     requires suits { CanHear object.now (stack_of frame.old) answer }
     ensures stack { stack_of frame.new
-        ≡ row_after object.now (fetched object.now 0 (stack_of frame.old)) (stack_of frame.old) answer }
+        ≡ continued object.now (fetched object.now 0 (stack_of frame.old)) (stack_of frame.old) answer }
     ensures ready { IsReady object.now frame.new }
 {
     let Some(instr) = instruction_at(object, frame.place) else {
