@@ -3,3 +3,5 @@ pub mod Powers
 pub mod Held
 pub mod Turns
 pub mod Filled
+pub mod Values
+pub mod Results

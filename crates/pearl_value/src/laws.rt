@@ -1,6 +1,13 @@
 // What the operators keep.
 
-ghost use Rattle.pearl_value.specs.Laws.{GivesBack, LeavesRest, TurnsRound, TakesBack, ComparesFilled};
+ghost use Rattle.pearl_value.specs.Laws.{KeepsRows1, KeepsRows2, KeepsKinds, GivesBack, LeavesRest, TurnsRound, TakesBack, ComparesFilled};
+
+/// Operators and conversions make values of values, each of the kind that its row or its target names, or trap.
+pub fn results_are_values()
+    ensures one { KeepsRows1 }
+    ensures two { KeepsRows2 }
+    ensures converted { KeepsKinds }
+{}
 
 /// `a // b * b + a REM b` is a, where nothing traps.
 pub fn a_quotient_and_its_rest_give_the_value_back()
