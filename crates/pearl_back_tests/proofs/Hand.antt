@@ -3,7 +3,7 @@ use Rattle.std.proofs.Common.{ℕ, ◌<◌, ◌≤◌, List, [], ◌∷◌, Some
 use Rattle.std.specs.Prelude.{pos}
 use Rattle.std.specs.List.{AllByRecursion}
 use Rattle.pearl_value.specs.Cells.{kind_of}
-use Rattle.pearl_value.specs.WellFormed.{IsWellFormed}
+use Rattle.pearl_value.specs.WellFormed.{IsValue}
 use Rattle.pearl_value.specs.declared.kind.Kind.TheVariants as kind
 use Rattle.pearl_value.specs.declared.cell.Cell.TheVariants.{Fixed}
 use Rattle.pearl_code.specs.declared.instr.Instr.{Instr}
@@ -32,14 +32,14 @@ setup_is = record {
   few_devices = lit≤ tt;
 }
 
-seventeen_is : IsWellFormed (Fixed 31 (pos 17))
+seventeen_is : IsValue (Fixed 31 (pos 17))
 seventeen_is = ((lit< tt, lit≤ tt), record { low = search rules; high = search rules })
 
 -- the literal is pushed above one value
 literal_runs : (instr : Instr) (rest : List Instr) → IsSeventeen instr → RunsFrom hand_setup 2 (Some (kind.Fixed 31 ∷ kind.Fixed 31 ∷ [])) rest →
     RunsFrom hand_setup 2 (Some (kind.Fixed 31 ∷ [])) (instr ∷ rest)
 literal_runs (Const x) rest is runs = (
-  subst (λ v. IsWellFormed v) (sym is) seventeen_is,
+  subst (λ v. IsValue v) (sym is) seventeen_is,
   lit< tt,
   subst (λ v. RunsFrom hand_setup 2 (Some (kind.Fixed 31 ∷ kind_of v ∷ [])) rest) (sym is) runs,
 )

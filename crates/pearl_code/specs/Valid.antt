@@ -5,7 +5,7 @@ use Rattle.pearl_value.specs.declared.kind.Kind.{Kind}
 use Rattle.pearl_value.specs.declared.operator.Dyad.{Dyad}
 use Rattle.pearl_value.specs.Kinds.{IsKind}
 use Rattle.pearl_value.specs.Cells.{kind_of}
-use Rattle.pearl_value.specs.WellFormed.{IsWellFormed}
+use Rattle.pearl_value.specs.WellFormed.{IsValue}
 use Rattle.pearl_value.specs.Conversions.{SuitsKind}
 use Rattle.pearl_value.specs.Rows.{row2}
 use Rattle.pearl_format.specs.Items.{Suits, text_width}
@@ -65,7 +65,7 @@ pub record FitsPut (setup : Setup) (device format : ℕ) (kinds left : List Kind
 abbrev pub RunsFrom : Setup → ℕ → Shape → List Instr → Type 0
 RunsFrom setup depth shape [] = shape ≡ None
 RunsFrom setup depth shape (Const x ∷ rest) =
-    IsWellFormed x.value × (length (kinds_of shape) < depth) × RunsFrom setup depth (Some (kinds_of shape ++ kind_of x.value ∷ [])) rest
+    IsValue x.value × (length (kinds_of shape) < depth) × RunsFrom setup depth (Some (kinds_of shape ++ kind_of x.value ∷ [])) rest
 RunsFrom setup depth shape (Conv to ∷ rest) =
     (left : List Kind) × FitsConv to (kinds_of shape) left × RunsFrom setup depth (Some (left ++ to ∷ [])) rest
 RunsFrom setup depth shape (Read slot ∷ rest) =

@@ -6,7 +6,7 @@ use Rattle.pearl_value.specs.declared.kind.Kind.TheVariants as kind
 use Rattle.pearl_value.specs.declared.cell.Cell.{Cell}
 use Rattle.pearl_value.specs.Cells.{FitsFixed, kind_of}
 use Rattle.pearl_value.specs.Conversions.{SuitsKind}
-use Rattle.pearl_value.specs.WellFormed.{IsWellFormed}
+use Rattle.pearl_value.specs.WellFormed.{IsValue}
 use Rattle.pearl_value.specs.Rows.{row2}
 use Rattle.pearl_format.specs.declared.item.ItemCode.TheVariants.{F}
 use Rattle.pearl_format.specs.Items.{Suits}
@@ -42,7 +42,7 @@ use Rattle.pearl_first.specs.declared.tree.Tree.{Tree}
 use Rattle.pearl_first.specs.Rules as rule
 use Rattle.pearl_first.specs.Rules.{fault_if, first_of, declarations, is_none, is_same, is_other, s2, s16, use_faults, operand_faults, terms_faults, sum_faults, s33_width, s33_sum, skip_width, step_faults, steps_faults, s1_of_variables, s1_of_task, specified, faults}
 use Rattle.pearl_first.specs.Lawful.{IsSmall, HasSmallPart, HasSmallParts, IsLawfulStep, IsLawful}
-use Rattle.pearl_first.specs.Resolved.{task_of, devices, skip_items, format_of, formats_of, HasWidth, first_value, variable_number, literal_of, operand_of, operator_of, IsSumOf, IsDyadic, IsValueOf, IsAssignOf, IsOneValue, IsPutOf, IsStatementOf, AreStatements, IsOneRoutine, Resolves}
+use Rattle.pearl_first.specs.Resolved.{task_of, devices, skip_items, format_of, formats_of, HasWidth, first_value, variable_number, literal_of, operand_of, operator_of, IsSumOf, IsDyadic, IsExprOf, IsAssignOf, IsOneValue, IsPutOf, IsStatementOf, AreStatements, IsOneRoutine, Resolves}
 
 -- ---- what is built up, one at a time
 
@@ -315,7 +315,7 @@ sum_sound setup variables slots first fit terms fits (Dyadic' op _ left _ right)
       few = omega (arith, few, one);
     }
 
-value_sound : (setup : Setup) (variables : List Name) → HasSlots variables setup → (sum : Sum) → FitsSum variables sum → (e : Expr) → IsValueOf variables sum e → IsFixedExpr setup e
+value_sound : (setup : Setup) (variables : List Name) → HasSlots variables setup → (sum : Sum) → FitsSum variables sum → (e : Expr) → IsExprOf variables sum e → IsFixedExpr setup e
 value_sound setup variables slots sum fit e is = sum_sound setup variables slots sum.first fit.first sum.rest fit.rest e is
 
 assign_sound : (setup : Setup) (variables : List Name) → HasSlots variables setup → (a : Assign) → FitsStep variables (step.Assign a) → (s : Statement) → IsAssignOf variables a s → IsStatement setup s
@@ -383,18 +383,18 @@ devices_sound : AllByRecursion IsDevice devices
 devices_sound = ((lit< tt, lit≤ tt), ((lit< tt, lit≤ tt), tt))
 
 format_lawful : (put : Put) → IsFit put → IsFormat (format_of put)
-format_lawful put fit = by put.skip fit.sum
+format_lawful put fit = by put.skip
   where
-    by : (skip : Bool) → put.width + skip_width skip ≤ 1024 → IsFormat (record { code = F; width = put.width } ∷ skip_items skip)
-    by true sum = record { items = ((fit.low, fit.high), (tt, tt)); few = lit≤ tt; short = omega (arith, sum) }
-    by false sum = record { items = ((fit.low, fit.high), tt); few = lit≤ tt; short = omega (arith, sum) }
+    by : (skip : Bool) → IsFormat (record { code = F; width = put.width } ∷ skip_items skip)
+    by true = ((fit.low, fit.high), ((tt, lit≤ tt), tt))
+    by false = ((fit.low, fit.high), tt)
 
 formats_lawful : (variables : List Name) (steps : List Step) → FitSteps variables steps → AllByRecursion IsFormat (formats_of steps)
 formats_lawful variables [] fit = tt
 formats_lawful variables (step.Assign a ∷ steps) fit = formats_lawful variables steps fit.1
 formats_lawful variables (step.Put p ∷ steps) fit = (format_lawful p fit.0.0, formats_lawful variables steps fit.1)
 
-slots_lawful : (variables : List Name) → AllByRecursion IsWellFormed (map first_value variables)
+slots_lawful : (variables : List Name) → AllByRecursion IsValue (map first_value variables)
 slots_lawful [] = tt
 slots_lawful (v ∷ variables) = (((lit< tt, lit≤ tt), fits_fixed 31 0 (omega arith)), slots_lawful variables)
 
@@ -411,7 +411,7 @@ resolved_sound tree p faultless lawful resolves =
     record {
       setup = record {
         tasks = subst (λ ts. AllByRecursion IsTaskEntry ts) (sym resolves.tasks) (tasks_sound tree.task.text.items lawful.named);
-        slots = subst (λ cells. AllByRecursion IsWellFormed cells) (sym resolves.slots) (slots_lawful tree.variables);
+        slots = subst (λ cells. AllByRecursion IsValue cells) (sym resolves.slots) (slots_lawful tree.variables);
         devices = subst (λ ds. AllByRecursion IsDevice ds) (sym resolves.devices) devices_sound;
         rising = subst (λ ds. AreRising ds) (sym resolves.devices) (inl (lit< tt), tt);
         formats = subst (λ fs. AllByRecursion IsFormat fs) (sym resolves.formats) (formats_lawful tree.variables tree.steps fit);

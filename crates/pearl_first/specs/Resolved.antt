@@ -94,16 +94,16 @@ abbrev pub IsDyadic : Dyad → Expr → Expr → Expr → Type 0
 IsDyadic op left right (Dyadic' o _ l _ r) = (o ≡ op) × (l ≡ left) × (r ≡ right)
 IsDyadic op left right e = ⊥
 
-abbrev pub IsValueOf : List Name → Sum → Expr → Type 0
-IsValueOf variables sum value = IsSumOf variables sum.first sum.rest value
+abbrev pub IsExprOf : List Name → Sum → Expr → Type 0
+IsExprOf variables sum value = IsSumOf variables sum.first sum.rest value
 
 abbrev pub IsAssignOf : List Name → Assign → Statement → Type 0
-IsAssignOf variables assign (statement.Assign target value) = (target ≡ variable_of variables assign.target) × IsValueOf variables assign.value value
+IsAssignOf variables assign (statement.Assign target value) = (target ≡ variable_of variables assign.target) × IsExprOf variables assign.value value
 IsAssignOf variables assign (statement.Put values device format) = ⊥
 
 abbrev pub IsOneValue : List Name → Sum → List Expr → Type 0
 IsOneValue variables sum [] = ⊥
-IsOneValue variables sum (value ∷ []) = IsValueOf variables sum value
+IsOneValue variables sum (value ∷ []) = IsExprOf variables sum value
 IsOneValue variables sum (value ∷ other ∷ others) = ⊥
 
 -- PUT writes its one value to the terminal, by the format of its own number

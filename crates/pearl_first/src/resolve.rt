@@ -86,7 +86,7 @@ fn dyadic(alloc: Global, op: Dyad, left: Expr, right: Expr) -> Result<Expr, Allo
 fn sum_of(alloc: Global, variables: &[Name], sum: &Sum) -> Result<Expr, AllocError>
     requires few { length variables.now < 2 ^ 32 }
     requires small { HasSmallParts sum.now }
-    ensures { IfOk result (λ value. spec.IsValueOf variables.now sum.now value) }
+    ensures { IfOk result (λ value. spec.IsExprOf variables.now sum.now value) }
 {
     let mut value = operand_of(variables, &sum.first);
     for term in sum.rest.as_slice() {

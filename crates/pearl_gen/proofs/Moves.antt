@@ -4,6 +4,7 @@ use Rattle.pearl_value.specs.declared.kind.Kind.{Kind}
 use Rattle.pearl_value.specs.declared.cell.Cell.{Cell}
 use Rattle.pearl_value.specs.declared.trap.Trap.{Trap}
 use Rattle.pearl_value.specs.Cells.{kind_of}
+use Rattle.pearl_value.specs.WellFormed.{IsValueOf}
 use Rattle.pearl_value.specs.Conversions.{SuitsKind, converted}
 use Rattle.pearl_value.specs.Applied.{applied2}
 use Rattle.pearl_value.specs.Rows.{row2}
@@ -14,7 +15,7 @@ use Rattle.pearl_rules.specs.declared.action.Action.TheVariants as action
 use Rattle.pearl_rules.specs.declared.action.Answer.{Answer}
 use Rattle.pearl_rules.specs.declared.setup.Setup.{Setup}
 use Rattle.pearl_rules.specs.Tables.{format_of}
-use Rattle.pearl_rules.specs.Slots.{slot_kind, IsValueOf, Suits, Fits, heard_value}
+use Rattle.pearl_rules.specs.Slots.{slot_kind, Suits, Fits, heard_value}
 use Rattle.pearl_rules.specs.Runs.{Stepped, Silent, Offers}
 use Rattle.pearl_meaning.specs.Store.{Store, Evaluation, bind}
 use Rattle.pearl_meaning.specs.Expressions.{value_or_trap}
@@ -25,7 +26,8 @@ use Rattle.pearl_code.specs.declared.instr.Instr.TheVariants as instr
 use Rattle.pearl_code.specs.declared.object.Object.{Object}
 use Rattle.pearl_code.specs.Rows.{Stack, top, below, last, second, put_action, next_with, pushes, executed, continued}
 use Rattle.pearl_gen.specs.TaskCode.{Unboxed, Const, Conv, Read, Write, Dyadic, Put, End, unboxed_of}
-use Rattle.pearl_gen.proofs.Values.{Gives, applied_gives, converted_gives}
+use Rattle.pearl_value.specs.Laws.{Gives}
+use Rattle.pearl_value.proofs.Results.{keeps_rows2, keeps_kinds}
 use Rattle.pearl_format.proofs.Counts.{suits-length}
 use Rattle.pearl_gen.proofs.Straight.{run_unboxed}
 use Rattle.pearl_gen.proofs.Steady.{UnboxedRuns, AreOf, pushed_of, has_last, has_two, put_left}
@@ -91,7 +93,7 @@ pub record Moved (setup : Setup) (depth : ℕ) (x : Unboxed) (code : List Unboxe
 applied_of : (op : _) (kinds left : List Kind) (result first next : Kind) (x y : Cell) → IsValueOf first x → IsValueOf next y → row2 op first next ≡ Some result →
     Gives result (applied2 op x y)
 applied_of op kinds left result first next x y x_is y_is row =
-    applied_gives op x y result x_is.well_formed y_is.well_formed (rw (x_is.same_kind, y_is.same_kind) row)
+    keeps_rows2 op x y result x_is.is_value y_is.is_value (rw (x_is.same_kind, y_is.same_kind) row)
 
 module _ (setup : Setup) (depth : ℕ) (code : List Unboxed) (stack : Stack) where
   -- a value is pushed
@@ -114,12 +116,12 @@ module _ (setup : Setup) (depth : ℕ) (code : List Unboxed) (stack : Stack) whe
   pub moves : (x : Unboxed) (after : Stack) (kinds : List Kind) → AreOf kinds stack.operands → UnboxedRuns setup depth (Some kinds) (x ∷ code) →
       unboxed_executed setup (Some x) stack ≡ Silent after → Moved setup depth x code [] stack after
   moves (Const value) after kinds are runs e =
-      pushed (Const value) after (Ok value) (kind_of value) kinds stack.operands are (record { well_formed = runs.0; same_kind = refl }) runs.2 (λ store rest. refl) e
+      pushed (Const value) after (Ok value) (kind_of value) kinds stack.operands are (record { is_value = runs.0; same_kind = refl }) runs.2 (λ store rest. refl) e
   moves (Conv to) after kinds are runs e =
       let left = runs.0 in let fits = runs.1 in
       let t = has_last left fits.from stack.operands (subst (λ kinds. AreOf kinds stack.operands) fits.stacked are) in
       pushed (Conv to) after (converted (last stack.operands) to) to left (below 1 stack.operands) t.under
-      (converted_gives (last stack.operands) to t.is.well_formed fits.kind (subst (λ from. SuitsKind from to) (sym t.is.same_kind) fits.suits)) runs.2 (λ store rest. refl) e
+      (keeps_kinds (last stack.operands) to t.is.is_value fits.kind (subst (λ from. SuitsKind from to) (sym t.is.same_kind) fits.suits)) runs.2 (λ store rest. refl) e
   moves (Dyadic op) after kinds are runs e =
       let left = runs.0 in let result = runs.1 in let fits = runs.2 in
       let t = has_two left fits.x fits.y stack.operands (subst (λ kinds. AreOf kinds stack.operands) fits.stacked are) in

@@ -4,9 +4,9 @@ use Rattle.std.specs.List.{AllZip}
 use Rattle.pearl_value.specs.declared.kind.Kind.{Kind}
 use Rattle.pearl_value.specs.declared.cell.Cell.{Cell}
 use Rattle.pearl_value.specs.Cells.{kind_of}
-use Rattle.pearl_value.specs.WellFormed.{IsWellFormed}
+use Rattle.pearl_value.specs.WellFormed.{IsValue, IsValueOf}
 use Rattle.pearl_rules.specs.declared.setup.Setup.{Setup}
-use Rattle.pearl_rules.specs.Slots.{slot_kind, IsValueOf}
+use Rattle.pearl_rules.specs.Slots.{slot_kind}
 use Rattle.pearl_code.specs.declared.instr.Instr.{Instr}
 use Rattle.pearl_code.specs.declared.instr.Instr.TheVariants as instr
 use Rattle.pearl_code.specs.Rows.{below, last, second}
@@ -19,7 +19,7 @@ use Rattle.pearl_gen.proofs.Straight.{below_append, last_append, last_two, secon
 abbrev pub UnboxedRuns : Setup → ℕ → Shape → List Unboxed → Type 0
 UnboxedRuns setup depth shape [] = shape ≡ None
 UnboxedRuns setup depth shape (Const value ∷ rest) =
-    IsWellFormed value × (length (kinds_of shape) < depth) × UnboxedRuns setup depth (Some (kinds_of shape ++ kind_of value ∷ [])) rest
+    IsValue value × (length (kinds_of shape) < depth) × UnboxedRuns setup depth (Some (kinds_of shape ++ kind_of value ∷ [])) rest
 UnboxedRuns setup depth shape (Conv to ∷ rest) =
     (left : List Kind) × FitsConv to (kinds_of shape) left × UnboxedRuns setup depth (Some (left ++ to ∷ [])) rest
 UnboxedRuns setup depth shape (Read slot ∷ rest) =

@@ -5,7 +5,7 @@ use Rattle.std.specs.List.{AllByRecursion, AllZip, flat_map}
 use Rattle.pearl_value.specs.declared.kind.Kind.{Kind}
 use Rattle.pearl_value.specs.declared.cell.Cell.{Cell}
 use Rattle.pearl_value.specs.Kinds.{IsKind}
-use Rattle.pearl_value.specs.WellFormed.{IsWellFormed}
+use Rattle.pearl_value.specs.WellFormed.{IsValue}
 use Rattle.pearl_value.specs.Rows.{row2}
 use Rattle.pearl_rules.specs.declared.setup.Setup.{Setup}
 use Rattle.pearl_rules.specs.Core.{value_at}
@@ -23,15 +23,15 @@ use Rattle.pearl_code.specs.declared.object.Code.{Code}
 use Rattle.pearl_code.specs.Valid.{FitsPut, IsCode, IsValid}
 use Rattle.pearl_gen.specs.TaskCode.{Unboxed, Conv, Write, Dyadic, Put, End, expr_code, statement_code, statement_depth, most_operands, body_code, IsWithin, IsCodeOf}
 use Rattle.pearl_gen.proofs.Zips.{zip_length}
-use Rattle.pearl_gen.proofs.Values.{kind_is}
+use Rattle.pearl_value.proofs.Values.{well_formed_value, kind_is}
 use Rattle.pearl_gen.proofs.Fitting.{fits_some}
 use Rattle.pearl_gen.proofs.Steady.{UnboxedRuns, runs_unboxed}
 
 -- a slot's values are of a kind
-slot_well : (slots : List Cell) (slot : ℕ) → AllByRecursion IsWellFormed slots → slot < length slots → IsWellFormed (value_at slots slot)
-slot_well [] slot all within = absurd (let no : ⊥ = omega arith in no)
-slot_well (x ∷ slots) zero all within = all.0
-slot_well (x ∷ slots) (suc slot) all within = slot_well slots slot all.1 (omega arith)
+slot_value : (slots : List Cell) (slot : ℕ) → AllByRecursion IsValue slots → slot < length slots → IsValue (value_at slots slot)
+slot_value [] slot all within = absurd (let no : ⊥ = omega arith in no)
+slot_value (x ∷ slots) zero all within = all.0
+slot_value (x ∷ slots) (suc slot) all within = slot_value slots slot all.1 (omega arith)
 
 -- where an operator has a row, its kind is that of the row
 row_is : (kind : Kind) (row : Option Kind) → IsSome row → row ≡ Some (kind_or kind row)
@@ -84,7 +84,7 @@ runs_statement : (setup : Setup) (depth : ℕ) (statement : Statement) (code : L
 runs_statement setup depth (statement.Assign target value) code tables sound within runs =
     let slot = slot_of target.target in
     let to = slot_kind setup slot in
-    let is : IsKind to = kind_is (value_at setup.slots slot) (slot_well setup.slots slot tables.slots sound.variable) in
+    let is : IsKind to = kind_is (value_at setup.slots slot) (well_formed_value (value_at setup.slots slot) (slot_value setup.slots slot tables.slots sound.variable)) in
     subst (λ code. UnboxedRuns setup depth (Some []) code) (sym (append_assoc (expr_code value) (Conv to ∷ Write slot ∷ []) code))
     (runs_expr setup depth value [] (Conv to ∷ Write slot ∷ code) sound.expr (omega arith) (
       [],

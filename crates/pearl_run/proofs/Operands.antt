@@ -12,7 +12,7 @@ use Rattle.pearl_value.specs.declared.trap.Trap.{Trap}
 use Rattle.pearl_value.specs.Cells.{kind_of}
 use Rattle.pearl_value.specs.Conversions.{SuitsKind}
 use Rattle.pearl_value.specs.Rows.{row2}
-use Rattle.pearl_value.specs.WellFormed.{IsWellFormed}
+use Rattle.pearl_value.specs.WellFormed.{IsValue, IsValueOf}
 use Rattle.pearl_format.specs.declared.item.Item.{Item}
 use Rattle.pearl_format.specs.Items.{Suits, text_width, data_count, data_here}
 use Rattle.pearl_format.proofs.Counts.{suits-length}
@@ -22,7 +22,7 @@ use Rattle.pearl_rules.specs.declared.action.Action.{Action}
 use Rattle.pearl_rules.specs.declared.action.Action.TheVariants as action
 use Rattle.pearl_rules.specs.Core.{cell_or_zero, value_at}
 use Rattle.pearl_rules.specs.declared.action.Answer.{Answer}
-use Rattle.pearl_rules.specs.Slots.{Fits, Suits as SuitsAction, IsValueOf, slot_kind, heard_value}
+use Rattle.pearl_rules.specs.Slots.{Fits, Suits as SuitsAction, slot_kind, heard_value}
 use Rattle.pearl_rules.specs.Tables.{format_of, TakesTexts, IsWritable}
 use Rattle.pearl_code.specs.declared.instr.Instr.{Instr}
 use Rattle.pearl_code.specs.declared.instr.Instr.TheVariants.{Const, Conv, Read, Write, Dyadic, Put}
@@ -113,11 +113,11 @@ second_kind operands left x y stacked =
 pub first_kind : (operands : List Cell) (left : List Kind) (x y : Kind) → map kind_of operands ≡ left ++ x ∷ y ∷ [] → kind_of (last operands) ≡ y
 first_kind operands left x y stacked = last_kind operands (left ++ x ∷ []) y (stacked ∙ sym (append_assoc left (x ∷ []) (y ∷ [])))
 
--- a well-formed operand
-pub well_at : (operands : List Cell) (n : ℕ) → All IsWellFormed operands → n < length operands → IsWellFormed (value_at operands n)
-well_at operands n all less =
-    subst (λ x. IsWellFormed (cell_or_zero x)) (sym (slice_get-get_or operands n (cell_or_zero None) less))
-    (All-get_or IsWellFormed operands n (cell_or_zero None) less all)
+-- an operand is a value
+pub operand_value : (operands : List Cell) (n : ℕ) → All IsValue operands → n < length operands → IsValue (value_at operands n)
+operand_value operands n all less =
+    subst (λ x. IsValue (cell_or_zero x)) (sym (slice_get-get_or operands n (cell_or_zero None) less))
+    (All-get_or IsValue operands n (cell_or_zero None) less all)
 
 pub below_none : (operands : List Cell) → below 0 operands ≡ operands
 below_none operands = take_all (length operands - 0) operands (omega arith)
@@ -127,12 +127,12 @@ module _ (o : Object) (stack : Stack) (steady : IsSteady o stack) where
       RunsFrom o.setup (depth_of o 0) (Some (map kind_of stack.operands)) (instr ∷ drop (stack.place + 1) (code_of o 0))
   runs instr e = subst (λ xs. RunsFrom o.setup (depth_of o 0) (Some (map kind_of stack.operands)) xs) (drop_at (code_of o 0) stack.place instr e) steady
 
-  -- a literal is well formed and is pushed where there is room
+  -- a literal is a value and is pushed where there is room
   pub const_room : (x : _) → fetched o 0 stack ≡ Some (Const x) → length stack.operands < depth_of o 0
   const_room x e = omega (arith, (runs (Const x) e).1, length-map stack.operands kind_of)
 
-  pub const_well : (x : _) → fetched o 0 stack ≡ Some (Const x) → IsWellFormed x.value
-  const_well x e = (runs (Const x) e).0
+  pub const_value : (x : _) → fetched o 0 stack ≡ Some (Const x) → IsValue x.value
+  const_value x e = (runs (Const x) e).0
 
   pub const_steady : (x : _) → fetched o 0 stack ≡ Some (Const x) → IsSteady o (next_with stack (below 0 stack.operands ++ x.value ∷ []))
   const_steady x e = rw (below_none stack.operands, map-append) (runs (Const x) e).2
@@ -192,14 +192,14 @@ module _ (o : Object) (stack : Stack) (steady : IsSteady o stack) where
   write_enough slot e =
       let r = runs (Write slot) e in (parted stack.operands 1 r.0 (slot_kind o.setup slot ∷ []) r.1.stacked refl).enough
 
-  pub write_fits : (slot : ℕ) → fetched o 0 stack ≡ Some (Write slot) → All IsWellFormed stack.operands →
+  pub write_fits : (slot : ℕ) → fetched o 0 stack ≡ Some (Write slot) → All IsValue stack.operands →
       Fits o.setup (action.Write slot (last stack.operands))
   write_fits slot e all =
       let r = runs (Write slot) e in
       let some = write_enough slot e in (
         r.1.named,
         record {
-          well_formed = well_at stack.operands (length stack.operands - 1) all (omega arith);
+          is_value = operand_value stack.operands (length stack.operands - 1) all (omega arith);
           same_kind = last_kind stack.operands r.0 (slot_kind o.setup slot) r.1.stacked;
         },
       )
@@ -252,11 +252,11 @@ hears_value o stack slot answer e hears =
     subst (λ x. IsValueOf (slot_kind o.setup slot) (heard_value x)) (sym suits.1) suits.2
 
 -- the stack is ready at this state
-pub ready_at : (o : Object) (frame : Frame) (stack : Stack) → stack_of frame ≡ stack → IsSteady o stack → All IsWellFormed stack.operands →
+pub ready_at : (o : Object) (frame : Frame) (stack : Stack) → stack_of frame ≡ stack → IsSteady o stack → All IsValue stack.operands →
     depth_of o 0 ≤ vec_capacity frame.operands → IsReady o frame
-ready_at o frame stack is steady well room = record {
+ready_at o frame stack is steady values room = record {
   steady = subst (IsSteady o) (sym is) steady;
-  well_formed = subst (λ (s : Stack). All IsWellFormed s.operands) (sym is) well;
+  values = subst (λ (s : Stack). All IsValue s.operands) (sym is) well;
   room = room;
 }
 
@@ -267,15 +267,15 @@ if_ok P Q (Err e) f h = tt
 -- what was made is pushed
 pub pushed_ready : (o : Object) (frame new : Frame) (left : List Cell) (made : Result Cell Trap) (result : Option Action) → IsReady o frame →
     Does (pushes (stack_of frame) left made) (stack_of frame) (stack_of new) result →
-    vec_capacity frame.operands ≤ vec_capacity new.operands → All IsWellFormed left → IfOk made IsWellFormed →
+    vec_capacity frame.operands ≤ vec_capacity new.operands → All IsValue left → IfOk made IsValue →
     IfOk made (λ x. IsSteady o (next_with (stack_of frame) (left ++ x ∷ []))) → IsReady o new
-pushed_ready o frame new left (Ok x) None ready does room well made steady =
+pushed_ready o frame new left (Ok x) None ready does room values made steady =
     ready_at o new (next_with (stack_of frame) (left ++ x ∷ [])) (silent_same _ _ does) steady
-    (All-append IsWellFormed left (x ∷ []) well (All-cons IsWellFormed x [] made (All-nil IsWellFormed))) (omega (arith, room, ready.room))
-pushed_ready o frame new left (Ok x) (Some action) ready does room well made steady = absurd (silent_offers _ _ does.0)
-pushed_ready o frame new left (Err trap) None ready does room well made steady = absurd (offers_silent _ _ does)
-pushed_ready o frame new left (Err trap) (Some action) ready does room well made steady =
-    ready_at o new (stack_of frame) does.1 ready.steady ready.well_formed (omega (arith, room, ready.room))
+    (All-append IsValue left (x ∷ []) values (All-cons IsValue x [] made (All-nil IsValue))) (omega (arith, room, ready.room))
+pushed_ready o frame new left (Ok x) (Some action) ready does room values made steady = absurd (silent_offers _ _ does.0)
+pushed_ready o frame new left (Err trap) None ready does room values made steady = absurd (offers_silent _ _ does)
+pushed_ready o frame new left (Err trap) (Some action) ready does room values made steady =
+    ready_at o new (stack_of frame) does.1 ready.steady ready.values (omega (arith, room, ready.room))
 
 pub pushed_lawful : (setup : Setup) (before after : Stack) (left : List Cell) (made : Result Cell Trap) (result : Option Action) →
     Does (pushes before left made) before after result → IfSome result (IsLawful setup)

@@ -15,3 +15,6 @@ put_text-requires-clause-suits c =
 pub put_text-requires-clause-short : goal.put_text-requires-clause-short
 put_text-requires-clause-short c =
     fits_short c.args.setup.now c.args.device c.args.format c.args.operands.now _ _ _ c.requires.fits.1 c.items_of-items.ensures c.data_count.ensures
+
+pub put_text-requires-clause-values : goal.put_text-requires-clause-values
+put_text-requires-clause-values c = ?
