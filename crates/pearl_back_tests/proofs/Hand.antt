@@ -24,8 +24,8 @@ setup_is = record {
   devices = ((lit< tt, lit≤ tt), tt);
   rising = tt;
   formats = (
-    record { items = ((lit< tt, lit≤ tt), (tt, tt)); few = lit≤ tt; short = lit≤ tt },
-    (record { items = ((lit< tt, lit≤ tt), tt); few = lit≤ tt; short = lit≤ tt }, tt),
+    ((lit< tt, lit≤ tt), ((tt, lit≤ tt), tt)),
+    (((lit< tt, lit≤ tt), tt), (((tt, lit≤ tt), ((tt, lit≤ tt), ((tt, lit≤ tt), ((tt, lit≤ tt), ((tt, lit≤ tt), tt))))), tt)),
   );
   few_tasks = lit≤ tt;
   few_slots = lit≤ tt;

@@ -256,7 +256,7 @@ pub ready_at : (o : Object) (frame : Frame) (stack : Stack) → stack_of frame �
     depth_of o 0 ≤ vec_capacity frame.operands → IsReady o frame
 ready_at o frame stack is steady values room = record {
   steady = subst (IsSteady o) (sym is) steady;
-  values = subst (λ (s : Stack). All IsValue s.operands) (sym is) well;
+  values = subst (λ (s : Stack). All IsValue s.operands) (sym is) values;
   room = room;
 }
 
