@@ -5,3 +5,5 @@ pub mod Turns
 pub mod Filled
 pub mod Values
 pub mod Results
+pub mod BitNumbers
+pub mod BitOperators
