@@ -5,6 +5,7 @@ use Rattle.std.specs.List.{AllByRecursion}
 use Rattle.pearl_value.specs.Cells.{kind_of}
 use Rattle.pearl_value.specs.WellFormed.{IsValue}
 use Rattle.pearl_value.specs.declared.kind.Kind.TheVariants as kind
+use Rattle.pearl_value.specs.declared.kind.CellKind.TheVariants.{Plain}
 use Rattle.pearl_value.specs.declared.cell.Cell.TheVariants.{Fixed}
 use Rattle.pearl_code.specs.declared.instr.Instr.{Instr}
 use Rattle.pearl_code.specs.declared.instr.Instr.TheVariants.{Const, Conv, Read, Write, Dyadic, Put, End}
@@ -36,12 +37,12 @@ seventeen_is : IsValue (Fixed 31 (pos 17))
 seventeen_is = ((lit< tt, lit≤ tt), record { low = search rules; high = search rules })
 
 -- the literal is pushed above one value
-literal_runs : (instr : Instr) (rest : List Instr) → IsSeventeen instr → RunsFrom hand_setup 2 (Some (kind.Fixed 31 ∷ kind.Fixed 31 ∷ [])) rest →
-    RunsFrom hand_setup 2 (Some (kind.Fixed 31 ∷ [])) (instr ∷ rest)
+literal_runs : (instr : Instr) (rest : List Instr) → IsSeventeen instr → RunsFrom hand_setup 2 (Some (Plain (kind.Fixed 31) ∷ Plain (kind.Fixed 31) ∷ [])) rest →
+    RunsFrom hand_setup 2 (Some (Plain (kind.Fixed 31) ∷ [])) (instr ∷ rest)
 literal_runs (Const x) rest is runs = (
   subst (λ v. IsValue v) (sym is) seventeen_is,
   lit< tt,
-  subst (λ v. RunsFrom hand_setup 2 (Some (kind.Fixed 31 ∷ kind_of v ∷ [])) rest) (sym is) runs,
+  subst (λ v. RunsFrom hand_setup 2 (Some (Plain (kind.Fixed 31) ∷ Plain (kind_of v) ∷ [])) rest) (sym is) runs,
 )
 literal_runs (Conv to) rest is runs = absurd is
 literal_runs (Read slot) rest is runs = absurd is

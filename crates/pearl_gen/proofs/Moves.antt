@@ -1,6 +1,9 @@
 -- What one instruction does, beside what the code from it on means.
 use Rattle.std.proofs.Common.{◌≡◌, ℕ, ◌+◌, List, [], ◌∷◌, ◌++◌, Option, Some, None, Result, Ok, Err, map, slice_get, zero, suc, refl, ap, sym, ◌∙◌, subst}
+use Rattle.std.proofs.lemmas.List.{length-map}
 use Rattle.pearl_value.specs.declared.kind.Kind.{Kind}
+use Rattle.pearl_value.specs.declared.kind.CellKind.{CellKind}
+use Rattle.pearl_value.specs.declared.kind.CellKind.TheVariants.{Plain}
 use Rattle.pearl_value.specs.declared.cell.Cell.{Cell}
 use Rattle.pearl_value.specs.declared.trap.Trap.{Trap}
 use Rattle.pearl_value.specs.Cells.{kind_of}
@@ -30,7 +33,7 @@ use Rattle.pearl_value.specs.Laws.{Gives}
 use Rattle.pearl_value.proofs.Results.{keeps_rows2, keeps_kinds}
 use Rattle.pearl_format.proofs.Counts.{suits-length}
 use Rattle.pearl_gen.proofs.Straight.{run_unboxed}
-use Rattle.pearl_gen.proofs.Steady.{UnboxedRuns, AreOf, pushed_of, has_last, has_two, put_left}
+use Rattle.pearl_gen.proofs.Steady.{UnboxedRuns, AreOf, cell_of, pushed_of, has_last, has_two, put_left}
 
 -- THE ROWS AGAIN, for unboxed instructions
 
@@ -83,22 +86,22 @@ continued-unboxed o (i ∷ code) (suc place) stack answer = continued-unboxed o 
 -- after the instruction, and these answers, the code behind it goes on where the instruction's code goes on with them
 pub record Moved (setup : Setup) (depth : ℕ) (x : Unboxed) (code : List Unboxed) (answers : List Answer) (stack after : Stack) : Type 0 where
   pub place : after.place ≡ stack.place + 1
-  pub kinds : List Kind
+  pub kinds : List CellKind
   pub are : AreOf kinds after.operands
   pub runs : UnboxedRuns setup depth (Some kinds) code
   pub meant : (store : Store) (rest : List Answer) →
       run_unboxed setup (x ∷ code) stack.operands store (answers ++ rest) ≡ run_unboxed setup code after.operands store rest
 
 -- the value that the two operands of an operator make
-applied_of : (op : _) (kinds left : List Kind) (result first next : Kind) (x y : Cell) → IsValueOf first x → IsValueOf next y → row2 op first next ≡ Some result →
+applied_of : (op : _) (kinds left : List CellKind) (result first next : Kind) (x y : Cell) → IsValueOf first x → IsValueOf next y → row2 op first next ≡ Some result →
     Gives result (applied2 op x y)
 applied_of op kinds left result first next x y x_is y_is row =
     keeps_rows2 op x y result x_is.is_value y_is.is_value (rw (x_is.same_kind, y_is.same_kind) row)
 
 module _ (setup : Setup) (depth : ℕ) (code : List Unboxed) (stack : Stack) where
   -- a value is pushed
-  pushed : (x : Unboxed) (after : Stack) (result : Result Cell Trap) (kind : Kind) (left_kinds : List Kind) (left : List Cell) →
-      AreOf left_kinds left → Gives kind result → UnboxedRuns setup depth (Some (left_kinds ++ kind ∷ [])) code →
+  pushed : (x : Unboxed) (after : Stack) (result : Result Cell Trap) (kind : Kind) (left_kinds : List CellKind) (left : List Cell) →
+      AreOf left_kinds left → Gives kind result → UnboxedRuns setup depth (Some (left_kinds ++ Plain kind ∷ [])) code →
       ((store : Store) (rest : List Answer) → run_unboxed setup (x ∷ code) stack.operands store rest
       ≡ bind (value_or_trap result store rest) (λ y store rest. run_unboxed setup code (left ++ y ∷ []) store rest)) →
       pushes stack left result ≡ Silent after → Moved setup depth x code [] stack after
@@ -107,13 +110,13 @@ module _ (setup : Setup) (depth : ℕ) (code : List Unboxed) (stack : Stack) whe
       let is : next_with stack (left ++ y ∷ []) ≡ after = cc in
       subst (λ after. Moved setup depth x code [] stack after) is record {
         place = refl;
-        kinds = left_kinds ++ kind ∷ [];
-        are = pushed_of left_kinds left kind y are gives;
+        kinds = left_kinds ++ Plain kind ∷ [];
+        are = pushed_of left_kinds left (Plain kind) y are (cell_of kind y gives);
         runs = runs;
         meant = meant;
       }
 
-  pub moves : (x : Unboxed) (after : Stack) (kinds : List Kind) → AreOf kinds stack.operands → UnboxedRuns setup depth (Some kinds) (x ∷ code) →
+  pub moves : (x : Unboxed) (after : Stack) (kinds : List CellKind) → AreOf kinds stack.operands → UnboxedRuns setup depth (Some kinds) (x ∷ code) →
       unboxed_executed setup (Some x) stack ≡ Silent after → Moved setup depth x code [] stack after
   moves (Const value) after kinds are runs e =
       pushed (Const value) after (Ok value) (kind_of value) kinds stack.operands are (record { is_value = runs.0; same_kind = refl }) runs.2 (λ store rest. refl) e
@@ -121,7 +124,7 @@ module _ (setup : Setup) (depth : ℕ) (code : List Unboxed) (stack : Stack) whe
       let left = runs.0 in let fits = runs.1 in
       let t = has_last left fits.from stack.operands (subst (λ kinds. AreOf kinds stack.operands) fits.stacked are) in
       pushed (Conv to) after (converted (last stack.operands) to) to left (below 1 stack.operands) t.under
-      (keeps_kinds (last stack.operands) to t.is.is_value fits.kind (subst (λ from. SuitsKind from to) (sym t.is.same_kind) fits.suits)) runs.2 (λ store rest. refl) e
+      (keeps_kinds (last stack.operands) to t.is.is_value fits.kind) runs.2 (λ store rest. refl) e
   moves (Dyadic op) after kinds are runs e =
       let left = runs.0 in let result = runs.1 in let fits = runs.2 in
       let t = has_two left fits.x fits.y stack.operands (subst (λ kinds. AreOf kinds stack.operands) fits.stacked are) in
@@ -170,7 +173,7 @@ module _ (setup : Setup) (depth : ℕ) (code : List Unboxed) (stack : Stack) whe
   text_fits device None = tt
   text_fits device (Some text) = tt
 
-  pub fits : (x : Unboxed) (offered : Action) (kinds : List Kind) → AreOf kinds stack.operands → UnboxedRuns setup depth (Some kinds) (x ∷ code) →
+  pub fits : (x : Unboxed) (offered : Action) (kinds : List CellKind) → AreOf kinds stack.operands → UnboxedRuns setup depth (Some kinds) (x ∷ code) →
       unboxed_executed setup (Some x) stack ≡ Offers offered → Fits setup offered
   fits (Const value) offered kinds are runs e = let no : ⊥ = cc in absurd no
   fits (Conv to) offered kinds are runs e = trap_fits offered (converted (last stack.operands) to) (below 1 stack.operands) e
@@ -199,7 +202,7 @@ module _ (setup : Setup) (depth : ℕ) (code : List Unboxed) (stack : Stack) whe
   text_done device None answer store rest go suits = absurd suits
   text_done device (Some text) answer store rest go suits = refl
 
-  pub answered : (x : Unboxed) (offered : Action) (answer : Answer) (kinds : List Kind) → AreOf kinds stack.operands → UnboxedRuns setup depth (Some kinds) (x ∷ code) →
+  pub answered : (x : Unboxed) (offered : Action) (answer : Answer) (kinds : List CellKind) → AreOf kinds stack.operands → UnboxedRuns setup depth (Some kinds) (x ∷ code) →
       unboxed_executed setup (Some x) stack ≡ Offers offered → Suits setup offered answer →
       Moved setup depth x code (answer ∷ []) stack (unboxed_continued setup (Some x) stack answer)
   answered (Const value) offered answer kinds are runs e suits = let no : ⊥ = cc in absurd no
@@ -215,8 +218,9 @@ module _ (setup : Setup) (depth : ℕ) (code : List Unboxed) (stack : Stack) whe
       let heard : heard_value answer ≡ s.0 = ap heard_value s.1 in
       record {
         place = refl;
-        kinds = kinds ++ slot_kind setup slot ∷ [];
-        are = pushed_of kinds stack.operands (slot_kind setup slot) (heard_value answer) are (subst (λ x. IsValueOf (slot_kind setup slot) x) (sym heard) s.2);
+        kinds = kinds ++ Plain (slot_kind setup slot) ∷ [];
+        are = pushed_of kinds stack.operands (Plain (slot_kind setup slot)) (heard_value answer) are
+            (cell_of (slot_kind setup slot) (heard_value answer) (subst (λ x. IsValueOf (slot_kind setup slot) x) (sym heard) s.2));
         runs = runs.1;
         meant = λ store rest. refl;
       }
@@ -233,7 +237,8 @@ module _ (setup : Setup) (depth : ℕ) (code : List Unboxed) (stack : Stack) whe
       record {
         place = refl;
         kinds = left;
-        are = put_left left takes.values stack.operands (data_count items) (subst (λ kinds. AreOf kinds stack.operands) takes.stacked are) (suits-length items takes.values takes.suits);
+        are = put_left left (map Plain takes.values) stack.operands (data_count items) (subst (λ kinds. AreOf kinds stack.operands) takes.stacked are)
+            (length-map takes.values Plain ∙ suits-length items takes.values takes.suits);
         runs = runs.2;
         meant = λ store rest. text_done device text answer store rest (λ store rest. run_unboxed setup code (below (data_count items) stack.operands) store rest) s;
       }

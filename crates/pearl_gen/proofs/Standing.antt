@@ -1,7 +1,7 @@
 -- Where a task's code stands after some answers, and that it does there what the program's task rules say.
 use Rattle.std.proofs.Common.{◌≡◌, ℕ, ◌+◌, ◌-◌, ◌<◌, List, [], ◌∷◌, ◌++◌, Option, Some, None, length, map, slice_get, refl, ap, sym, ◌∙◌, subst, append_assoc, append-nil, arith, length-append}
 use Rattle.std.proofs.lemmas.List.{length-map}
-use Rattle.pearl_value.specs.declared.kind.Kind.{Kind}
+use Rattle.pearl_value.specs.declared.kind.CellKind.{CellKind}
 use Rattle.pearl_rules.specs.declared.action.Action.{Action}
 use Rattle.pearl_rules.specs.declared.action.Action.TheVariants as action
 use Rattle.pearl_rules.specs.declared.action.Answer.{Answer}
@@ -28,11 +28,11 @@ get-append [] (unboxed ∷ rest) = refl
 get-append (x ∷ done) rest = get-append done rest
 
 -- the code that is left keeps the rules; there is none where the number names no task
-abbrev pub IsLawful : Setup → ℕ → List Kind → List Unboxed → Type 0
+abbrev pub IsLawful : Setup → ℕ → List CellKind → List Unboxed → Type 0
 IsLawful setup depth kinds [] = Unit {0}
 IsLawful setup depth kinds (x ∷ code) = UnboxedRuns setup depth (Some kinds) (x ∷ code)
 
-pub lawful : (setup : Setup) (depth : ℕ) (kinds : List Kind) (code : List Unboxed) → UnboxedRuns setup depth (Some kinds) code → IsLawful setup depth kinds code
+pub lawful : (setup : Setup) (depth : ℕ) (kinds : List CellKind) (code : List Unboxed) → UnboxedRuns setup depth (Some kinds) code → IsLawful setup depth kinds code
 lawful setup depth kinds [] runs = tt
 lawful setup depth kinds (x ∷ code) runs = runs
 
@@ -42,7 +42,7 @@ pub record Before (p : Program) (o : Object) (t : ℕ) (heard : List Answer) (st
   pub code : map unboxed_of (code_of o t) ≡ done ++ left
   pub place : stack.place ≡ length done
   pub depth : ℕ
-  pub kinds : List Kind
+  pub kinds : List CellKind
   pub are : AreOf kinds stack.operands
   pub runs : IsLawful o.setup depth kinds left
   pub meant : (more : List Answer) → offer p t (heard ++ more) ≡ next_action (run_unboxed o.setup left stack.operands (store_at_start t) more)
@@ -134,7 +134,7 @@ abbrev pub weight : Object → ℕ → Stack → ℕ
 weight o t stack = length (code_of o t) - (stack.place + 1)
 
 -- code that goes on isn't at its end
-some_left : (setup : Setup) (depth : ℕ) (kinds : List Kind) (code : List Unboxed) → UnboxedRuns setup depth (Some kinds) code → 0 < length code
+some_left : (setup : Setup) (depth : ℕ) (kinds : List CellKind) (code : List Unboxed) → UnboxedRuns setup depth (Some kinds) code → 0 < length code
 some_left setup depth kinds [] runs = let no : ⊥ = cc in absurd no
 some_left setup depth kinds (x ∷ code) runs = omega arith
 

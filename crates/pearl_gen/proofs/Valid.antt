@@ -3,6 +3,8 @@ use Rattle.std.proofs.Common.{◌≡◌, ℕ, zero, suc, ◌+◌, ◌<◌, ◌�
 use Rattle.std.proofs.lemmas.List.{length-map}
 use Rattle.std.specs.List.{AllByRecursion, AllZip, flat_map}
 use Rattle.pearl_value.specs.declared.kind.Kind.{Kind}
+use Rattle.pearl_value.specs.declared.kind.CellKind.{CellKind}
+use Rattle.pearl_value.specs.declared.kind.CellKind.TheVariants.{Plain}
 use Rattle.pearl_value.specs.declared.cell.Cell.{Cell}
 use Rattle.pearl_value.specs.Kinds.{IsKind}
 use Rattle.pearl_value.specs.WellFormed.{IsValue}
@@ -39,36 +41,36 @@ row_is kind None some = let no : ⊥ = cc in absurd no
 row_is kind (Some result) some = refl
 
 -- the code of an expression, with so many operands below, leaves a value of its kind
-runs_expr : (setup : Setup) (depth : ℕ) (e : Expr) (kinds : List Kind) (code : List Unboxed) → IsExpr setup e → length kinds + held e ≤ depth →
-    UnboxedRuns setup depth (Some (kinds ++ kind_of_expr setup e ∷ [])) code → UnboxedRuns setup depth (Some kinds) (expr_code e ++ code)
+runs_expr : (setup : Setup) (depth : ℕ) (e : Expr) (kinds : List CellKind) (code : List Unboxed) → IsExpr setup e → length kinds + held e ≤ depth →
+    UnboxedRuns setup depth (Some (kinds ++ Plain (kind_of_expr setup e) ∷ [])) code → UnboxedRuns setup depth (Some kinds) (expr_code e ++ code)
 runs_expr setup depth (expr.Number len value) kinds code sound room runs = (sound, omega arith, runs)
 runs_expr setup depth (expr.Read variable) kinds code sound room runs = (record { named = sound; room = omega arith }, runs)
 runs_expr setup depth (expr.Dyadic' op _ left _ right) kinds code sound room runs =
     let x = kind_of_expr setup left in
     let y = kind_of_expr setup right in
-    let long : length (kinds ++ x ∷ []) ≡ length kinds + 1 = length-append kinds (x ∷ []) in
-    let operator : UnboxedRuns setup depth (Some ((kinds ++ x ∷ []) ++ y ∷ [])) (Dyadic op ∷ code) =
-    (kinds, kind_or x (row2 op x y), record { x = x; y = y; stacked = append_assoc kinds (x ∷ []) (y ∷ []); row = row_is x (row2 op x y) sound.2 }, runs) in
+    let long : length (kinds ++ Plain x ∷ []) ≡ length kinds + 1 = length-append kinds (Plain x ∷ []) in
+    let operator : UnboxedRuns setup depth (Some ((kinds ++ Plain x ∷ []) ++ Plain y ∷ [])) (Dyadic op ∷ code) =
+    (kinds, kind_or x (row2 op x y), record { x = x; y = y; stacked = append_assoc kinds (Plain x ∷ []) (Plain y ∷ []); row = row_is x (row2 op x y) sound.2 }, runs) in
     subst (λ code. UnboxedRuns setup depth (Some kinds) code)
     (sym (append_assoc (expr_code left) (expr_code right ++ Dyadic op ∷ []) code ∙ ap (λ more. expr_code left ++ more) (append_assoc (expr_code right) (Dyadic op ∷ []) code)))
     (runs_expr setup depth left kinds (expr_code right ++ Dyadic op ∷ code) sound.0 (omega arith)
-    (runs_expr setup depth right (kinds ++ x ∷ []) (Dyadic op ∷ code) sound.1 (omega arith) operator))
+    (runs_expr setup depth right (kinds ++ Plain x ∷ []) (Dyadic op ∷ code) sound.1 (omega arith) operator))
 
 -- the values that are left are pushed onto these kinds, and then PUT takes all of them
-runs_values : (setup : Setup) (depth device format : ℕ) (rest : List Unboxed) (kinds : List Kind) (values : List Expr) → AllByRecursion (IsExpr setup) values →
-    length kinds + held_by_all values ≤ depth → FitsPut setup device format (kinds ++ map (kind_of_expr setup) values) [] → UnboxedRuns setup depth (Some []) rest →
+runs_values : (setup : Setup) (depth device format : ℕ) (rest : List Unboxed) (kinds : List CellKind) (values : List Expr) → AllByRecursion (IsExpr setup) values →
+    length kinds + held_by_all values ≤ depth → FitsPut setup device format (kinds ++ map Plain (map (kind_of_expr setup) values)) [] → UnboxedRuns setup depth (Some []) rest →
     UnboxedRuns setup depth (Some kinds) (flat_map expr_code values ++ Put device format ∷ rest)
 runs_values setup depth device format rest kinds [] exprs room fits runs =
     ([], subst (λ kinds. FitsPut setup device format kinds []) (append-nil kinds) fits, runs)
 runs_values setup depth device format rest kinds (e ∷ values) exprs room fits runs =
     let x = kind_of_expr setup e in
-    let long : length (kinds ++ x ∷ []) ≡ length kinds + 1 = length-append kinds (x ∷ []) in
+    let long : length (kinds ++ Plain x ∷ []) ≡ length kinds + 1 = length-append kinds (Plain x ∷ []) in
     subst (λ code. UnboxedRuns setup depth (Some kinds) code) (sym (append_assoc (expr_code e) (flat_map expr_code values) (Put device format ∷ rest)))
     (runs_expr setup depth e kinds (flat_map expr_code values ++ Put device format ∷ rest) exprs.0 (omega arith)
-    (runs_values setup depth device format rest (kinds ++ x ∷ []) values exprs.1 (omega arith)
-    (subst (λ kinds. FitsPut setup device format kinds []) (sym (append_assoc kinds (x ∷ []) (map (kind_of_expr setup) values))) fits) runs))
+    (runs_values setup depth device format rest (kinds ++ Plain x ∷ []) values exprs.1 (omega arith)
+    (subst (λ kinds. FitsPut setup device format kinds []) (sym (append_assoc kinds (Plain x ∷ []) (map Plain (map (kind_of_expr setup) values)))) fits) runs))
 
-fits_put : (setup : Setup) (values : List Expr) (device format : ℕ) → IsPut setup values device format → FitsPut setup device format (map (kind_of_expr setup) values) []
+fits_put : (setup : Setup) (values : List Expr) (device format : ℕ) → IsPut setup values device format → FitsPut setup device format (map Plain (map (kind_of_expr setup) values)) []
 fits_put setup values device format put = let fits = fits_some setup format values put.fits in record {
   takes = put.takes;
   named = fits.0;

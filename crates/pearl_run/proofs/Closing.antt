@@ -7,7 +7,7 @@ use Rattle.std.specs.List.{AllByRecursion, AllZip}
 use Rattle.std.proofs.lemmas.List.{append-nil}
 use Rattle.std.proofs.lemmas.List.Elements.{All-nil}
 use Rattle.pearl_value.specs.declared.cell.Cell.{Cell}
-use Rattle.pearl_value.specs.WellFormed.{IsValue}
+use Rattle.pearl_value.specs.WellFormed.{IsWellFormed}
 use Rattle.pearl_rules.specs.declared.action.Action.{Action}
 use Rattle.pearl_rules.specs.declared.entry.Entry.{Entry}
 use Rattle.pearl_rules.specs.declared.event.Event.TheVariants.{Start}
@@ -87,7 +87,7 @@ pub start_ready : (o : Object) (frame : Frame) → IsValid o → length o.tasks 
 start_ready o frame valid single first empty room = record {
   steady = subst (IsSteady o) (sym (ap (λ n. let s : Stack = record { place = n; operands = frame.operands.items } in s) first
       ∙ ap (λ xs. let s : Stack = record { place = 0; operands = xs } in s) empty)) (code_runs o.setup o.tasks single valid.codes);
-  values = subst (λ xs. All IsValue xs) (sym empty) (All-nil IsValue);
+  cells = subst (λ xs. All IsWellFormed xs) (sym empty) (All-nil IsWellFormed);
   room = room;
 }
 

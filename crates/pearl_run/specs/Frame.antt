@@ -1,7 +1,7 @@
 -- What holds of a task's stack wherever its code stands, and where its code goes up to the next action.
 use Rattle.std.specs.Prelude.{◌≡◌, ℕ, zero, suc, ◌≤◌, Option, Some, None, map, drop, vec_capacity, slice_get, All}
-use Rattle.pearl_value.specs.Cells.{kind_of}
-use Rattle.pearl_value.specs.WellFormed.{IsValue}
+use Rattle.pearl_value.specs.Cells.{cell_kind_of}
+use Rattle.pearl_value.specs.WellFormed.{IsWellFormed}
 use Rattle.pearl_rules.specs.declared.action.Action.{Action}
 use Rattle.pearl_rules.specs.declared.action.Action.TheVariants.{Read, Write, Put, End, Trap}
 use Rattle.pearl_rules.specs.declared.action.Answer.{Answer}
@@ -28,12 +28,12 @@ depth_of o t = depth_or_none (slice_get o.tasks t)
 
 -- the operands are of the kinds that the instructions from the place on ask for
 abbrev pub IsSteady : Object → Stack → Type 0
-IsSteady o stack = RunsFrom o.setup (depth_of o 0) (Some (map kind_of stack.operands)) (drop stack.place (code_of o 0))
+IsSteady o stack = RunsFrom o.setup (depth_of o 0) (Some (map cell_kind_of stack.operands)) (drop stack.place (code_of o 0))
 
--- all operands are values, and there is memory for as many as there ever are
+-- all operands are well-formed cells, and there is memory for as many as there ever are
 pub record IsReady (o : Object) (frame : Frame) : Type 0 where
   pub steady : IsSteady o (stack_of frame)
-  pub values : All IsValue frame.operands.items
+  pub cells : All IsWellFormed frame.operands.items
   pub room : depth_of o 0 ≤ vec_capacity frame.operands
 
 -- an instruction was silent and left this stack, or it offers an action and changed nothing

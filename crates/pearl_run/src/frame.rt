@@ -1,9 +1,9 @@
 //! A task's stack, and what its code does between two actions.
 
 ghost use Rattle.std.specs.Prelude.{All, ◌≡◌, ◌+◌, ◌-◌, ◌≤◌, ◌<◌, ◌^◌, [], ◌∷◌, ◌++◌, List, Some, None, IfSome, MatchOption, length, map, slice_get, vec_len, vec_capacity};
-ghost use Rattle.pearl_value.specs.declared.kind.Kind.{Kind};
-ghost use Rattle.pearl_value.specs.Cells.{kind_of};
-ghost use Rattle.pearl_value.specs.WellFormed.{IsValue};
+ghost use Rattle.pearl_value.specs.declared.kind.CellKind.{CellKind};
+ghost use Rattle.pearl_value.specs.Cells.{cell_kind_of};
+ghost use Rattle.pearl_value.specs.WellFormed.{IsWellFormed};
 ghost use Rattle.pearl_format.specs.Items.{data_here, data_count as count_of};
 ghost use Rattle.pearl_format.specs.Texts.{text_of};
 ghost use Rattle.pearl_rules.specs.Tables.{format_of};
@@ -101,8 +101,8 @@ fn data_count(items: &[Item]) -> usize
 
 // The action of PUT over these operands.
 fn put_action(setup: &Setup, device: u32, format: u32, operands: &[Cell]) -> Action
-    requires fits { (left : List Kind) × FitsPut setup.now device format (map kind_of operands.now) left }
-    requires values { All IsValue operands.now }
+    requires fits { (left : List CellKind) × FitsPut setup.now device format (map cell_kind_of operands.now) left }
+    requires cells { All IsWellFormed operands.now }
     ensures { let items = format_of setup.now format in
         result ≡ put_action_of device (text_of items (top (count_of items) operands.now)) }
 {
