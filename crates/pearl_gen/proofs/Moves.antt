@@ -8,7 +8,7 @@ use Rattle.pearl_value.specs.declared.cell.Cell.{Cell}
 use Rattle.pearl_value.specs.declared.trap.Trap.{Trap}
 use Rattle.pearl_value.specs.Cells.{kind_of}
 use Rattle.pearl_value.specs.WellFormed.{IsValueOf}
-use Rattle.pearl_value.specs.Conversions.{SuitsKind, converted}
+use Rattle.pearl_value.specs.Conversions.{converted}
 use Rattle.pearl_value.specs.Applied.{applied2}
 use Rattle.pearl_value.specs.Rows.{row2}
 use Rattle.pearl_format.specs.Items.{data_count}
