@@ -7,7 +7,7 @@ ghost use Rattle.pearl_parse_expr.specs.declared.reading.Halt.{Halt};
 ghost use Rattle.pearl_parse_expr.specs.Stops as stops;
 ghost use Rattle.pearl_parse_decl.specs.Readings as spec;
 
-use crate::list::Part;
+use crate::list::Readable;
 use crate::symbol::*;
 use pearl_parse_expr::literal::literal;
 use pearl_parse_expr::reading::{Halt, Reading};
@@ -20,8 +20,8 @@ use std::alloc::Global;
 fn sign(tokens: &[Token], from: usize) -> Reading<Option<Sign>>
     requires { from ≤ length tokens.now }
     ensures spells { SpellsMaybe (grammar.SpellsSign tokens.now) from result.part result.end }
-    ensures sure { stops.Sure (λ tokens. SpellsMaybe (grammar.SpellsSign tokens)) spec.is_sign tokens.now from result.end result.stop }
-    ensures ahead { spec.IsOn tokens.now from result.end result.stop }
+    ensures longest { stops.IsLongest (λ tokens. SpellsMaybe (grammar.SpellsSign tokens)) spec.is_sign tokens.now from result.end result.stop }
+    ensures ahead { spec.IsWithin tokens.now from result.end result.stop }
 {
     if is_symbol(tokens, from, PLUS) {
         return Reading {
@@ -48,7 +48,7 @@ fn sign(tokens: &[Token], from: usize) -> Reading<Option<Sign>>
 pub fn constant(tokens: &[Token], from: usize) -> Result<Reading<Const>, Halt>
     requires { from ≤ length tokens.now }
     ensures spells { IfOk result (λ reading. grammar.SpellsConst tokens.now from reading.part reading.end) }
-    ensures sure { IfOk result (λ reading. stops.Sure grammar.SpellsConst stops.extends_operand tokens.now from reading.end reading.stop) }
+    ensures longest { IfOk result (λ reading. stops.IsLongest grammar.SpellsConst stops.extends_operand tokens.now from reading.end reading.stop) }
     ensures ahead { IfOk result (λ reading. stops.IsAhead tokens.now from reading.end reading.stop) }
     ensures refused { IfErr result (λ halt. stops.IsHalted grammar.SpellsConst tokens.now from halt) }
     ensures memory { IfErr result (λ halt. halt ≢ Halt.NoMemory) }
@@ -68,7 +68,7 @@ pub fn constant(tokens: &[Token], from: usize) -> Result<Reading<Const>, Halt>
     }
 }
 
-impl Part for Const {
+impl Readable for Const {
     ghost spelling = { grammar.SpellsConst };
 
     ghost extends = { stops.extends_operand };

@@ -24,7 +24,7 @@ pub fn length_of(tokens: &[Token], from: usize) -> Result<Reading<Decl>, Halt>
     requires within { from ≤ length tokens.now }
     requires word { HasWord tokens.now from w.LENGTH }
     ensures spells { IfOk result (λ reading. modules.SpellsDecl tokens.now from reading.part reading.end) }
-    ensures sure { IfOk result (λ reading. stops.Exact modules.SpellsDecl tokens.now from reading.end reading.stop) }
+    ensures longest { IfOk result (λ reading. stops.IsOnly modules.SpellsDecl tokens.now from reading.end reading.stop) }
     ensures ahead { IfOk result (λ reading. stops.IsAhead tokens.now from reading.end reading.stop) }
     ensures refused { IfErr result (λ halt. stops.IsHalted modules.SpellsDecl tokens.now from halt) }
     ensures memory { IfErr result (λ halt. halt ≢ Halt.NoMemory) }
@@ -56,7 +56,7 @@ pub fn type_of(alloc: Global, tokens: &[Token], from: usize) -> Result<Reading<D
     requires within { from ≤ length tokens.now }
     requires word { HasWord tokens.now from w.TYPE }
     ensures spells { IfOk result (λ reading. modules.SpellsDecl tokens.now from reading.part reading.end) }
-    ensures sure { IfOk result (λ reading. stops.Exact modules.SpellsDecl tokens.now from reading.end reading.stop) }
+    ensures longest { IfOk result (λ reading. stops.IsOnly modules.SpellsDecl tokens.now from reading.end reading.stop) }
     ensures ahead { IfOk result (λ reading. stops.IsAhead tokens.now from reading.end reading.stop) }
     ensures refused { IfErr result (λ halt. stops.IsHalted modules.SpellsDecl tokens.now from halt) }
 {
@@ -87,7 +87,7 @@ pub fn declare(alloc: Global, tokens: &[Token], from: usize) -> Result<Reading<D
     requires within { from ≤ length tokens.now }
     requires word { HasWord tokens.now from w.DCL }
     ensures spells { IfOk result (λ reading. modules.SpellsDecl tokens.now from reading.part reading.end) }
-    ensures sure { IfOk result (λ reading. stops.Exact modules.SpellsDecl tokens.now from reading.end reading.stop) }
+    ensures longest { IfOk result (λ reading. stops.IsOnly modules.SpellsDecl tokens.now from reading.end reading.stop) }
     ensures ahead { IfOk result (λ reading. stops.IsAhead tokens.now from reading.end reading.stop) }
     ensures refused { IfErr result (λ halt. stops.IsHalted modules.SpellsDecl tokens.now from halt) }
 {
@@ -113,7 +113,7 @@ pub fn specify(alloc: Global, tokens: &[Token], from: usize) -> Result<Reading<D
     requires within { from ≤ length tokens.now }
     requires word { HasWord tokens.now from w.SPC }
     ensures spells { IfOk result (λ reading. modules.SpellsDecl tokens.now from reading.part reading.end) }
-    ensures sure { IfOk result (λ reading. stops.Exact modules.SpellsDecl tokens.now from reading.end reading.stop) }
+    ensures longest { IfOk result (λ reading. stops.IsOnly modules.SpellsDecl tokens.now from reading.end reading.stop) }
     ensures ahead { IfOk result (λ reading. stops.IsAhead tokens.now from reading.end reading.stop) }
     ensures refused { IfErr result (λ halt. stops.IsHalted modules.SpellsDecl tokens.now from halt) }
 {

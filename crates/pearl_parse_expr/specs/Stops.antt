@@ -38,10 +38,10 @@ extends_expression = is_one_of lengthens_expr
 abbrev pub EndsEarly : (Option What → Bool) → List Token → ℕ → ℕ → Type 0
 EndsEarly extends tokens end to = (to < end) × (extends (what_at tokens to) ≡ true)
 
--- however the tokens behind this one are replaced, what begins at `from` ends at `end`, or before a token that goes on
--- with it
-abbrev pub Sure : {X : Type 0} → (List Token → Spelling X) → (Option What → Bool) → List Token → ℕ → ℕ → ℕ → Type 0
-Sure {X} spells extends tokens from end stop =
+-- `end` is the longest end: however the tokens behind `stop` are replaced, what begins at `from` ends there, or earlier
+-- and before a token that goes on with it
+abbrev pub IsLongest : {X : Type 0} → (List Token → Spelling X) → (Option What → Bool) → List Token → ℕ → ℕ → ℕ → Type 0
+IsLongest {X} spells extends tokens from end stop =
     (others : List Token) → BeginAlike tokens others stop → (x : X) (to : ℕ) → spells others from x to →
     (to ≡ end) ⊎ EndsEarly extends others end to
 
@@ -106,9 +106,9 @@ is_counted word tokens at = is_number (what_at tokens at) && is_word word (what_
 abbrev pub SpellsMaybeSeconds : List Token → Spelling (Option Secs)
 SpellsMaybeSeconds tokens = SpellsMaybe (SpellsSeconds tokens)
 
--- however the tokens behind this one are replaced, what begins at `from` ends at `end`
-abbrev pub Exact : {X : Type 0} → (List Token → Spelling X) → List Token → ℕ → ℕ → ℕ → Type 0
-Exact {X} spells tokens from end stop =
+-- `end` is the only end: however the tokens behind `stop` are replaced, what begins at `from` ends there
+abbrev pub IsOnly : {X : Type 0} → (List Token → Spelling X) → List Token → ℕ → ℕ → ℕ → Type 0
+IsOnly {X} spells tokens from end stop =
     (others : List Token) → BeginAlike tokens others stop → (x : X) (to : ℕ) → spells others from x to → to ≡ end
 
 -- nothing was read: for want of memory, or since with this token none begins

@@ -14,7 +14,7 @@ ghost use Rattle.pearl_parse_expr.specs.declared.reading.Halt.{Halt};
 ghost use Rattle.pearl_parse_expr.specs.Stops as spec;
 
 use crate::fault::ParseFault;
-use crate::grouping::joined;
+use crate::grouping::with_operand;
 use crate::leaf::{
     LimitHead, availability, component, limit_head, literal_primary, monadics, without_array,
 };
@@ -45,17 +45,17 @@ fn subscripts(
 ) -> Result<Reading<Vec<Expr>>, Halt>
     requires { from ≤ length tokens.now }
     ensures spells { IfOk result (λ reading. spec.SpellsSubscriptsList tokens.now depth from reading.part.items reading.end) }
-    ensures sure { IfOk result (λ reading. spec.Sure (λ tokens. spec.SpellsSubscriptsList tokens depth) spec.extends_list tokens.now from reading.end reading.stop) }
+    ensures longest { IfOk result (λ reading. spec.IsLongest (λ tokens. spec.SpellsSubscriptsList tokens depth) spec.extends_list tokens.now from reading.end reading.stop) }
     ensures ahead { IfOk result (λ reading. spec.IsAhead tokens.now from reading.end reading.stop) }
     ensures refused { IfErr result (λ halt. spec.IsHalted (λ tokens. spec.SpellsSubscriptsList tokens depth) tokens.now from halt) }
 {
-    let first = level(alloc, tokens, from, depth)?;
+    let first = expression_at_depth(alloc, tokens, from, depth)?;
     let mut list = Vec::new(alloc);
     append(&mut list, first.part)?;
     let mut end = first.end;
     let mut stop = first.stop;
     'each: while is_symbol(tokens, end, COMMA) {
-        match level(alloc, tokens, end + 1, depth) {
+        match expression_at_depth(alloc, tokens, end + 1, depth) {
             Ok(next) => {
                 append(&mut list, next.part)?;
                 end = next.end;
@@ -91,7 +91,7 @@ fn bracketed(
     requires bracket { HasSymbol tokens.now from s.LEFT_ROUND }
     requires deep { 0 < depth }
     ensures spells { IfOk result (λ reading. grammar.SpellsSelector tokens.now depth from reading.part reading.end) }
-    ensures sure { IfOk result (λ reading. spec.Exact (λ tokens. grammar.SpellsSelector tokens depth) tokens.now from reading.end reading.stop) }
+    ensures longest { IfOk result (λ reading. spec.IsOnly (λ tokens. grammar.SpellsSelector tokens depth) tokens.now from reading.end reading.stop) }
     ensures ahead { IfOk result (λ reading. spec.IsAhead tokens.now from reading.end reading.stop) }
     ensures refused { IfErr result (λ halt. spec.IsHalted (λ tokens. grammar.SpellsSelector tokens depth) tokens.now from halt) }
 {
@@ -121,7 +121,7 @@ fn selector(
 ) -> Result<Reading<Selector>, Halt>
     requires { from ≤ length tokens.now }
     ensures spells { IfOk result (λ reading. grammar.SpellsSelector tokens.now depth from reading.part reading.end) }
-    ensures sure { IfOk result (λ reading. spec.Exact (λ tokens. grammar.SpellsSelector tokens depth) tokens.now from reading.end reading.stop) }
+    ensures longest { IfOk result (λ reading. spec.IsOnly (λ tokens. grammar.SpellsSelector tokens depth) tokens.now from reading.end reading.stop) }
     ensures ahead { IfOk result (λ reading. spec.IsAhead tokens.now from reading.end reading.stop) }
     ensures refused { IfErr result (λ halt. spec.IsHalted (λ tokens. grammar.SpellsSelector tokens depth) tokens.now from halt) }
 {
@@ -143,7 +143,7 @@ fn selectors(
 ) -> Result<Reading<Vec<Selector>>, Halt>
     requires { from ≤ length tokens.now }
     ensures spells { IfOk result (λ reading. spec.SpellsSelectorsList tokens.now depth from reading.part.items reading.end) }
-    ensures sure { IfOk result (λ reading. spec.Sure (λ tokens. spec.SpellsSelectorsList tokens depth) spec.extends_operand tokens.now from reading.end reading.stop) }
+    ensures longest { IfOk result (λ reading. spec.IsLongest (λ tokens. spec.SpellsSelectorsList tokens depth) spec.extends_operand tokens.now from reading.end reading.stop) }
     ensures ahead { IfOk result (λ reading. (from ≤ reading.end) × (reading.end ≤ reading.stop) × (reading.stop ≤ length tokens.now)) }
     ensures fault { IfErr result (λ halt. halt ≡ Halt.NoMemory) }
 {
@@ -181,7 +181,7 @@ pub fn reference(
 ) -> Result<Reading<Ref>, Halt>
     requires { from ≤ length tokens.now }
     ensures spells { IfOk result (λ reading. grammar.SpellsRef tokens.now depth from reading.part reading.end) }
-    ensures sure { IfOk result (λ reading. spec.Sure (λ tokens. spec.SpellsNamed tokens depth) spec.extends_operand tokens.now from reading.end reading.stop) }
+    ensures longest { IfOk result (λ reading. spec.IsLongest (λ tokens. spec.SpellsNamed tokens depth) spec.extends_operand tokens.now from reading.end reading.stop) }
     ensures ahead { IfOk result (λ reading. spec.IsAhead tokens.now from reading.end reading.stop) }
     ensures refused { IfErr result (λ halt. spec.IsHalted (λ tokens. spec.SpellsNamed tokens depth) tokens.now from halt) }
 {
@@ -208,14 +208,14 @@ fn group(alloc: Global, tokens: &[Token], from: usize, depth: u8) -> Result<Read
     requires within { from ≤ length tokens.now }
     requires bracket { HasSymbol tokens.now from s.LEFT_ROUND }
     ensures spells { IfOk result (λ reading. grammar.SpellsPrimary tokens.now depth from reading.part reading.end) }
-    ensures sure { IfOk result (λ reading. spec.Sure (λ tokens. grammar.SpellsPrimary tokens depth) spec.extends_operand tokens.now from reading.end reading.stop) }
+    ensures longest { IfOk result (λ reading. spec.IsLongest (λ tokens. grammar.SpellsPrimary tokens depth) spec.extends_operand tokens.now from reading.end reading.stop) }
     ensures ahead { IfOk result (λ reading. spec.IsAhead tokens.now from reading.end reading.stop) }
     ensures refused { IfErr result (λ halt. spec.IsHalted (λ tokens. grammar.SpellsPrimary tokens depth) tokens.now from halt) }
 {
     if depth == 0 {
         return Err(Halt::Refused(from));
     }
-    let inner = match level(alloc, tokens, from + 1, depth - 1) {
+    let inner = match expression_at_depth(alloc, tokens, from + 1, depth - 1) {
         Ok(inner) => inner,
         Err(halt) => return Err(halt),
     };
@@ -248,7 +248,7 @@ fn limit(
     requires word { HasWord tokens.now head.word (grammar.side_word head.side) }
     requires after { from ≤ head.word }
     ensures spells { IfOk result (λ reading. grammar.SpellsPrimary tokens.now depth from reading.part reading.end) }
-    ensures sure { IfOk result (λ reading. spec.Sure (λ tokens. grammar.SpellsPrimary tokens depth) spec.extends_operand tokens.now from reading.end reading.stop) }
+    ensures longest { IfOk result (λ reading. spec.IsLongest (λ tokens. grammar.SpellsPrimary tokens depth) spec.extends_operand tokens.now from reading.end reading.stop) }
     ensures ahead { IfOk result (λ reading. spec.IsAhead tokens.now from reading.end reading.stop) }
     ensures refused { IfErr result (λ halt. spec.IsHalted (λ tokens. grammar.SpellsPrimary tokens depth) tokens.now from halt) }
 {
@@ -279,7 +279,7 @@ fn primary(
 ) -> Result<Reading<Primary>, Halt>
     requires { from ≤ length tokens.now }
     ensures spells { IfOk result (λ reading. grammar.SpellsPrimary tokens.now depth from reading.part reading.end) }
-    ensures sure { IfOk result (λ reading. spec.Sure (λ tokens. grammar.SpellsPrimary tokens depth) spec.extends_operand tokens.now from reading.end reading.stop) }
+    ensures longest { IfOk result (λ reading. spec.IsLongest (λ tokens. grammar.SpellsPrimary tokens depth) spec.extends_operand tokens.now from reading.end reading.stop) }
     ensures ahead { IfOk result (λ reading. spec.IsAhead tokens.now from reading.end reading.stop) }
     ensures refused { IfErr result (λ halt. spec.IsHalted (λ tokens. grammar.SpellsPrimary tokens depth) tokens.now from halt) }
 {
@@ -323,7 +323,7 @@ fn operand(
 ) -> Result<Reading<Operand>, Halt>
     requires { from ≤ length tokens.now }
     ensures spells { IfOk result (λ reading. grammar.SpellsTerms tokens.now depth from (tree.Operand reading.part) reading.end) }
-    ensures sure { IfOk result (λ reading. spec.Sure (λ tokens. spec.SpellsSigned tokens depth) spec.extends_operand tokens.now from reading.end reading.stop) }
+    ensures longest { IfOk result (λ reading. spec.IsLongest (λ tokens. spec.SpellsSigned tokens depth) spec.extends_operand tokens.now from reading.end reading.stop) }
     ensures ahead { IfOk result (λ reading. spec.IsAhead tokens.now from reading.end reading.stop) }
     ensures refused { IfErr result (λ halt. spec.IsHalted (λ tokens. spec.SpellsSigned tokens depth) tokens.now from halt) }
 {
@@ -344,10 +344,15 @@ fn operand(
 
 /// The longest expression that begins here, with at most `depth` brackets within one another.
 #[cycle(expression)]
-pub fn level(alloc: Global, tokens: &[Token], from: usize, depth: u8) -> Result<Reading<Expr>, Halt>
+pub fn expression_at_depth(
+    alloc: Global,
+    tokens: &[Token],
+    from: usize,
+    depth: u8,
+) -> Result<Reading<Expr>, Halt>
     requires { from ≤ length tokens.now }
     ensures spells { IfOk result (λ reading. grammar.SpellsExpr tokens.now depth from reading.part reading.end) }
-    ensures sure { IfOk result (λ reading. spec.Sure (λ tokens. grammar.SpellsExpr tokens depth) spec.extends_expression tokens.now from reading.end reading.stop) }
+    ensures longest { IfOk result (λ reading. spec.IsLongest (λ tokens. grammar.SpellsExpr tokens depth) spec.extends_expression tokens.now from reading.end reading.stop) }
     ensures ahead { IfOk result (λ reading. spec.IsAhead tokens.now from reading.end reading.stop) }
     ensures refused { IfErr result (λ halt. spec.IsHalted (λ tokens. grammar.SpellsExpr tokens depth) tokens.now from halt) }
 {
@@ -372,7 +377,7 @@ pub fn level(alloc: Global, tokens: &[Token], from: usize, depth: u8) -> Result<
         };
         match operand(alloc, tokens, end + 1, depth) {
             Ok(next) => {
-                expr = joined(alloc, expr, dyadic, next.part)?;
+                expr = with_operand(alloc, expr, dyadic, next.part)?;
                 end = next.end;
                 stop = stop.max(next.stop);
                 count += 1;
@@ -421,7 +426,7 @@ pub fn expression(
     if from > tokens.len() {
         return Err(ParseFault::Refused(NO_PLACE));
     }
-    match level(alloc, tokens, from, BRACKETS_MAX) {
+    match expression_at_depth(alloc, tokens, from, BRACKETS_MAX) {
         Ok(reading) => Ok((reading.part, reading.end, stop_place(tokens, reading.stop))),
         Err(halt) => match halt {
             Halt::Refused(stop) => Err(ParseFault::Refused(stop_place(tokens, stop))),

@@ -49,7 +49,7 @@ fn dyadic_of(alloc: Global, left: Expr, dyadic: Dyadic, right: Expr) -> Result<E
 
 /// What the left expression becomes where an operator and an operand follow it: the operator takes as much of it as
 /// binds closer or equally.
-pub fn joined(alloc: Global, left: Expr, dyadic: Dyadic, right: Operand) -> Result<Expr, Halt>
+pub fn with_operand(alloc: Global, left: Expr, dyadic: Dyadic, right: Operand) -> Result<Expr, Halt>
     ensures spells { IfOk result (λ expr. (tokens : List Token) (depth from m to : ℕ) →
         grammar.SpellsTerms tokens depth from left m → grammar.HasDyad tokens m dyadic.operator →
         IsAt tokens m dyadic.place → grammar.SpellsTerms tokens depth (m + 1) (tree.Operand right) to →
@@ -72,7 +72,7 @@ pub fn joined(alloc: Global, left: Expr, dyadic: Dyadic, right: Operand) -> Resu
             place,
         } => {
             if rank(dyadic.operator) < rank(upper.operator) {
-                match joined(alloc, Box::into_inner(second), dyadic, right) {
+                match with_operand(alloc, Box::into_inner(second), dyadic, right) {
                     Ok(second) => dyadic_of(alloc, Box::into_inner(first), upper, second),
                     Err(halt) => Err(halt),
                 }

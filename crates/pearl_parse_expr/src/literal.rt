@@ -5,7 +5,7 @@ ghost use Rattle.pearl_tree.specs.Standing.{what_at, IsNumber, HasWord};
 ghost use Rattle.pearl_tree.specs.Expressions.{SpellsSecs, SpellsSeconds, SpellsDuration, SpellsLiteral};
 ghost use Rattle.pearl_tables.specs.declared.word_code.TheConstants as w;
 ghost use Rattle.pearl_tree.specs.declared.literal.Duration.{Duration};
-ghost use Rattle.pearl_parse_expr.specs.Stops.{Sure, Stuck, IsAhead, extends_operand, is_plain, is_secs, is_counted, SpellsMaybeSeconds};
+ghost use Rattle.pearl_parse_expr.specs.Stops.{IsLongest, Stuck, IsAhead, extends_operand, is_plain, is_secs, is_counted, SpellsMaybeSeconds};
 
 use crate::reading::Reading;
 use crate::standing::{is_word, number_at};
@@ -71,7 +71,7 @@ fn secs_at(tokens: &[Token], at: usize) -> Option<Secs>
 fn seconds_at(tokens: &[Token], at: usize) -> Reading<Option<Secs>>
     requires { at ≤ length tokens.now }
     ensures spells { SpellsMaybeSeconds tokens.now at result.part result.end }
-    ensures sure { Sure SpellsMaybeSeconds extends_operand tokens.now at result.end result.stop }
+    ensures longest { IsLongest SpellsMaybeSeconds extends_operand tokens.now at result.end result.stop }
     ensures ahead { (at ≤ result.end) × (result.end ≤ result.stop) × (result.stop ≤ length tokens.now) }
     ensures stuck { result.part ≡ None → Stuck SpellsSeconds tokens.now at result.stop }
     ensures near { result.part ≡ None → result.stop ≤ at + 1 }
@@ -146,7 +146,7 @@ fn from_hours(tokens: &[Token], from: usize, hours: Number) -> Reading<Duration>
     requires number { IsNumber tokens.now from hours }
     requires word { HasWord tokens.now (from + 1) w.HRS }
     ensures spells { SpellsDuration tokens.now from result.part result.end }
-    ensures sure { Sure SpellsDuration extends_operand tokens.now from result.end result.stop }
+    ensures longest { IsLongest SpellsDuration extends_operand tokens.now from result.end result.stop }
     ensures ahead { IsAhead tokens.now from result.end result.stop }
 {
     match counted_at(tokens, from + 2, MIN) {
@@ -160,7 +160,7 @@ fn from_minutes(tokens: &[Token], from: usize, minutes: Number) -> Reading<Durat
     requires number { IsNumber tokens.now from minutes }
     requires word { HasWord tokens.now (from + 1) w.MIN }
     ensures spells { SpellsDuration tokens.now from result.part result.end }
-    ensures sure { Sure SpellsDuration extends_operand tokens.now from result.end result.stop }
+    ensures longest { IsLongest SpellsDuration extends_operand tokens.now from result.end result.stop }
     ensures ahead { IsAhead tokens.now from result.end result.stop }
 {
     let seconds = seconds_at(tokens, from + 2);
@@ -180,7 +180,7 @@ fn from_seconds(tokens: &[Token], from: usize) -> Result<Reading<Duration>, usiz
     requires hours { is_counted w.HRS tokens.now from ≡ false }
     requires minutes { is_counted w.MIN tokens.now from ≡ false }
     ensures spells { IfOk result (λ reading. SpellsDuration tokens.now from reading.part reading.end) }
-    ensures sure { IfOk result (λ reading. Sure SpellsDuration extends_operand tokens.now from reading.end reading.stop) }
+    ensures longest { IfOk result (λ reading. IsLongest SpellsDuration extends_operand tokens.now from reading.end reading.stop) }
     ensures ahead { IfOk result (λ reading. IsAhead tokens.now from reading.end reading.stop) }
     ensures refused { IfErr result (λ stop. Stuck SpellsDuration tokens.now from stop) }
     ensures held { IfErr result (λ stop. (from ≤ stop) × (stop ≤ from + 1) × (stop ≤ length tokens.now)) }
@@ -202,7 +202,7 @@ fn from_seconds(tokens: &[Token], from: usize) -> Result<Reading<Duration>, usiz
 fn duration(tokens: &[Token], from: usize) -> Result<Reading<Duration>, usize>
     requires { from ≤ length tokens.now }
     ensures spells { IfOk result (λ reading. SpellsDuration tokens.now from reading.part reading.end) }
-    ensures sure { IfOk result (λ reading. Sure SpellsDuration extends_operand tokens.now from reading.end reading.stop) }
+    ensures longest { IfOk result (λ reading. IsLongest SpellsDuration extends_operand tokens.now from reading.end reading.stop) }
     ensures ahead { IfOk result (λ reading. IsAhead tokens.now from reading.end reading.stop) }
     ensures refused { IfErr result (λ stop. Stuck SpellsDuration tokens.now from stop) }
     ensures held { IfErr result (λ stop. (from ≤ stop) × (stop ≤ from + 1) × (stop ≤ length tokens.now)) }
@@ -220,7 +220,7 @@ fn duration(tokens: &[Token], from: usize) -> Result<Reading<Duration>, usize>
 pub fn literal(tokens: &[Token], from: usize) -> Result<Reading<Literal>, usize>
     requires { from ≤ length tokens.now }
     ensures spells { IfOk result (λ reading. SpellsLiteral tokens.now from reading.part reading.end) }
-    ensures sure { IfOk result (λ reading. Sure SpellsLiteral extends_operand tokens.now from reading.end reading.stop) }
+    ensures longest { IfOk result (λ reading. IsLongest SpellsLiteral extends_operand tokens.now from reading.end reading.stop) }
     ensures ahead { IfOk result (λ reading. IsAhead tokens.now from reading.end reading.stop) }
     ensures refused { IfErr result (λ stop. Stuck SpellsLiteral tokens.now from stop) }
     ensures none { IfErr result (λ _. is_plain (what_at tokens.now from) ≡ false) }

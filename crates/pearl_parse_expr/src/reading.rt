@@ -22,7 +22,7 @@ pub enum Halt {
 
 /// Adds a part to a list.
 pub fn append<T: Drop>(list: &mut Vec<T>, item: T) -> Result<(), Halt>
-    ensures more { OnOk result (list.new.items ≡ list.old.items ++ item ∷ []) }
+    ensures appended { OnOk result (list.new.items ≡ list.old.items ++ item ∷ []) }
     ensures fault { IfErr result (λ halt. halt ≡ Halt.NoMemory) }
 {
     match list.push(item) {
