@@ -10,9 +10,9 @@ ghost use Rattle.pearl_parse_expr.specs.declared.reading.Halt.{Halt};
 ghost use Rattle.pearl_parse_expr.specs.Stops as stops;
 ghost use Rattle.pearl_parse_decl.specs.Readings as spec;
 
-use crate::symbol::*;
 use pearl_parse_expr::reading::{Halt, Reading, append};
 use pearl_parse_expr::standing::{is_symbol, is_word};
+use pearl_tables::symbol::{COMMA, LEFT_ROUND, RIGHT_ROUND};
 use pearl_tree::token::Token;
 use std::alloc::Global;
 

@@ -12,10 +12,10 @@ ghost use Rattle.pearl_parse_decl.specs.Readings as spec;
 
 use crate::list::{Readable, behind};
 use crate::name::{bracketed_number, names};
-use crate::symbol::*;
 use crate::typing::basic;
 use pearl_parse_expr::reading::{Halt, Reading};
 use pearl_parse_expr::standing::{is_symbol, is_word, name_at, place_at};
+use pearl_tables::symbol::{COLON, LEFT_ROUND, RIGHT_ROUND, SEMICOLON};
 use pearl_tables::word_code::{ALL, ALPHIC, BASIC, DATION, IN, INOUT, INTERRUPT, OUT};
 use pearl_tree::declaration::{Class, Device, DeviceWord, Direction, Spec};
 use pearl_tree::name::Names;

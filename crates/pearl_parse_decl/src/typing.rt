@@ -13,9 +13,9 @@ ghost use Rattle.pearl_parse_decl.specs.Readings as spec;
 
 use crate::list::{Readable, behind, maybe_bracketed};
 use crate::name::{maybe_number, names};
-use crate::symbol::*;
 use pearl_parse_expr::reading::{Halt, Reading, append};
 use pearl_parse_expr::standing::{is_symbol, is_word, name_at, number_at, place_at};
+use pearl_tables::symbol::{COLON, COMMA, LEFT_SQUARE, MINUS, RIGHT_SQUARE};
 use pearl_tables::word_code::{BIT, CHAR, CLOCK, DURATION, FIXED, STRUCT};
 use pearl_tree::name::Name;
 use pearl_tree::parts::Parts;

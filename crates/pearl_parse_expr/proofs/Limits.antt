@@ -2,8 +2,8 @@
 use Rattle.std.proofs.Common.{◌≡◌, ℕ, zero, suc, ◌+◌, ◌<◌, ◌≤◌, Bool, true, false, List, [], ◌∷◌, length, Option, Some, None, ◌⊎◌, inl, inr, refl, sym, ap, subst, ◌∙◌, arith, true≢false, eqb-true, ◌==◌}
 use Rattle.std.specs.Option.{option_and_then}
 use Rattle.pearl_tree.specs.declared.name.Number.{Number}
-use Rattle.pearl_tree.specs.declared.expression.Monad.{Monad}
-use Rattle.pearl_tree.specs.declared.expression.Monad.TheVariants as monad
+use Rattle.pearl_value.specs.declared.operator.Monad.{Monad}
+use Rattle.pearl_value.specs.declared.operator.Monad.TheVariants as monad
 use Rattle.pearl_tree.specs.declared.expression.Monadic.{Monadic}
 use Rattle.pearl_tree.specs.declared.expression.Side.{Side}
 use Rattle.pearl_tree.specs.declared.expression.Side.TheVariants.{Lower, Upper}
@@ -171,8 +171,8 @@ head_is_no_monad (primary.Ref' name _ list place) token h sign = name_is_no_mona
 head_is_no_monad (primary.Group' _ inner place) token h sign = bracket_is_no_monad token h sign
 head_is_no_monad (primary.Now place) token h sign = now_is_no_monad token h sign
 head_is_no_monad (primary.Try name place) token h sign = try_is_no_monad token h sign
-head_is_no_monad (primary.Limit' None side name _ list ref_place place) token h sign = side_is_no_monad token h sign
-head_is_no_monad (primary.Limit' (Some number) side name _ list ref_place place) token h sign = number_is_no_monad token h sign
+head_is_no_monad (primary.Limit' None side _ name _ list ref_place place) token h sign = side_is_no_monad token h sign
+head_is_no_monad (primary.Limit' (Some number) side _ name _ list ref_place place) token h sign = number_is_no_monad token h sign
 
 same_size : (a b : ℕ) → (a < b → ⊥) → (b < a → ⊥) → a ≡ b
 same_size a b above below = omega (arith, above, below)

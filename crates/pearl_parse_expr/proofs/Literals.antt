@@ -44,7 +44,7 @@ one_token tokens others from stop agree stuck (literal.Number number) to h = h.1
 one_token tokens others from stop agree stuck (literal.Bits len value place) to h = h.2
 one_token tokens others from stop agree stuck (literal.Text text place) to h = h.2
 one_token tokens others from stop agree stuck (literal.Clock milliseconds place) to h = h.2
-one_token tokens others from stop agree stuck (literal.Duration duration) to h = absurd (stuck others agree duration to h)
+one_token tokens others from stop agree stuck (literal.Duration duration) to h = absurd (stuck others agree duration.value to h)
 
 pub same_word : (token : Option What) (a b : ℕ) → token ≡ Some (what.Word a) → token ≡ Some (what.Word b) → a ≡ b
 same_word token a b first second = cc

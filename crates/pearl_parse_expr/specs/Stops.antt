@@ -1,7 +1,7 @@
 -- What tokens that begin alike have in common: which token goes on with a part, and with which none goes on.
 use Rattle.std.specs.Prelude.{if◌then◌else◌, ◌≡◌, ℕ, ◌+◌, ◌<◌, ◌≤◌, ◌⊎◌, ◌==◌, ◌||◌, ◌&&◌, ◌-◌, ◌^◌, unwrap_or, Bool, true, false, List, length, Option, Some, None}
-use Rattle.pearl_tree.specs.declared.expression.Monad.{Monad}
-use Rattle.pearl_tree.specs.declared.expression.Monad.TheVariants as monad
+use Rattle.pearl_value.specs.declared.operator.Monad.{Monad}
+use Rattle.pearl_value.specs.declared.operator.Monad.TheVariants as monad
 use Rattle.pearl_tree.specs.declared.token.What.{What}
 use Rattle.pearl_tree.specs.declared.token.What.TheVariants as what
 use Rattle.pearl_tree.specs.declared.token.Token.{Token}

@@ -19,9 +19,9 @@ use crate::leaf::{
     LimitHead, availability, component, limit_head, literal_primary, monadics, without_array,
 };
 use crate::operator::dyadic_at;
-use crate::reading::{Halt, Reading, append};
+use crate::reading::{Halt, Reading, append, boxed};
 use crate::standing::{is_name, is_symbol, is_word, name_at, place_at};
-use crate::symbol::*;
+use pearl_tables::symbol::{COMMA, LEFT_ROUND, PERIOD, RIGHT_ROUND};
 use pearl_tables::word_code::{NOW, TRY};
 use pearl_tree::expression::{Expr, Operand, Primary, Ref, Selector};
 use pearl_tree::parts::Parts;
@@ -222,17 +222,14 @@ fn group(alloc: Global, tokens: &[Token], from: usize, depth: u8) -> Result<Read
     if !is_symbol(tokens, inner.end, RIGHT_ROUND) {
         return Err(Halt::Refused(inner.stop));
     }
-    match Box::new(alloc, inner.part) {
-        Ok(expr) => Ok(Reading {
-            part: Primary::Group {
-                inner: expr,
-                place: place_at(tokens, from),
-            },
-            end: inner.end + 1,
-            stop: inner.stop.max(inner.end + 1),
-        }),
-        Err(_) => Err(Halt::NoMemory),
-    }
+    Ok(Reading {
+        part: Primary::Group {
+            inner: boxed(alloc, inner.part)?,
+            place: place_at(tokens, from),
+        },
+        end: inner.end + 1,
+        stop: inner.stop.max(inner.end + 1),
+    })
 }
 
 #[cycle(expression)]
@@ -257,7 +254,7 @@ fn limit(
             part: Primary::Limit {
                 dimension: head.dimension,
                 side: head.side,
-                array: array.part,
+                array: boxed(alloc, array.part)?,
                 place: place_at(tokens, from),
             },
             end: array.end,
@@ -310,7 +307,7 @@ fn primary(
     }
     match limit_head(tokens, from) {
         Some(head) => limit(alloc, tokens, from, head, depth),
-        None => literal_primary(tokens, from),
+        None => literal_primary(alloc, tokens, from),
     }
 }
 
@@ -360,24 +357,18 @@ pub fn expression_at_depth(
         Ok(first) => first,
         Err(halt) => return Err(halt),
     };
-    let mut expr = Expr::Operand(first.part);
+    let mut part = Expr::Operand(first.part);
     let mut end = first.end;
     let mut stop = first.stop;
     let mut count = 0;
     'each: while count < DYADS_MAX {
         let dyadic = match dyadic_at(tokens, end) {
             Some(dyadic) => dyadic,
-            None => {
-                return Ok(Reading {
-                    part: expr,
-                    end,
-                    stop,
-                });
-            }
+            None => return Ok(Reading { part, end, stop }),
         };
         match operand(alloc, tokens, end + 1, depth) {
             Ok(next) => {
-                expr = with_operand(alloc, expr, dyadic, next.part)?;
+                part = with_operand(alloc, part, dyadic, next.part)?;
                 end = next.end;
                 stop = stop.max(next.stop);
                 count += 1;
@@ -385,7 +376,7 @@ pub fn expression_at_depth(
             Err(halt) => match halt {
                 Halt::Refused(at) => {
                     return Ok(Reading {
-                        part: expr,
+                        part,
                         end,
                         stop: stop.max(at),
                     });
@@ -394,11 +385,7 @@ pub fn expression_at_depth(
             },
         }
     }
-    Ok(Reading {
-        part: expr,
-        end,
-        stop,
-    })
+    Ok(Reading { part, end, stop })
 }
 
 fn stop_place(tokens: &[Token], stop: usize) -> u32

@@ -122,7 +122,11 @@ pub fn availability(tokens: &[Token], from: usize) -> Result<Reading<Primary>, H
 }
 
 /// The longest literal that begins here, where no other primary does.
-pub fn literal_primary(tokens: &[Token], from: usize) -> Result<Reading<Primary>, Halt>
+pub fn literal_primary(
+    alloc: Global,
+    tokens: &[Token],
+    from: usize,
+) -> Result<Reading<Primary>, Halt>
     requires within { from ≤ length tokens.now }
     requires group { spec.is_symbol s.LEFT_ROUND (what_at tokens.now from) ≡ false }
     requires name { spec.is_name (what_at tokens.now from) ≡ false }
@@ -133,15 +137,14 @@ pub fn literal_primary(tokens: &[Token], from: usize) -> Result<Reading<Primary>
     ensures longest { IfOk result (λ reading. (depth : ℕ) → spec.IsLongest (λ tokens. grammar.SpellsPrimary tokens depth) spec.extends_operand tokens.now from reading.end reading.stop) }
     ensures ahead { IfOk result (λ reading. spec.IsAhead tokens.now from reading.end reading.stop) }
     ensures refused { IfErr result (λ halt. (depth : ℕ) → spec.IsHalted (λ tokens. grammar.SpellsPrimary tokens depth) tokens.now from halt) }
-    ensures memory { IfErr result (λ halt. halt ≢ Halt.NoMemory) }
 {
-    match literal(tokens, from) {
+    match literal(alloc, tokens, from) {
         Ok(literal) => Ok(Reading {
             part: Primary::Literal(literal.part),
             end: literal.end,
             stop: literal.stop,
         }),
-        Err(stop) => Err(Halt::Refused(stop)),
+        Err(halt) => Err(halt),
     }
 }
 

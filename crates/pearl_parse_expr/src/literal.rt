@@ -1,47 +1,52 @@
 // Literals and durations.
 
-ghost use Rattle.std.specs.Prelude.{◌≡◌, ◌+◌, ◌<◌, ◌≤◌, length, IfOk, IfErr, IfSome, Some, None, true, false};
+ghost use Rattle.std.specs.Prelude.{◌≡◌, ◌≢◌, ◌+◌, ◌<◌, ◌≤◌, length, IfOk, IfErr, IfSome, Some, None, true, false};
 ghost use Rattle.pearl_tree.specs.Standing.{what_at, IsNumber, HasWord};
 ghost use Rattle.pearl_tree.specs.Expressions.{SpellsSecs, SpellsSeconds, SpellsDuration, SpellsLiteral};
 ghost use Rattle.pearl_tables.specs.declared.word_code.TheConstants as w;
 ghost use Rattle.pearl_tree.specs.declared.literal.Duration.{Duration};
-ghost use Rattle.pearl_parse_expr.specs.Stops.{IsLongest, Stuck, IsAhead, extends_operand, is_plain, is_secs, is_counted, SpellsMaybeSeconds};
+ghost use Rattle.pearl_parse_expr.specs.declared.reading.Halt.{Halt};
+ghost use Rattle.pearl_parse_expr.specs.Stops.{IsLongest, Stuck, IsAhead, IsHalted, extends_operand, is_plain, is_secs, is_counted, SpellsMaybeSeconds};
 
-use crate::reading::Reading;
+use crate::reading::{Halt, Reading, boxed};
 use crate::standing::{is_word, number_at};
 use pearl_tables::word_code::{HRS, MIN, SEC};
 use pearl_tree::literal::{Duration, Literal, Secs};
 use pearl_tree::name::Number;
 use pearl_tree::token::{Token, What};
+use std::alloc::Global;
 
 // A literal of one token.
-fn plain_at(tokens: &[Token], at: usize) -> Option<Literal>
-    ensures some { IfSome result (λ part. SpellsLiteral tokens.now at part (at + 1)) }
-    ensures none { result ≡ None → is_plain (what_at tokens.now at) ≡ false }
-    ensures within { IfSome result (λ _. at < length tokens.now) }
+fn plain_at(alloc: Global, tokens: &[Token], at: usize) -> Result<Option<Literal>, Halt>
+    ensures some { IfOk result (λ found. IfSome found (λ part. SpellsLiteral tokens.now at part (at + 1))) }
+    ensures none { IfOk result (λ found. found ≡ None → is_plain (what_at tokens.now at) ≡ false) }
+    ensures within { IfOk result (λ found. IfSome found (λ _. at < length tokens.now)) }
+    ensures fault { IfErr result (λ halt. halt ≡ Halt.NoMemory) }
 {
-    match tokens.get(at) {
-        Some(token) => match &token.what {
-            What::Number(value) => Some(Literal::Number(Number {
-                value: *value,
-                place: token.place,
-            })),
-            What::Bits { len, value } => Some(Literal::Bits {
-                len: *len,
-                value: *value,
-                place: token.place,
-            }),
-            What::Text(text) => Some(Literal::Text {
-                text: text.clone().unwrap(),
-                place: token.place,
-            }),
-            What::Clock(milliseconds) => Some(Literal::Clock {
-                milliseconds: *milliseconds,
-                place: token.place,
-            }),
-            _ => None,
-        },
-        None => None,
+    let token = match tokens.get(at) {
+        Some(token) => token,
+        None => return Ok(None),
+    };
+    let place = token.place;
+    match &token.what {
+        What::Number(value) => Ok(Some(Literal::Number(Number {
+            value: *value,
+            place,
+        }))),
+        What::Bits { len, value } => Ok(Some(Literal::Bits {
+            len: *len,
+            value: *value,
+            place,
+        })),
+        What::Text(text) => {
+            let text = boxed(alloc, text.clone().unwrap())?;
+            Ok(Some(Literal::Text { text, place }))
+        }
+        What::Clock(milliseconds) => Ok(Some(Literal::Clock {
+            milliseconds: *milliseconds,
+            place,
+        })),
+        _ => Ok(None),
     }
 }
 
@@ -216,29 +221,28 @@ fn duration(tokens: &[Token], from: usize) -> Result<Reading<Duration>, usize>
     from_seconds(tokens, from)
 }
 
-/// The longest literal that begins here, or the number of a token with which none begins.
-pub fn literal(tokens: &[Token], from: usize) -> Result<Reading<Literal>, usize>
+/// The longest literal that begins here.
+pub fn literal(alloc: Global, tokens: &[Token], from: usize) -> Result<Reading<Literal>, Halt>
     requires { from ≤ length tokens.now }
     ensures spells { IfOk result (λ reading. SpellsLiteral tokens.now from reading.part reading.end) }
     ensures longest { IfOk result (λ reading. IsLongest SpellsLiteral extends_operand tokens.now from reading.end reading.stop) }
     ensures ahead { IfOk result (λ reading. IsAhead tokens.now from reading.end reading.stop) }
-    ensures refused { IfErr result (λ stop. Stuck SpellsLiteral tokens.now from stop) }
-    ensures none { IfErr result (λ _. is_plain (what_at tokens.now from) ≡ false) }
-    ensures held { IfErr result (λ stop. (from ≤ stop) × (stop ≤ from + 1) × (stop ≤ length tokens.now)) }
+    ensures refused { IfErr result (λ halt. IsHalted SpellsLiteral tokens.now from halt) }
+    ensures none { IfErr result (λ halt. halt ≢ Halt.NoMemory → is_plain (what_at tokens.now from) ≡ false) }
 {
     match duration(tokens, from) {
         Ok(duration) => Ok(Reading {
-            part: Literal::Duration(duration.part),
+            part: Literal::Duration(boxed(alloc, duration.part)?),
             end: duration.end,
             stop: duration.stop,
         }),
-        Err(stop) => match plain_at(tokens, from) {
+        Err(stop) => match plain_at(alloc, tokens, from)? {
             Some(part) => Ok(Reading {
                 part,
                 end: from + 1,
                 stop: from + 1,
             }),
-            None => Err(stop),
+            None => Err(Halt::Refused(stop)),
         },
     }
 }

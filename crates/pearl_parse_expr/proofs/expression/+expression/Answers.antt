@@ -86,8 +86,8 @@ group-returns-then-not-is_symbol-clause-refused t c =
       omega (arith, c.in-Ok.ensures.ahead),
     )
 
-pub group-returns-in-Ok-new-clause-longest : goal.group-returns-in-Ok-new-clause-longest
-group-returns-in-Ok-new-clause-longest t c = λ others agree x to h.
+pub group-returns-clause-longest : goal.group-returns-clause-longest
+group-returns-clause-longest t c = λ others agree x to h.
     let inner = c.in-Ok.inner in
     inl (group_is_longest c.args.tokens.now others c.args.depth c.args.from inner.end inner.stop c.max.result c.requires.bracket (omega (arith, c.max.ensures, c.in-Ok.ensures.ahead)) (omega (arith, c.max.ensures)) c.in-Ok.ensures.longest agree x to h)
 
@@ -112,7 +112,7 @@ pub expression_at_depth-each-preserved : goal.expression_at_depth-each-preserved
 expression_at_depth-each-preserved t c =
     let next = c.in-Ok-operand.next in
     let read = c.in-Ok-operand.ensures in
-    let whole = c.in_ok-expr-in-Ok-operand.ensures in
+    let whole = c.in_ok-part-in-Ok-operand.ensures in
     let near : c.each.end ≤ c.each.stop = omega (arith, c.each.invariant.ahead) in
     let ahead : c.each.end < next.end = omega (arith, read.ahead) in
     let below : c.each.stop ≤ c.max-stop.result = omega (arith, c.max-stop.ensures) in

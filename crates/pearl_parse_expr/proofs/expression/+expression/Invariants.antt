@@ -37,8 +37,8 @@ decreases-bracketed l = 9 * l.depth
 
 abbrev pub invariant-expression_at_depth-each : goal.invariant-expression_at_depth-each
 invariant-expression_at_depth-each l = record {
-  spells : SpellsTerms l.tokens l.depth l.from l.expr l.end;
-  count : dyad_count l.expr ≡ l.count;
+  spells : SpellsTerms l.tokens l.depth l.from l.part l.end;
+  count : dyad_count l.part ≡ l.count;
   goes : ChainGoes l.tokens l.depth l.from l.end l.stop l.count;
   ahead : IsAhead l.tokens l.from l.end l.stop;
   few : l.count ≤ 100;
