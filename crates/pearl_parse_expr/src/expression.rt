@@ -250,16 +250,19 @@ fn limit(
     ensures refused { IfErr result (λ halt. spec.IsHalted (λ tokens. grammar.SpellsPrimary tokens depth) tokens.now from halt) }
 {
     match reference(alloc, tokens, head.word + 1, depth) {
-        Ok(array) => Ok(Reading {
-            part: Primary::Limit {
-                dimension: head.dimension,
-                side: head.side,
-                array: boxed(alloc, array.part)?,
-                place: place_at(tokens, from),
-            },
-            end: array.end,
-            stop: array.stop,
-        }),
+        Ok(read) => {
+            let array = boxed(alloc, read.part)?;
+            Ok(Reading {
+                part: Primary::Limit {
+                    dimension: head.dimension,
+                    side: head.side,
+                    array,
+                    place: place_at(tokens, from),
+                },
+                end: read.end,
+                stop: read.stop,
+            })
+        }
         Err(halt) => match halt {
             Halt::Refused(stop) => without_array(tokens, from, head, stop),
             Halt::NoMemory => Err(Halt::NoMemory),

@@ -146,7 +146,7 @@ structure-returns-clause-spells t c =
       c.requires.word,
       deep,
       c.if-not-is_symbol.ensures.stands refl,
-      subst (λ xs. SpellsList tokens (grammar.SpellsField tokens (depth - 1)) (from + 2) xs.items inner.end) (sym c.new.ensures) c.in-Ok.ensures.spells,
+      subst (λ xs. SpellsList tokens (grammar.SpellsField tokens (depth - 1)) (from + 2) xs inner.end) (sym c.new.ensures) c.in-Ok.ensures.spells,
       c.if-not-is_symbol-2.ensures.stands refl,
       refl,
     )

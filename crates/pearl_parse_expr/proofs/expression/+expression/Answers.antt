@@ -43,7 +43,7 @@ bracketed-returns-clause-spells t c =
       c.place_at.ensures,
       c.requires.bracket,
       c.requires.deep,
-      subst (λ xs. spec.SpellsSubscriptsList tokens (depth - 1) (from + 1) xs.items inner.end) (sym c.new.ensures) c.in-Ok.ensures.spells,
+      subst (λ xs. spec.SpellsSubscriptsList tokens (depth - 1) (from + 1) xs inner.end) (sym c.new.ensures) c.in-Ok.ensures.spells,
       c.if-not-is_symbol.ensures.stands refl,
       refl,
     )
@@ -141,13 +141,19 @@ expression_at_depth-returns-clause-longest t c =
 pub limit-returns-in-Ok-clause-spells : goal.limit-returns-in-Ok-clause-spells
 limit-returns-in-Ok-clause-spells t c =
     let head = c.args.head in
-    subst (λ X. X) (sym (spells_limit c.args.tokens.now c.args.depth c.args.from head.dimension head.side c.in-Ok.array.part c.place_at.result c.in-Ok.array.end))
-    (head.word, c.place_at.ensures, c.requires.dimension, c.requires.word, c.in-Ok.ensures.spells)
+    let array = c.in_ok-array.array in
+    subst (λ X. X) (sym (spells_limit c.args.tokens.now c.args.depth c.args.from head.dimension head.side array c.place_at.result c.in-Ok.read.end)) (
+      head.word,
+      c.place_at.ensures,
+      c.requires.dimension,
+      c.requires.word,
+      subst (λ part. grammar.SpellsRef c.args.tokens.now c.args.depth (head.word + 1) part c.in-Ok.read.end) (sym c.in_ok-array.ensures.value) c.in-Ok.ensures.spells,
+    )
 
 pub limit-returns-in-Ok-clause-longest : goal.limit-returns-in-Ok-clause-longest
 limit-returns-in-Ok-clause-longest t c = λ others agree x to h.
     let head = c.args.head in
-    with_array c.args.tokens.now others c.args.depth c.args.from head.word c.in-Ok.array.end c.in-Ok.array.stop head.dimension head.side c.requires.dimension c.requires.word
+    with_array c.args.tokens.now others c.args.depth c.args.from head.word c.in-Ok.read.end c.in-Ok.read.stop head.dimension head.side c.requires.dimension c.requires.word
     (omega (arith, c.in-Ok.ensures.ahead)) (omega (arith, c.in-Ok.ensures.ahead)) c.in-Ok.ensures.longest agree x to h
 
 limit_stuck : (t : ℕ) (c : goal.limit-After-without_array t) → spec.Stuck (λ tokens. spec.SpellsNamed tokens c.args.depth) c.args.tokens.now (c.args.head.word + 1) c.in-Refused.stop
