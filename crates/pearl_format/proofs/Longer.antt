@@ -7,6 +7,7 @@ use Rattle.pearl_value.specs.declared.cell.Cell.{Cell}
 use Rattle.pearl_value.specs.declared.cell.Cell.TheVariants.{Fixed, Bits, Chars, Clock, Span, Ref}
 use Rattle.pearl_value.specs.declared.kind.Kind.{Kind}
 use Rattle.pearl_value.specs.Cells.{kind_of}
+use Rattle.pearl_value.specs.WellFormed.{IsValue}
 use Rattle.pearl_format.specs.declared.item.ItemCode.{ItemCode}
 use Rattle.pearl_format.specs.declared.item.ItemCode.TheVariants.{A, B1, B2, B3, B4, F, T, D, X, Skip}
 use Rattle.pearl_format.specs.declared.item.Item.{Item}
@@ -14,7 +15,7 @@ use Rattle.pearl_format.specs.Items.{data_here, TakesKind, SuitsItem, Suits}
 use Rattle.pearl_format.specs.Fields.{width_or, right_field, left_field, bits_text, digit_count, three_digits, seconds_text, clock_text, span_text}
 use Rattle.pearl_format.specs.Parts.{own_text}
 use Rattle.pearl_format.specs.Texts.{joined_text, text_of}
-use Rattle.pearl_format.specs.Longer.{IsLonger, IsFirstLonger, IsSomeLonger, IsValue}
+use Rattle.pearl_format.specs.Longer.{IsLonger, IsFirstLonger, IsSomeLonger}
 use Rattle.pearl_format.proofs.Digits.{length-last_digits}
 
 abbrev HasText : Option (List ℕ) → Type 0
@@ -84,105 +85,105 @@ settled_clock width time wide =
 
 settled_value : (code : ItemCode) (width : ℕ) (value : Cell) (values : List Cell) → TakesKind code width (kind_of value) → IsValue value → data_here code ≡ 1 →
     Settled (own_text code width (value ∷ values)) (IsLonger code width value)
-settled_value A width (Fixed len value) values takes plain taken = absurd takes
-settled_value A width (Bits len value) values takes plain taken = absurd takes
-settled_value A width (Chars text) values takes plain taken = inl (tt, λ never. never)
-settled_value A width (Clock time) values takes plain taken = absurd takes
-settled_value A width (Span time) values takes plain taken = absurd takes
-settled_value A width (Ref of place) values takes plain taken = absurd plain
-settled_value B1 width (Fixed len value) values takes plain taken = absurd takes
-settled_value B1 width (Bits len value) values takes plain taken = settled_bits 1 width len value
-settled_value B1 width (Chars text) values takes plain taken = absurd takes
-settled_value B1 width (Clock time) values takes plain taken = absurd takes
-settled_value B1 width (Span time) values takes plain taken = absurd takes
-settled_value B1 width (Ref of place) values takes plain taken = absurd plain
-settled_value B2 width (Fixed len value) values takes plain taken = absurd takes
-settled_value B2 width (Bits len value) values takes plain taken = settled_bits 2 width len value
-settled_value B2 width (Chars text) values takes plain taken = absurd takes
-settled_value B2 width (Clock time) values takes plain taken = absurd takes
-settled_value B2 width (Span time) values takes plain taken = absurd takes
-settled_value B2 width (Ref of place) values takes plain taken = absurd plain
-settled_value B3 width (Fixed len value) values takes plain taken = absurd takes
-settled_value B3 width (Bits len value) values takes plain taken = settled_bits 3 width len value
-settled_value B3 width (Chars text) values takes plain taken = absurd takes
-settled_value B3 width (Clock time) values takes plain taken = absurd takes
-settled_value B3 width (Span time) values takes plain taken = absurd takes
-settled_value B3 width (Ref of place) values takes plain taken = absurd plain
-settled_value B4 width (Fixed len value) values takes plain taken = absurd takes
-settled_value B4 width (Bits len value) values takes plain taken = settled_bits 4 width len value
-settled_value B4 width (Chars text) values takes plain taken = absurd takes
-settled_value B4 width (Clock time) values takes plain taken = absurd takes
-settled_value B4 width (Span time) values takes plain taken = absurd takes
-settled_value B4 width (Ref of place) values takes plain taken = absurd plain
-settled_value F width (Fixed len value) values takes plain taken = settled_right width (signed_decimal value)
-settled_value F width (Bits len value) values takes plain taken = absurd takes
-settled_value F width (Chars text) values takes plain taken = absurd takes
-settled_value F width (Clock time) values takes plain taken = absurd takes
-settled_value F width (Span time) values takes plain taken = absurd takes
-settled_value F width (Ref of place) values takes plain taken = absurd plain
-settled_value T width (Fixed len value) values takes plain taken = absurd takes
-settled_value T width (Bits len value) values takes plain taken = absurd takes
-settled_value T width (Chars text) values takes plain taken = absurd takes
-settled_value T width (Clock time) values takes plain taken = settled_clock width time takes
-settled_value T width (Span time) values takes plain taken = absurd takes
-settled_value T width (Ref of place) values takes plain taken = absurd plain
-settled_value D width (Fixed len value) values takes plain taken = absurd takes
-settled_value D width (Bits len value) values takes plain taken = absurd takes
-settled_value D width (Chars text) values takes plain taken = absurd takes
-settled_value D width (Clock time) values takes plain taken = absurd takes
-settled_value D width (Span time) values takes plain taken = settled_right width (span_text time)
-settled_value D width (Ref of place) values takes plain taken = absurd plain
-settled_value X width value values takes plain taken = cc
-settled_value Skip width value values takes plain taken = cc
+settled_value A width (Fixed len value) values takes are taken = absurd takes
+settled_value A width (Bits len value) values takes are taken = absurd takes
+settled_value A width (Chars text) values takes are taken = inl (tt, λ never. never)
+settled_value A width (Clock time) values takes are taken = absurd takes
+settled_value A width (Span time) values takes are taken = absurd takes
+settled_value A width (Ref of place) values takes are taken = absurd are
+settled_value B1 width (Fixed len value) values takes are taken = absurd takes
+settled_value B1 width (Bits len value) values takes are taken = settled_bits 1 width len value
+settled_value B1 width (Chars text) values takes are taken = absurd takes
+settled_value B1 width (Clock time) values takes are taken = absurd takes
+settled_value B1 width (Span time) values takes are taken = absurd takes
+settled_value B1 width (Ref of place) values takes are taken = absurd are
+settled_value B2 width (Fixed len value) values takes are taken = absurd takes
+settled_value B2 width (Bits len value) values takes are taken = settled_bits 2 width len value
+settled_value B2 width (Chars text) values takes are taken = absurd takes
+settled_value B2 width (Clock time) values takes are taken = absurd takes
+settled_value B2 width (Span time) values takes are taken = absurd takes
+settled_value B2 width (Ref of place) values takes are taken = absurd are
+settled_value B3 width (Fixed len value) values takes are taken = absurd takes
+settled_value B3 width (Bits len value) values takes are taken = settled_bits 3 width len value
+settled_value B3 width (Chars text) values takes are taken = absurd takes
+settled_value B3 width (Clock time) values takes are taken = absurd takes
+settled_value B3 width (Span time) values takes are taken = absurd takes
+settled_value B3 width (Ref of place) values takes are taken = absurd are
+settled_value B4 width (Fixed len value) values takes are taken = absurd takes
+settled_value B4 width (Bits len value) values takes are taken = settled_bits 4 width len value
+settled_value B4 width (Chars text) values takes are taken = absurd takes
+settled_value B4 width (Clock time) values takes are taken = absurd takes
+settled_value B4 width (Span time) values takes are taken = absurd takes
+settled_value B4 width (Ref of place) values takes are taken = absurd are
+settled_value F width (Fixed len value) values takes are taken = settled_right width (signed_decimal value)
+settled_value F width (Bits len value) values takes are taken = absurd takes
+settled_value F width (Chars text) values takes are taken = absurd takes
+settled_value F width (Clock time) values takes are taken = absurd takes
+settled_value F width (Span time) values takes are taken = absurd takes
+settled_value F width (Ref of place) values takes are taken = absurd are
+settled_value T width (Fixed len value) values takes are taken = absurd takes
+settled_value T width (Bits len value) values takes are taken = absurd takes
+settled_value T width (Chars text) values takes are taken = absurd takes
+settled_value T width (Clock time) values takes are taken = settled_clock width time takes
+settled_value T width (Span time) values takes are taken = absurd takes
+settled_value T width (Ref of place) values takes are taken = absurd are
+settled_value D width (Fixed len value) values takes are taken = absurd takes
+settled_value D width (Bits len value) values takes are taken = absurd takes
+settled_value D width (Chars text) values takes are taken = absurd takes
+settled_value D width (Clock time) values takes are taken = absurd takes
+settled_value D width (Span time) values takes are taken = settled_right width (span_text time)
+settled_value D width (Ref of place) values takes are taken = absurd are
+settled_value X width value values takes are taken = cc
+settled_value Skip width value values takes are taken = cc
 
 -- an item over the values that are left
 settled_data : (code : ItemCode) (width : ℕ) (values : List Cell) (rest : List Kind → Type 0) → SuitsItem code width (map kind_of values) rest → AllByRecursion IsValue values →
     Settled (own_text code width values) (IsFirstLonger code width values) × rest (drop (data_here code) (map kind_of values))
-settled_data A width [] rest suits plain = absurd suits
-settled_data A width (value ∷ values) rest suits plain = (settled_value A width value values suits.0 plain.0 refl, suits.1)
-settled_data B1 width [] rest suits plain = absurd suits
-settled_data B1 width (value ∷ values) rest suits plain = (settled_value B1 width value values suits.0 plain.0 refl, suits.1)
-settled_data B2 width [] rest suits plain = absurd suits
-settled_data B2 width (value ∷ values) rest suits plain = (settled_value B2 width value values suits.0 plain.0 refl, suits.1)
-settled_data B3 width [] rest suits plain = absurd suits
-settled_data B3 width (value ∷ values) rest suits plain = (settled_value B3 width value values suits.0 plain.0 refl, suits.1)
-settled_data B4 width [] rest suits plain = absurd suits
-settled_data B4 width (value ∷ values) rest suits plain = (settled_value B4 width value values suits.0 plain.0 refl, suits.1)
-settled_data F width [] rest suits plain = absurd suits
-settled_data F width (value ∷ values) rest suits plain = (settled_value F width value values suits.0 plain.0 refl, suits.1)
-settled_data T width [] rest suits plain = absurd suits
-settled_data T width (value ∷ values) rest suits plain = (settled_value T width value values suits.0 plain.0 refl, suits.1)
-settled_data D width [] rest suits plain = absurd suits
-settled_data D width (value ∷ values) rest suits plain = (settled_value D width value values suits.0 plain.0 refl, suits.1)
-settled_data X width values rest suits plain = (inl (tt, λ never. never), suits)
-settled_data Skip width values rest suits plain = (inl (tt, λ never. never), suits)
+settled_data A width [] rest suits are = absurd suits
+settled_data A width (value ∷ values) rest suits are = (settled_value A width value values suits.0 are.0 refl, suits.1)
+settled_data B1 width [] rest suits are = absurd suits
+settled_data B1 width (value ∷ values) rest suits are = (settled_value B1 width value values suits.0 are.0 refl, suits.1)
+settled_data B2 width [] rest suits are = absurd suits
+settled_data B2 width (value ∷ values) rest suits are = (settled_value B2 width value values suits.0 are.0 refl, suits.1)
+settled_data B3 width [] rest suits are = absurd suits
+settled_data B3 width (value ∷ values) rest suits are = (settled_value B3 width value values suits.0 are.0 refl, suits.1)
+settled_data B4 width [] rest suits are = absurd suits
+settled_data B4 width (value ∷ values) rest suits are = (settled_value B4 width value values suits.0 are.0 refl, suits.1)
+settled_data F width [] rest suits are = absurd suits
+settled_data F width (value ∷ values) rest suits are = (settled_value F width value values suits.0 are.0 refl, suits.1)
+settled_data T width [] rest suits are = absurd suits
+settled_data T width (value ∷ values) rest suits are = (settled_value T width value values suits.0 are.0 refl, suits.1)
+settled_data D width [] rest suits are = absurd suits
+settled_data D width (value ∷ values) rest suits are = (settled_value D width value values suits.0 are.0 refl, suits.1)
+settled_data X width values rest suits are = (inl (tt, λ never. never), suits)
+settled_data Skip width values rest suits are = (inl (tt, λ never. never), suits)
 
-left_plain : (n : ℕ) (values : List Cell) → AllByRecursion IsValue values → AllByRecursion IsValue (drop n values)
-left_plain zero values plain = plain
-left_plain (suc n) [] plain = tt
-left_plain (suc n) (value ∷ values) plain = left_plain n values plain.1
+left_values : (n : ℕ) (values : List Cell) → AllByRecursion IsValue values → AllByRecursion IsValue (drop n values)
+left_values zero values are = are
+left_values (suc n) [] are = tt
+left_values (suc n) (value ∷ values) are = left_values n values are.1
 
 pub settled : (items : List Item) (values : List Cell) → Suits items (map kind_of values) → AllByRecursion IsValue values →
     Settled (text_of items values) (IsSomeLonger items values)
-settled [] values suits plain = inl (tt, λ never. never)
-settled (item ∷ items) values suits plain =
-    let here = settled_data item.code item.width values (λ rest. Suits items rest) suits plain in
+settled [] values suits are = inl (tt, λ never. never)
+settled (item ∷ items) values suits are =
+    let here = settled_data item.code item.width values (λ rest. Suits items rest) suits are in
     let suit : Suits items (map kind_of (drop (data_here item.code) values)) = subst (Suits items) (drop-map kind_of (data_here item.code) values) here.1 in
-    settled_joined _ _ _ _ here.0 (settled items (drop (data_here item.code) values) suit (left_plain (data_here item.code) values plain))
+    settled_joined _ _ _ _ here.0 (settled items (drop (data_here item.code) values) suit (left_values (data_here item.code) values are))
 
 -- so there is a text exactly where no item's text is too long
 pub not_longer : (items : List Item) (values : List Cell) (text : List ℕ) → Suits items (map kind_of values) → AllByRecursion IsValue values →
     text_of items values ≡ Some text → IsSomeLonger items values → ⊥
-not_longer items values text suits plain e far =
-    elim (settled items values suits plain) [
+not_longer items values text suits are e far =
+    elim (settled items values suits are) [
       | inl h ↦ h.1 far
       | inr h ↦ (let none : Some text ≡ None = sym e ∙ h.0 in cc)
     ]
 
 pub longer : (items : List Item) (values : List Cell) → Suits items (map kind_of values) → AllByRecursion IsValue values →
     text_of items values ≡ None → IsSomeLonger items values
-longer items values suits plain e =
-    elim (settled items values suits plain) [
+longer items values suits are e =
+    elim (settled items values suits are) [
       | inl h ↦ absurd (subst (λ text. HasText text) e h.0)
       | inr h ↦ h.1
     ]

@@ -5,7 +5,7 @@ use Rattle.std.specs.Fmt.{digits, digits_onto, digit_glyph, signed_decimal}
 use Rattle.std.proofs.lemmas.List.Elements.{All-nil, All-append, All-replicate, All-take, All-weaker, All-from_recursion}
 use Rattle.pearl_value.specs.declared.cell.Cell.{Cell}
 use Rattle.pearl_value.specs.declared.cell.Cell.TheVariants.{Fixed, Bits, Chars, Clock, Span, Ref}
-use Rattle.pearl_value.specs.WellFormed.{IsLetter, IsWellFormed}
+use Rattle.pearl_value.specs.WellFormed.{IsLetter, IsValue}
 use Rattle.pearl_format.specs.declared.item.ItemCode.{ItemCode}
 use Rattle.pearl_format.specs.declared.item.ItemCode.TheVariants.{A, B1, B2, B3, B4, F, T, D, X, Skip}
 use Rattle.pearl_format.specs.declared.item.Item.{Item}
@@ -147,17 +147,17 @@ left-printable width text h = by (nat_le (length text) width)
     by true = both text (replicate (width - length text) 32) h (blanks (width - length text))
     by false = tt
 
-letters-printable : (width : ℕ) (values : List Cell) → AllByRecursion IsWellFormed values → IfSome (letters_item width values) IsText
-letters-printable width [] well = tt
-letters-printable width (Fixed len value ∷ values) well = tt
-letters-printable width (Bits len value ∷ values) well = tt
-letters-printable width (Chars text ∷ values) well =
+letters-printable : (width : ℕ) (values : List Cell) → AllByRecursion IsValue values → IfSome (letters_item width values) IsText
+letters-printable width [] are = tt
+letters-printable width (Fixed len value ∷ values) are = tt
+letters-printable width (Bits len value ∷ values) are = tt
+letters-printable width (Chars text ∷ values) are =
     let own = width_or width (length text.items) in
-    let plain : IsText text.items = All-weaker IsLetter IsTextByte (λ byte letter. inr letter) text.items well.0.1 in
+    let plain : IsText text.items = All-weaker IsLetter IsTextByte (λ byte letter. inr letter) text.items are.0.1 in
     both (take own text.items) (replicate (own - length text.items) 32) (All-take IsTextByte own text.items plain) (blanks (own - length text.items))
-letters-printable width (Clock time ∷ values) well = tt
-letters-printable width (Span time ∷ values) well = tt
-letters-printable width (Ref of place ∷ values) well = tt
+letters-printable width (Clock time ∷ values) are = tt
+letters-printable width (Span time ∷ values) are = tt
+letters-printable width (Ref of place ∷ values) are = tt
 
 bits-printable : (group width : ℕ) (values : List Cell) → group ≤ 4 → IfSome (bits_item group width values) IsText
 bits-printable group width [] few = tt
@@ -178,14 +178,14 @@ number-printable width (Clock time ∷ values) = tt
 number-printable width (Span time ∷ values) = tt
 number-printable width (Ref of place ∷ values) = tt
 
-clock-printable : (width : ℕ) (values : List Cell) → AllByRecursion IsWellFormed values → IfSome (clock_item width values) IsText
-clock-printable width [] well = tt
-clock-printable width (Fixed len value ∷ values) well = tt
-clock-printable width (Bits len value ∷ values) well = tt
-clock-printable width (Chars text ∷ values) well = tt
-clock-printable width (Clock time ∷ values) well = right-printable width (clock_text width time) (clock_printable width time well.0)
-clock-printable width (Span time ∷ values) well = tt
-clock-printable width (Ref of place ∷ values) well = tt
+clock-printable : (width : ℕ) (values : List Cell) → AllByRecursion IsValue values → IfSome (clock_item width values) IsText
+clock-printable width [] are = tt
+clock-printable width (Fixed len value ∷ values) are = tt
+clock-printable width (Bits len value ∷ values) are = tt
+clock-printable width (Chars text ∷ values) are = tt
+clock-printable width (Clock time ∷ values) are = right-printable width (clock_text width time) (clock_printable width time are.0)
+clock-printable width (Span time ∷ values) are = tt
+clock-printable width (Ref of place ∷ values) are = tt
 
 span-printable : (width : ℕ) (values : List Cell) → IfSome (span_item width values) IsText
 span-printable width [] = tt
@@ -196,38 +196,38 @@ span-printable width (Clock time ∷ values) = tt
 span-printable width (Span time ∷ values) = right-printable width (span_text time) (span_printable time)
 span-printable width (Ref of place ∷ values) = tt
 
-own_text-printable : (code : ItemCode) (width : ℕ) (values : List Cell) → AllByRecursion IsWellFormed values → IfSome (own_text code width values) IsText
-own_text-printable A width values well = letters-printable width values well
-own_text-printable B1 width values well = bits-printable 1 width values (omega arith)
-own_text-printable B2 width values well = bits-printable 2 width values (omega arith)
-own_text-printable B3 width values well = bits-printable 3 width values (omega arith)
-own_text-printable B4 width values well = bits-printable 4 width values (omega arith)
-own_text-printable F width values well = number-printable width values
-own_text-printable T width values well = clock-printable width values well
-own_text-printable D width values well = span-printable width values
-own_text-printable X width values well = blanks (skip_count width)
-own_text-printable Skip width values well = All-replicate IsTextByte (skip_count width) 10 (inl refl)
+own_text-printable : (code : ItemCode) (width : ℕ) (values : List Cell) → AllByRecursion IsValue values → IfSome (own_text code width values) IsText
+own_text-printable A width values are = letters-printable width values are
+own_text-printable B1 width values are = bits-printable 1 width values (omega arith)
+own_text-printable B2 width values are = bits-printable 2 width values (omega arith)
+own_text-printable B3 width values are = bits-printable 3 width values (omega arith)
+own_text-printable B4 width values are = bits-printable 4 width values (omega arith)
+own_text-printable F width values are = number-printable width values
+own_text-printable T width values are = clock-printable width values are
+own_text-printable D width values are = span-printable width values
+own_text-printable X width values are = blanks (skip_count width)
+own_text-printable Skip width values are = All-replicate IsTextByte (skip_count width) 10 (inl refl)
 
 joined-printable : (a b : Option (List ℕ)) → IfSome a IsText → IfSome b IsText → IfSome (joined_text a b) IsText
 joined-printable None b p q = tt
 joined-printable (Some a) None p q = tt
 joined-printable (Some a) (Some b) p q = both a b p q
 
-left_well : (n : ℕ) (values : List Cell) → AllByRecursion IsWellFormed values → AllByRecursion IsWellFormed (drop n values)
-left_well zero values well = well
-left_well (suc n) [] well = tt
-left_well (suc n) (value ∷ values) well = left_well n values well.1
+left_values : (n : ℕ) (values : List Cell) → AllByRecursion IsValue values → AllByRecursion IsValue (drop n values)
+left_values zero values are = are
+left_values (suc n) [] are = tt
+left_values (suc n) (value ∷ values) are = left_values n values are.1
 
--- the text of values that are well formed has bytes of texts alone
-text_of-printable : (items : List Item) (values : List Cell) → AllByRecursion IsWellFormed values → IfSome (text_of items values) IsText
-text_of-printable [] values well = All-nil IsTextByte
-text_of-printable (item ∷ items) values well =
+-- the text of values has bytes of texts alone
+text_of-printable : (items : List Item) (values : List Cell) → AllByRecursion IsValue values → IfSome (text_of items values) IsText
+text_of-printable [] values are = All-nil IsTextByte
+text_of-printable (item ∷ items) values are =
     joined-printable (own_text item.code item.width values) (text_of items (drop (data_here item.code) values))
-    (own_text-printable item.code item.width values well) (text_of-printable items (drop (data_here item.code) values) (left_well (data_here item.code) values well))
+    (own_text-printable item.code item.width values are) (text_of-printable items (drop (data_here item.code) values) (left_values (data_here item.code) values are))
 
 -- the same of a text that began empty
 pub put_text-printable : (items : List Item) (values : List Cell) (before text : List ℕ) → before ≡ [] →
-    joined_text (Some before) (text_of items values) ≡ Some text → AllByRecursion IsWellFormed values → All IsTextByte text
-put_text-printable items values before text empty e well =
+    joined_text (Some before) (text_of items values) ≡ Some text → AllByRecursion IsValue values → All IsTextByte text
+put_text-printable items values before text empty e are =
     let P : Option (List ℕ) → Type 0 = λ o. IfSome o IsText in
-    subst P (from_empty items values before text empty e) (text_of-printable items values well)
+    subst P (from_empty items values before text empty e) (text_of-printable items values are)

@@ -61,16 +61,23 @@ text_width [] kinds = 0
 text_width (item ∷ items) kinds =
     width_over item.code item.width kinds + text_width items (drop (data_here item.code) kinds)
 
--- a data item takes a value of its kind; F and D have a width, and T has at least room for hours, minutes and seconds
+-- the widths that an item may have: F and D have one, and T has at least room for hours, minutes and seconds
+abbrev pub HasWidth : ItemCode → ℕ → Type 0
+HasWidth F width = 0 < width
+HasWidth T width = 8 ≤ width
+HasWidth D width = 0 < width
+HasWidth code width = Unit {0}
+
+-- an item takes a value of its kind
 abbrev pub TakesKind : ItemCode → ℕ → Kind → Type 0
-TakesKind A width (Chars len) = Unit {0}
-TakesKind B1 width (Bits len) = Unit {0}
-TakesKind B2 width (Bits len) = Unit {0}
-TakesKind B3 width (Bits len) = Unit {0}
-TakesKind B4 width (Bits len) = Unit {0}
-TakesKind F width (Fixed len) = 0 < width
-TakesKind T width Clock = 8 ≤ width
-TakesKind D width Span = 0 < width
+TakesKind A width (Chars len) = HasWidth A width
+TakesKind B1 width (Bits len) = HasWidth B1 width
+TakesKind B2 width (Bits len) = HasWidth B2 width
+TakesKind B3 width (Bits len) = HasWidth B3 width
+TakesKind B4 width (Bits len) = HasWidth B4 width
+TakesKind F width (Fixed len) = HasWidth F width
+TakesKind T width Clock = HasWidth T width
+TakesKind D width Span = HasWidth D width
 TakesKind _ _ _ = ⊥
 
 -- one item takes the kinds that it suits from the front; `rest` is asked of the others

@@ -2,7 +2,7 @@
 use Rattle.std.specs.Prelude.{ℕ, ◌<◌, ◌⊎◌, List, [], ◌∷◌, length, drop}
 use Rattle.std.specs.Fmt.{signed_decimal}
 use Rattle.pearl_value.specs.declared.cell.Cell.{Cell}
-use Rattle.pearl_value.specs.declared.cell.Cell.TheVariants.{Fixed, Bits, Span, Ref}
+use Rattle.pearl_value.specs.declared.cell.Cell.TheVariants.{Fixed, Bits, Span}
 use Rattle.pearl_format.specs.declared.item.ItemCode.{ItemCode}
 use Rattle.pearl_format.specs.declared.item.ItemCode.TheVariants.{B1, B2, B3, B4, F, D, X, Skip}
 use Rattle.pearl_format.specs.declared.item.Item.{Item}
@@ -31,8 +31,3 @@ abbrev pub IsSomeLonger : List Item → List Cell → Type 0
 IsSomeLonger [] values = ⊥
 IsSomeLonger (item ∷ items) values =
     IsFirstLonger item.code item.width values ⊎ IsSomeLonger items (drop (data_here item.code) values)
-
--- a value, and no reference
-abbrev pub IsValue : Cell → Type 0
-IsValue (Ref of place) = ⊥
-IsValue cell = Unit {0}

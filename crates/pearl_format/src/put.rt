@@ -1,12 +1,11 @@
 // What PUT writes by a list of items.
 
 ghost use Rattle.std.specs.Prelude.{◌≡◌, ◌+◌, ◌≤◌, ◌<◌, ◌↔◌, ◌++◌, [], All, IfErr, IsErr, IfOk, OnOk, Some, None, length, map, replicate};
-ghost use Rattle.std.specs.List.{AllByRecursion};
 ghost use Rattle.pearl_value.specs.Cells.{kind_of};
-ghost use Rattle.pearl_value.specs.WellFormed.{IsWellFormed};
+ghost use Rattle.pearl_value.specs.WellFormed.{IsValue};
 ghost use Rattle.pearl_format.specs.Bytes.{IsTextByte};
 ghost use Rattle.pearl_format.specs.Items.{Suits, data_here, skip_count, letters_width, bits_width, width_over, text_width};
-ghost use Rattle.pearl_format.specs.Longer.{IsSomeLonger, IsValue};
+ghost use Rattle.pearl_format.specs.Longer.{IsSomeLonger};
 ghost use Rattle.pearl_format.specs.Parts.{own_text, letters_item, bits_item, number_item, clock_item, span_item};
 ghost use Rattle.pearl_format.specs.Texts.{joined_text, text_of};
 
@@ -22,13 +21,14 @@ use pearl_value::trap::Trap;
 /// Makes `into` the text of the items over these values, whatever it held before. After a trap it is empty.
 pub fn put_text(items: &[Item], values: &[Cell], into: &mut ArrayVec<u8, 1024>) -> Result<(), Trap>
     requires suits { Suits items.now (map kind_of values.now) }
+    requires values { All IsValue values.now }
     requires short { text_width items.now (map kind_of values.now) ≤ 1024 }
     ensures ok { OnOk result (text_of items.now values.now ≡ Some into.new.items) }
     ensures err { IfErr result (λ trap.
         (trap ≡ Trap.Format) × (text_of items.now values.now ≡ None) × (into.new.items ≡ [])) }
-    ensures trap { AllByRecursion IsValue values.now → (IsErr result ↔ IsSomeLonger items.now values.now) }
+    ensures trap { IsErr result ↔ IsSomeLonger items.now values.now }
     ensures fits { length into.new.items ≤ text_width items.now (map kind_of values.now) }
-    ensures printable { AllByRecursion IsWellFormed values.now → All IsTextByte into.new.items }
+    ensures printable { All IsTextByte into.new.items }
 {
     into.clear();
     match put_items(items, values, into) {

@@ -2,3 +2,4 @@ pub mod Rising
 pub mod Orders
 pub mod TableOfOperators
 pub mod TableOfWords
+pub mod Shown

@@ -7,11 +7,9 @@ use Rattle.std.proofs.lemmas.List.{take_all}
 use Rattle.std.proofs.lemmas.List.Elements.{All-same}
 use Rattle.pearl_tables.specs.declared.word.WordRow.{WordRow}
 use Rattle.pearl_tables.specs.declared.operator.OpRow.{OpRow}
-use Rattle.pearl_tables.specs.declared.instruction.CodeRow.{CodeRow}
 use Rattle.pearl_tables.specs.Rising.{rises}
 use Rattle.pearl_tables.specs.Words.{comes_before, text_before}
 use Rattle.pearl_tables.specs.Operators.{key_before, HasKey}
-use Rattle.pearl_tables.specs.Instructions.{opcode_before}
 use Rattle.pearl_tables.proofs.Rising.{IsTransitive, same_element}
 
 ltb_trans : (a b c : ℕ) → ltb a b ≡ true → ltb b c ≡ true → ltb a c ≡ true
@@ -44,15 +42,6 @@ text_before-same a b e = ap (λ t. comes_before a.text.now t) (sym e) ∙ comes_
 
 pub one_word : (rows : List WordRow) → rises text_before rows ≡ true → (a b : WordRow) → a.text.now ≡ b.text.now → Contains rows a → Contains rows b → a ≡ b
 one_word rows h a b e = same_element text_before text_before-trans rows h a b (text_before-same a b e) (text_before-same b a (sym e))
-
-opcode_before-trans : IsTransitive opcode_before
-opcode_before-trans a b c p q = ltb_trans a.opcode b.opcode c.opcode p q
-
-opcode_before-same : (a b : CodeRow) → a.opcode ≡ b.opcode → opcode_before a b ≡ false
-opcode_before-same a b e = le-ltb a.opcode b.opcode (omega (arith, e))
-
-pub one_code : (rows : List CodeRow) → rises opcode_before rows ≡ true → (a b : CodeRow) → a.opcode ≡ b.opcode → Contains rows a → Contains rows b → a ≡ b
-one_code rows h a b e = same_element opcode_before opcode_before-trans rows h a b (opcode_before-same a b e) (opcode_before-same b a (sym e))
 
 key_before-trans : IsTransitive key_before
 key_before-trans a b c p q =

@@ -28,7 +28,7 @@ abbrev each_word : (ℕ → List ℕ → Bool) → List (List (List ℕ)) → Bo
 each_word test [] = true
 each_word test (group ∷ groups) = list_all (test 0) group && each_word (λ code. test (suc code)) groups
 
-list_all-Contains : {X : Type 0} (p : X → Bool) (xs : List X) (x : X) → list_all p xs ≡ true → Contains xs x → p x ≡ true
+pub list_all-Contains : {X : Type 0} (p : X → Bool) (xs : List X) (x : X) → list_all p xs ≡ true → Contains xs x → p x ≡ true
 list_all-Contains p xs x h = All-contains (λ y. p y ≡ true) xs x ((Decides-by_and p (λ y. p y ≡ true) (list_all p) (λ y. (λ e. e, λ e. e)) refl (λ _ _. refl) xs).0 h)
 
 each_word-at : (test : ℕ → List ℕ → Bool) (groups : List (List (List ℕ))) → each_word test groups ≡ true → (code : ℕ) (text : List ℕ) → Contains (get_or groups code []) text → test code text ≡ true

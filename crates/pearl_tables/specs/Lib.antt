@@ -2,5 +2,4 @@ pub mod Rising
 pub mod Words
 pub mod Symbols
 pub mod Operators
-pub mod Instructions
 pub mod Laws

@@ -1,198 +1,119 @@
--- The operators of the language, and what a row of a table of operators says.
-use Rattle.std.specs.Prelude.{◌≡◌, ℕ, Bool, nat_lt, ◌==◌, if◌then◌else◌, Option, Some, None, ◌⊎◌}
+-- The rows of the table of operators: one for each operator and each choice of families that it takes.
+use Rattle.std.specs.Prelude.{◌≡◌, ℕ, ◌+◌, ◌<◌, Bool, nat_lt, ◌==◌, if◌then◌else◌, Some, ◌⊎◌}
+use Rattle.pearl_value.specs.declared.kind.Kind.{Kind}
+use Rattle.pearl_value.specs.declared.kind.Kind.TheVariants as kind
+use Rattle.pearl_value.specs.declared.operator.Monad.{Monad}
+use Rattle.pearl_value.specs.declared.operator.Monad.TheVariants as monad
+use Rattle.pearl_value.specs.declared.operator.Dyad.{Dyad}
+use Rattle.pearl_value.specs.declared.operator.Dyad.TheVariants as dyad
+use Rattle.pearl_value.specs.Rows.{row1, row2}
+use Rattle.pearl_tables.specs.declared.family.TheConstants as family
+use Rattle.pearl_tables.specs.declared.opcode.TheConstants as opcode
 use Rattle.pearl_tables.specs.declared.operator.OpRow.{OpRow}
 
--- kinds of every length
-pub data Family : Type 0 where
-  Fixed : Family
-  Bit : Family
-  Char : Family
-  Clock : Family
-  Duration : Family
+-- the family of a kind, which leaves its length out
+abbrev pub family_of : Kind → ℕ
+family_of (kind.Fixed len) = family.FIXED
+family_of (kind.Bits len) = family.BIT
+family_of (kind.Chars len) = family.CHAR
+family_of kind.Clock = family.CLOCK
+family_of kind.Span = family.DURATION
 
--- the operators with one operand
-pub data Monad : Type 0 where
-  Plus : Monad
-  Minus : Monad
-  Abs : Monad
-  Sign : Monad
-  Not : Monad
+-- the code of an operator with one operand
+abbrev pub monad_code : Monad → ℕ
+monad_code monad.Plus = opcode.PLUS
+monad_code monad.Minus = opcode.MINUS
+monad_code monad.Abs = opcode.ABS
+monad_code monad.Sign = opcode.SIGN
+monad_code monad.Not = opcode.NOT
 
--- the operators with two operands: ** * // REM >< + - <> SHIFT < > <= >= == /= AND OR EXOR
-pub data Dyad : Type 0 where
-  Pow : Dyad
-  Mul : Dyad
-  Div : Dyad
-  Rem : Dyad
-  Cat : Dyad
-  Add : Dyad
-  Sub : Dyad
-  Cshift : Dyad
-  Shift : Dyad
-  Lt : Dyad
-  Gt : Dyad
-  Le : Dyad
-  Ge : Dyad
-  Eq : Dyad
-  Ne : Dyad
-  And : Dyad
-  Or : Dyad
-  Exor : Dyad
-
--- the family of what the operator gives for an operand of this family, where it takes one
-abbrev pub monadic : Monad → Family → Option Family
-monadic Plus Fixed = Some Fixed
-monadic Plus Duration = Some Duration
-monadic Minus Fixed = Some Fixed
-monadic Minus Duration = Some Duration
-monadic Abs Fixed = Some Fixed
-monadic Abs Duration = Some Duration
-monadic Sign Fixed = Some Fixed
-monadic Sign Duration = Some Fixed
-monadic Not Bit = Some Bit
-monadic _ _ = None
-
--- two values that have an order give a truth value
-abbrev pub order : Family → Family → Option Family
-order Fixed Fixed = Some Bit
-order Char Char = Some Bit
-order Clock Clock = Some Bit
-order Duration Duration = Some Bit
-order _ _ = None
-
--- and so do two that can be equal: two bit strings as well
-abbrev pub equality : Family → Family → Option Family
-equality Bit Bit = Some Bit
-equality left right = order left right
-
--- the family of what the operator gives for operands of these families, where it takes them
-abbrev pub dyadic : Dyad → Family → Family → Option Family
-dyadic Pow Fixed Fixed = Some Fixed
-dyadic Mul Fixed Fixed = Some Fixed
-dyadic Mul Fixed Duration = Some Duration
-dyadic Mul Duration Fixed = Some Duration
-dyadic Div Fixed Fixed = Some Fixed
-dyadic Div Duration Fixed = Some Duration
-dyadic Div Duration Duration = Some Fixed
-dyadic Rem Fixed Fixed = Some Fixed
-dyadic Cat Char Char = Some Char
-dyadic Cat Bit Bit = Some Bit
-dyadic Add Fixed Fixed = Some Fixed
-dyadic Add Duration Duration = Some Duration
-dyadic Add Clock Duration = Some Clock
-dyadic Add Duration Clock = Some Clock
-dyadic Sub Fixed Fixed = Some Fixed
-dyadic Sub Duration Duration = Some Duration
-dyadic Sub Clock Duration = Some Clock
-dyadic Sub Clock Clock = Some Duration
-dyadic Cshift Bit Fixed = Some Bit
-dyadic Shift Bit Fixed = Some Bit
-dyadic Lt left right = order left right
-dyadic Gt left right = order left right
-dyadic Le left right = order left right
-dyadic Ge left right = order left right
-dyadic Eq left right = equality left right
-dyadic Ne left right = equality left right
-dyadic And Bit Bit = Some Bit
-dyadic Or Bit Bit = Some Bit
-dyadic Exor Bit Bit = Some Bit
-dyadic _ _ _ = None
+-- the code of an operator with two operands
+abbrev pub dyad_code : Dyad → ℕ
+dyad_code dyad.Pow = opcode.POW
+dyad_code dyad.Mul = opcode.MUL
+dyad_code dyad.Div = opcode.DIV
+dyad_code dyad.Rem = opcode.REM
+dyad_code dyad.Cat = opcode.CAT
+dyad_code dyad.Add = opcode.ADD
+dyad_code dyad.Sub = opcode.SUB
+dyad_code dyad.Cshift = opcode.CSHIFT
+dyad_code dyad.Shift = opcode.SHIFT
+dyad_code dyad.Lt = opcode.LT
+dyad_code dyad.Gt = opcode.GT
+dyad_code dyad.Le = opcode.LE
+dyad_code dyad.Ge = opcode.GE
+dyad_code dyad.Eq = opcode.EQ
+dyad_code dyad.Ne = opcode.NE
+dyad_code dyad.And = opcode.AND
+dyad_code dyad.Or = opcode.OR
+dyad_code dyad.Exor = opcode.EXOR
 
 -- an operator of a smaller rank binds closer
-abbrev pub rank_of : Dyad → ℕ
-rank_of Pow = 1
-rank_of Mul = 2
-rank_of Div = 2
-rank_of Rem = 2
-rank_of Cat = 2
-rank_of Add = 3
-rank_of Sub = 3
-rank_of Cshift = 3
-rank_of Shift = 3
-rank_of Lt = 4
-rank_of Gt = 4
-rank_of Le = 4
-rank_of Ge = 4
-rank_of Eq = 5
-rank_of Ne = 5
-rank_of And = 6
-rank_of Or = 7
-rank_of Exor = 7
+abbrev pub rank : Dyad → ℕ
+rank dyad.Pow = 1
+rank dyad.Mul = 2
+rank dyad.Div = 2
+rank dyad.Rem = 2
+rank dyad.Cat = 2
+rank dyad.Add = 3
+rank dyad.Sub = 3
+rank dyad.Cshift = 3
+rank dyad.Shift = 3
+rank dyad.Lt = 4
+rank dyad.Gt = 4
+rank dyad.Le = 4
+rank dyad.Ge = 4
+rank dyad.Eq = 5
+rank dyad.Ne = 5
+rank dyad.And = 6
+rank dyad.Or = 7
+rank dyad.Exor = 7
 
--- how a table writes a family
-abbrev pub family_number : Family → ℕ
-family_number Fixed = 0
-family_number Bit = 1
-family_number Char = 2
-family_number Clock = 3
-family_number Duration = 4
-
--- how a table writes an operator: by its opcode
-abbrev pub monad_code : Monad → ℕ
-monad_code Plus = 30
-monad_code Minus = 31
-monad_code Abs = 32
-monad_code Sign = 33
-monad_code Not = 34
-
-abbrev pub dyad_code : Dyad → ℕ
-dyad_code Pow = 35
-dyad_code Mul = 36
-dyad_code Div = 37
-dyad_code Rem = 38
-dyad_code Cat = 39
-dyad_code Add = 40
-dyad_code Sub = 41
-dyad_code Cshift = 42
-dyad_code Shift = 43
-dyad_code Lt = 44
-dyad_code Gt = 45
-dyad_code Le = 46
-dyad_code Ge = 47
-dyad_code Eq = 48
-dyad_code Ne = 49
-dyad_code And = 50
-dyad_code Or = 51
-dyad_code Exor = 52
-
--- the row of an operator with one operand: rank 0, and 255 where the left operand is missing
-abbrev pub monadic_row : Monad → Family → Family → OpRow
+-- the row of an operator with one operand of this kind that gives this kind: rank 0, and no left operand
+abbrev pub monadic_row : Monad → Kind → Kind → OpRow
 monadic_row op right result = record {
   code = monad_code op;
   rank = 0;
-  left = 255;
-  right = family_number right;
-  result = family_number result;
+  left = family.ABSENT;
+  right = family_of right;
+  result = family_of result;
 }
 
-abbrev pub dyadic_row : Dyad → Family → Family → Family → OpRow
+-- the row of an operator with operands of these kinds that gives the third kind
+abbrev pub dyadic_row : Dyad → Kind → Kind → Kind → OpRow
 dyadic_row op left right result = record {
   code = dyad_code op;
-  rank = rank_of op;
-  left = family_number left;
-  right = family_number right;
-  result = family_number result;
+  rank = rank op;
+  left = family_of left;
+  right = family_of right;
+  result = family_of result;
 }
 
--- an operator that takes an operand of this family has this row
+-- an operator takes an operand of some kind, and this is its row
 pub record IsMonadicRow (row : OpRow) : Type 0 where
   pub op : Monad
-  pub right : Family
-  pub result : Family
-  pub takes : monadic op right ≡ Some result
+  pub right : Kind
+  pub result : Kind
+  pub takes : row1 op right ≡ Some result
   pub written : row ≡ monadic_row op right result
 
--- an operator that takes operands of these families has this row
+-- an operator takes operands of some kinds, and this is its row
 pub record IsDyadicRow (row : OpRow) : Type 0 where
   pub op : Dyad
-  pub left : Family
-  pub right : Family
-  pub result : Family
-  pub takes : dyadic op left right ≡ Some result
+  pub left : Kind
+  pub right : Kind
+  pub result : Kind
+  pub takes : row2 op left right ≡ Some result
   pub written : row ≡ dyadic_row op left right result
 
 abbrev pub IsRow : OpRow → Type 0
 IsRow row = IsMonadicRow row ⊎ IsDyadicRow row
+
+-- the two joined would be longer than any kind of their family
+abbrev pub IsTooLong : Dyad → Kind → Kind → Type 0
+IsTooLong dyad.Cat (kind.Chars len) (kind.Chars other) = 255 < len + other
+IsTooLong dyad.Cat (kind.Bits len) (kind.Bits other) = 64 < len + other
+IsTooLong _ _ _ = ⊥
 
 -- the row is that of this operator and these families
 abbrev pub HasKey : OpRow → ℕ → ℕ → ℕ → Type 0

@@ -1,5 +1,6 @@
 -- The symbols of the language.
-use Rattle.std.specs.Prelude.{ℕ, List, [], ◌∷◌, codes}
+use Rattle.std.specs.Prelude.{ℕ, List, [], ◌∷◌, codes, slice_index_or}
+use Rattle.pearl_tables.specs.declared.symbol.TheConstants.{SYMBOL_COUNT}
 
 -- the symbols in the order of their codes
 unfoldable pub symbol_texts : List (List ℕ)
@@ -8,6 +9,9 @@ symbol_texts =
     codes "=" ∷ codes "==" ∷ codes "/=" ∷ codes "<" ∷ codes ">" ∷ codes "<=" ∷ codes ">=" ∷ codes "><" ∷ codes "<>" ∷
     codes "+" ∷ codes "-" ∷ codes "*" ∷ codes "//" ∷ codes "**" ∷ []
 
+unfoldable pub symbol_text : ℕ → List ℕ
+symbol_text code = slice_index_or symbol_texts code []
+
 -- how many symbols there are
 abbrev pub symbol_count : ℕ
-symbol_count = 23
+symbol_count = SYMBOL_COUNT

@@ -1,7 +1,7 @@
 -- The words of the language, and what a row of a table of words says.
-use Rattle.std.specs.Prelude.{ℕ, Bool, true, false, List, [], ◌∷◌, codes, nat_lt, ◌==◌, if◌then◌else◌, slice_index_or, Contains, Any, ◌≡◌, ◌↔◌}
+use Rattle.std.specs.Prelude.{ℕ, suc, Bool, true, false, List, [], ◌∷◌, ◌++◌, codes, map, nat_lt, ◌==◌, if◌then◌else◌, slice_index_or, Contains, Any, ◌≡◌, ◌↔◌}
 use Rattle.pearl_tables.specs.declared.word.WordRow.{WordRow}
-use Rattle.pearl_tables.specs.declared.word_code.TheConstants.{MODULE, MODEND, SYSTEM, PROBLEM, DCL, SPC, INV, INIT, PRESET, STRUCT, TYPE, LENGTH, FIXED, BIT, CHAR, CLOCK, DURATION, SEMA, INTERRUPT, DATION, IN, OUT, INOUT, ALPHIC, BASIC, TASK, PROC, MAIN, PRIO, IDENT, RETURNS, RETURN, BEGIN, END, IF, THEN, ELSE, FIN, CASE, ALT, FOR, FROM, BY, TO, WHILE, REPEAT, EXIT, CALL, ACTIVATE, TERMINATE, SUSPEND, CONTINUE, RESUME, PREVENT, AT, AFTER, ALL, UNTIL, DURING, WHEN, REQUEST, RELEASE, TRY, ENABLE, DISABLE, TRIGGER, GET, PUT, TAKE, SEND, NOW, REM, ABS, SIGN, EQ, NE, LT, GT, LE, GE, AND, OR, EXOR, NOT, CAT, CSHIFT, SHIFT, LWB, UPB, HRS, MIN, SEC, GLOBAL, BOLT, RESERVE, FREE, ENTER, LEAVE}
+use Rattle.pearl_tables.specs.declared.word.TheConstants.{CODE_COUNT}
 
 -- the first text comes before the second one in a dictionary
 abbrev pub comes_before : List ℕ → List ℕ → Bool
@@ -12,15 +12,15 @@ comes_before (a ∷ xs) (b ∷ ys) = if a == b then comes_before xs ys else nat_
 abbrev pub text_before : WordRow → WordRow → Bool
 text_before a b = comes_before a.text.now b.text.now
 
--- every meaning that a word can have, with the words that have it
+-- every meaning that a word can have, with the words that have it; the grammar names the first of them
 unfoldable pub meanings : List (List (List ℕ))
 meanings =
     (codes "MODULE" ∷ []) ∷
     (codes "MODEND" ∷ []) ∷
     (codes "SYSTEM" ∷ []) ∷
     (codes "PROBLEM" ∷ []) ∷
-    (codes "DECLARE" ∷ codes "DCL" ∷ []) ∷
-    (codes "SPECIFY" ∷ codes "SPC" ∷ []) ∷
+    (codes "DCL" ∷ codes "DECLARE" ∷ []) ∷
+    (codes "SPC" ∷ codes "SPECIFY" ∷ []) ∷
     (codes "INV" ∷ []) ∷
     (codes "INIT" ∷ []) ∷
     (codes "PRESET" ∷ []) ∷
@@ -29,7 +29,7 @@ meanings =
     (codes "LENGTH" ∷ []) ∷
     (codes "FIXED" ∷ []) ∷
     (codes "BIT" ∷ []) ∷
-    (codes "CHARACTER" ∷ codes "CHAR" ∷ []) ∷
+    (codes "CHAR" ∷ codes "CHARACTER" ∷ []) ∷
     (codes "CLOCK" ∷ []) ∷
     (codes "DURATION" ∷ codes "DUR" ∷ []) ∷
     (codes "SEMA" ∷ []) ∷
@@ -41,10 +41,10 @@ meanings =
     (codes "ALPHIC" ∷ []) ∷
     (codes "BASIC" ∷ []) ∷
     (codes "TASK" ∷ []) ∷
-    (codes "PROCEDURE" ∷ codes "PROC" ∷ []) ∷
+    (codes "PROC" ∷ codes "PROCEDURE" ∷ []) ∷
     (codes "MAIN" ∷ []) ∷
-    (codes "PRIORITY" ∷ codes "PRIO" ∷ []) ∷
-    (codes "IDENTICAL" ∷ codes "IDENT" ∷ []) ∷
+    (codes "PRIO" ∷ codes "PRIORITY" ∷ []) ∷
+    (codes "IDENT" ∷ codes "IDENTICAL" ∷ []) ∷
     (codes "RETURNS" ∷ []) ∷
     (codes "RETURN" ∷ []) ∷
     (codes "BEGIN" ∷ []) ∷
@@ -125,34 +125,25 @@ pub record AreTheWords (rows : List WordRow) : Type 0 where
 
 -- how many meanings the words have
 abbrev pub code_count : ℕ
-code_count = 98
+code_count = CODE_COUNT
+
+-- the words of these meanings with their codes, the first of which is given
+abbrev pub with_codes : ℕ → List (List (List ℕ)) → List (List ℕ × ℕ)
+with_codes code [] = []
+with_codes code (group ∷ groups) = map (λ text. (text, code)) group ++ with_codes (suc code) groups
 
 -- every word with its code
 unfoldable pub words : List (List ℕ × ℕ)
-words =
-    (codes "MODULE", MODULE) ∷ (codes "MODEND", MODEND) ∷ (codes "SYSTEM", SYSTEM) ∷ (codes "PROBLEM", PROBLEM) ∷
-    (codes "DECLARE", DCL) ∷ (codes "DCL", DCL) ∷ (codes "SPECIFY", SPC) ∷ (codes "SPC", SPC) ∷ (codes "INV", INV) ∷
-    (codes "INIT", INIT) ∷ (codes "PRESET", PRESET) ∷ (codes "STRUCT", STRUCT) ∷ (codes "TYPE", TYPE) ∷
-    (codes "LENGTH", LENGTH) ∷ (codes "FIXED", FIXED) ∷ (codes "BIT", BIT) ∷ (codes "CHARACTER", CHAR) ∷
-    (codes "CHAR", CHAR) ∷ (codes "CLOCK", CLOCK) ∷ (codes "DURATION", DURATION) ∷ (codes "DUR", DURATION) ∷
-    (codes "SEMA", SEMA) ∷ (codes "INTERRUPT", INTERRUPT) ∷ (codes "IRPT", INTERRUPT) ∷ (codes "DATION", DATION) ∷
-    (codes "IN", IN) ∷ (codes "OUT", OUT) ∷ (codes "INOUT", INOUT) ∷ (codes "ALPHIC", ALPHIC) ∷
-    (codes "BASIC", BASIC) ∷ (codes "TASK", TASK) ∷ (codes "PROCEDURE", PROC) ∷ (codes "PROC", PROC) ∷
-    (codes "MAIN", MAIN) ∷ (codes "PRIORITY", PRIO) ∷ (codes "PRIO", PRIO) ∷ (codes "IDENTICAL", IDENT) ∷
-    (codes "IDENT", IDENT) ∷ (codes "RETURNS", RETURNS) ∷ (codes "RETURN", RETURN) ∷ (codes "BEGIN", BEGIN) ∷
-    (codes "END", END) ∷ (codes "IF", IF) ∷ (codes "THEN", THEN) ∷ (codes "ELSE", ELSE) ∷ (codes "FIN", FIN) ∷
-    (codes "CASE", CASE) ∷ (codes "ALT", ALT) ∷ (codes "FOR", FOR) ∷ (codes "FROM", FROM) ∷ (codes "BY", BY) ∷
-    (codes "TO", TO) ∷ (codes "WHILE", WHILE) ∷ (codes "REPEAT", REPEAT) ∷ (codes "EXIT", EXIT) ∷
-    (codes "CALL", CALL) ∷ (codes "ACTIVATE", ACTIVATE) ∷ (codes "TERMINATE", TERMINATE) ∷
-    (codes "SUSPEND", SUSPEND) ∷ (codes "CONTINUE", CONTINUE) ∷ (codes "RESUME", RESUME) ∷
-    (codes "PREVENT", PREVENT) ∷ (codes "AT", AT) ∷ (codes "AFTER", AFTER) ∷ (codes "ALL", ALL) ∷
-    (codes "UNTIL", UNTIL) ∷ (codes "DURING", DURING) ∷ (codes "WHEN", WHEN) ∷ (codes "REQUEST", REQUEST) ∷
-    (codes "RELEASE", RELEASE) ∷ (codes "TRY", TRY) ∷ (codes "ENABLE", ENABLE) ∷ (codes "DISABLE", DISABLE) ∷
-    (codes "TRIGGER", TRIGGER) ∷ (codes "GET", GET) ∷ (codes "PUT", PUT) ∷ (codes "TAKE", TAKE) ∷
-    (codes "SEND", SEND) ∷ (codes "NOW", NOW) ∷ (codes "REM", REM) ∷ (codes "ABS", ABS) ∷ (codes "SIGN", SIGN) ∷
-    (codes "EQ", EQ) ∷ (codes "NE", NE) ∷ (codes "LT", LT) ∷ (codes "GT", GT) ∷ (codes "LE", LE) ∷ (codes "GE", GE) ∷
-    (codes "AND", AND) ∷ (codes "OR", OR) ∷ (codes "EXOR", EXOR) ∷ (codes "NOT", NOT) ∷ (codes "CAT", CAT) ∷
-    (codes "CSHIFT", CSHIFT) ∷ (codes "SHIFT", SHIFT) ∷ (codes "LWB", LWB) ∷ (codes "UPB", UPB) ∷ (codes "HRS", HRS) ∷
-    (codes "MIN", MIN) ∷ (codes "SEC", SEC) ∷ (codes "GLOBAL", GLOBAL) ∷ (codes "BOLT", BOLT) ∷
-    (codes "RESERVE", RESERVE) ∷ (codes "FREE", FREE) ∷ (codes "ENTER", ENTER) ∷ (codes "LEAVE", LEAVE) ∷
-    []
+words = with_codes 0 meanings
+
+-- of words that mean the same, the one that the grammar names
+abbrev pub named_word : List (List ℕ) → List ℕ
+named_word [] = []
+named_word (text ∷ _) = text
+
+-- the words that the grammar names, in the order of their codes
+unfoldable pub word_texts : List (List ℕ)
+word_texts = map named_word meanings
+
+unfoldable pub word_text : ℕ → List ℕ
+word_text code = slice_index_or word_texts code []

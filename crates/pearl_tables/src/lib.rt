@@ -1,8 +1,7 @@
-// Tables of the language: its words, its operators, and the form of its table of instructions.
+// Tables of the language: its words, its symbols and its operators.
 #![tactic(auto)]
 
 pub mod family;
-pub mod instruction;
 pub mod laws;
 pub mod opcode;
 pub mod operator;

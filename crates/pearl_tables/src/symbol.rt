@@ -1,4 +1,7 @@
-// The codes of the symbols: their positions, counted from 0, in the order in which the language lists them.
+// The symbols. The code of a symbol is its position, counted from 0, in the order in which the language lists them.
+
+ghost use Rattle.std.specs.Prelude.{◌≡◌, ◌<◌, map};
+ghost use Rattle.pearl_tables.specs.Symbols as spec;
 
 /// `(`
 pub const LEFT_ROUND: u8 = 0;
@@ -46,3 +49,25 @@ pub const TIMES: u8 = 20;
 pub const DIVIDE: u8 = 21;
 /// `**`
 pub const POWER: u8 = 22;
+
+pub const SYMBOL_COUNT: usize = 23;
+
+/// The symbols in the order of their codes.
+pub static SYMBOLS: [&[u8]; SYMBOL_COUNT] = [
+    b"(", b")", b"[", b"]", b",", b";", b":", b".", b":=", b"=", b"==", b"/=", b"<", b">", b"<=",
+    b">=", b"><", b"<>", b"+", b"-", b"*", b"//", b"**",
+];
+
+fn symbols() -> &'static [&'static [u8]]
+    ensures { map (λ text. text.now) result.now ≡ spec.symbol_texts }
+{
+    &SYMBOLS
+}
+
+/// The symbol of this code.
+pub fn symbol_text(code: u8) -> &'static [u8]
+    requires { code < spec.symbol_count }
+    ensures { result.now ≡ spec.symbol_text code }
+{
+    symbols()[code as usize]
+}

@@ -1,8 +1,8 @@
 // The table of words.
 
-ghost use Rattle.std.specs.Prelude.{◌≡◌, ◌↔◌, All, Any, IfSome, IsTrue, Some, None};
+ghost use Rattle.std.specs.Prelude.{◌≡◌, ◌↔◌, ◌<◌, All, Any, IfSome, IsTrue, Some, None, map};
 ghost use Rattle.pearl_tables.specs.Rising.{rises};
-ghost use Rattle.pearl_tables.specs.Words.{text_before, AreTheWords};
+ghost use Rattle.pearl_tables.specs.Words as spec;
 
 use crate::word_code::*;
 
@@ -14,6 +14,9 @@ pub struct WordRow {
 }
 
 pub const WORD_COUNT: usize = 106;
+
+/// How many meanings the words have.
+pub const CODE_COUNT: usize = 98;
 
 macro_rules! word_rows {
     ($($text:literal $code:ident;)*) => {
@@ -132,16 +135,16 @@ pub static WORDS: [WordRow; WORD_COUNT] = word_rows![
 ];
 
 /// The table of words: exactly those of the language, the ones of the same meaning with the same code.
-pub fn words() -> &'static [WordRow]
-    ensures rise { IsTrue (rises text_before result.now) }
-    ensures words { AreTheWords result.now }
+pub fn words() -> &'static [WordRow; WORD_COUNT]
+    ensures rise { IsTrue (rises spec.text_before result.now) }
+    ensures words { spec.AreTheWords result.now }
 {
     &WORDS
 }
 
 /// The code of the word in rows whose texts rise strictly.
-pub fn find_word(rows: &[WordRow], text: &[u8]) -> Option<u8>
-    requires { IsTrue (rises text_before rows.now) }
+pub fn find_word(rows: &[WordRow; WORD_COUNT], text: &[u8]) -> Option<u8>
+    requires { IsTrue (rises spec.text_before rows.now) }
     ensures found { IfSome result (λ code. Any (λ row. (row.text.now ≡ text.now) × (row.code ≡ code)) rows.entry.now) }
     ensures only { All (λ row. row.text.now ≡ text.now → result ≡ Some row.code) rows.entry.now }
     ensures none { (result ≡ None) ↔ All (λ row. ¬ (row.text.now ≡ text.now)) rows.entry.now }
@@ -152,4 +155,120 @@ pub fn find_word(rows: &[WordRow], text: &[u8]) -> Option<u8>
         }
     }
     None
+}
+
+// The words in the order of their codes: of those that mean the same, the one that the grammar names.
+static TEXTS: [&[u8]; CODE_COUNT] = [
+    b"MODULE",
+    b"MODEND",
+    b"SYSTEM",
+    b"PROBLEM",
+    b"DCL",
+    b"SPC",
+    b"INV",
+    b"INIT",
+    b"PRESET",
+    b"STRUCT",
+    b"TYPE",
+    b"LENGTH",
+    b"FIXED",
+    b"BIT",
+    b"CHAR",
+    b"CLOCK",
+    b"DURATION",
+    b"SEMA",
+    b"INTERRUPT",
+    b"DATION",
+    b"IN",
+    b"OUT",
+    b"INOUT",
+    b"ALPHIC",
+    b"BASIC",
+    b"TASK",
+    b"PROC",
+    b"MAIN",
+    b"PRIO",
+    b"IDENT",
+    b"RETURNS",
+    b"RETURN",
+    b"BEGIN",
+    b"END",
+    b"IF",
+    b"THEN",
+    b"ELSE",
+    b"FIN",
+    b"CASE",
+    b"ALT",
+    b"FOR",
+    b"FROM",
+    b"BY",
+    b"TO",
+    b"WHILE",
+    b"REPEAT",
+    b"EXIT",
+    b"CALL",
+    b"ACTIVATE",
+    b"TERMINATE",
+    b"SUSPEND",
+    b"CONTINUE",
+    b"RESUME",
+    b"PREVENT",
+    b"AT",
+    b"AFTER",
+    b"ALL",
+    b"UNTIL",
+    b"DURING",
+    b"WHEN",
+    b"REQUEST",
+    b"RELEASE",
+    b"TRY",
+    b"ENABLE",
+    b"DISABLE",
+    b"TRIGGER",
+    b"GET",
+    b"PUT",
+    b"TAKE",
+    b"SEND",
+    b"NOW",
+    b"REM",
+    b"ABS",
+    b"SIGN",
+    b"EQ",
+    b"NE",
+    b"LT",
+    b"GT",
+    b"LE",
+    b"GE",
+    b"AND",
+    b"OR",
+    b"EXOR",
+    b"NOT",
+    b"CAT",
+    b"CSHIFT",
+    b"SHIFT",
+    b"LWB",
+    b"UPB",
+    b"HRS",
+    b"MIN",
+    b"SEC",
+    b"GLOBAL",
+    b"BOLT",
+    b"RESERVE",
+    b"FREE",
+    b"ENTER",
+    b"LEAVE",
+];
+
+fn texts() -> &'static [&'static [u8]]
+    ensures { map (λ text. text.now) result.now ≡ spec.word_texts }
+{
+    &TEXTS
+}
+
+/// The word of this code: of those that mean the same, the one that the grammar names.
+pub fn word_text(code: u8) -> &'static [u8]
+    requires { code < spec.code_count }
+    ensures { result.now ≡ spec.word_text code }
+{
+    texts()[code as usize]
 }

@@ -2,7 +2,7 @@
 -- before a token that lengthens it; a chain whose operands are the longest, with no operator behind it, is the longest.
 use Rattle.std.proofs.lemmas.Bool.{or_cases, eqb-true}
 use Rattle.std.proofs.Common.{Box, Global, ◌≡◌, inl, inr, ⊎_elim, ℕ, zero, suc, ◌+◌, ◌-◌, ◌<◌, ◌≤◌, ◌==◌, ◌||◌, Bool, true, false, List, [], ◌∷◌, length, length-append, Option, Some, None, option_map, option_and_then, is_some, refl, sym, ap, subst, ◌∙◌, arith}
-use Rattle.pearl_tree.specs.declared.expression.Dyad.{Dyad}
+use Rattle.pearl_value.specs.declared.operator.Dyad.{Dyad}
 use Rattle.pearl_tree.specs.declared.expression.Dyadic.{Dyadic}
 use Rattle.pearl_tree.specs.declared.expression.Expr.{Expr, Operand', Dyadic'}
 use Rattle.pearl_tree.specs.declared.expression.Expr as expr

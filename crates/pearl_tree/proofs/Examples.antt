@@ -1,17 +1,19 @@
 -- Small trees and the tokens that they spell.
-use Rattle.std.proofs.Common.{◌≡◌, ℕ, List, [], ◌∷◌, None, false, refl, sym, subst, arith, ◌≤◌, ◌<◌, length}
+use Rattle.std.proofs.Common.{◌≡◌, ℕ, List, [], ◌∷◌, None, false, refl, sym, ap, ◌∙◌, subst, arith, ◌≤◌, ◌<◌, length, Box, Global}
 use Rattle.pearl_tree.specs.declared.parts.Parts.{Parts}
 use Rattle.pearl_tree.specs.declared.token.Token.{Token}
 use Rattle.pearl_tree.specs.declared.token.What.{What}
 use Rattle.pearl_tree.specs.declared.token.What.TheVariants as what
 use Rattle.pearl_tree.specs.declared.literal.Literal.TheVariants as literal
-use Rattle.pearl_tree.specs.declared.expression.Dyad.TheVariants as dyad
+use Rattle.pearl_value.specs.declared.operator.Dyad.TheVariants as dyad
 use Rattle.pearl_tree.specs.declared.expression.Monadic.{Monadic}
 use Rattle.pearl_tree.specs.declared.expression.Expr.{Expr, Operand', Dyadic'}
 use Rattle.pearl_tree.specs.declared.expression.Primary as primary
 use Rattle.pearl_tree.specs.Expressions.{SpellsWhole, SpellsMonadic}
 use Rattle.pearl_tree.specs.Standing.{SpellsEach}
 use Rattle.pearl_tree.specs.declared.statement.Stmt.{Stmt, If, Exit}
+use Rattle.pearl_tree.specs.declared.statement.If as if_
+use Rattle.pearl_tree.specs.declared.statement.If.{out-If, roll-If, out-roll-If}
 use Rattle.pearl_tree.specs.declared.tree.Decl.{Decl}
 use Rattle.pearl_tree.specs.Statements.{SpellsStmt}
 use Rattle.pearl_tree.specs.Modules.{Spells}
@@ -48,8 +50,8 @@ module _ (none : Parts Monadic) (empty : none.items.items ≡ []) where
   -- the product stands on the right of the sum
   sums_product : (p q r t : _) →
       SpellsWhole sum_of_product 0
-      (Dyadic' p (literal_at 1 0) (record { operator = dyad.Plus; place = 2 }) q
-      (Dyadic' r (literal_at 2 4) (record { operator = dyad.Times; place = 6 }) t (literal_at 3 8) 4) 0) 5
+      (Dyadic' p (literal_at 1 0) (record { operator = dyad.Add; place = 2 }) q
+      (Dyadic' r (literal_at 2 4) (record { operator = dyad.Mul; place = 6 }) t (literal_at 3 8) 4) 0) 5
   sums_product p q r t = (
     (
       1,
@@ -76,8 +78,8 @@ module _ (none : Parts Monadic) (empty : none.items.items ≡ []) where
   -- the sum doesn't stand on the right of the product
   no_products_sum : (p q r t : _) →
       SpellsWhole product_and_sum 0
-      (Dyadic' p (literal_at 1 0) (record { operator = dyad.Times; place = 2 }) q
-      (Dyadic' r (literal_at 2 4) (record { operator = dyad.Plus; place = 6 }) t (literal_at 3 8) 4) 0) 5 → ⊥
+      (Dyadic' p (literal_at 1 0) (record { operator = dyad.Mul; place = 2 }) q
+      (Dyadic' r (literal_at 2 4) (record { operator = dyad.Add; place = 6 }) t (literal_at 3 8) 4) 0) 5 → ⊥
   no_products_sum p q r t spelled = let wrong : 3 < 2 = spelled.0.7 in absurd (omega arith)
 
 -- IF 1 THEN EXIT; FIN;
@@ -88,9 +90,12 @@ if_exit =
 
 -- the statements within are seen as the list that the field shows
 ifs_statement : (none : Parts Monadic) (empty : none.items.items ≡ []) → (statements : Parts Stmt) →
-    statements.items.items ≡ Exit 10 ∷ [] → SpellsStmt if_exit 1 0 (If (literal_at none empty 1 3) statements None 0) 7
-ifs_statement none empty statements one =
-    subst (λ X. X) (sym (spells_if if_exit 1 0 (literal_at none empty 1 3) statements None 0 7)) (
+    statements.items.items ≡ Exit 10 ∷ [] → (box : Box if_.If Global) →
+    box.value ≡ roll-If (record { condition = literal_at none empty 1 3; statements = statements; otherwise = None; place = 0 }) →
+    SpellsStmt if_exit 1 0 (If box) 7
+ifs_statement none empty statements one box is =
+    let shown = ap out-If is ∙ out-roll-If (record { condition = literal_at none empty 1 3; statements = statements; otherwise = None; place = 0 }) in
+    subst (λ X. X) (sym (spells_if if_exit 1 0 box 7)) (rw shown (
       2,
       5,
       5,
@@ -103,7 +108,7 @@ ifs_statement none empty statements one =
       refl,
       refl,
       refl,
-    )
+    ))
 
 -- MODULE; PROBLEM; MODEND
 abbrev least_module : List Token
@@ -112,6 +117,6 @@ least_module =
     token 15 (what.Symbol s.SEMICOLON) ∷ token 17 (what.Word w.MODEND) ∷ []
 
 modules_least : (none : Parts Decl) → none.items.items ≡ [] →
-    Spells (record { name = None; system = None; declarations = none; semicolon = false; place = 0 }) least_module
+    Spells (record { name = None; system = None; declarations = none; modend = 17; semicolon = false; place = 0 }) least_module
 modules_least none empty =
-    record { spells = (1, 2, 4, refl, refl, refl, refl, refl, refl, refl, rw empty refl, refl, refl) }
+    record { spells = (1, 2, 4, refl, refl, refl, refl, refl, refl, refl, rw empty refl, refl, refl, refl) }

@@ -58,7 +58,7 @@ module _ (tokens : List Token) where
 
   abbrev selectors_of : Primary → (n : Count) × Row_of-Selector n
   selectors_of (primary.Ref' _ _ row _) = (_, row)
-  selectors_of (primary.Limit' _ _ _ _ row _ _) = (_, row)
+  selectors_of (primary.Limit' _ _ _ _ _ row _ _) = (_, row)
   selectors_of _ = (_, end_of-Selector)
 
   -- ref
@@ -71,17 +71,17 @@ module _ (tokens : List Token) where
       ap (λ xs. SpellsEach (SpellsSelector tokens depth) (from + 1) xs to) (items_hidden-the_row-Selector-0 reference.selectors.items)) i
 
   -- [ number ] ( LWB | UPB ) ref
-  pub spells_limit : (depth from : ℕ) (dimension : Option Number) (side : Side) (array : Ref) (place to : ℕ) →
+  pub spells_limit : (depth from : ℕ) (dimension : Option Number) (side : Side) (array : Box Ref Global) (place to : ℕ) →
       SpellsPrimary tokens depth from (primary.Limit dimension side array place) to ≡
       ((m : ℕ) × IsAt tokens from place × SpellsMaybe (SpellsNumber tokens) from dimension m ×
-      HasWord tokens m (side_word side) × SpellsRef tokens depth (m + 1) array to)
+      HasWord tokens m (side_word side) × SpellsRef tokens depth (m + 1) array.value to)
   spells_limit depth from dimension side array place to =
       let row = selectors_of (primary.Limit dimension side array place) in
       λ i. (m : ℕ) × IsAt tokens from place × SpellsMaybe (SpellsNumber tokens) from dimension m ×
       HasWord tokens m (side_word side) ×
-      (IsAt tokens (m + 1) array.place × IsName tokens (m + 1) array.name ×
+      (IsAt tokens (m + 1) array.value.place × IsName tokens (m + 1) array.value.name ×
       (selectors depth (m + 1 + 1) row.0 row.1 to ∙
-      ap (λ xs. SpellsEach (SpellsSelector tokens depth) (m + 1 + 1) xs to) (items_hidden-the_row-Selector-0 array.selectors.items)) i)
+      ap (λ xs. SpellsEach (SpellsSelector tokens depth) (m + 1 + 1) xs to) (items_hidden-the_row-Selector-0 array.value.selectors.items)) i)
 
   -- "(" expr ")"
   pub spells_group : (depth from : ℕ) (inner : Box Expr Global) (place to : ℕ) →

@@ -35,7 +35,7 @@ module _ (tokens : List Token) where
         omega (arith, terms_after (depth - 1) (from + 1) inner h.0 h.4.0, h.6)
     primary_after depth from (primary.Now place) to h = omega (arith, h.2)
     primary_after depth from (primary.Try name place) to h = omega (arith, h.3)
-    primary_after depth from (primary.Limit' dimension side name _ selectors ref_place place) to h =
+    primary_after depth from (primary.Limit' dimension side _ name _ selectors ref_place place) to h =
         omega (arith, dimension_after from dimension h.0 h.2, selectors_after depth (h.0 + 1 + 1) _ selectors to h.4.2)
 
     selectors_after : (depth from : ℕ) (n : _) (row : Row_of-Selector n) (to : ℕ) → SpellsSelectors tokens depth from row to → from ≤ to

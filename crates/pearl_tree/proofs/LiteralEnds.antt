@@ -130,7 +130,7 @@ module _ (tokens : List Token) where
   literal_ends_or from (literal.Bits len value place) to h = inl h.2
   literal_ends_or from (literal.Text text place) to h = inl h.2
   literal_ends_or from (literal.Clock milliseconds place) to h = inl h.2
-  literal_ends_or from (literal.Duration duration) to h = inr (duration, h)
+  literal_ends_or from (literal.Duration duration) to h = inr (duration.value, h)
 
   pub unit_lengthens : (from : ℕ) (part : Duration) (to : ℕ) → SpellsDuration tokens from part to → Longer (from + 1)
   unit_lengthens from (Hours a b c d) to h = has_one tokens lengthens_literal (from + 1) (what.Word w.HRS) h.3 refl
@@ -159,9 +159,9 @@ module _ (tokens : List Token) where
   pub literal_begins : (from : ℕ) (part : Literal) (to : ℕ) → SpellsLiteral tokens from part to → HasOneOf begins_literal tokens from
   literal_begins from (literal.Number number) to h = has_one tokens begins_literal from (what.Number number.value) h.0.0 refl
   literal_begins from (literal.Bits len value place) to h = has_one tokens begins_literal from (what.Bits len value) h.0 refl
-  literal_begins from (literal.Text text place) to h = has_one tokens begins_literal from (what.Text text) h.0 refl
+  literal_begins from (literal.Text text place) to h = has_one tokens begins_literal from (what.Text text.value) h.0 refl
   literal_begins from (literal.Clock milliseconds place) to h = has_one tokens begins_literal from (what.Clock milliseconds) h.0 refl
-  literal_begins from (literal.Duration duration) to h = by from duration to h
+  literal_begins from (literal.Duration duration) to h = by from duration.value to h
     where
       by_secs : (from : ℕ) (part : Secs) (to : ℕ) → SpellsSecs tokens from part to → HasOneOf begins_literal tokens from
       by_secs from (secs.Number number) to h = has_one tokens begins_literal from (what.Number number.value) h.0.0 refl

@@ -128,7 +128,7 @@ module _ (tokens : List Token) where
   no_decimal from whole thousandths here none (literal.Bits _ _ _) end g = absurd (let e = sym here ∙ g.0 in cc e)
   no_decimal from whole thousandths here none (literal.Text _ _) end g = absurd (let e = sym here ∙ g.0 in cc e)
   no_decimal from whole thousandths here none (literal.Clock _ _) end g = absurd (let e = sym here ∙ g.0 in cc e)
-  no_decimal from whole thousandths here none (literal.Duration part) end g = by part g
+  no_decimal from whole thousandths here none (literal.Duration part) end g = by part.value g
     where
       by : (part : Duration) → SpellsDuration tokens from part end → ⊥
       by (Hours _ _ _ _) g = absurd (let e = sym here ∙ g.2.0 in cc e)

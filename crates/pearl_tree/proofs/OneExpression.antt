@@ -2,8 +2,8 @@
 -- lie in memory.
 use Rattle.std.proofs.Common.{◌≡◌, inl, inr, ℕ, zero, suc, ◌+◌, ◌-◌, ◌<◌, ◌≤◌, List, [], ◌∷◌, ◌++◌, Option, Some, None, option_map, refl, sym, ap, subst, ◌∙◌, arith, if◌then◌else◌, ◌==◌}
 use Rattle.pearl_tree.specs.declared.name.Number.{Number}
-use Rattle.pearl_tree.specs.declared.expression.Monad.{Monad}
-use Rattle.pearl_tree.specs.declared.expression.Monad.TheVariants as monad
+use Rattle.pearl_value.specs.declared.operator.Monad.{Monad}
+use Rattle.pearl_value.specs.declared.operator.Monad.TheVariants as monad
 use Rattle.pearl_tree.specs.declared.expression.Monadic.{Monadic}
 use Rattle.pearl_tree.specs.declared.expression.Dyadic.{Dyadic}
 use Rattle.pearl_tree.specs.declared.expression.Side.{Side}
@@ -278,7 +278,7 @@ module _ (tokens : List Token) where
         absurd (has_none tokens begins_literal from (what.Word w.NOW) g.1 refl (literal_begins tokens from a_part to h))
     same_primary from (primary.Literal a_part) (primary.Try b_name b_place) to h g =
         absurd (has_none tokens begins_literal from (what.Word w.TRY) g.1 refl (literal_begins tokens from a_part to h))
-    same_primary from (primary.Literal a_part) (primary.Limit' b_dim b_side b_name _ b_row b_ref b_place) to h g =
+    same_primary from (primary.Literal a_part) (primary.Limit' b_dim b_side _ b_name _ b_row b_ref b_place) to h g =
         absurd (literal_no_limit from a_part to b_dim b_side g.0 h g.2 g.3 (limit_low g.0 _ b_row to g.4.2))
     same_primary from (primary.Ref' a_name _ a_row a_place) (primary.Literal b_part) to h g =
         absurd (has_none tokens begins_literal from (what.Id a_name.text) h.1.0 refl (literal_begins tokens from b_part to g))
@@ -293,7 +293,7 @@ module _ (tokens : List Token) where
         absurd (omega (arith, leads_apart from 1 3 (has_lead from (what.Id a_name.text) 1 h.1.0 refl) (has_lead from (what.Word w.NOW) 3 g.1 refl)))
     same_primary from (primary.Ref' a_name _ a_row a_place) (primary.Try b_name b_place) to h g =
         absurd (omega (arith, leads_apart from 1 4 (has_lead from (what.Id a_name.text) 1 h.1.0 refl) (has_lead from (what.Word w.TRY) 4 g.1 refl)))
-    same_primary from (primary.Ref' a_name _ a_row a_place) (primary.Limit' b_dim b_side b_name _ b_row b_ref b_place) to h g =
+    same_primary from (primary.Ref' a_name _ a_row a_place) (primary.Limit' b_dim b_side _ b_name _ b_row b_ref b_place) to h g =
         let lead = limit_lead from b_dim b_side g.0 g.2 g.3 in
         absurd (omega (arith, lead.1, leads_apart from lead.0 1 lead.2 (has_lead from (what.Id a_name.text) 1 h.1.0 refl)))
     same_primary from (primary.Group' _ a_inner a_place) (primary.Literal b_part) to h g =
@@ -309,7 +309,7 @@ module _ (tokens : List Token) where
         absurd (omega (arith, leads_apart from 2 3 (has_lead from (what.Symbol s.LEFT_ROUND) 2 h.2 refl) (has_lead from (what.Word w.NOW) 3 g.1 refl)))
     same_primary from (primary.Group' _ a_inner a_place) (primary.Try b_name b_place) to h g =
         absurd (omega (arith, leads_apart from 2 4 (has_lead from (what.Symbol s.LEFT_ROUND) 2 h.2 refl) (has_lead from (what.Word w.TRY) 4 g.1 refl)))
-    same_primary from (primary.Group' _ a_inner a_place) (primary.Limit' b_dim b_side b_name _ b_row b_ref b_place) to h g =
+    same_primary from (primary.Group' _ a_inner a_place) (primary.Limit' b_dim b_side _ b_name _ b_row b_ref b_place) to h g =
         let lead = limit_lead from b_dim b_side g.0 g.2 g.3 in
         absurd (omega (arith, lead.1, leads_apart from lead.0 2 lead.2 (has_lead from (what.Symbol s.LEFT_ROUND) 2 h.2 refl)))
     same_primary from (primary.Now a_place) (primary.Literal b_part) to h g =
@@ -321,7 +321,7 @@ module _ (tokens : List Token) where
     same_primary from (primary.Now a_place) (primary.Now b_place) to h g = ap OfNow (same_place tokens from a_place b_place h.0 g.0)
     same_primary from (primary.Now a_place) (primary.Try b_name b_place) to h g =
         absurd (omega (arith, leads_apart from 3 4 (has_lead from (what.Word w.NOW) 3 h.1 refl) (has_lead from (what.Word w.TRY) 4 g.1 refl)))
-    same_primary from (primary.Now a_place) (primary.Limit' b_dim b_side b_name _ b_row b_ref b_place) to h g =
+    same_primary from (primary.Now a_place) (primary.Limit' b_dim b_side _ b_name _ b_row b_ref b_place) to h g =
         let lead = limit_lead from b_dim b_side g.0 g.2 g.3 in
         absurd (omega (arith, lead.1, leads_apart from lead.0 3 lead.2 (has_lead from (what.Word w.NOW) 3 h.1 refl)))
     same_primary from (primary.Try a_name a_place) (primary.Literal b_part) to h g =
@@ -336,24 +336,24 @@ module _ (tokens : List Token) where
         let name = same_name tokens (from + 1) a_name b_name h.2 g.2 in
         let place = same_place tokens from a_place b_place h.0 g.0 in
         λ i. OfTry (name i) (place i)
-    same_primary from (primary.Try a_name a_place) (primary.Limit' b_dim b_side b_name _ b_row b_ref b_place) to h g =
+    same_primary from (primary.Try a_name a_place) (primary.Limit' b_dim b_side _ b_name _ b_row b_ref b_place) to h g =
         let lead = limit_lead from b_dim b_side g.0 g.2 g.3 in
         absurd (omega (arith, lead.1, leads_apart from lead.0 4 lead.2 (has_lead from (what.Word w.TRY) 4 h.1 refl)))
-    same_primary from (primary.Limit' a_dim a_side a_name _ a_row a_ref a_place) (primary.Literal b_part) to h g =
+    same_primary from (primary.Limit' a_dim a_side _ a_name _ a_row a_ref a_place) (primary.Literal b_part) to h g =
         absurd (literal_no_limit from b_part to a_dim a_side h.0 g h.2 h.3 (limit_low h.0 _ a_row to h.4.2))
-    same_primary from (primary.Limit' a_dim a_side a_name _ a_row a_ref a_place) (primary.Ref' b_name _ b_row b_place) to h g =
+    same_primary from (primary.Limit' a_dim a_side _ a_name _ a_row a_ref a_place) (primary.Ref' b_name _ b_row b_place) to h g =
         let lead = limit_lead from a_dim a_side h.0 h.2 h.3 in
         absurd (omega (arith, lead.1, leads_apart from lead.0 1 lead.2 (has_lead from (what.Id b_name.text) 1 g.1.0 refl)))
-    same_primary from (primary.Limit' a_dim a_side a_name _ a_row a_ref a_place) (primary.Group' _ b_inner b_place) to h g =
+    same_primary from (primary.Limit' a_dim a_side _ a_name _ a_row a_ref a_place) (primary.Group' _ b_inner b_place) to h g =
         let lead = limit_lead from a_dim a_side h.0 h.2 h.3 in
         absurd (omega (arith, lead.1, leads_apart from lead.0 2 lead.2 (has_lead from (what.Symbol s.LEFT_ROUND) 2 g.2 refl)))
-    same_primary from (primary.Limit' a_dim a_side a_name _ a_row a_ref a_place) (primary.Now b_place) to h g =
+    same_primary from (primary.Limit' a_dim a_side _ a_name _ a_row a_ref a_place) (primary.Now b_place) to h g =
         let lead = limit_lead from a_dim a_side h.0 h.2 h.3 in
         absurd (omega (arith, lead.1, leads_apart from lead.0 3 lead.2 (has_lead from (what.Word w.NOW) 3 g.1 refl)))
-    same_primary from (primary.Limit' a_dim a_side a_name _ a_row a_ref a_place) (primary.Try b_name b_place) to h g =
+    same_primary from (primary.Limit' a_dim a_side _ a_name _ a_row a_ref a_place) (primary.Try b_name b_place) to h g =
         let lead = limit_lead from a_dim a_side h.0 h.2 h.3 in
         absurd (omega (arith, lead.1, leads_apart from lead.0 4 lead.2 (has_lead from (what.Word w.TRY) 4 g.1 refl)))
-    same_primary from (primary.Limit' a_dim a_side a_name _ a_row a_ref a_place) (primary.Limit' b_dim b_side b_name _ b_row b_ref b_place) to h g =
+    same_primary from (primary.Limit' a_dim a_side _ a_name _ a_row a_ref a_place) (primary.Limit' b_dim b_side _ b_name _ b_row b_ref b_place) to h g =
         let at = one_dimension from a_dim b_dim h.0 g.0 a_side b_side h.2 h.3 g.2 g.3 in
         let side = same_side g.0 a_side b_side (subst (λ k. HasWord tokens k (side_word a_side)) at.1 h.3) g.3 in
         let name = same_name tokens (g.0 + 1) a_name b_name (subst (λ k. IsName tokens (k + 1) a_name) at.1 h.4.1) g.4.1 in

@@ -15,6 +15,7 @@ use Rattle.pearl_tree.specs.declared.token.What.{What}
 use Rattle.pearl_tree.specs.declared.token.What.TheVariants as what
 use Rattle.pearl_tree.specs.declared.token.Token.{Token}
 use Rattle.pearl_tree.specs.Standing.{IsAt, HasSymbol, IsName, IsNumber, SpellsMaybe}
+use Rattle.pearl_tree.specs.ShownLiterals.{OfNumber, OfBits, OfText, OfClock, OfDuration, shown_literal, shown_const}
 use Rattle.pearl_tree.specs.Expressions.{SpellsSecs, SpellsSeconds, SpellsMinutes, SpellsDuration, SpellsLiteral, SpellsSign, SpellsConst}
 use Rattle.pearl_tree.specs.Following.{HasOneOf}
 use Rattle.pearl_tables.specs.declared.symbol.TheConstants as s
@@ -116,24 +117,24 @@ module _ (tokens : List Token) where
   duration_begins from (Seconds (secs.Number a) p) to h = has_one tokens begins_duration from (what.Number a.value) h.1.1.0.0 refl
   duration_begins from (Seconds (secs.Decimal v t q) p) to h = has_one tokens begins_duration from (what.Decimal v t) h.1.1.0 refl
 
-  pub same_literal : (from : ℕ) (a b : Literal) (to : ℕ) → SpellsLiteral tokens from a to → SpellsLiteral tokens from b to → a ≡ b
-  same_literal from (literal.Number a) (literal.Number b) to h g = ap literal.Number (same_number from a b h.0 g.0)
+  pub same_literal : (from : ℕ) (a b : Literal) (to : ℕ) → SpellsLiteral tokens from a to → SpellsLiteral tokens from b to → shown_literal a ≡ shown_literal b
+  same_literal from (literal.Number a) (literal.Number b) to h g = ap OfNumber (same_number from a b h.0 g.0)
   same_literal from (literal.Bits l v p) (literal.Bits k u q) to h g =
       let len : l ≡ k = let e = sym h.0 ∙ g.0 in cc e in
       let value : v ≡ u = let e = sym h.0 ∙ g.0 in cc e in
       let place = same_place from p q h.1 g.1 in
-      λ i. literal.Bits (len i) (value i) (place i)
+      λ i. OfBits (len i) (value i) (place i)
   same_literal from (literal.Text t p) (literal.Text u q) to h g =
-      let text : t ≡ u = let e = sym h.0 ∙ g.0 in cc e in
+      let text : t.value ≡ u.value = let e = sym h.0 ∙ g.0 in cc e in
       let place = same_place from p q h.1 g.1 in
-      λ i. literal.Text (text i) (place i)
+      λ i. OfText (text i).items (place i)
   same_literal from (literal.Clock t p) (literal.Clock u q) to h g =
       let time : t ≡ u = let e = sym h.0 ∙ g.0 in cc e in
       let place = same_place from p q h.1 g.1 in
-      λ i. literal.Clock (time i) (place i)
-  same_literal from (literal.Duration a) (literal.Duration b) to h g = ap literal.Duration (same_duration from a b to h g)
-  same_literal from (literal.Number a) (literal.Duration b) to h g = absurd (omega (arith, h.1, (unit_stands tokens from b to g).1))
-  same_literal from (literal.Duration a) (literal.Number b) to h g = absurd (omega (arith, g.1, (unit_stands tokens from a to h).1))
+      λ i. OfClock (time i) (place i)
+  same_literal from (literal.Duration a) (literal.Duration b) to h g = ap OfDuration (same_duration from a.value b.value to h g)
+  same_literal from (literal.Number a) (literal.Duration b) to h g = absurd (omega (arith, h.1, (unit_stands tokens from b.value to g).1))
+  same_literal from (literal.Duration a) (literal.Number b) to h g = absurd (omega (arith, g.1, (unit_stands tokens from a.value to h).1))
   same_literal from (literal.Number a0) (literal.Bits b0 b1 b2) to h g = absurd (let e = sym h.0.0 ∙ g.0 in cc e)
   same_literal from (literal.Number a0) (literal.Text b0 b1) to h g = absurd (let e = sym h.0.0 ∙ g.0 in cc e)
   same_literal from (literal.Number a0) (literal.Clock b0 b1) to h g = absurd (let e = sym h.0.0 ∙ g.0 in cc e)
@@ -147,17 +148,17 @@ module _ (tokens : List Token) where
   same_literal from (literal.Clock a0 a1) (literal.Bits b0 b1 b2) to h g = absurd (let e = sym h.0 ∙ g.0 in cc e)
   same_literal from (literal.Clock a0 a1) (literal.Text b0 b1) to h g = absurd (let e = sym h.0 ∙ g.0 in cc e)
   same_literal from (literal.Bits a0 a1 a2) (literal.Duration b) to h g =
-      absurd (has_none tokens begins_duration from (what.Bits a0 a1) h.0 refl (duration_begins from b to g))
+      absurd (has_none tokens begins_duration from (what.Bits a0 a1) h.0 refl (duration_begins from b.value to g))
   same_literal from (literal.Duration b) (literal.Bits a0 a1 a2) to h g =
-      absurd (has_none tokens begins_duration from (what.Bits a0 a1) g.0 refl (duration_begins from b to h))
+      absurd (has_none tokens begins_duration from (what.Bits a0 a1) g.0 refl (duration_begins from b.value to h))
   same_literal from (literal.Text a0 a1) (literal.Duration b) to h g =
-      absurd (has_none tokens begins_duration from (what.Text a0) h.0 refl (duration_begins from b to g))
+      absurd (has_none tokens begins_duration from (what.Text a0.value) h.0 refl (duration_begins from b.value to g))
   same_literal from (literal.Duration b) (literal.Text a0 a1) to h g =
-      absurd (has_none tokens begins_duration from (what.Text a0) g.0 refl (duration_begins from b to h))
+      absurd (has_none tokens begins_duration from (what.Text a0.value) g.0 refl (duration_begins from b.value to h))
   same_literal from (literal.Clock a0 a1) (literal.Duration b) to h g =
-      absurd (has_none tokens begins_duration from (what.Clock a0) h.0 refl (duration_begins from b to g))
+      absurd (has_none tokens begins_duration from (what.Clock a0) h.0 refl (duration_begins from b.value to g))
   same_literal from (literal.Duration b) (literal.Clock a0 a1) to h g =
-      absurd (has_none tokens begins_duration from (what.Clock a0) g.0 refl (duration_begins from b to h))
+      absurd (has_none tokens begins_duration from (what.Clock a0) g.0 refl (duration_begins from b.value to h))
 
   same_sign : (from : ℕ) (a b : Sign) (to end : ℕ) → SpellsSign tokens from a to → SpellsSign tokens from b end → a ≡ b
   same_sign from sign.Plus sign.Plus to end h g = refl
@@ -169,16 +170,16 @@ module _ (tokens : List Token) where
   sign_end from sign.Plus to h = (h.1, (_, h.0))
   sign_end from sign.Minus to h = (h.1, (_, h.0))
 
-  pub same_const : (from : ℕ) (a b : Const) (to : ℕ) → SpellsConst tokens from a to → SpellsConst tokens from b to → a ≡ b
+  pub same_const : (from : ℕ) (a b : Const) (to : ℕ) → SpellsConst tokens from a to → SpellsConst tokens from b to → shown_const a ≡ shown_const b
   same_const from a b to h g = by a.sign b.sign refl refl h.2 g.2
     where
-      made : a.sign ≡ b.sign → h.0 ≡ g.0 → a ≡ b
+      made : a.sign ≡ b.sign → h.0 ≡ g.0 → shown_const a ≡ shown_const b
       made e m =
           let part = same_literal g.0 a.literal b.literal to (subst (λ k. SpellsLiteral tokens k a.literal to) m h.3) g.3 in
           let place = same_place from a.place b.place h.1 g.1 in
           λ i. record { sign = e i; literal = part i; place = place i }
 
-      by : (x y : Option Sign) → a.sign ≡ x → b.sign ≡ y → SpellsMaybe (SpellsSign tokens) from x h.0 → SpellsMaybe (SpellsSign tokens) from y g.0 → a ≡ b
+      by : (x y : Option Sign) → a.sign ≡ x → b.sign ≡ y → SpellsMaybe (SpellsSign tokens) from x h.0 → SpellsMaybe (SpellsSign tokens) from y g.0 → shown_const a ≡ shown_const b
       by None None d e i j = made (d ∙ sym e) (i ∙ sym j)
       by (Some x) (Some y) d e i j =
           made (d ∙ ap Some (same_sign from x y h.0 g.0 i j) ∙ sym e) ((sign_end from x h.0 i).0 ∙ sym (sign_end from y g.0 j).0)

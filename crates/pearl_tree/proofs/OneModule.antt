@@ -34,7 +34,7 @@ use Rattle.pearl_tree.specs.declared.tree.Tree.{Tree}
 use Rattle.pearl_tree.specs.declared.token.What.{What}
 use Rattle.pearl_tree.specs.declared.token.What.TheVariants as what
 use Rattle.pearl_tree.specs.declared.token.Token.{Token}
-use Rattle.pearl_tree.specs.Standing.{HasWord, HasSymbol, HasId, IsName, SpellsEach, SpellsNumber, SpellsMaybe, SpellsMaybeBracketed, SpellsMaybeHeaded, SpellsFlag, SpellsSymbolFlag, what_at}
+use Rattle.pearl_tree.specs.Standing.{IsAt, HasWord, HasSymbol, HasId, IsName, SpellsEach, SpellsNumber, SpellsMaybe, SpellsMaybeBracketed, SpellsMaybeHeaded, SpellsFlag, SpellsSymbolFlag, what_at}
 use Rattle.pearl_tree.specs.Types.{SpellsBound, SpellsBounds, SpellsBasic, SpellsTyping, SpellsWholeTyping}
 use Rattle.pearl_tree.specs.Declarations.{IsDeviceWord, SpellsDevice, SpellsPrio, SpellsItem, SpellsSema, SpellsDeclared, direction_word, SpellsClass, SpellsControl, SpellsSpec, SpellsParam}
 use Rattle.pearl_tree.specs.Statements.{SpellsBodyDecl, SpellsStmt, SpellsWholeBody}
@@ -381,9 +381,10 @@ module _ (tokens : List Token) where
       let all = each_one (SpellsDecl tokens) shown_decl (λ k. (n : ℕ) × (option_and_then decl_words (what_at tokens k) ≡ Some n)) (λ k x m h. (decl_group x, decl_leads k x m h)) one_decl
       a.declarations.items.items b.declarations.items.items (g.1 + 2) h.2 g.2
       (subst (λ k. SpellsEach (SpellsDecl tokens) (k + 2) a.declarations.items.items h.2) system.1 h.10) (decl_begins h.2 h.11) g.10 (decl_begins g.2 g.11) in
-      let semicolon = same_semicolon (g.2 + 1) a.semicolon b.semicolon to (subst (λ k. SpellsSymbolFlag tokens s.SEMICOLON (k + 1) a.semicolon to) all.1 h.12) g.12 in
+      let semicolon = same_semicolon (g.2 + 1) a.semicolon b.semicolon to (subst (λ k. SpellsSymbolFlag tokens s.SEMICOLON (k + 1) a.semicolon to) all.1 h.13) g.13 in
+      let modend = same_place tokens g.2 a.modend b.modend (subst (λ k. IsAt tokens k a.modend) all.1 h.12) g.12 in
       let place = same_place tokens from a.place b.place h.3 g.3 in
-      λ i. record { name = name i; system = system.0 i; declarations = all.0 i; semicolon = semicolon i; place = place i }
+      λ i. record { name = name i; system = system.0 i; declarations = all.0 i; modend = modend i; semicolon = semicolon i; place = place i }
 
 -- two trees of the same tokens say the same
 pub one_tree : (tokens : List Token) (a b : Tree) → Spells a tokens → Spells b tokens → shown_tree a ≡ shown_tree b

@@ -1,5 +1,5 @@
 -- What tokens spell is one statement: the same, and up to the same token, wherever the parts lie in memory.
-use Rattle.std.proofs.Common.{◌≡◌, ◌≢◌, ◌⊎◌, inl, inr, ℕ, zero, suc, ◌+◌, ◌-◌, ◌<◌, ◌==◌, if◌then◌else◌, true, false, List, [], ◌∷◌, Option, Some, None, map, option_map, option_and_then, slice_get, T, eqb, refl, sym, ap, subst, ◌∙◌, arith}
+use Rattle.std.proofs.Common.{◌≡◌, ◌≢◌, ◌⊎◌, inl, inr, ℕ, zero, suc, ◌+◌, ◌-◌, ◌<◌, ◌==◌, if◌then◌else◌, Bool, true, false, List, [], ◌∷◌, Option, Some, None, map, option_map, option_and_then, slice_get, T, eqb, refl, sym, ap, subst, ◌∙◌, arith}
 use Rattle.std.proofs.Math.Facts.{yes_eqb}
 use Rattle.pearl_tree.specs.declared.parts.Parts.{Parts}
 use Rattle.pearl_tree.specs.declared.name.Name.{Name}
@@ -18,11 +18,15 @@ use Rattle.pearl_tree.specs.declared.statement.SemaWord.TheVariants.{Request, Re
 use Rattle.pearl_tree.specs.declared.statement.InterruptWord.{InterruptWord}
 use Rattle.pearl_tree.specs.declared.statement.InterruptWord.TheVariants.{Enable, Disable, Trigger}
 use Rattle.pearl_tree.specs.declared.statement.BodyDecl.{BodyDecl}
-use Rattle.pearl_tree.specs.declared.statement.Stmt.{Stmt, Empty, Assign, Call, If', Case', Repeat', Exit, Begin', Return, Activate, Continue, Resume, OnTask, OnSemas, OnInterrupt, Put, Get, Send, Take, Row_of-Stmt, end_of-Stmt, more_of-Stmt, Row_of-Branch, end_of-Branch, more_of-Branch, Held-Stmt-If-2, None', Some'}
+use Rattle.pearl_tree.specs.declared.statement.Stmt.{Stmt, Empty, Assign, Call, If', Case', Repeat', Exit, Begin', Return, Activate, Continue, Resume, OnTask, OnSemas, OnInterrupt, Put, Get, Send, Take, Row_of-Stmt, end_of-Stmt, more_of-Stmt}
+use Rattle.pearl_tree.specs.declared.statement.If as if_
+use Rattle.pearl_tree.specs.declared.statement.If.{Held-Case-otherwise, None', Some'}
+use Rattle.pearl_tree.specs.declared.statement.Case as case_
+use Rattle.pearl_tree.specs.declared.statement.Case.{Row_of-Branch, end_of-Branch, more_of-Branch}
 use Rattle.pearl_tree.specs.declared.token.What.{What}
 use Rattle.pearl_tree.specs.declared.token.What.TheVariants as what
 use Rattle.pearl_tree.specs.declared.token.Token.{Token}
-use Rattle.pearl_tree.specs.Standing.{IsAt, HasWord, HasSymbol, IsName, SpellsEach, SpellsList, SpellsName, SpellsMaybe, SpellsMaybeBracketed, what_at}
+use Rattle.pearl_tree.specs.Standing.{SpellsFlag, IsAt, HasWord, HasSymbol, IsName, SpellsEach, SpellsList, SpellsName, SpellsMaybe, SpellsMaybeBracketed, what_at}
 use Rattle.pearl_tree.specs.Expressions.{SpellsWhole, SpellsSelector, SpellsOwnRef}
 use Rattle.pearl_tree.specs.Formats.{SpellsFmt}
 use Rattle.pearl_tree.specs.Declarations.{SpellsItem}
@@ -62,24 +66,24 @@ group_of _ = None
 
 abbrev group : Stmt → ℕ
 group (Empty _) = 0
-group (Assign _ _ _) = 1
-group (Call _ _ _ _) = 1
-group (If' _ _ _ _ _) = 3
-group (Case' _ _ _ _ _) = 4
-group (Repeat' _ _ _ _ _ _ _ _ _ _) = 5
+group (Assign part) = 1
+group (Call part) = 1
+group (If' _ _) = 3
+group (Case' _ _) = 4
+group (Repeat' _ _ _ _ _ _ _ _ _ _ _) = 5
 group (Exit _) = 6
-group (Begin' _ _ _ _ _) = 7
-group (Return _ _) = 8
-group (Activate _ _ _ _) = 9
-group (Continue _ _ _) = 9
-group (Resume _ _) = 9
-group (OnTask _ _ _) = 10
-group (OnSemas _ _ _) = 11
-group (OnInterrupt _ _ _) = 12
-group (Put _ _ _ _) = 13
-group (Get _ _ _ _) = 14
-group (Send _ _ _) = 15
-group (Take _ _ _) = 16
+group (Begin' _ _ _ _ _ _) = 7
+group (Return part) = 8
+group (Activate part) = 9
+group (Continue part) = 9
+group (Resume part) = 9
+group (OnTask part) = 10
+group (OnSemas part) = 11
+group (OnInterrupt part) = 12
+group (Put part) = 13
+group (Get part) = 14
+group (Send part) = 15
+group (Take part) = 16
 
 module _ (tokens : List Token) where
   abbrev Leads : ℕ → ℕ → Type 0
@@ -114,36 +118,54 @@ module _ (tokens : List Token) where
   lead_once from (once.After x p) to h = leads from (what.Word w.AFTER) 9 h.1.0 refl
   lead_once from (once.When n p) to h = leads from (what.Word w.WHEN) 9 h.1 refl
 
+  lead_call : (call : Bool) (from a : ℕ) (name : Name) → SpellsFlag tokens w.CALL from call a → IsName tokens a name → Leads from 1
+  lead_call false from a name h i = leads from (what.Id name.text) 1 (subst (λ k. IsName tokens k name) h i).0 refl
+  lead_call true from a name h i = leads from (what.Word w.CALL) 1 h.0 refl
+
+  lead_activate : (start : Option Start) (from a : ℕ) → SpellsMaybe (SpellsStart tokens) from start a → HasWord tokens a w.ACTIVATE → Leads from 9
+  lead_activate None from a h i = leads from (what.Word w.ACTIVATE) 9 (subst (λ k. HasWord tokens k w.ACTIVATE) h i) refl
+  lead_activate (Some x) from a h i = lead_start from x a h
+
+  lead_continue : (once : Option Once) (from a : ℕ) → SpellsMaybe (SpellsOnce tokens) from once a → HasWord tokens a w.CONTINUE → Leads from 9
+  lead_continue None from a h i = leads from (what.Word w.CONTINUE) 9 (subst (λ k. HasWord tokens k w.CONTINUE) h i) refl
+  lead_continue (Some x) from a h i = lead_once from x a h
+
+  lead_task : (word : TaskWord) (from : ℕ) → HasWord tokens from (task_word word) → Leads from 10
+  lead_task Suspend from h = leads from (what.Word w.SUSPEND) 10 h refl
+  lead_task Terminate from h = leads from (what.Word w.TERMINATE) 10 h refl
+  lead_task Prevent from h = leads from (what.Word w.PREVENT) 10 h refl
+
+  lead_semas : (word : SemaWord) (from : ℕ) → HasWord tokens from (sema_word word) → Leads from 11
+  lead_semas Request from h = leads from (what.Word w.REQUEST) 11 h refl
+  lead_semas Release from h = leads from (what.Word w.RELEASE) 11 h refl
+
+  lead_interrupt : (word : InterruptWord) (from : ℕ) → HasWord tokens from (interrupt_word word) → Leads from 12
+  lead_interrupt Enable from h = leads from (what.Word w.ENABLE) 12 h refl
+  lead_interrupt Disable from h = leads from (what.Word w.DISABLE) 12 h refl
+  lead_interrupt Trigger from h = leads from (what.Word w.TRIGGER) 12 h refl
+
   stmt_leads : (depth from : ℕ) (a : Stmt) (to : ℕ) → SpellsStmt tokens depth from a to → Leads from (group a)
   stmt_leads depth from (Empty p) to h = leads from (what.Symbol s.SEMICOLON) 0 h.1 refl
-  stmt_leads depth from (Assign target x p) to h = leads from (what.Id target.name.text) 1 h.3.1.0 refl
-  stmt_leads depth from (Call false name xs p) to h = leads from (what.Id name.text) 1 (subst (λ k. IsName tokens k name) h.3 h.4).0 refl
-  stmt_leads depth from (Call true name xs p) to h = leads from (what.Word w.CALL) 1 h.3.0 refl
-  stmt_leads depth from (If' x _ r o p) to h = leads from (what.Word w.IF) 3 h.5.0 refl
-  stmt_leads depth from (Case' x _ r o p) to h = leads from (what.Word w.CASE) 4 h.5.0 refl
-  stmt_leads depth from (Repeat' a b c d e ds _ r q p) to h =
+  stmt_leads depth from (Assign part) to h = leads from (what.Id part.value.target.name.text) 1 h.3.1.0 refl
+  stmt_leads depth from (Call part) to h = lead_call part.value.call from h.0 part.value.name h.3 h.4
+  stmt_leads depth from (If' _ (if_.If' x _ r o p)) to h = leads from (what.Word w.IF) 3 h.5.0 refl
+  stmt_leads depth from (Case' _ (case_.Case' x _ r o p)) to h = leads from (what.Word w.CASE) 4 h.5.0 refl
+  stmt_leads depth from (Repeat' _ a b c d e ds _ r q p) to h =
       lead_for a from h.0 h.8 (lead_after w.FROM b h.0 h.1 h.9 refl (lead_after w.BY c h.1 h.2 h.10 refl (lead_after w.TO d h.2 h.3 h.11 refl
       (lead_after w.WHILE e h.3 h.4 h.12 refl (leads h.4 (what.Word w.REPEAT) 5 h.13 refl)))))
   stmt_leads depth from (Exit p) to h = leads from (what.Word w.EXIT) 6 h.1 refl
-  stmt_leads depth from (Begin' ds _ r q p) to h = leads from (what.Word w.BEGIN) 7 h.3 refl
-  stmt_leads depth from (Return x p) to h = leads from (what.Word w.RETURN) 8 h.2 refl
-  stmt_leads depth from (Activate None n x p) to h = leads from (what.Word w.ACTIVATE) 9 (subst (λ k. HasWord tokens k w.ACTIVATE) h.3 h.4) refl
-  stmt_leads depth from (Activate (Some x) n y p) to h = lead_start from x h.0 h.3
-  stmt_leads depth from (Continue None n p) to h = leads from (what.Word w.CONTINUE) 9 (subst (λ k. HasWord tokens k w.CONTINUE) h.2 h.3) refl
-  stmt_leads depth from (Continue (Some x) n p) to h = lead_once from x h.0 h.2
-  stmt_leads depth from (Resume x p) to h = lead_once from x h.0 h.2
-  stmt_leads depth from (OnTask Suspend n p) to h = leads from (what.Word w.SUSPEND) 10 h.2 refl
-  stmt_leads depth from (OnTask Terminate n p) to h = leads from (what.Word w.TERMINATE) 10 h.2 refl
-  stmt_leads depth from (OnTask Prevent n p) to h = leads from (what.Word w.PREVENT) 10 h.2 refl
-  stmt_leads depth from (OnSemas Request n p) to h = leads from (what.Word w.REQUEST) 11 h.2 refl
-  stmt_leads depth from (OnSemas Release n p) to h = leads from (what.Word w.RELEASE) 11 h.2 refl
-  stmt_leads depth from (OnInterrupt Enable n p) to h = leads from (what.Word w.ENABLE) 12 h.1 refl
-  stmt_leads depth from (OnInterrupt Disable n p) to h = leads from (what.Word w.DISABLE) 12 h.1 refl
-  stmt_leads depth from (OnInterrupt Trigger n p) to h = leads from (what.Word w.TRIGGER) 12 h.1 refl
-  stmt_leads depth from (Put xs d fs p) to h = leads from (what.Word w.PUT) 13 h.3 refl
-  stmt_leads depth from (Get xs d fs p) to h = leads from (what.Word w.GET) 14 h.3 refl
-  stmt_leads depth from (Send x d p) to h = leads from (what.Word w.SEND) 15 h.2.0 refl
-  stmt_leads depth from (Take x d p) to h = leads from (what.Word w.TAKE) 16 h.2 refl
+  stmt_leads depth from (Begin' _ ds _ r q p) to h = leads from (what.Word w.BEGIN) 7 h.3 refl
+  stmt_leads depth from (Return part) to h = leads from (what.Word w.RETURN) 8 h.2 refl
+  stmt_leads depth from (Activate part) to h = lead_activate part.value.start from h.0 h.3 h.4
+  stmt_leads depth from (Continue part) to h = lead_continue part.value.once from h.0 h.2 h.3
+  stmt_leads depth from (Resume part) to h = lead_once from part.value.once h.0 h.2
+  stmt_leads depth from (OnTask part) to h = lead_task part.value.word from h.2
+  stmt_leads depth from (OnSemas part) to h = lead_semas part.value.word from h.2
+  stmt_leads depth from (OnInterrupt part) to h = lead_interrupt part.value.word from h.1
+  stmt_leads depth from (Put part) to h = leads from (what.Word w.PUT) 13 h.3 refl
+  stmt_leads depth from (Get part) to h = leads from (what.Word w.GET) 14 h.3 refl
+  stmt_leads depth from (Send part) to h = leads from (what.Word w.SEND) 15 h.2.0 refl
+  stmt_leads depth from (Take part) to h = leads from (what.Word w.TAKE) 16 h.2 refl
 
   pub stmt_begins : (depth from : ℕ) (a : Stmt) (to : ℕ) → SpellsStmt tokens depth from a to → Begins from
   stmt_begins depth from a to h = (group a, stmt_leads depth from a to h)
@@ -380,7 +402,7 @@ module _ (tokens : List Token) where
     branches_begin from _ end_of-Branch to h = absurd h
     branches_begin from _ (more_of-Branch _ xs p rest) to h = h.1.1
 
-    one_otherwise : (word from : ℕ) (a b : Held-Stmt-If-2) (to end : ℕ) → SpellsOtherwise tokens below word from a to → HasWord tokens to w.FIN →
+    one_otherwise : (word from : ℕ) (a b : Held-Case-otherwise) (to end : ℕ) → SpellsOtherwise tokens below word from a to → HasWord tokens to w.FIN →
         SpellsOtherwise tokens below word from b end → HasWord tokens end w.FIN → word ≢ w.FIN → (shown_otherwise a ≡ shown_otherwise b) × (to ≡ end)
     one_otherwise word from None' None' to end h i g j other = (refl, h ∙ sym g)
     one_otherwise word from None' (Some' _ ys q) to end h i g j other = absurd (other (same_word tokens from word w.FIN g.1 (subst (λ k. HasWord tokens k w.FIN) h i)))
@@ -390,11 +412,11 @@ module _ (tokens : List Token) where
         let place = same_place tokens from p q h.0 g.0 in
         ((λ i. OfOtherwise (all.0 i) (place i)), all.1)
 
-    else_ends : (from : ℕ) (a : Held-Stmt-If-2) (to : ℕ) → SpellsOtherwise tokens below w.ELSE from a to → HasWord tokens to w.FIN → Begins from → ⊥
+    else_ends : (from : ℕ) (a : Held-Case-otherwise) (to : ℕ) → SpellsOtherwise tokens below w.ELSE from a to → HasWord tokens to w.FIN → Begins from → ⊥
     else_ends from None' to h i g = no_begin to w.FIN i refl (subst Begins (sym h) g)
     else_ends from (Some' _ xs p) to h i g = no_begin from w.ELSE h.1 refl g
 
-    out_closes : (from : ℕ) (a : Held-Stmt-If-2) (to : ℕ) → SpellsOtherwise tokens below w.OUT from a to → HasWord tokens to w.FIN → Closes from
+    out_closes : (from : ℕ) (a : Held-Case-otherwise) (to : ℕ) → SpellsOtherwise tokens below w.OUT from a to → HasWord tokens to w.FIN → Closes from
     out_closes from None' to h i = inr (subst (λ k. HasWord tokens k w.FIN) h i)
     out_closes from (Some' _ xs p) to h i = inl h.1
 
@@ -471,28 +493,31 @@ module _ (tokens : List Token) where
       groups : group a ≡ group b
       groups = let e = sym (stmt_leads depth from a to h) ∙ stmt_leads depth from b end g in cc e
 
+      assign_or_call : (target : Ref) (call : Bool) (name : Name) (arguments : Parts Expr) (a b c : ℕ) → SpellsOwnRef tokens from target a → HasBecomes tokens a →
+          SpellsFlag tokens w.CALL from call b → IsName tokens b name → SpellsMaybeBracketed tokens (SpellsWhole tokens) (b + 1) arguments.items.items c →
+          HasSymbol tokens c s.SEMICOLON → ⊥
+      assign_or_call target false name arguments a b c h i g j k l =
+          assign_no_call from target a arguments c h i (subst (λ k. SpellsMaybeBracketed tokens (SpellsWhole tokens) (k + 1) arguments.items.items c) g k) l
+      assign_or_call target true name arguments a b c h i g j k l = absurd (let e = sym h.1.0 ∙ g.0 in cc e)
+
       by : (a b : Stmt) → T (eqb (group a) (group b)) → SpellsStmt tokens depth from a to → SpellsStmt tokens depth from b end →
           (shown_stmt a ≡ shown_stmt b) × (to ≡ end)
       by (Empty p) (Empty q) e h g = (ap OfEmpty (same_place tokens from p q h.0 g.0), h.2 ∙ sym g.2)
-      by (Assign x v p) (Assign y u q) e h g =
-          let target = one_own_ref tokens from x y h.0 g.0 h.3 (becomes_stops h.0 h.4) g.3 (becomes_stops g.0 g.4) in
-          let value = one_whole tokens (g.0 + 1) v u h.1 g.1 (subst (λ k. SpellsWhole tokens (k + 1) v h.1) target.1 h.5) (semicolon_stops h.1 h.6) g.5 (semicolon_stops g.1 g.6) in
-          let place = same_place tokens from p q h.2 g.2 in
+      by (Assign part) (Assign other) e h g =
+          let target = one_own_ref tokens from part.value.target other.value.target h.0 g.0 h.3 (becomes_stops h.0 h.4) g.3 (becomes_stops g.0 g.4) in
+          let value = one_whole tokens (g.0 + 1) part.value.value other.value.value h.1 g.1 (subst (λ k. SpellsWhole tokens (k + 1) part.value.value h.1) target.1 h.5) (semicolon_stops h.1 h.6) g.5 (semicolon_stops g.1 g.6) in
+          let place = same_place tokens from part.value.place other.value.place h.2 g.2 in
           ((λ i. OfAssign (target.0 i) (value.0 i) (place i)), omega (arith, h.7, g.7, value.1))
-      by (Assign x v p) (Call false n ys q) e h g =
-          absurd (assign_no_call from x h.0 ys g.1 h.3 h.4 (subst (λ k. SpellsMaybeBracketed tokens (SpellsWhole tokens) (k + 1) ys.items.items g.1) g.3 g.5) g.6)
-      by (Call false n xs p) (Assign y u q) e h g =
-          absurd (assign_no_call from y g.0 xs h.1 g.3 g.4 (subst (λ k. SpellsMaybeBracketed tokens (SpellsWhole tokens) (k + 1) xs.items.items h.1) h.3 h.5) h.6)
-      by (Assign x v p) (Call true n ys q) e h g = absurd (let e = sym h.3.1.0 ∙ g.3.0 in cc e)
-      by (Call true n xs p) (Assign y u q) e h g = absurd (let e = sym g.3.1.0 ∙ h.3.0 in cc e)
-      by (Call c n xs p) (Call d m ys q) e h g =
-          let call = flag_one tokens w.CALL from c d h.0 g.0 h.3 (name_no_word h.0 n w.CALL h.4) g.3 (name_no_word g.0 m w.CALL g.4) in
-          let name = same_name tokens g.0 n m (subst (λ k. IsName tokens k n) call.1 h.4) g.4 in
-          let all = one_arguments (g.0 + 1) xs.items.items ys.items.items h.1 g.1
-          (subst (λ k. SpellsMaybeBracketed tokens (SpellsWhole tokens) (k + 1) xs.items.items h.1) call.1 h.5) h.6 g.5 g.6 in
-          let place = same_place tokens from p q h.2 g.2 in
+      by (Assign part) (Call other) e h g = absurd (assign_or_call part.value.target other.value.call other.value.name other.value.arguments h.0 g.0 g.1 h.3 h.4 g.3 g.4 g.5 g.6)
+      by (Call part) (Assign other) e h g = absurd (assign_or_call other.value.target part.value.call part.value.name part.value.arguments g.0 h.0 h.1 g.3 g.4 h.3 h.4 h.5 h.6)
+      by (Call part) (Call other) e h g =
+          let call = flag_one tokens w.CALL from part.value.call other.value.call h.0 g.0 h.3 (name_no_word h.0 part.value.name w.CALL h.4) g.3 (name_no_word g.0 other.value.name w.CALL g.4) in
+          let name = same_name tokens g.0 part.value.name other.value.name (subst (λ k. IsName tokens k part.value.name) call.1 h.4) g.4 in
+          let all = one_arguments (g.0 + 1) part.value.arguments.items.items other.value.arguments.items.items h.1 g.1
+          (subst (λ k. SpellsMaybeBracketed tokens (SpellsWhole tokens) (k + 1) part.value.arguments.items.items h.1) call.1 h.5) h.6 g.5 g.6 in
+          let place = same_place tokens from part.value.place other.value.place h.2 g.2 in
           ((λ i. OfCall (call.0 i) (name i) (all.0 i) (place i)), omega (arith, h.7, g.7, all.1))
-      by (If' x _ r o p) (If' y _ s' u q) e h g =
+      by (If' _ (if_.If' x _ r o p)) (If' _ (if_.If' y _ s' u q)) e h g =
           let condition = one_after tokens w.IF from x y h.0 g.0 h.5 (word_stops tokens h.0 w.THEN h.6 refl) g.5 (word_stops tokens g.0 w.THEN g.6 refl) in
           let all = one_stmts (depth - 1) (inner h.4) (g.0 + 1) _ _ r s' h.1 g.1 (subst (λ k. SpellsStmts tokens (depth - 1) (k + 1) r h.1) condition.1 h.7)
           (else_ends (depth - 1) (inner h.4) h.1 o h.2 h.8 h.9) g.7 (else_ends (depth - 1) (inner h.4) g.1 u g.2 g.8 g.9) in
@@ -500,7 +525,7 @@ module _ (tokens : List Token) where
           (λ e. absurd (omega (arith, e))) in
           let place = same_place tokens from p q h.3 g.3 in
           ((λ i. OfIf (condition.0 i) (all.0 i) (otherwise.0 i) (place i)), omega (arith, h.11, g.11, otherwise.1))
-      by (Case' x _ r o p) (Case' y _ s' u q) e h g =
+      by (Case' _ (case_.Case' x _ r o p)) (Case' _ (case_.Case' y _ s' u q)) e h g =
           let this = branches_begin (depth - 1) (inner h.4) h.0 _ r h.1 h.6 in
           let that = branches_begin (depth - 1) (inner h.4) g.0 _ s' g.1 g.6 in
           let selector = one_after tokens w.CASE from x y h.0 g.0 h.5 (word_stops tokens h.0 w.ALT this refl) g.5 (word_stops tokens g.0 w.ALT that refl) in
@@ -510,7 +535,7 @@ module _ (tokens : List Token) where
           (λ e. absurd (omega (arith, e))) in
           let place = same_place tokens from p q h.3 g.3 in
           ((λ i. OfCase (selector.0 i) (all.0 i) (otherwise.0 i) (place i)), omega (arith, h.10, g.10, otherwise.1))
-      by (Repeat' n1 b1 s1 t1 c1 ds1 _ r1 p1 q1) (Repeat' n2 b2 s2 t2 c2 ds2 _ r2 p2 q2) e h g =
+      by (Repeat' _ n1 b1 s1 t1 c1 ds1 _ r1 p1 q1) (Repeat' _ n2 b2 s2 t2 c2 ds2 _ r2 p2 q2) e h g =
           let e1 : Later w.WHILE h.4 = (w.REPEAT, h.13, omega arith, word_stops tokens h.4 w.REPEAT h.13 refl) in
           let e2 : Later w.WHILE g.4 = (w.REPEAT, g.13, omega arith, word_stops tokens g.4 w.REPEAT g.13 refl) in
           let d1 = later_back w.WHILE w.TO c1 h.3 h.4 h.12 (omega arith) refl e1 in
@@ -532,76 +557,76 @@ module _ (tokens : List Token) where
           let place = same_place tokens from q1 q2 h.6 g.6 in
           ((λ i. OfRepeat (control.0 i) (begin.0 i) (by_.0 i) (last.0 i) (condition.0 i) (body.0 i) (body.1 i) (body.2 i) (place i)), omega (arith, h.17, g.17, body.3))
       by (Exit p) (Exit q) e h g = (ap OfExit (same_place tokens from p q h.0 g.0), h.3 ∙ sym g.3)
-      by (Begin' ds _ r p q) (Begin' es _ s' u v) e h g =
+      by (Begin' _ ds _ r p q) (Begin' _ es _ s' u v) e h g =
           let body = one_body (depth - 1) (inner h.2) (from + 1) ds.items.items es.items.items _ _ r s' p u h.4.0 g.4.0 h.0 g.0 h.4.1 h.4.2 h.4.3 h.5 g.4.1 g.4.2 g.4.3 g.5 in
           let place = same_place tokens from q v h.1 g.1 in
           ((λ i. OfBegin (body.0 i) (body.1 i) (body.2 i) (place i)), omega (arith, h.7, g.7, body.3))
-      by (Return x p) (Return y q) e h g =
-          let value = maybe_value (from + 1) x y h.0 g.0 h.3 h.4 g.3 g.4 in
-          let place = same_place tokens from p q h.1 g.1 in
+      by (Return part) (Return other) e h g =
+          let value = maybe_value (from + 1) part.value.value other.value.value h.0 g.0 h.3 h.4 g.3 g.4 in
+          let place = same_place tokens from part.value.place other.value.place h.1 g.1 in
           ((λ i. OfReturn (value.0 i) (place i)), omega (arith, h.5, g.5, value.1))
-      by (Activate x n v p) (Activate y m u q) e h g =
+      by (Activate part) (Activate other) e h g =
           let start = maybe_one (SpellsStart tokens) shown_start (λ k. (x : Start) × (to : ℕ) × SpellsStart tokens k x to) (Activates tokens) (λ k x m h. (x, m, h)) (one_start tokens)
-          x y from h.0 g.0 h.3 (start_no_activate h.0 h.4) h.4 g.3 (start_no_activate g.0 g.4) g.4 in
-          let task = same_name tokens (g.0 + 1) n m (subst (λ k. IsName tokens (k + 1) n) start.1 h.5) g.5 in
-          let priority = maybe_after tokens w.PRIO (g.0 + 2) v u h.1 g.1 (subst (λ k. SpellsMaybe (SpellsAfter tokens w.PRIO) (k + 2) v h.1) start.1 h.6)
+          part.value.start other.value.start from h.0 g.0 h.3 (start_no_activate h.0 h.4) h.4 g.3 (start_no_activate g.0 g.4) g.4 in
+          let task = same_name tokens (g.0 + 1) part.value.task other.value.task (subst (λ k. IsName tokens (k + 1) part.value.task) start.1 h.5) g.5 in
+          let priority = maybe_after tokens w.PRIO (g.0 + 2) part.value.priority other.value.priority h.1 g.1 (subst (λ k. SpellsMaybe (SpellsAfter tokens w.PRIO) (k + 2) part.value.priority h.1) start.1 h.6)
           (symbol_no_word tokens h.1 s.SEMICOLON w.PRIO h.7) (semicolon_stops h.1 h.7) g.6 (symbol_no_word tokens g.1 s.SEMICOLON w.PRIO g.7) (semicolon_stops g.1 g.7) in
-          let place = same_place tokens from p q h.2 g.2 in
+          let place = same_place tokens from part.value.place other.value.place h.2 g.2 in
           ((λ i. OfActivate (start.0 i) (task i) (priority.0 i) (place i)), omega (arith, h.8, g.8, priority.1))
-      by (Continue x n p) (Continue y m q) e h g =
+      by (Continue part) (Continue other) e h g =
           let once = maybe_one (SpellsOnce tokens) shown_once (λ k. (x : Once) × (to : ℕ) × SpellsOnce tokens k x to) (λ k. HasWord tokens k w.CONTINUE) (λ k x m h. (x, m, h))
           (λ k x y m n h i g j. one_once tokens k x y m n h (word_stops tokens m w.CONTINUE i refl) g (word_stops tokens n w.CONTINUE j refl))
-          x y from h.0 g.0 h.2 (once_no_continue h.0 h.3) h.3 g.2 (once_no_continue g.0 g.3) g.3 in
-          let task = same_name tokens (g.0 + 1) n m (subst (λ k. IsName tokens (k + 1) n) once.1 h.4) g.4 in
-          let place = same_place tokens from p q h.1 g.1 in
+          part.value.once other.value.once from h.0 g.0 h.2 (once_no_continue h.0 h.3) h.3 g.2 (once_no_continue g.0 g.3) g.3 in
+          let task = same_name tokens (g.0 + 1) part.value.task other.value.task (subst (λ k. IsName tokens (k + 1) part.value.task) once.1 h.4) g.4 in
+          let place = same_place tokens from part.value.place other.value.place h.1 g.1 in
           ((λ i. OfContinue (once.0 i) (task i) (place i)), omega (arith, h.6, g.6, once.1))
-      by (Resume x p) (Resume y q) e h g =
-          let once = one_once tokens from x y h.0 g.0 h.2 (word_stops tokens h.0 w.RESUME h.3 refl) g.2 (word_stops tokens g.0 w.RESUME g.3 refl) in
-          let place = same_place tokens from p q h.1 g.1 in
+      by (Resume part) (Resume other) e h g =
+          let once = one_once tokens from part.value.once other.value.once h.0 g.0 h.2 (word_stops tokens h.0 w.RESUME h.3 refl) g.2 (word_stops tokens g.0 w.RESUME g.3 refl) in
+          let place = same_place tokens from part.value.place other.value.place h.1 g.1 in
           ((λ i. OfResume (once.0 i) (place i)), omega (arith, h.5, g.5, once.1))
-      by (Activate x n v p) (Continue y m q) e h g = absurd (activate_no_continue from x h.0 y g.0 h.3 h.4 g.2 g.3)
-      by (Continue y m q) (Activate x n v p) e h g = absurd (activate_no_continue from x g.0 y h.0 g.3 g.4 h.2 h.3)
-      by (Activate x n v p) (Resume y q) e h g = absurd (activate_no_resume from x h.0 y g.0 h.3 h.4 g.2 g.3)
-      by (Resume y q) (Activate x n v p) e h g = absurd (activate_no_resume from x g.0 y h.0 g.3 g.4 h.2 h.3)
-      by (Continue x n p) (Resume y q) e h g = absurd (continue_no_resume from x h.0 y g.0 h.2 h.3 g.2 g.3)
-      by (Resume y q) (Continue x n p) e h g = absurd (continue_no_resume from x g.0 y h.0 g.2 g.3 h.2 h.3)
-      by (OnTask x n p) (OnTask y m q) e h g =
-          let word = same_task_word from x y (one_word from (task_word x) (task_word y) h.2 g.2) in
-          let name = maybe_name (from + 1) n m h.0 g.0 h.3 h.4 g.3 g.4 in
-          let place = same_place tokens from p q h.1 g.1 in
+      by (Activate part) (Continue other) e h g = absurd (activate_no_continue from part.value.start h.0 other.value.once g.0 h.3 h.4 g.2 g.3)
+      by (Continue part) (Activate other) e h g = absurd (activate_no_continue from other.value.start g.0 part.value.once h.0 g.3 g.4 h.2 h.3)
+      by (Activate part) (Resume other) e h g = absurd (activate_no_resume from part.value.start h.0 other.value.once g.0 h.3 h.4 g.2 g.3)
+      by (Resume part) (Activate other) e h g = absurd (activate_no_resume from other.value.start g.0 part.value.once h.0 g.3 g.4 h.2 h.3)
+      by (Continue part) (Resume other) e h g = absurd (continue_no_resume from part.value.once h.0 other.value.once g.0 h.2 h.3 g.2 g.3)
+      by (Resume part) (Continue other) e h g = absurd (continue_no_resume from other.value.once g.0 part.value.once h.0 g.2 g.3 h.2 h.3)
+      by (OnTask part) (OnTask other) e h g =
+          let word = same_task_word from part.value.word other.value.word (one_word from (task_word part.value.word) (task_word other.value.word) h.2 g.2) in
+          let name = maybe_name (from + 1) part.value.task other.value.task h.0 g.0 h.3 h.4 g.3 g.4 in
+          let place = same_place tokens from part.value.place other.value.place h.1 g.1 in
           ((λ i. OfOnTask (word i) (name.0 i) (place i)), omega (arith, h.5, g.5, name.1))
-      by (OnSemas x ns p) (OnSemas y ms q) e h g =
-          let word = same_sema_word from x y (one_word from (sema_word x) (sema_word y) h.2 g.2) in
-          let all = one_name_list (from + 1) ns.items.items ms.items.items h.0 g.0 h.3 h.4 g.3 g.4 in
-          let place = same_place tokens from p q h.1 g.1 in
+      by (OnSemas part) (OnSemas other) e h g =
+          let word = same_sema_word from part.value.word other.value.word (one_word from (sema_word part.value.word) (sema_word other.value.word) h.2 g.2) in
+          let all = one_name_list (from + 1) part.value.names.items.items other.value.names.items.items h.0 g.0 h.3 h.4 g.3 g.4 in
+          let place = same_place tokens from part.value.place other.value.place h.1 g.1 in
           ((λ i. OfOnSemas (word i) (all.0 i) (place i)), omega (arith, h.5, g.5, all.1))
-      by (OnInterrupt x n p) (OnInterrupt y m q) e h g =
-          let word = same_interrupt_word from x y (one_word from (interrupt_word x) (interrupt_word y) h.1 g.1) in
-          let name = same_name tokens (from + 1) n m h.2 g.2 in
-          let place = same_place tokens from p q h.0 g.0 in
+      by (OnInterrupt part) (OnInterrupt other) e h g =
+          let word = same_interrupt_word from part.value.word other.value.word (one_word from (interrupt_word part.value.word) (interrupt_word other.value.word) h.1 g.1) in
+          let name = same_name tokens (from + 1) part.value.name other.value.name h.2 g.2 in
+          let place = same_place tokens from part.value.place other.value.place h.0 g.0 in
           ((λ i. OfOnInterrupt (word i) (name i) (place i)), h.4 ∙ sym g.4)
-      by (Put xs n fs p) (Put ys m gs q) e h g =
-          let all = one_values (from + 1) xs.items.items ys.items.items h.0 g.0 h.4 h.5 g.4 g.5 in
-          let name = same_name tokens (g.0 + 1) n m (subst (λ k. IsName tokens (k + 1) n) all.1 h.6) g.6 in
-          let formats = one_formats (g.0 + 3) fs.items.items gs.items.items h.1 g.1 (subst (λ k. SpellsList tokens (SpellsFmt tokens) (k + 3) fs.items.items h.1) all.1 h.8) h.9 g.8 g.9 in
-          let place = same_place tokens from p q h.2 g.2 in
+      by (Put part) (Put other) e h g =
+          let all = one_values (from + 1) part.value.values.items.items other.value.values.items.items h.0 g.0 h.4 h.5 g.4 g.5 in
+          let name = same_name tokens (g.0 + 1) part.value.dation other.value.dation (subst (λ k. IsName tokens (k + 1) part.value.dation) all.1 h.6) g.6 in
+          let formats = one_formats (g.0 + 3) part.value.formats.items.items other.value.formats.items.items h.1 g.1 (subst (λ k. SpellsList tokens (SpellsFmt tokens) (k + 3) part.value.formats.items.items h.1) all.1 h.8) h.9 g.8 g.9 in
+          let place = same_place tokens from part.value.place other.value.place h.2 g.2 in
           ((λ i. OfPut (all.0 i) (name i) (formats.0 i) (place i)), omega (arith, h.10, g.10, formats.1))
-      by (Get xs n fs p) (Get ys m gs q) e h g =
-          let all = one_targets (from + 1) xs.items.items ys.items.items h.0 g.0 h.4 h.5 g.4 g.5 in
-          let name = same_name tokens (g.0 + 1) n m (subst (λ k. IsName tokens (k + 1) n) all.1 h.6) g.6 in
-          let formats = one_formats (g.0 + 3) fs.items.items gs.items.items h.1 g.1 (subst (λ k. SpellsList tokens (SpellsFmt tokens) (k + 3) fs.items.items h.1) all.1 h.8) h.9 g.8 g.9 in
-          let place = same_place tokens from p q h.2 g.2 in
+      by (Get part) (Get other) e h g =
+          let all = one_targets (from + 1) part.value.targets.items.items other.value.targets.items.items h.0 g.0 h.4 h.5 g.4 g.5 in
+          let name = same_name tokens (g.0 + 1) part.value.dation other.value.dation (subst (λ k. IsName tokens (k + 1) part.value.dation) all.1 h.6) g.6 in
+          let formats = one_formats (g.0 + 3) part.value.formats.items.items other.value.formats.items.items h.1 g.1 (subst (λ k. SpellsList tokens (SpellsFmt tokens) (k + 3) part.value.formats.items.items h.1) all.1 h.8) h.9 g.8 g.9 in
+          let place = same_place tokens from part.value.place other.value.place h.2 g.2 in
           ((λ i. OfGet (all.0 i) (name i) (formats.0 i) (place i)), omega (arith, h.10, g.10, formats.1))
-      by (Send x n p) (Send y m q) e h g =
-          let value = one_after tokens w.SEND from x y h.0 g.0 h.2 (word_stops tokens h.0 w.TO h.3 refl) g.2 (word_stops tokens g.0 w.TO g.3 refl) in
-          let name = same_name tokens (g.0 + 1) n m (subst (λ k. IsName tokens (k + 1) n) value.1 h.4) g.4 in
-          let place = same_place tokens from p q h.1 g.1 in
+      by (Send part) (Send other) e h g =
+          let value = one_after tokens w.SEND from part.value.value other.value.value h.0 g.0 h.2 (word_stops tokens h.0 w.TO h.3 refl) g.2 (word_stops tokens g.0 w.TO g.3 refl) in
+          let name = same_name tokens (g.0 + 1) part.value.dation other.value.dation (subst (λ k. IsName tokens (k + 1) part.value.dation) value.1 h.4) g.4 in
+          let place = same_place tokens from part.value.place other.value.place h.1 g.1 in
           ((λ i. OfSend (value.0 i) (name i) (place i)), omega (arith, h.6, g.6, value.1))
-      by (Take x n p) (Take y m q) e h g =
-          let target = one_own_ref tokens (from + 1) x y h.0 g.0 h.3 (λ e. has_none tokens lengthens_ref h.0 (what.Word w.FROM) h.4 refl e) g.3
+      by (Take part) (Take other) e h g =
+          let target = one_own_ref tokens (from + 1) part.value.target other.value.target h.0 g.0 h.3 (λ e. has_none tokens lengthens_ref h.0 (what.Word w.FROM) h.4 refl e) g.3
           (λ e. has_none tokens lengthens_ref g.0 (what.Word w.FROM) g.4 refl e) in
-          let name = same_name tokens (g.0 + 1) n m (subst (λ k. IsName tokens (k + 1) n) target.1 h.5) g.5 in
-          let place = same_place tokens from p q h.1 g.1 in
+          let name = same_name tokens (g.0 + 1) part.value.dation other.value.dation (subst (λ k. IsName tokens (k + 1) part.value.dation) target.1 h.5) g.5 in
+          let place = same_place tokens from part.value.place other.value.place h.1 g.1 in
           ((λ i. OfTake (target.0 i) (name i) (place i)), omega (arith, h.7, g.7, target.1))
       by a b e h g = absurd e
 

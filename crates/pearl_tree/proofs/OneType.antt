@@ -22,6 +22,7 @@ use Rattle.pearl_tree.specs.Expressions.{SpellsConst}
 use Rattle.pearl_tree.specs.Types.{SpellsNames, SpellsInt, SpellsUpper, SpellsBound, SpellsBounds, sort_word, SpellsBasic, SpellsTyping, SpellsFields, SpellsMoreFields}
 use Rattle.pearl_tree.specs.Declarations.{SpellsItem}
 use Rattle.pearl_tree.specs.Following.{lengthens_literal, HasOneOf}
+use Rattle.pearl_tree.specs.ShownLiterals.{shown_const}
 use Rattle.pearl_tree.specs.ShownDeclarations.{OfOne, OfSeveral, shown_names, OfBasic, OfStruct, OfNamed, MoreFields, shown_typing, shown_fields, shown_item}
 use Rattle.pearl_tables.specs.declared.symbol.TheConstants as s
 use Rattle.pearl_tables.specs.declared.word_code.TheConstants as w
@@ -247,7 +248,7 @@ module _ (tokens : List Token) where
   const_stops k symbol h g = has_none tokens lengthens_literal k (what.Symbol symbol) h refl g
 
   one_const : (from : ℕ) (a b : Const) (to end : ℕ) → SpellsConst tokens from a to → (HasOneOf lengthens_literal tokens to → ⊥) → SpellsConst tokens from b end →
-      (HasOneOf lengthens_literal tokens end → ⊥) → (a ≡ b) × (to ≡ end)
+      (HasOneOf lengthens_literal tokens end → ⊥) → (shown_const a ≡ shown_const b) × (to ≡ end)
   one_const from a b to end h i g j =
       let at = meets_once (HasOneOf lengthens_literal tokens) i j (const_ends tokens from a b to end h g) in
       (same_const tokens from a b end (subst (λ k. SpellsConst tokens from a k) at h) g, at)
@@ -284,9 +285,8 @@ module _ (tokens : List Token) where
       g.7 (typing_no_inv g.2 b.typing g.3 g.8) in
       let part = one_typing 8 g.2 a.typing b.typing h.3 g.3 (subst (λ k. SpellsTyping tokens 8 k a.typing h.3) inv.1 h.8)
       (init_stops h.3 to a.init.items.items h.9 i) g.8 (init_stops g.3 end b.init.items.items g.9 j) in
-      let all = maybe_headed_one tokens (SpellsConst tokens) (λ x. x) (λ k. HasOneOf lengthens_literal tokens k → ⊥) (λ k. const_stops k s.COMMA)
+      let all = maybe_headed_one tokens (SpellsConst tokens) shown_const (λ k. HasOneOf lengthens_literal tokens k → ⊥) (λ k. const_stops k s.COMMA)
       (λ k. const_stops k s.RIGHT_ROUND) one_const w.INIT a.init.items.items b.init.items.items g.3 to end
       (subst (λ k. Maybe k a.init.items.items to) part.1 h.9) i.1 g.9 j.1 in
-      let init = as_they_are a.init.items.items b.init.items.items all.0 in
       let place = same_place tokens from a.place b.place h.4 g.4 in
-      ((λ i. record { names = names.0 i; bounds = bounds.0 i; inv = inv.0 i; part = part.0 i; init = init i; place = place i }), all.1)
+      ((λ i. record { names = names.0 i; bounds = bounds.0 i; inv = inv.0 i; part = part.0 i; init = all.0 i; place = place i }), all.1)

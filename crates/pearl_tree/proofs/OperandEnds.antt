@@ -3,8 +3,8 @@
 use Rattle.std.proofs.Common.{◌≡◌, ◌⊎◌, inl, inr, ℕ, ◌+◌, ◌-◌, ◌<◌, ◌≤◌, ◌==◌, ◌||◌, Bool, true, false, List, Option, Some, None, option_map, refl, sym, ap, subst, ◌∙◌, arith}
 use Rattle.pearl_tree.specs.declared.literal.Literal.{Literal}
 use Rattle.pearl_tree.specs.declared.name.Number.{Number}
-use Rattle.pearl_tree.specs.declared.expression.Monad.{Monad}
-use Rattle.pearl_tree.specs.declared.expression.Monad.TheVariants as monad
+use Rattle.pearl_value.specs.declared.operator.Monad.{Monad}
+use Rattle.pearl_value.specs.declared.operator.Monad.TheVariants as monad
 use Rattle.pearl_tree.specs.declared.expression.Monadic.{Monadic}
 use Rattle.pearl_tree.specs.declared.expression.Side.{Side}
 use Rattle.pearl_tree.specs.declared.expression.Side.TheVariants.{Lower, Upper}
@@ -154,7 +154,7 @@ module _ (tokens : List Token) where
     read from (primary.Group' _ part place) to h = (what.Symbol s.LEFT_ROUND, h.2, (part, h.0, h.3, h.4, h.5, h.6, refl))
     read from (primary.Now place) to h = (what.Word w.NOW, h.1, inl (refl, h.2))
     read from (primary.Try name place) to h = (what.Word w.TRY, h.1, inr (inl (refl, h.3)))
-    read from (primary.Limit' dimension side name _ row ref_place place) to h =
+    read from (primary.Limit' dimension side _ name _ row ref_place place) to h =
         limit from dimension side h.0 to h.2 h.3 (items-the_row-Selector _ row, subst (λ X. X) (selectors tokens depth (h.0 + 1 + 1) _ row to) h.4.2)
 
     abbrev Longer : ℕ → Type 0
@@ -299,7 +299,7 @@ module _ (tokens : List Token) where
     primary_no_monadic from (primary.Group' _ part place) to h d = has_none tokens is_monadic from (what.Symbol s.LEFT_ROUND) h.2 refl d
     primary_no_monadic from (primary.Now place) to h d = has_none tokens is_monadic from (what.Word w.NOW) h.1 refl d
     primary_no_monadic from (primary.Try name place) to h d = has_none tokens is_monadic from (what.Word w.TRY) h.1 refl d
-    primary_no_monadic from (primary.Limit' dimension side name _ row ref_place place) to h d = limit_no_monadic from dimension side h.0 h.2 h.3 d
+    primary_no_monadic from (primary.Limit' dimension side _ name _ row ref_place place) to h d = limit_no_monadic from dimension side h.0 h.2 h.3 d
 
     pub monadics_meet : (from : ℕ) (xs ys : List Monadic) (to end : ℕ) → SpellsEach (SpellsMonadic tokens) from xs to →
         SpellsEach (SpellsMonadic tokens) from ys end → Meet (HasOneOf is_monadic tokens) to end

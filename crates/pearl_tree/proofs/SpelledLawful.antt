@@ -45,7 +45,11 @@ use Rattle.pearl_tree.specs.declared.statement.Start.TheVariants as start
 use Rattle.pearl_tree.specs.declared.statement.Once.{Once}
 use Rattle.pearl_tree.specs.declared.statement.Once.TheVariants as once
 use Rattle.pearl_tree.specs.declared.statement.BodyDecl.{BodyDecl}
-use Rattle.pearl_tree.specs.declared.statement.Stmt.{Stmt, Empty, Assign, Call, If', Case', Repeat', Exit, Begin', Return, Activate, Continue, Resume, OnTask, OnSemas, OnInterrupt, Put, Get, Send, Take, Row_of-Stmt, end_of-Stmt, more_of-Stmt, Row_of-Branch, end_of-Branch, more_of-Branch, Held-Stmt-If-2, None', Some'}
+use Rattle.pearl_tree.specs.declared.statement.Stmt.{Stmt, Empty, Assign, Call, If', Case', Repeat', Exit, Begin', Return, Activate, Continue, Resume, OnTask, OnSemas, OnInterrupt, Put, Get, Send, Take, Row_of-Stmt, end_of-Stmt, more_of-Stmt}
+use Rattle.pearl_tree.specs.declared.statement.If as if_
+use Rattle.pearl_tree.specs.declared.statement.If.{Held-Case-otherwise, None', Some'}
+use Rattle.pearl_tree.specs.declared.statement.Case as case_
+use Rattle.pearl_tree.specs.declared.statement.Case.{Row_of-Branch, end_of-Branch, more_of-Branch}
 use Rattle.pearl_tree.specs.declared.statement.Body.{Body}
 use Rattle.pearl_tree.specs.declared.tree.TaskHead.{TaskHead}
 use Rattle.pearl_tree.specs.declared.tree.TaskHead.TheVariants.{PrioFirst, MainFirst}
@@ -116,9 +120,9 @@ module _ (tokens : List Token) (all : All (λ token. IsLawfulWhat token.what) to
   pub literal_lawful : (from : ℕ) (part : Literal) (to : ℕ) → SpellsLiteral tokens from part to → IsLawfulLiteral part
   literal_lawful from (literal.Number number) to h = one_number from number to h
   literal_lawful from (literal.Bits len value place) to h = what_lawful tokens all from (what.Bits len value) h.0
-  literal_lawful from (literal.Text text place) to h = what_lawful tokens all from (what.Text text) h.0
+  literal_lawful from (literal.Text text place) to h = what_lawful tokens all from (what.Text text.value) h.0
   literal_lawful from (literal.Clock milliseconds place) to h = what_lawful tokens all from (what.Clock milliseconds) h.0
-  literal_lawful from (literal.Duration duration) to h = duration_lawful from duration to h
+  literal_lawful from (literal.Duration duration) to h = duration_lawful from duration.value to h
 
   pub const_lawful : (from : ℕ) (constant : Const) (to : ℕ) → SpellsConst tokens from constant to → IsLawfulConst constant
   const_lawful from constant to h = literal_lawful h.0 constant.literal to h.3
@@ -137,7 +141,7 @@ module _ (tokens : List Token) (all : All (λ token. IsLawfulWhat token.what) to
         (h.3, (terms_lawful (depth - 1) (from + 1) inner h.0 h.4.0, h.4.1))
     primary_lawful depth from (primary.Now place) to h = tt
     primary_lawful depth from (primary.Try name place) to h = name_lawful (from + 1) name h.2
-    primary_lawful depth from (primary.Limit' dimension side name _ selectors ref_place place) to h = (
+    primary_lawful depth from (primary.Limit' dimension side _ name _ selectors ref_place place) to h = (
       maybe_sure IsLawfulNumber (SpellsNumber tokens) one_number dimension from h.0 h.2,
       (name_lawful (h.0 + 1) name h.4.1, selectors_lawful depth (h.0 + 1 + 1) _ selectors to h.4.2),
     )
@@ -317,25 +321,25 @@ module _ (tokens : List Token) (all : All (λ token. IsLawfulWhat token.what) to
   mutual
     pub stmt_lawful : (depth from : ℕ) (statement : Stmt) (to : ℕ) → SpellsStmt tokens depth from statement to → IsLawfulStmt depth statement
     stmt_lawful depth from (Empty place) to h = tt
-    stmt_lawful depth from (Assign target value place) to h =
-        (ref_lawful from target h.0 h.3, expr_lawful (h.0 + 1) value h.1 h.5)
-    stmt_lawful depth from (Call call name arguments place) to h = (
-      name_lawful h.0 name h.4,
-      maybe_bracketed_sure IsLawfulExpr (SpellsWhole tokens) expr_lawful tokens arguments.items.items (h.0 + 1) h.1 h.5,
+    stmt_lawful depth from (Assign part) to h =
+        (ref_lawful from part.value.target h.0 h.3, expr_lawful (h.0 + 1) part.value.value h.1 h.5)
+    stmt_lawful depth from (Call part) to h = (
+      name_lawful h.0 part.value.name h.4,
+      maybe_bracketed_sure IsLawfulExpr (SpellsWhole tokens) expr_lawful tokens part.value.arguments.items.items (h.0 + 1) h.1 h.5,
     )
-    stmt_lawful depth from (If' condition _ statements otherwise place) to h = (
+    stmt_lawful depth from (If' _ (if_.If' condition _ statements otherwise place)) to h = (
       h.4,
       after_lawful _ from condition h.0 h.5,
       stmts_lawful (depth - 1) (h.0 + 1) _ statements h.1 h.7,
       otherwise_lawful (depth - 1) _ h.1 otherwise h.2 h.8,
     )
-    stmt_lawful depth from (Case' selector _ alternatives otherwise place) to h = (
+    stmt_lawful depth from (Case' _ (case_.Case' selector _ alternatives otherwise place)) to h = (
       h.4,
       after_lawful _ from selector h.0 h.5,
       alternatives_lawful (depth - 1) h.0 _ alternatives h.1 h.6,
       otherwise_lawful (depth - 1) _ h.1 otherwise h.2 h.7,
     )
-    stmt_lawful depth from (Repeat' control begin step end condition declarations _ statements body_place place) to h = (
+    stmt_lawful depth from (Repeat' _ control begin step end condition declarations _ statements body_place place) to h = (
       h.7,
       maybe_sure IsLawfulName (SpellsFor tokens) for_lawful control from h.0 h.8,
       maybe_after _ h.0 begin h.1 h.9,
@@ -348,42 +352,42 @@ module _ (tokens : List Token) (all : All (λ token. IsLawfulWhat token.what) to
       ),
     )
     stmt_lawful depth from (Exit place) to h = tt
-    stmt_lawful depth from (Begin' declarations _ statements body_place place) to h = (
+    stmt_lawful depth from (Begin' _ declarations _ statements body_place place) to h = (
       h.2,
       (
         decls_lawful (from + 1) declarations.items.items h.4.0 h.4.2,
         stmts_lawful (depth - 1) h.4.0 _ statements h.0 h.4.3,
       ),
     )
-    stmt_lawful depth from (Return value place) to h =
-        maybe_sure IsLawfulExpr (SpellsValue tokens) value_lawful value (from + 1) h.0 h.3
-    stmt_lawful depth from (Activate start task priority place) to h = (
-      maybe_sure IsLawfulStart (SpellsStart tokens) start_lawful start from h.0 h.3,
-      name_lawful (h.0 + 1) task h.5,
-      maybe_after _ (h.0 + 2) priority h.1 h.6,
+    stmt_lawful depth from (Return part) to h =
+        maybe_sure IsLawfulExpr (SpellsValue tokens) value_lawful part.value.value (from + 1) h.0 h.3
+    stmt_lawful depth from (Activate part) to h = (
+      maybe_sure IsLawfulStart (SpellsStart tokens) start_lawful part.value.start from h.0 h.3,
+      name_lawful (h.0 + 1) part.value.task h.5,
+      maybe_after _ (h.0 + 2) part.value.priority h.1 h.6,
     )
-    stmt_lawful depth from (Continue once task place) to h =
-        (maybe_sure IsLawfulOnce (SpellsOnce tokens) once_lawful once from h.0 h.2, name_lawful (h.0 + 1) task h.4)
-    stmt_lawful depth from (Resume once place) to h = once_lawful from once h.0 h.2
-    stmt_lawful depth from (OnTask word task place) to h =
-        maybe_sure IsLawfulName (SpellsName tokens) one_name task (from + 1) h.0 h.3
-    stmt_lawful depth from (OnSemas word names place) to h =
-        list_sure IsLawfulName (SpellsName tokens) one_name tokens names.items.items (from + 1) h.0 h.3
-    stmt_lawful depth from (OnInterrupt word name place) to h = name_lawful (from + 1) name h.2
-    stmt_lawful depth from (Put values dation formats place) to h = (
-      exprs_lawful (from + 1) values.items.items h.0 h.4,
-      name_lawful (h.0 + 1) dation h.6,
-      fmts_lawful (h.0 + 3) formats.items.items h.1 h.8,
+    stmt_lawful depth from (Continue part) to h =
+        (maybe_sure IsLawfulOnce (SpellsOnce tokens) once_lawful part.value.once from h.0 h.2, name_lawful (h.0 + 1) part.value.task h.4)
+    stmt_lawful depth from (Resume part) to h = once_lawful from part.value.once h.0 h.2
+    stmt_lawful depth from (OnTask part) to h =
+        maybe_sure IsLawfulName (SpellsName tokens) one_name part.value.task (from + 1) h.0 h.3
+    stmt_lawful depth from (OnSemas part) to h =
+        list_sure IsLawfulName (SpellsName tokens) one_name tokens part.value.names.items.items (from + 1) h.0 h.3
+    stmt_lawful depth from (OnInterrupt part) to h = name_lawful (from + 1) part.value.name h.2
+    stmt_lawful depth from (Put part) to h = (
+      exprs_lawful (from + 1) part.value.values.items.items h.0 h.4,
+      name_lawful (h.0 + 1) part.value.dation h.6,
+      fmts_lawful (h.0 + 3) part.value.formats.items.items h.1 h.8,
     )
-    stmt_lawful depth from (Get targets dation formats place) to h = (
-      refs_lawful (from + 1) targets.items.items h.0 h.4,
-      name_lawful (h.0 + 1) dation h.6,
-      fmts_lawful (h.0 + 3) formats.items.items h.1 h.8,
+    stmt_lawful depth from (Get part) to h = (
+      refs_lawful (from + 1) part.value.targets.items.items h.0 h.4,
+      name_lawful (h.0 + 1) part.value.dation h.6,
+      fmts_lawful (h.0 + 3) part.value.formats.items.items h.1 h.8,
     )
-    stmt_lawful depth from (Send value dation place) to h =
-        (after_lawful _ from value h.0 h.2, name_lawful (h.0 + 1) dation h.4)
-    stmt_lawful depth from (Take target dation place) to h =
-        (ref_lawful (from + 1) target h.0 h.3, name_lawful (h.0 + 1) dation h.5)
+    stmt_lawful depth from (Send part) to h =
+        (after_lawful _ from part.value.value h.0 h.2, name_lawful (h.0 + 1) part.value.dation h.4)
+    stmt_lawful depth from (Take part) to h =
+        (ref_lawful (from + 1) part.value.target h.0 h.3, name_lawful (h.0 + 1) part.value.dation h.5)
 
     stmts_lawful : (depth from : ℕ) (n : _) (row : Row_of-Stmt n) (to : ℕ) → SpellsStmts tokens depth from row to → AreLawfulStmts depth row
     stmts_lawful depth from _ end_of-Stmt to h = tt
@@ -402,7 +406,7 @@ module _ (tokens : List Token) (all : All (λ token. IsLawfulWhat token.what) to
     more_alternatives_lawful depth from _ (more_of-Branch _ statements place rest) to h =
         (stmts_lawful depth (from + 1) _ statements h.0 h.1.2, more_alternatives_lawful depth h.0 _ rest to h.2)
 
-    otherwise_lawful : (depth word from : ℕ) (otherwise : Held-Stmt-If-2) (to : ℕ) → SpellsOtherwise tokens depth word from otherwise to →
+    otherwise_lawful : (depth word from : ℕ) (otherwise : Held-Case-otherwise) (to : ℕ) → SpellsOtherwise tokens depth word from otherwise to →
         IsLawfulOtherwise depth otherwise
     otherwise_lawful depth word from None' to h = tt
     otherwise_lawful depth word from (Some' _ statements place) to h = stmts_lawful depth (from + 1) _ statements to h.2

@@ -12,11 +12,11 @@ use Rattle.pearl_tree.specs.declared.literal.Literal.TheVariants as literal
 use Rattle.pearl_tree.specs.declared.literal.Sign.{Sign}
 use Rattle.pearl_tree.specs.declared.literal.Sign.TheVariants as sign
 use Rattle.pearl_tree.specs.declared.literal.Const.{Const}
-use Rattle.pearl_tree.specs.declared.expression.Monad.{Monad}
-use Rattle.pearl_tree.specs.declared.expression.Monad.TheVariants as monad
+use Rattle.pearl_value.specs.declared.operator.Monad.{Monad}
+use Rattle.pearl_value.specs.declared.operator.Monad.TheVariants as monad
 use Rattle.pearl_tree.specs.declared.expression.Monadic.{Monadic}
-use Rattle.pearl_tree.specs.declared.expression.Dyad.{Dyad}
-use Rattle.pearl_tree.specs.declared.expression.Dyad.TheVariants as dyad
+use Rattle.pearl_value.specs.declared.operator.Dyad.{Dyad}
+use Rattle.pearl_value.specs.declared.operator.Dyad.TheVariants as dyad
 use Rattle.pearl_tree.specs.declared.expression.Side.{Side}
 use Rattle.pearl_tree.specs.declared.expression.Side.TheVariants.{Lower, Upper}
 use Rattle.pearl_tree.specs.declared.expression.Expr.{Expr, Operand', Dyadic'}
@@ -64,10 +64,10 @@ SpellsLiteral tokens from (literal.Number number) to = SpellsNumber tokens from 
 SpellsLiteral tokens from (literal.Bits len value place) to =
     (what_at tokens from ≡ Some (what.Bits len value)) × IsAt tokens from place × (to ≡ from + 1)
 SpellsLiteral tokens from (literal.Text text place) to =
-    (what_at tokens from ≡ Some (what.Text text)) × IsAt tokens from place × (to ≡ from + 1)
+    (what_at tokens from ≡ Some (what.Text text.value)) × IsAt tokens from place × (to ≡ from + 1)
 SpellsLiteral tokens from (literal.Clock milliseconds place) to =
     (what_at tokens from ≡ Some (what.Clock milliseconds)) × IsAt tokens from place × (to ≡ from + 1)
-SpellsLiteral tokens from (literal.Duration duration) to = SpellsDuration tokens from duration to
+SpellsLiteral tokens from (literal.Duration duration) to = SpellsDuration tokens from duration.value to
 
 -- "+" | "-"
 abbrev pub SpellsSign : List Token → Spelling Sign
@@ -95,8 +95,8 @@ SpellsMonadic tokens from monadic to =
 -- the dyadic operators that are symbols, and those that are words
 abbrev pub dyad_symbols : List (ℕ × Dyad)
 dyad_symbols =
-    (s.POWER, dyad.Power) ∷ (s.TIMES, dyad.Times) ∷ (s.DIVIDE, dyad.Over) ∷ (s.CONCATENATE, dyad.Cat) ∷ (s.PLUS, dyad.Plus) ∷
-    (s.MINUS, dyad.Minus) ∷ (s.ROTATE, dyad.Cshift) ∷ (s.LESS, dyad.Lt) ∷ (s.GREATER, dyad.Gt) ∷ (s.AT_MOST, dyad.Le) ∷
+    (s.POWER, dyad.Pow) ∷ (s.TIMES, dyad.Mul) ∷ (s.DIVIDE, dyad.Div) ∷ (s.CONCATENATE, dyad.Cat) ∷ (s.PLUS, dyad.Add) ∷
+    (s.MINUS, dyad.Sub) ∷ (s.ROTATE, dyad.Cshift) ∷ (s.LESS, dyad.Lt) ∷ (s.GREATER, dyad.Gt) ∷ (s.AT_MOST, dyad.Le) ∷
     (s.AT_LEAST, dyad.Ge) ∷ (s.EQUAL, dyad.Eq) ∷ (s.UNEQUAL, dyad.Ne) ∷ []
 
 abbrev pub dyad_words : List (ℕ × Dyad)
@@ -120,13 +120,13 @@ HasDyad tokens k operator = option_and_then dyad_of (what_at tokens k) ≡ Some 
 
 -- a smaller rank binds closer
 abbrev pub rank : Dyad → ℕ
-rank dyad.Power = 1
-rank dyad.Times = 2
-rank dyad.Over = 2
+rank dyad.Pow = 1
+rank dyad.Mul = 2
+rank dyad.Div = 2
 rank dyad.Rem = 2
 rank dyad.Cat = 2
-rank dyad.Plus = 3
-rank dyad.Minus = 3
+rank dyad.Add = 3
+rank dyad.Sub = 3
 rank dyad.Cshift = 3
 rank dyad.Shift = 3
 rank dyad.Lt = 4
@@ -180,7 +180,7 @@ abbrev mutual
       IsAt tokens from place × HasWord tokens from w.NOW × (to ≡ from + 1)
   SpellsPrimary tokens depth from (primary.Try name place) to =
       IsAt tokens from place × HasWord tokens from w.TRY × IsName tokens (from + 1) name × (to ≡ from + 2)
-  SpellsPrimary tokens depth from (primary.Limit' dimension side name _ selectors ref_place place) to =
+  SpellsPrimary tokens depth from (primary.Limit' dimension side _ name _ selectors ref_place place) to =
       (m : ℕ) × IsAt tokens from place × SpellsMaybe (SpellsNumber tokens) from dimension m ×
       HasWord tokens m (side_word side) ×
       (IsAt tokens (m + 1) ref_place × IsName tokens (m + 1) name ×

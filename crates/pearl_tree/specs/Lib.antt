@@ -2,6 +2,7 @@ pub mod Standing
 pub mod Expressions
 pub mod Following
 pub mod Chains
+pub mod ShownLiterals
 pub mod ShownExpressions
 pub mod ShownDeclarations
 pub mod ShownStatements
@@ -14,4 +15,8 @@ pub mod Declarations
 pub mod Statements
 pub mod Modules
 pub mod Tokens
+pub mod Lawfulness
 pub mod Lawful
+pub mod Faults
+pub mod Names
+pub mod Durations

@@ -88,7 +88,7 @@ SpellsTree tokens from tree to =
     SpellsMaybe (SpellsModuleName tokens) (from + 1) tree.name a × HasSymbol tokens a s.SEMICOLON ×
     SpellsMaybe (SpellsSystem tokens) (a + 1) tree.system b × HasWord tokens b w.PROBLEM ×
     HasSymbol tokens (b + 1) s.SEMICOLON × SpellsEach (SpellsDecl tokens) (b + 2) tree.declarations.items.items c ×
-    HasWord tokens c w.MODEND × SpellsSymbolFlag tokens s.SEMICOLON (c + 1) tree.semicolon to
+    HasWord tokens c w.MODEND × IsAt tokens c tree.modend × SpellsSymbolFlag tokens s.SEMICOLON (c + 1) tree.semicolon to
 
 -- the tree spells these tokens and no others
 pub record Spells (tree : Tree) (tokens : List Token) : Type 0 where

@@ -1,10 +1,9 @@
 -- What types and declarations say, apart from where their parts lie in memory.
-use Rattle.std.specs.Prelude.{ℕ, Bool, List}
+use Rattle.std.specs.Prelude.{ℕ, Bool, List, map}
 use Rattle.pearl_tree.specs.declared.name.Name.{Name}
 use Rattle.pearl_tree.specs.declared.name.Number.{Number}
 use Rattle.pearl_tree.specs.declared.name.Names.{Names}
 use Rattle.pearl_tree.specs.declared.name.Names.TheVariants.{One, Several}
-use Rattle.pearl_tree.specs.declared.literal.Const.{Const}
 use Rattle.pearl_tree.specs.declared.typing.Bound.{Bound}
 use Rattle.pearl_tree.specs.declared.typing.Basic.{Basic}
 use Rattle.pearl_tree.specs.declared.typing.Typing.{Typing, Row_of-Field, end_of-Field, more_of-Field}
@@ -18,6 +17,7 @@ use Rattle.pearl_tree.specs.declared.declaration.Class.{Class}
 use Rattle.pearl_tree.specs.declared.declaration.Spec.{Spec}
 use Rattle.pearl_tree.specs.declared.declaration.Spec.TheVariants as spec
 use Rattle.pearl_tree.specs.declared.declaration.Param.{Param}
+use Rattle.pearl_tree.specs.ShownLiterals.{ShownConst, shown_const}
 
 pub data ShownNames : Type 0 where
   OfOne : (name : Name) → ShownNames
@@ -53,7 +53,7 @@ pub record ShownItem : Type 0 where
   pub bounds : List Bound
   pub inv : Bool
   pub part : ShownTyping
-  pub init : List Const
+  pub init : List ShownConst
   pub place : ℕ
 
 abbrev pub shown_item : Item → ShownItem
@@ -62,7 +62,7 @@ shown_item item = record {
   bounds = item.bounds.items.items;
   inv = item.inv;
   part = shown_typing item.typing;
-  init = item.init.items.items;
+  init = map shown_const item.init.items.items;
   place = item.place;
 }
 

@@ -2,7 +2,6 @@
 use Rattle.std.specs.Prelude.{ℕ, List, [], ◌∷◌, Option}
 use Rattle.pearl_tree.specs.declared.name.Name.{Name}
 use Rattle.pearl_tree.specs.declared.name.Number.{Number}
-use Rattle.pearl_tree.specs.declared.literal.Literal.{Literal}
 use Rattle.pearl_tree.specs.declared.expression.Monadic.{Monadic}
 use Rattle.pearl_tree.specs.declared.expression.Dyadic.{Dyadic}
 use Rattle.pearl_tree.specs.declared.expression.Side.{Side}
@@ -11,6 +10,7 @@ use Rattle.pearl_tree.specs.declared.expression.Primary.{Primary}
 use Rattle.pearl_tree.specs.declared.expression.Primary as primary
 use Rattle.pearl_tree.specs.declared.expression.Selector.{Selector, Subscripts', Component, Row_of-Expr, end_of-Expr, more_of-Expr}
 use Rattle.pearl_tree.specs.declared.expression.Ref.{Ref, Row_of-Selector, end_of-Selector, more_of-Selector}
+use Rattle.pearl_tree.specs.ShownLiterals.{ShownLiteral, shown_literal}
 
 mutual
   pub data ShownExpr : Type 0 where
@@ -18,7 +18,7 @@ mutual
     OfDyadic : (left : ShownExpr) (dyadic : Dyadic) (right : ShownExpr) (place : ℕ) → ShownExpr
 
   pub data ShownPrimary : Type 0 where
-    OfLiteral : (part : Literal) → ShownPrimary
+    OfLiteral : (part : ShownLiteral) → ShownPrimary
     OfRef : (name : Name) (selectors : ShownSelectors) (place : ℕ) → ShownPrimary
     OfGroup : (inner : ShownExpr) (place : ℕ) → ShownPrimary
     OfNow : (place : ℕ) → ShownPrimary
@@ -43,12 +43,12 @@ abbrev mutual
   shown_expr (Dyadic' _ left dyadic _ right place) = OfDyadic (shown_expr left) dyadic (shown_expr right) place
 
   pub shown_primary : Primary → ShownPrimary
-  shown_primary (primary.Literal part) = OfLiteral part
+  shown_primary (primary.Literal part) = OfLiteral (shown_literal part)
   shown_primary (primary.Ref' name _ selectors place) = OfRef name (shown_selectors selectors) place
   shown_primary (primary.Group' _ inner place) = OfGroup (shown_expr inner) place
   shown_primary (primary.Now place) = OfNow place
   shown_primary (primary.Try name place) = OfTry name place
-  shown_primary (primary.Limit' dimension side name _ selectors ref_place place) =
+  shown_primary (primary.Limit' dimension side _ name _ selectors ref_place place) =
       OfLimit dimension side name (shown_selectors selectors) ref_place place
 
   pub shown_selectors : {n : _} → Row_of-Selector n → ShownSelectors

@@ -51,6 +51,7 @@ pub record ShownTree : Type 0 where
   pub name : Option ModuleName
   pub system : Option (List Device)
   pub declarations : List ShownDecl
+  pub modend : ℕ
   pub semicolon : Bool
   pub place : ℕ
 
@@ -59,6 +60,7 @@ shown_tree tree = record {
   name = tree.name;
   system = option_map shown_devices tree.system;
   declarations = map shown_decl tree.declarations.items.items;
+  modend = tree.modend;
   semicolon = tree.semicolon;
   place = tree.place;
 }

@@ -13,7 +13,11 @@ use Rattle.pearl_tree.specs.declared.statement.TaskWord.{TaskWord}
 use Rattle.pearl_tree.specs.declared.statement.SemaWord.{SemaWord}
 use Rattle.pearl_tree.specs.declared.statement.InterruptWord.{InterruptWord}
 use Rattle.pearl_tree.specs.declared.statement.BodyDecl.{BodyDecl}
-use Rattle.pearl_tree.specs.declared.statement.Stmt.{Stmt, Empty, Assign, Call, If', Case', Repeat', Exit, Begin', Return, Activate, Continue, Resume, OnTask, OnSemas, OnInterrupt, Put, Get, Send, Take, Row_of-Stmt, end_of-Stmt, more_of-Stmt, Row_of-Branch, end_of-Branch, more_of-Branch, Held-Stmt-If-2, None', Some'}
+use Rattle.pearl_tree.specs.declared.statement.Stmt.{Stmt, Empty, Assign, Call, If', Case', Repeat', Exit, Begin', Return, Activate, Continue, Resume, OnTask, OnSemas, OnInterrupt, Put, Get, Send, Take, Row_of-Stmt, end_of-Stmt, more_of-Stmt}
+use Rattle.pearl_tree.specs.declared.statement.If as if_
+use Rattle.pearl_tree.specs.declared.statement.If.{Held-Case-otherwise, None', Some'}
+use Rattle.pearl_tree.specs.declared.statement.Case as case_
+use Rattle.pearl_tree.specs.declared.statement.Case.{Row_of-Branch, end_of-Branch, more_of-Branch}
 use Rattle.pearl_tree.specs.ShownExpressions.{ShownExpr, ShownRef, shown_expr, shown_ref}
 use Rattle.pearl_tree.specs.ShownDeclarations.{ShownItem, shown_item}
 
@@ -101,30 +105,30 @@ mutual
 abbrev mutual
   pub shown_stmt : Stmt → ShownStmt
   shown_stmt (Empty place) = OfEmpty place
-  shown_stmt (Assign target value place) = OfAssign (shown_ref target) (shown_expr value) place
-  shown_stmt (Call call name arguments place) = OfCall call name (map shown_expr arguments.items.items) place
-  shown_stmt (If' condition _ statements otherwise place) =
+  shown_stmt (Assign part) = OfAssign (shown_ref part.value.target) (shown_expr part.value.value) part.value.place
+  shown_stmt (Call part) = OfCall part.value.call part.value.name (map shown_expr part.value.arguments.items.items) part.value.place
+  shown_stmt (If' _ (if_.If' condition _ statements otherwise place)) =
       OfIf (shown_expr condition) (shown_stmts statements) (shown_otherwise otherwise) place
-  shown_stmt (Case' selector _ alternatives otherwise place) =
+  shown_stmt (Case' _ (case_.Case' selector _ alternatives otherwise place)) =
       OfCase (shown_expr selector) (shown_branches alternatives) (shown_otherwise otherwise) place
-  shown_stmt (Repeat' control begin step end condition declarations _ statements body_place place) =
+  shown_stmt (Repeat' _ control begin step end condition declarations _ statements body_place place) =
       OfRepeat control (option_map shown_expr begin) (option_map shown_expr step) (option_map shown_expr end)
       (option_map shown_expr condition) (map shown_body_decl declarations.items.items) (shown_stmts statements) body_place place
   shown_stmt (Exit place) = OfExit place
-  shown_stmt (Begin' declarations _ statements body_place place) =
+  shown_stmt (Begin' _ declarations _ statements body_place place) =
       OfBegin (map shown_body_decl declarations.items.items) (shown_stmts statements) body_place place
-  shown_stmt (Return value place) = OfReturn (option_map shown_expr value) place
-  shown_stmt (Activate start task priority place) =
-      OfActivate (option_map shown_start start) task (option_map shown_expr priority) place
-  shown_stmt (Continue once task place) = OfContinue (option_map shown_once once) task place
-  shown_stmt (Resume once place) = OfResume (shown_once once) place
-  shown_stmt (OnTask word task place) = OfOnTask word task place
-  shown_stmt (OnSemas word names place) = OfOnSemas word names.items.items place
-  shown_stmt (OnInterrupt word name place) = OfOnInterrupt word name place
-  shown_stmt (Put values dation formats place) = OfPut (map shown_expr values.items.items) dation formats.items.items place
-  shown_stmt (Get targets dation formats place) = OfGet (map shown_ref targets.items.items) dation formats.items.items place
-  shown_stmt (Send value dation place) = OfSend (shown_expr value) dation place
-  shown_stmt (Take target dation place) = OfTake (shown_ref target) dation place
+  shown_stmt (Return part) = OfReturn (option_map shown_expr part.value.value) part.value.place
+  shown_stmt (Activate part) =
+      OfActivate (option_map shown_start part.value.start) part.value.task (option_map shown_expr part.value.priority) part.value.place
+  shown_stmt (Continue part) = OfContinue (option_map shown_once part.value.once) part.value.task part.value.place
+  shown_stmt (Resume part) = OfResume (shown_once part.value.once) part.value.place
+  shown_stmt (OnTask part) = OfOnTask part.value.word part.value.task part.value.place
+  shown_stmt (OnSemas part) = OfOnSemas part.value.word part.value.names.items.items part.value.place
+  shown_stmt (OnInterrupt part) = OfOnInterrupt part.value.word part.value.name part.value.place
+  shown_stmt (Put part) = OfPut (map shown_expr part.value.values.items.items) part.value.dation part.value.formats.items.items part.value.place
+  shown_stmt (Get part) = OfGet (map shown_ref part.value.targets.items.items) part.value.dation part.value.formats.items.items part.value.place
+  shown_stmt (Send part) = OfSend (shown_expr part.value.value) part.value.dation part.value.place
+  shown_stmt (Take part) = OfTake (shown_ref part.value.target) part.value.dation part.value.place
 
   pub shown_stmts : {n : _} → Row_of-Stmt n → ShownStmts
   shown_stmts end_of-Stmt = NoStmts
@@ -134,6 +138,6 @@ abbrev mutual
   shown_branches end_of-Branch = NoBranches
   shown_branches (more_of-Branch _ statements place rest) = MoreBranches (shown_stmts statements) place (shown_branches rest)
 
-  pub shown_otherwise : Held-Stmt-If-2 → ShownOtherwise
+  pub shown_otherwise : Held-Case-otherwise → ShownOtherwise
   shown_otherwise None' = NoOtherwise
   shown_otherwise (Some' _ statements place) = OfOtherwise (shown_stmts statements) place

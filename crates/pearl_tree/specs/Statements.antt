@@ -17,7 +17,11 @@ use Rattle.pearl_tree.specs.declared.statement.SemaWord.TheVariants.{Request, Re
 use Rattle.pearl_tree.specs.declared.statement.InterruptWord.{InterruptWord}
 use Rattle.pearl_tree.specs.declared.statement.InterruptWord.TheVariants.{Enable, Disable, Trigger}
 use Rattle.pearl_tree.specs.declared.statement.BodyDecl.{BodyDecl}
-use Rattle.pearl_tree.specs.declared.statement.Stmt.{Stmt, Empty, Assign, Call, If', Case', Repeat', Exit, Begin', Return, Activate, Continue, Resume, OnTask, OnSemas, OnInterrupt, Put, Get, Send, Take, Row_of-Stmt, end_of-Stmt, more_of-Stmt, Row_of-Branch, end_of-Branch, more_of-Branch, Held-Stmt-If-2, None', Some'}
+use Rattle.pearl_tree.specs.declared.statement.Stmt.{Stmt, Empty, Assign, Call, If', Case', Repeat', Exit, Begin', Return, Activate, Continue, Resume, OnTask, OnSemas, OnInterrupt, Put, Get, Send, Take, Row_of-Stmt, end_of-Stmt, more_of-Stmt}
+use Rattle.pearl_tree.specs.declared.statement.If as if_
+use Rattle.pearl_tree.specs.declared.statement.If.{Held-Case-otherwise, None', Some'}
+use Rattle.pearl_tree.specs.declared.statement.Case as case_
+use Rattle.pearl_tree.specs.declared.statement.Case.{Row_of-Branch, end_of-Branch, more_of-Branch}
 use Rattle.pearl_tree.specs.declared.statement.Body.{Body}
 use Rattle.pearl_tree.specs.declared.statement.Branch.{Branch}
 use Rattle.pearl_tree.specs.declared.token.Token.{Token}
@@ -115,28 +119,28 @@ abbrev mutual
   SpellsStmt tokens depth from (Empty place) to =
       IsAt tokens from place × HasSymbol tokens from s.SEMICOLON × (to ≡ from + 1)
   -- ref ":=" expr ";"
-  SpellsStmt tokens depth from (Assign target value place) to =
-      (a : ℕ) × (b : ℕ) × IsAt tokens from place × SpellsOwnRef tokens from target a × HasBecomes tokens a ×
-      SpellsWhole tokens (a + 1) value b × HasSymbol tokens b s.SEMICOLON × (to ≡ b + 1)
+  SpellsStmt tokens depth from (Assign part) to =
+      (a : ℕ) × (b : ℕ) × IsAt tokens from part.value.place × SpellsOwnRef tokens from part.value.target a × HasBecomes tokens a ×
+      SpellsWhole tokens (a + 1) part.value.value b × HasSymbol tokens b s.SEMICOLON × (to ≡ b + 1)
   -- [ CALL ] id [ "(" expr { "," expr } ")" ] ";"
-  SpellsStmt tokens depth from (Call call name arguments place) to =
-      (a : ℕ) × (b : ℕ) × IsAt tokens from place × SpellsFlag tokens w.CALL from call a × IsName tokens a name ×
-      SpellsMaybeBracketed tokens (SpellsWhole tokens) (a + 1) arguments.items.items b ×
+  SpellsStmt tokens depth from (Call part) to =
+      (a : ℕ) × (b : ℕ) × IsAt tokens from part.value.place × SpellsFlag tokens w.CALL from part.value.call a × IsName tokens a part.value.name ×
+      SpellsMaybeBracketed tokens (SpellsWhole tokens) (a + 1) part.value.arguments.items.items b ×
       HasSymbol tokens b s.SEMICOLON × (to ≡ b + 1)
   -- IF expr THEN { stmt } [ ELSE { stmt } ] FIN ";"
-  SpellsStmt tokens depth from (If' condition _ statements otherwise place) to =
+  SpellsStmt tokens depth from (If' _ (if_.If' condition _ statements otherwise place)) to =
       (a : ℕ) × (b : ℕ) × (c : ℕ) × IsAt tokens from place × (0 < depth) × SpellsAfter tokens w.IF from condition a ×
       HasWord tokens a w.THEN × SpellsStmts tokens (depth - 1) (a + 1) statements b ×
       SpellsOtherwise tokens (depth - 1) w.ELSE b otherwise c × HasWord tokens c w.FIN ×
       HasSymbol tokens (c + 1) s.SEMICOLON × (to ≡ c + 2)
   -- CASE expr ALT { stmt } { ALT { stmt } } [ OUT { stmt } ] FIN ";"
-  SpellsStmt tokens depth from (Case' selector _ alternatives otherwise place) to =
+  SpellsStmt tokens depth from (Case' _ (case_.Case' selector _ alternatives otherwise place)) to =
       (a : ℕ) × (b : ℕ) × (c : ℕ) × IsAt tokens from place × (0 < depth) × SpellsAfter tokens w.CASE from selector a ×
       SpellsAlternatives tokens (depth - 1) a alternatives b ×
       SpellsOtherwise tokens (depth - 1) w.OUT b otherwise c × HasWord tokens c w.FIN ×
       HasSymbol tokens (c + 1) s.SEMICOLON × (to ≡ c + 2)
   -- [ FOR id ] [ FROM expr ] [ BY expr ] [ TO expr ] [ WHILE expr ] REPEAT body END ";"
-  SpellsStmt tokens depth from (Repeat' control begin step end condition declarations _ statements body_place place) to =
+  SpellsStmt tokens depth from (Repeat' _ control begin step end condition declarations _ statements body_place place) to =
       (a : ℕ) × (b : ℕ) × (c : ℕ) × (d : ℕ) × (e : ℕ) × (f : ℕ) × IsAt tokens from place × (0 < depth) ×
       SpellsMaybe (SpellsFor tokens) from control a × SpellsMaybe (SpellsAfter tokens w.FROM) a begin b ×
       SpellsMaybe (SpellsAfter tokens w.BY) b step c × SpellsMaybe (SpellsAfter tokens w.TO) c end d ×
@@ -149,62 +153,62 @@ abbrev mutual
   SpellsStmt tokens depth from (Exit place) to =
       IsAt tokens from place × HasWord tokens from w.EXIT × HasSymbol tokens (from + 1) s.SEMICOLON × (to ≡ from + 2)
   -- BEGIN body END ";"
-  SpellsStmt tokens depth from (Begin' declarations _ statements body_place place) to =
+  SpellsStmt tokens depth from (Begin' _ declarations _ statements body_place place) to =
       (a : ℕ) × IsAt tokens from place × (0 < depth) × HasWord tokens from w.BEGIN ×
       ((m : ℕ) × IsAt tokens (from + 1) body_place ×
       SpellsEach (SpellsBodyDecl tokens) (from + 1) declarations.items.items m ×
       SpellsStmts tokens (depth - 1) m statements a) ×
       HasWord tokens a w.END × HasSymbol tokens (a + 1) s.SEMICOLON × (to ≡ a + 2)
   -- RETURN [ "(" expr ")" ] ";"
-  SpellsStmt tokens depth from (Return value place) to =
-      (a : ℕ) × IsAt tokens from place × HasWord tokens from w.RETURN ×
-      SpellsMaybe (SpellsValue tokens) (from + 1) value a × HasSymbol tokens a s.SEMICOLON × (to ≡ a + 1)
+  SpellsStmt tokens depth from (Return part) to =
+      (a : ℕ) × IsAt tokens from part.value.place × HasWord tokens from w.RETURN ×
+      SpellsMaybe (SpellsValue tokens) (from + 1) part.value.value a × HasSymbol tokens a s.SEMICOLON × (to ≡ a + 1)
   -- [ start ] ACTIVATE id [ PRIO expr ] ";"
-  SpellsStmt tokens depth from (Activate start task priority place) to =
-      (a : ℕ) × (b : ℕ) × IsAt tokens from place × SpellsMaybe (SpellsStart tokens) from start a ×
-      HasWord tokens a w.ACTIVATE × IsName tokens (a + 1) task ×
-      SpellsMaybe (SpellsAfter tokens w.PRIO) (a + 2) priority b × HasSymbol tokens b s.SEMICOLON × (to ≡ b + 1)
+  SpellsStmt tokens depth from (Activate part) to =
+      (a : ℕ) × (b : ℕ) × IsAt tokens from part.value.place × SpellsMaybe (SpellsStart tokens) from part.value.start a ×
+      HasWord tokens a w.ACTIVATE × IsName tokens (a + 1) part.value.task ×
+      SpellsMaybe (SpellsAfter tokens w.PRIO) (a + 2) part.value.priority b × HasSymbol tokens b s.SEMICOLON × (to ≡ b + 1)
   -- [ once ] CONTINUE id ";"
-  SpellsStmt tokens depth from (Continue once task place) to =
-      (a : ℕ) × IsAt tokens from place × SpellsMaybe (SpellsOnce tokens) from once a × HasWord tokens a w.CONTINUE ×
-      IsName tokens (a + 1) task × HasSymbol tokens (a + 2) s.SEMICOLON × (to ≡ a + 3)
+  SpellsStmt tokens depth from (Continue part) to =
+      (a : ℕ) × IsAt tokens from part.value.place × SpellsMaybe (SpellsOnce tokens) from part.value.once a × HasWord tokens a w.CONTINUE ×
+      IsName tokens (a + 1) part.value.task × HasSymbol tokens (a + 2) s.SEMICOLON × (to ≡ a + 3)
   -- once RESUME ";"
-  SpellsStmt tokens depth from (Resume once place) to =
-      (a : ℕ) × IsAt tokens from place × SpellsOnce tokens from once a × HasWord tokens a w.RESUME ×
+  SpellsStmt tokens depth from (Resume part) to =
+      (a : ℕ) × IsAt tokens from part.value.place × SpellsOnce tokens from part.value.once a × HasWord tokens a w.RESUME ×
       HasSymbol tokens (a + 1) s.SEMICOLON × (to ≡ a + 2)
   -- ( SUSPEND | TERMINATE | PREVENT ) [ id ] ";"
-  SpellsStmt tokens depth from (OnTask word task place) to =
-      (a : ℕ) × IsAt tokens from place × HasWord tokens from (task_word word) ×
-      SpellsMaybe (SpellsName tokens) (from + 1) task a × HasSymbol tokens a s.SEMICOLON × (to ≡ a + 1)
+  SpellsStmt tokens depth from (OnTask part) to =
+      (a : ℕ) × IsAt tokens from part.value.place × HasWord tokens from (task_word part.value.word) ×
+      SpellsMaybe (SpellsName tokens) (from + 1) part.value.task a × HasSymbol tokens a s.SEMICOLON × (to ≡ a + 1)
   -- ( REQUEST | RELEASE ) id { "," id } ";"
-  SpellsStmt tokens depth from (OnSemas word names place) to =
-      (a : ℕ) × IsAt tokens from place × HasWord tokens from (sema_word word) ×
-      SpellsList tokens (SpellsName tokens) (from + 1) names.items.items a × HasSymbol tokens a s.SEMICOLON ×
+  SpellsStmt tokens depth from (OnSemas part) to =
+      (a : ℕ) × IsAt tokens from part.value.place × HasWord tokens from (sema_word part.value.word) ×
+      SpellsList tokens (SpellsName tokens) (from + 1) part.value.names.items.items a × HasSymbol tokens a s.SEMICOLON ×
       (to ≡ a + 1)
   -- ( ENABLE | DISABLE | TRIGGER ) id ";"
-  SpellsStmt tokens depth from (OnInterrupt word name place) to =
-      IsAt tokens from place × HasWord tokens from (interrupt_word word) × IsName tokens (from + 1) name ×
+  SpellsStmt tokens depth from (OnInterrupt part) to =
+      IsAt tokens from part.value.place × HasWord tokens from (interrupt_word part.value.word) × IsName tokens (from + 1) part.value.name ×
       HasSymbol tokens (from + 2) s.SEMICOLON × (to ≡ from + 3)
   -- PUT [ expr { "," expr } ] TO id BY fmt { "," fmt } ";"
-  SpellsStmt tokens depth from (Put values dation formats place) to =
-      (a : ℕ) × (b : ℕ) × IsAt tokens from place × HasWord tokens from w.PUT ×
-      SpellsMaybeList tokens (SpellsWhole tokens) (from + 1) values.items.items a × HasWord tokens a w.TO ×
-      IsName tokens (a + 1) dation × HasWord tokens (a + 2) w.BY ×
-      SpellsList tokens (SpellsFmt tokens) (a + 3) formats.items.items b × HasSymbol tokens b s.SEMICOLON × (to ≡ b + 1)
+  SpellsStmt tokens depth from (Put part) to =
+      (a : ℕ) × (b : ℕ) × IsAt tokens from part.value.place × HasWord tokens from w.PUT ×
+      SpellsMaybeList tokens (SpellsWhole tokens) (from + 1) part.value.values.items.items a × HasWord tokens a w.TO ×
+      IsName tokens (a + 1) part.value.dation × HasWord tokens (a + 2) w.BY ×
+      SpellsList tokens (SpellsFmt tokens) (a + 3) part.value.formats.items.items b × HasSymbol tokens b s.SEMICOLON × (to ≡ b + 1)
   -- GET [ ref { "," ref } ] FROM id BY fmt { "," fmt } ";"
-  SpellsStmt tokens depth from (Get targets dation formats place) to =
-      (a : ℕ) × (b : ℕ) × IsAt tokens from place × HasWord tokens from w.GET ×
-      SpellsMaybeList tokens (SpellsOwnRef tokens) (from + 1) targets.items.items a × HasWord tokens a w.FROM ×
-      IsName tokens (a + 1) dation × HasWord tokens (a + 2) w.BY ×
-      SpellsList tokens (SpellsFmt tokens) (a + 3) formats.items.items b × HasSymbol tokens b s.SEMICOLON × (to ≡ b + 1)
+  SpellsStmt tokens depth from (Get part) to =
+      (a : ℕ) × (b : ℕ) × IsAt tokens from part.value.place × HasWord tokens from w.GET ×
+      SpellsMaybeList tokens (SpellsOwnRef tokens) (from + 1) part.value.targets.items.items a × HasWord tokens a w.FROM ×
+      IsName tokens (a + 1) part.value.dation × HasWord tokens (a + 2) w.BY ×
+      SpellsList tokens (SpellsFmt tokens) (a + 3) part.value.formats.items.items b × HasSymbol tokens b s.SEMICOLON × (to ≡ b + 1)
   -- SEND expr TO id ";"
-  SpellsStmt tokens depth from (Send value dation place) to =
-      (a : ℕ) × IsAt tokens from place × SpellsAfter tokens w.SEND from value a × HasWord tokens a w.TO ×
-      IsName tokens (a + 1) dation × HasSymbol tokens (a + 2) s.SEMICOLON × (to ≡ a + 3)
+  SpellsStmt tokens depth from (Send part) to =
+      (a : ℕ) × IsAt tokens from part.value.place × SpellsAfter tokens w.SEND from part.value.value a × HasWord tokens a w.TO ×
+      IsName tokens (a + 1) part.value.dation × HasSymbol tokens (a + 2) s.SEMICOLON × (to ≡ a + 3)
   -- TAKE ref FROM id ";"
-  SpellsStmt tokens depth from (Take target dation place) to =
-      (a : ℕ) × IsAt tokens from place × HasWord tokens from w.TAKE × SpellsOwnRef tokens (from + 1) target a ×
-      HasWord tokens a w.FROM × IsName tokens (a + 1) dation × HasSymbol tokens (a + 2) s.SEMICOLON × (to ≡ a + 3)
+  SpellsStmt tokens depth from (Take part) to =
+      (a : ℕ) × IsAt tokens from part.value.place × HasWord tokens from w.TAKE × SpellsOwnRef tokens (from + 1) part.value.target a ×
+      HasWord tokens a w.FROM × IsName tokens (a + 1) part.value.dation × HasSymbol tokens (a + 2) s.SEMICOLON × (to ≡ a + 3)
 
   -- { stmt }
   pub SpellsStmts : {n : _} → List Token → ℕ → ℕ → Row_of-Stmt n → ℕ → Type 0
@@ -229,7 +233,7 @@ abbrev mutual
       SpellsMoreAlternatives tokens depth m rest to
 
   -- [ word { stmt } ]
-  pub SpellsOtherwise : List Token → ℕ → ℕ → ℕ → Held-Stmt-If-2 → ℕ → Type 0
+  pub SpellsOtherwise : List Token → ℕ → ℕ → ℕ → Held-Case-otherwise → ℕ → Type 0
   SpellsOtherwise tokens depth word from None' to = to ≡ from
   SpellsOtherwise tokens depth word from (Some' _ statements place) to =
       IsAt tokens from place × HasWord tokens from word × SpellsStmts tokens depth (from + 1) statements to

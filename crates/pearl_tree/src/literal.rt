@@ -45,14 +45,21 @@ pub enum Literal {
     /// `number`
     Number(Number),
     /// `bits`
-    Bits { len: u8, value: u64, place: u32 },
+    Bits {
+        len: u8,
+        value: u64,
+        place: u32,
+    },
     /// `text`
     Text {
         text: Box<ArrayVec<u8, 255>>,
         place: u32,
     },
     /// `clock`, as milliseconds since midnight
-    Clock { milliseconds: u32, place: u32 },
+    Clock {
+        milliseconds: u32,
+        place: u32,
+    },
     /// `duration`
     Duration(Box<Duration>),
 }

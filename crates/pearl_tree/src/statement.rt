@@ -104,18 +104,14 @@ pub struct Body {
 #[derive(Drop)]
 pub enum Stmt {
     /// `";"`
-    Empty {
-        place: u32,
-    },
+    Empty { place: u32 },
     Assign(Box<Assign>),
     Call(Box<Call>),
     If(Box<If>),
     Case(Box<Case>),
     Repeat(Box<Repeat>),
     /// `EXIT ";"`
-    Exit {
-        place: u32,
-    },
+    Exit { place: u32 },
     Begin(Box<Begin>),
     Return(Box<Return>),
     Activate(Box<Activate>),

@@ -3,3 +3,7 @@ pub mod Powers
 pub mod Held
 pub mod Turns
 pub mod Filled
+pub mod Values
+pub mod Results
+pub mod BitNumbers
+pub mod BitOperators

@@ -2,13 +2,37 @@
 use Rattle.std.specs.Prelude.{◌≡◌, ℕ, zero, suc, ◌<◌, ◌≤◌, ◌%◌, ◌^◌, max, ℤ, pos, unsigned_abs, ◌≤ℤ◌, List, length, Some, Result, Ok, Err}
 use Rattle.std.specs.Ordering.{nat_cmp}
 use Rattle.std.specs.Cmp.Lexicographic.{slice_cmp}
+use Rattle.pearl_value.specs.declared.kind.Kind.{Kind}
 use Rattle.pearl_value.specs.declared.cell.Cell.{Cell}
 use Rattle.pearl_value.specs.declared.cell.Cell.TheVariants.{Fixed, Bits, Chars, Clock, Span}
 use Rattle.pearl_value.specs.declared.trap.Trap.{Trap}
+use Rattle.pearl_value.specs.declared.operator.Monad.{Monad}
+use Rattle.pearl_value.specs.declared.operator.Dyad.{Dyad}
 use Rattle.pearl_value.specs.declared.operator.Dyad.TheVariants.{Mul, Div, Rem, Add, Sub, Cshift}
-use Rattle.pearl_value.specs.Applied.{applied2}
+use Rattle.pearl_value.specs.Kinds.{IsKind}
+use Rattle.pearl_value.specs.Cells.{kind_of}
+use Rattle.pearl_value.specs.WellFormed.{IsValue, IsValueOf}
+use Rattle.pearl_value.specs.Conversions.{SuitsKind, converted}
+use Rattle.pearl_value.specs.Rows.{row1, row2}
+use Rattle.pearl_value.specs.Applied.{applied1, applied2}
 use Rattle.pearl_value.specs.Blanks.{filled_to}
 use Rattle.pearl_value.specs.Comparisons.{order_between}
+
+-- a trap, or a value of this kind
+abbrev pub Gives : Kind → Result Cell Trap → Type 0
+Gives kind (Ok x) = IsValueOf kind x
+Gives kind (Err trap) = Unit {0}
+
+-- where an operator has a row for its operands' kinds, it gives a trap or a value of the row's kind
+abbrev pub KeepsRows1 : Type 0
+KeepsRows1 = (op : Monad) (x : Cell) (kind : Kind) → IsValue x → row1 op (kind_of x) ≡ Some kind → Gives kind (applied1 op x)
+
+abbrev pub KeepsRows2 : Type 0
+KeepsRows2 = (op : Dyad) (x y : Cell) (kind : Kind) → IsValue x → IsValue y → row2 op (kind_of x) (kind_of y) ≡ Some kind → Gives kind (applied2 op x y)
+
+-- and so does a conversion to a kind that the value suits
+abbrev pub KeepsKinds : Type 0
+KeepsKinds = (x : Cell) (to : Kind) → IsValue x → IsKind to → SuitsKind (kind_of x) to → Gives to (converted x to)
 
 -- a // b * b + a REM b = a, where nothing traps
 abbrev pub GivesBack : Type 0

@@ -9,3 +9,5 @@ pub mod Strings
 pub mod Comparisons
 pub mod Applied
 pub mod Laws
+pub mod BitLists
+pub mod BitLaws

@@ -1,6 +1,14 @@
 // What the operators keep.
 
-ghost use Rattle.pearl_value.specs.Laws.{GivesBack, LeavesRest, TurnsRound, TakesBack, ComparesFilled};
+ghost use Rattle.pearl_value.specs.Laws.{KeepsRows1, KeepsRows2, KeepsKinds, GivesBack, LeavesRest, TurnsRound, TakesBack, ComparesFilled};
+ghost use Rattle.pearl_value.specs.BitLaws.{IsListOfBits, IsOneList, TurnsEach, Appends, MovesLeft, MovesRight, Turns, JoinsBits, ComparesLists, FillsWithZeros};
+
+/// Operators and conversions make values of values, each of the kind that its row or its target names, or trap.
+pub fn results_are_values()
+    ensures one { KeepsRows1 }
+    ensures two { KeepsRows2 }
+    ensures converted { KeepsKinds }
+{}
 
 /// `a // b * b + a REM b` is a, where nothing traps.
 pub fn a_quotient_and_its_rest_give_the_value_back()
@@ -25,4 +33,46 @@ pub fn a_duration_is_taken_back()
 /// Two CHAR compare as they do when both are filled with blanks up to one length.
 pub fn texts_compare_as_filled()
     ensures { ComparesFilled }
+{}
+
+/// A value of BIT(n) is the BIT of one list of n truth values.
+pub fn a_bit_is_a_list()
+    ensures list { IsListOfBits }
+    ensures one { IsOneList }
+{}
+
+/// NOT turns each truth value.
+pub fn not_turns_each()
+    ensures { TurnsEach }
+{}
+
+/// CAT puts one list behind the other.
+pub fn cat_appends()
+    ensures { Appends }
+{}
+
+/// SHIFT drops the first truth values and fills with zeros on the right, or drops the last and fills on the left.
+pub fn shift_drops_and_fills()
+    ensures left { MovesLeft }
+    ensures right { MovesRight }
+{}
+
+/// CSHIFT turns the list by the number modulo its length.
+pub fn cshift_turns()
+    ensures { Turns }
+{}
+
+/// AND, OR and EXOR go bit by bit, the shorter list filled with zeros on the right.
+pub fn and_or_exor_go_bit_by_bit()
+    ensures { JoinsBits }
+{}
+
+/// `==` and `/=` compare the lists, the shorter filled with zeros on the right.
+pub fn bits_compare_as_lists()
+    ensures { ComparesLists }
+{}
+
+/// A conversion to a longer BIT fills with zeros on the right.
+pub fn a_longer_bit_is_filled()
+    ensures { FillsWithZeros }
 {}
