@@ -138,20 +138,20 @@ expression_at_depth-returns-clause-longest t c =
     let full : 100 ≤ c.each.count = omega (arith, c.each-test.false) in
     chain_is_full c.args.tokens.now c.args.depth c.args.from c.each.end c.each.stop c.each.count c.each.invariant.goes full
 
-pub limit-returns-in-Ok-clause-spells : goal.limit-returns-in-Ok-clause-spells
-limit-returns-in-Ok-clause-spells t c =
+pub limit-returns-in_ok-array-in-Ok-clause-spells : goal.limit-returns-in_ok-array-in-Ok-clause-spells
+limit-returns-in_ok-array-in-Ok-clause-spells t c =
     let head = c.args.head in
-    let array = c.in_ok-array.array in
+    let array = c.in_ok-array-in-Ok.array in
     subst (λ X. X) (sym (spells_limit c.args.tokens.now c.args.depth c.args.from head.dimension head.side array c.place_at.result c.in-Ok.read.end)) (
       head.word,
       c.place_at.ensures,
       c.requires.dimension,
       c.requires.word,
-      subst (λ part. grammar.SpellsRef c.args.tokens.now c.args.depth (head.word + 1) part c.in-Ok.read.end) (sym c.in_ok-array.ensures.value) c.in-Ok.ensures.spells,
+      subst (λ part. grammar.SpellsRef c.args.tokens.now c.args.depth (head.word + 1) part c.in-Ok.read.end) (sym c.in_ok-array-in-Ok.ensures.value) c.in-Ok.ensures.spells,
     )
 
-pub limit-returns-in-Ok-clause-longest : goal.limit-returns-in-Ok-clause-longest
-limit-returns-in-Ok-clause-longest t c = λ others agree x to h.
+pub limit-returns-in_ok-array-in-Ok-clause-longest : goal.limit-returns-in_ok-array-in-Ok-clause-longest
+limit-returns-in_ok-array-in-Ok-clause-longest t c = λ others agree x to h.
     let head = c.args.head in
     with_array c.args.tokens.now others c.args.depth c.args.from head.word c.in-Ok.read.end c.in-Ok.read.stop head.dimension head.side c.requires.dimension c.requires.word
     (omega (arith, c.in-Ok.ensures.ahead)) (omega (arith, c.in-Ok.ensures.ahead)) c.in-Ok.ensures.longest agree x to h
