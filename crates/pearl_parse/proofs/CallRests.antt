@@ -16,7 +16,7 @@ use Rattle.pearl_tree.proofs.ExpressionLists.{spells_subscripts}
 use Rattle.pearl_tree.proofs.OneStatement.{group_of}
 use Rattle.pearl_parse_expr.specs.declared.reading.Halt.{Halt}
 use Rattle.pearl_parse_expr.specs.declared.reading.Halt.TheVariants.{Refused, NoMemory}
-use Rattle.pearl_parse_expr.specs.Stops.{Sure, Stuck, EndsEarly, IsHalted, extends_expression, extends_operand, is_name, is_symbol}
+use Rattle.pearl_parse_expr.specs.Stops.{IsLongest, Stuck, EndsEarly, IsHalted, extends_expression, extends_operand, is_name, is_symbol}
 use Rattle.pearl_parse_expr.proofs.Primaries.{clash}
 use Rattle.pearl_parse_expr.proofs.Parts.{shorter}
 use Rattle.pearl_parse_decl.specs.Readings.{by_comma}
@@ -49,11 +49,11 @@ module _ (others : List Token) (from : ℕ) where
   pub bracketed_end : (end : ℕ) → HasSymbol others from s.LEFT_ROUND →
       ((xs : List Expr) (to : ℕ) → SpellsList others (SpellsWhole others) (from + 1) xs to → (to ≡ end) ⊎ EndsEarly (by_comma extends_expression) others end to) →
       (xs : List Expr) (to : ℕ) → SpellsArguments others from xs to → closed_rest others end to
-  bracketed_end end bracket sure [] to h =
+  bracketed_end end bracket longest [] to h =
       absurd (clash _ (ap (is_symbol s.SEMICOLON) (subst (λ k. HasSymbol others k s.SEMICOLON) h.1 h.2)) (ap (is_symbol s.SEMICOLON) bracket))
-  bracketed_end end bracket sure (x ∷ xs) to h =
+  bracketed_end end bracket longest (x ∷ xs) to h =
       let inner = h.1 in
-      let same : inner.0 ≡ end = settled (by_comma extends_expression) others end inner.0 (sure (x ∷ xs) inner.0 inner.2) (ap (by_comma extends_expression) inner.3) in (
+      let same : inner.0 ≡ end = settled (by_comma extends_expression) others end inner.0 (longest (x ∷ xs) inner.0 inner.2) (ap (by_comma extends_expression) inner.3) in (
         subst (λ k. HasSymbol others k s.RIGHT_ROUND) same inner.3,
         subst (λ k. HasSymbol others k s.SEMICOLON) (inner.4 ∙ ap (λ k. k + 1) same) h.2,
         omega (arith, same, inner.4, h.3),
@@ -61,10 +61,10 @@ module _ (others : List Token) (from : ℕ) where
 
 module _ (tokens : List Token) (from : ℕ) where
   pub arguments_go : (end stop new : ℕ) → HasSymbol tokens from s.LEFT_ROUND → from ≤ new → stop ≤ new →
-      Sure (λ tokens. SpellsList tokens (SpellsWhole tokens)) (by_comma extends_expression) tokens (from + 1) end stop →
+      IsLongest (λ tokens. SpellsList tokens (SpellsWhole tokens)) (by_comma extends_expression) tokens (from + 1) end stop →
       Goes SpellsArguments tokens from closed_rest end new
-  arguments_go end stop new bracket near below sure = λ others agree xs to h.
-      bracketed_end others from end (sym (agree from near) ∙ bracket) (λ xs to h. sure others (shorter tokens others stop new below agree) xs to h) xs to h
+  arguments_go end stop new bracket near below longest = λ others agree xs to h.
+      bracketed_end others from end (sym (agree from near) ∙ bracket) (λ xs to h. longest others (shorter tokens others stop new below agree) xs to h) xs to h
 
   pub arguments_stuck : (stop new : ℕ) → HasSymbol tokens from s.LEFT_ROUND → from ≤ new → stop ≤ new →
       Stuck (λ tokens. SpellsList tokens (SpellsWhole tokens)) tokens (from + 1) stop → Stuck SpellsArguments tokens from new
@@ -122,7 +122,7 @@ name_here None h = absurd (true≢false (sym h))
 
 -- a statement that begins with a name, by the token behind its reference
 module _ (others : List Token) (depth from end : ℕ) (named : is_name (what_at others from) ≡ true)
-    (sure : (xs : List Selector) (to : ℕ) → SpellsOwnNamed others from xs to → (to ≡ end) ⊎ EndsEarly extends_operand others end to) where
+    (longest : (xs : List Selector) (to : ℕ) → SpellsOwnNamed others from xs to → (to ≡ end) ⊎ EndsEarly extends_operand others end to) where
   kind_one : (a : Stmt) (to : ℕ) → SpellsStmt others depth from a to → T (eqb (group a) 1)
   kind_one a to h = let first = name_here (what_at others from) named in of_kind others depth from 1 first.0 first.1 first.2 a to h
 
@@ -130,7 +130,7 @@ module _ (others : List Token) (depth from end : ℕ) (named : is_name (what_at 
       HasSymbol others end s.SEMICOLON
   call_end arguments b h i =
       let list = as_selectors others (from + 1) arguments b h in
-      let same = settled extends_operand others end b (sure list.0 b (named, list.1)) (ap extends_operand i) in
+      let same = settled extends_operand others end b (longest list.0 b (named, list.1)) (ap extends_operand i) in
       subst (λ k. HasSymbol others k s.SEMICOLON) same i
 
   pub an_assignment : is_becomes (what_at others end) ≡ true → (a : Stmt) (to : ℕ) → SpellsStmt others depth from a to → value_rest others (end + 1) to
@@ -138,7 +138,7 @@ module _ (others : List Token) (depth from end : ℕ) (named : is_name (what_at 
     where
       by : (a : Stmt) → T (eqb (group a) 1) → SpellsStmt others depth from a to → value_rest others (end + 1) to
       by (Assign target x p) e h =
-          let same = settled extends_operand others end h.0 (sure target.selectors.items.items h.0 (named, h.3.2)) (becomes_stops (what_at others h.0) h.4) in
+          let same = settled extends_operand others end h.0 (longest target.selectors.items.items h.0 (named, h.3.2)) (becomes_stops (what_at others h.0) h.4) in
           (x, h.1, subst (λ k. SpellsWhole others (k + 1) x h.1) same h.5, (h.6, h.7))
       by (Call false name xs p) e h =
           let args = subst (λ k. SpellsMaybeBracketed others (SpellsWhole others) (k + 1) xs.items.items h.1) h.3 h.5 in
@@ -151,7 +151,7 @@ module _ (others : List Token) (depth from end : ℕ) (named : is_name (what_at 
     where
       by : (a : Stmt) → T (eqb (group a) 1) → SpellsStmt others depth from a to → arguments_rest others (from + 1) to
       by (Assign target x p) e h =
-          let same = settled extends_operand others end h.0 (sure target.selectors.items.items h.0 (named, h.3.2)) (becomes_stops (what_at others h.0) h.4) in
+          let same = settled extends_operand others end h.0 (longest target.selectors.items.items h.0 (named, h.3.2)) (becomes_stops (what_at others h.0) h.4) in
           absurd (clash _ (subst (λ k. is_becomes (what_at others k) ≡ true) same (becomes_here (what_at others h.0) h.4)) other)
       by (Call false name xs p) e h =
           (xs.items.items, to, (h.1, subst (λ k. SpellsMaybeBracketed others (SpellsWhole others) (k + 1) xs.items.items h.1) h.3 h.5, h.6, h.7), refl)
@@ -186,16 +186,16 @@ module _ (tokens : List Token) (depth from : ℕ) where
       let two : from + 1 + 1 ≡ from + 2 = omega arith in
       subst (λ k. arguments_rest others k to) two (call_goes here others agree a to h).1
 
-  pub assign_goes : (end stop : ℕ) → is_name (what_at tokens from) ≡ true → from ≤ stop → end ≤ stop → Sure SpellsOwnNamed extends_operand tokens from end stop →
+  pub assign_goes : (end stop : ℕ) → is_name (what_at tokens from) ≡ true → from ≤ stop → end ≤ stop → IsLongest SpellsOwnNamed extends_operand tokens from end stop →
       is_becomes (what_at tokens end) ≡ true → Goes (Spelled depth) tokens from value_rest (end + 1) stop
-  assign_goes end stop name near below sure here = λ others agree a to h.
-      an_assignment others depth from end (ap is_name (sym (agree from near)) ∙ name) (λ xs to h. sure others agree xs to h)
+  assign_goes end stop name near below longest here = λ others agree a to h.
+      an_assignment others depth from end (ap is_name (sym (agree from near)) ∙ name) (λ xs to h. longest others agree xs to h)
       (ap is_becomes (sym (agree end below)) ∙ here) a to h
 
-  pub named_call_goes : (end stop : ℕ) → is_name (what_at tokens from) ≡ true → from ≤ stop → end ≤ stop → Sure SpellsOwnNamed extends_operand tokens from end stop →
+  pub named_call_goes : (end stop : ℕ) → is_name (what_at tokens from) ≡ true → from ≤ stop → end ≤ stop → IsLongest SpellsOwnNamed extends_operand tokens from end stop →
       is_becomes (what_at tokens end) ≡ false → Goes (Spelled depth) tokens from arguments_rest (from + 1) stop
-  named_call_goes end stop name near below sure other = λ others agree a to h.
-      a_call others depth from end (ap is_name (sym (agree from near)) ∙ name) (λ xs to h. sure others agree xs to h)
+  named_call_goes end stop name near below longest other = λ others agree a to h.
+      a_call others depth from end (ap is_name (sym (agree from near)) ∙ name) (λ xs to h. longest others agree xs to h)
       (ap is_becomes (sym (agree end below)) ∙ other) a to h
 
   pub no_named : (halt : Halt) → is_name (what_at tokens from) ≡ true → IsHalted SpellsOwnNamed tokens from halt → IsHalted (Spelled depth) tokens from halt

@@ -17,7 +17,7 @@ use Rattle.pearl_tree.proofs.OneStatement.{group_of}
 use Rattle.pearl_tree.proofs.StatementLists.{spells_if, spells_case, spells_begin, spells_repeat}
 use Rattle.pearl_parse_expr.specs.declared.reading.Halt.{Halt}
 use Rattle.pearl_parse_expr.specs.declared.reading.Halt.TheVariants.{Refused, NoMemory}
-use Rattle.pearl_parse_expr.specs.Stops.{Exact, IsHalted, is_word}
+use Rattle.pearl_parse_expr.specs.Stops.{IsOnly, IsHalted, is_word}
 use Rattle.pearl_parse_expr.proofs.Primaries.{clash}
 use Rattle.pearl_parse.specs.declared.loops.Heads.{Heads}
 use Rattle.pearl_parse.specs.Stops.{IsStopped, begins_statement}
@@ -170,8 +170,8 @@ module _ (tokens : List Token) (depth from : ℕ) where
       (only_repeat others depth from (ap (is_one loop_words) (sym (agree from (omega arith))) ∙ here) a to h).1
 
 -- ";"
-pub empty_is_exact : (tokens : List Token) (depth from : ℕ) → HasSymbol tokens from s.SEMICOLON → Exact (Spelled depth) tokens from (from + 1) (from + 1)
-empty_is_exact tokens depth from here = λ others agree a to h.
+pub empty_is_only : (tokens : List Token) (depth from : ℕ) → HasSymbol tokens from s.SEMICOLON → IsOnly (Spelled depth) tokens from (from + 1) (from + 1)
+empty_is_only tokens depth from here = λ others agree a to h.
     by others a to (of_kind others depth from 0 (what.Symbol s.SEMICOLON) (sym (agree from (omega arith)) ∙ here) refl a to h) h
   where
     by : (others : List Token) (a : Stmt) (to : ℕ) → T (eqb (group a) 0) → SpellsStmt others depth from a to → to ≡ from + 1
@@ -267,5 +267,5 @@ no_statement tokens depth from within none = (
 pub out_of_memory : {X : Type 0} (spells : List Token → Spelling X) (tokens : List Token) (from : ℕ) (halt : Halt) → halt ≡ NoMemory → IsHalted spells tokens from halt
 out_of_memory spells tokens from halt is = subst (λ halt. IsHalted spells tokens from halt) (sym is) tt
 
-pub out_of_memory_behind : {X : Type 0} (spells : List Token → Spelling X) (tokens : List Token) (from low : ℕ) (halt : Halt) → halt ≡ NoMemory → IsStopped spells tokens from low halt
-out_of_memory_behind spells tokens from low halt is = subst (λ halt. IsStopped spells tokens from low halt) (sym is) tt
+pub out_of_memory_behind : {X : Type 0} (spells : List Token → Spelling X) (tokens : List Token) (from least_stop : ℕ) (halt : Halt) → halt ≡ NoMemory → IsStopped spells tokens from least_stop halt
+out_of_memory_behind spells tokens from least_stop halt is = subst (λ halt. IsStopped spells tokens from least_stop halt) (sym is) tt

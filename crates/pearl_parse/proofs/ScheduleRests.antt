@@ -17,7 +17,7 @@ use Rattle.pearl_tree.proofs.Meeting.{same_word}
 use Rattle.pearl_tree.proofs.OneSchedule.{start_word, start_begins, once_word, once_begins}
 use Rattle.pearl_parse_expr.specs.declared.reading.Halt.{Halt}
 use Rattle.pearl_parse_expr.specs.declared.reading.Halt.TheVariants.{Refused, NoMemory}
-use Rattle.pearl_parse_expr.specs.Stops.{Sure, extends_expression, is_name, is_word}
+use Rattle.pearl_parse_expr.specs.Stops.{IsLongest, extends_expression, is_name, is_word}
 use Rattle.pearl_parse_expr.proofs.Parts.{shorter}
 use Rattle.pearl_parse_decl.proofs.Lists.{settled}
 use Rattle.pearl_parse.specs.Stops.{IsStopped}
@@ -37,12 +37,12 @@ abbrev pub continue_rest : Rest
 continue_rest others at to = (is_name (what_at others (at + 1)) ≡ true) × HasSymbol others (at + 2) s.SEMICOLON × (to ≡ at + 3)
 
 module _ (tokens : List Token) (from : ℕ) where
-  pub period_stopped : (low end stop : ℕ) (halt : Halt) → Sure (λ tokens. SpellsAfter tokens w.ALL) extends_expression tokens from end stop → from ≤ end → low ≤ stop →
-      IsStopped SpellsOptionalEnd tokens end stop halt → IsStopped SpellsLongPeriod tokens from low halt
-  period_stopped low end stop NoMemory sure ahead behind h = tt
-  period_stopped low end stop (Refused k) sure ahead behind h = (
+  pub period_stopped : (least_stop end stop : ℕ) (halt : Halt) → IsLongest (λ tokens. SpellsAfter tokens w.ALL) extends_expression tokens from end stop → from ≤ end → least_stop ≤ stop →
+      IsStopped SpellsOptionalEnd tokens end stop halt → IsStopped SpellsLongPeriod tokens from least_stop halt
+  period_stopped least_stop end stop NoMemory longest ahead behind h = tt
+  period_stopped least_stop end stop (Refused k) longest ahead behind h = (
     λ others agree x to read.
-        let same = settled extends_expression others end read.0 (sure others (shorter tokens others stop k h.2 agree) x.duration read.0 read.2) read.3 in
+        let same = settled extends_expression others end read.0 (longest others (shorter tokens others stop k h.2 agree) x.duration read.0 read.2) read.3 in
         h.0 others agree x.end to (subst (λ m. SpellsOptionalEnd others m x.end to) same read.4),
     omega (arith, h.1, ahead),
     omega (arith, h.2, behind),

@@ -20,7 +20,7 @@ use Rattle.pearl_tree.proofs.Meeting.{same_word}
 use Rattle.pearl_tree.proofs.OneSchedule.{start_word, start_begins, once_word, once_begins}
 use Rattle.pearl_tree.proofs.OneStatement.{group_of}
 use Rattle.pearl_parse_expr.specs.declared.reading.Halt.{Halt}
-use Rattle.pearl_parse_expr.specs.Stops.{Sure, IsHalted, extends_expression, is_name, is_word}
+use Rattle.pearl_parse_expr.specs.Stops.{IsLongest, IsHalted, extends_expression, is_name, is_word}
 use Rattle.pearl_parse_expr.proofs.Primaries.{clash}
 use Rattle.pearl_parse.specs.Stops.{IsStopped}
 use Rattle.pearl_parse.specs.Schedules.{begins_end, time_word, SpellsOptionalEnd, SpellsOptionalPeriod, SpellsLongPeriod, SpellsActivation, SpellsBegun}
@@ -195,11 +195,11 @@ module _ (tokens : List Token) (depth from : ℕ) where
       (subst (λ word. IsStopped (λ tokens. SpellsAfter tokens word) tokens from from halt) is h)
 
   module _ (later : Bool) (word end stop : ℕ) (here : HasWord tokens from (time_word later)) (is : word ≡ time_word later) (near : from ≤ stop) (below : end ≤ stop)
-      (sure : Sure (λ tokens. SpellsAfter tokens word) extends_expression tokens from end stop) where
+      (longest : IsLongest (λ tokens. SpellsAfter tokens word) extends_expression tokens from end stop) where
     past_time : Goes (Spelled depth) tokens from after_time end stop
     past_time =
         past (Spelled depth) tokens from (SpellsTime later) extends_expression after_time from from end stop (timed_goes later here) near
-        (subst (λ word. Sure (λ tokens. SpellsAfter tokens word) extends_expression tokens from end stop) is sure) avoids_time
+        (subst (λ word. IsLongest (λ tokens. SpellsAfter tokens word) extends_expression tokens from end stop) is longest) avoids_time
 
     pub continued_goes : HasWord tokens end w.CONTINUE → Goes (Spelled depth) tokens from continue_rest end stop
     continued_goes word = λ others agree a to h. is_continued others end to (sym (agree end below) ∙ word) (past_time others agree a to h)

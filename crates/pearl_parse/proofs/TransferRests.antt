@@ -37,9 +37,9 @@ no_value tokens from x to here h =
     no_expr_at tokens from w.TO here refl (λ e. absurd (omega (arith, e))) (λ e. absurd (omega (arith, e))) (λ e. absurd (omega (arith, e)))
     (λ e. absurd (omega (arith, e))) x to h
 
-pub station_stopped : (tokens : List Token) (from low : ℕ) (halt : Halt) → IsStopped SpellsFormats tokens (from + 2) low halt → IsStopped SpellsStation tokens from low halt
-station_stopped tokens from low NoMemory h = tt
-station_stopped tokens from low (Refused k) h = (λ others agree x to read. h.0 others agree x.1 to read.2, omega (arith, h.1), h.2, h.3)
+pub station_stopped : (tokens : List Token) (from least_stop : ℕ) (halt : Halt) → IsStopped SpellsFormats tokens (from + 2) least_stop halt → IsStopped SpellsStation tokens from least_stop halt
+station_stopped tokens from least_stop NoMemory h = tt
+station_stopped tokens from least_stop (Refused k) h = (λ others agree x to read. h.0 others agree x.1 to read.2, omega (arith, h.1), h.2, h.3)
 
 module _ (tokens : List Token) (depth from : ℕ) where
   pub semas_goes : (word : SemaWord) → HasWord tokens from (sema_word word) → Goes (Spelled depth) tokens from semas_rest (from + 1) from

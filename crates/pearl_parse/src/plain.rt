@@ -4,7 +4,7 @@ ghost use Rattle.std.specs.Prelude.{ℕ, ◌<◌, ◌≤◌, length, IfOk, IfErr
 ghost use Rattle.pearl_tree.specs.Standing.{HasSymbol};
 ghost use Rattle.pearl_tree.specs.Statements.{SpellsStmt};
 ghost use Rattle.pearl_tables.specs.declared.symbol.TheConstants as s;
-ghost use Rattle.pearl_parse_expr.specs.Stops.{Exact, IsAhead, IsHalted};
+ghost use Rattle.pearl_parse_expr.specs.Stops.{IsOnly, IsAhead, IsHalted};
 ghost use Rattle.pearl_parse.specs.Firsts.{BeginsPlain};
 
 use crate::call::{call, named, return_};
@@ -25,7 +25,7 @@ fn empty(tokens: &[Token], from: usize) -> Reading<Stmt>
     requires within { from < length tokens.now }
     requires symbol { HasSymbol tokens.now from s.SEMICOLON }
     ensures spells { (depth : ℕ) → SpellsStmt tokens.now depth from result.part result.end }
-    ensures sure { (depth : ℕ) → Exact (λ tokens. SpellsStmt tokens depth) tokens.now from result.end result.stop }
+    ensures longest { (depth : ℕ) → IsOnly (λ tokens. SpellsStmt tokens depth) tokens.now from result.end result.stop }
     ensures ahead { IsAhead tokens.now from result.end result.stop }
 {
     Reading {
@@ -47,7 +47,7 @@ pub fn plain(
     requires within { from < length tokens.now }
     requires first { BeginsPlain tokens.now from first }
     ensures spells { IfOk result (λ reading. (depth : ℕ) → SpellsStmt tokens.now depth from reading.part reading.end) }
-    ensures sure { IfOk result (λ reading. (depth : ℕ) → Exact (λ tokens. SpellsStmt tokens depth) tokens.now from reading.end reading.stop) }
+    ensures longest { IfOk result (λ reading. (depth : ℕ) → IsOnly (λ tokens. SpellsStmt tokens depth) tokens.now from reading.end reading.stop) }
     ensures ahead { IfOk result (λ reading. IsAhead tokens.now from reading.end reading.stop) }
     ensures refused { IfErr result (λ halt. (depth : ℕ) → IsHalted (λ tokens. SpellsStmt tokens depth) tokens.now from halt) }
 {
