@@ -1,6 +1,6 @@
 // What the names of a module mean, scope by scope, and its default lengths.
 
-use crate::modules::tokens_of;
+use crate::cases::tokens_of;
 use pearl_parse::parse::parse;
 use pearl_scope::collect::names_of_module;
 use pearl_scope::duration::is_too_long;
