@@ -1,0 +1,127 @@
+#!/usr/bin/env python3
+"""Checks that the documents lead to what is there.
+
+usage: tools/check_docs.py
+
+- docs/architecture.md has one line for each file of definitions of each crate, and none for another; where the
+  crate's specs/Lib.antt has a comment above the file's name, it is that line.
+- Each crate of crates.txt has a row in docs/architecture.md.
+- Each name in backquotes that is written like one of the code's stands somewhere in crates/.
+- Each file in backquotes is there.
+- README.md has at most 80 lines of at most 110 columns.
+
+Prints what doesn't hold, and ends with status 1 if there is something.
+"""
+
+import os
+import re
+import sys
+
+TOP = os.path.dirname(os.path.dirname(os.path.abspath(__file__)))
+# Names of examples.
+EXAMPLES = {"pump_2"}
+
+DOCS = ["README.md"] + sorted("docs/" + name for name in os.listdir(os.path.join(TOP, "docs")) if name.endswith(".md"))
+
+
+def read(path):
+    with open(os.path.join(TOP, path), encoding="utf-8") as file:
+        return file.read()
+
+
+def crates():
+    lines = (line.split("#")[0] for line in read("crates.txt").splitlines())
+    return [line.split(":")[0].split()[0] for line in lines if line.strip()]
+
+
+def told_files(text):
+    """For each crate the files that architecture.md tells, with their lines."""
+    told, crate = {}, None
+    for line in text[text.index("## Every file of definitions"):].splitlines():
+        head = re.fullmatch(r"### `(\w+)`", line)
+        entry = re.fullmatch(r"- `(\w+)`: (.*)", line)
+        if head:
+            crate = told.setdefault(head[1], {})
+        elif entry:
+            crate[entry[1]] = entry[2]
+        elif line.startswith("  ") and crate:
+            last = list(crate)[-1]
+            crate[last] += " " + line.strip()
+    return told
+
+
+def definitions():
+    wrong = []
+    told = told_files(read("docs/architecture.md"))
+    for crate in crates():
+        folder = os.path.join(TOP, "crates", crate, "specs")
+        there = {name[:-5] for name in os.listdir(folder)} - {"Lib"} if os.path.isdir(folder) else set()
+        lines = told.get(crate, {})
+        wrong += [f"docs/architecture.md has no line for {crate} specs/{name}" for name in sorted(there - set(lines))]
+        wrong += [f"{crate} has no specs/{name}" for name in sorted(set(lines) - there)]
+        comment = None
+        for line in read(f"crates/{crate}/specs/Lib.antt").splitlines() if there else []:
+            module = re.match(r"pub mod (\w+)", line)
+            if line.startswith("-- "):
+                comment = line[3:]
+            elif module:
+                if comment and lines.get(module[1]) not in (comment, None):
+                    wrong.append(f"{crate} specs/Lib.antt says of {module[1]}: {comment}")
+                comment = None
+    return wrong
+
+
+def rows():
+    text = read("docs/architecture.md")
+    return [f"docs/architecture.md has no row for {crate}" for crate in crates() if f"| `{crate}` |" not in text]
+
+
+def known_names():
+    names = set(crates())
+    for folder, folders, files in os.walk(os.path.join(TOP, "crates")):
+        folders[:] = [name for name in folders if name != "out"]
+        for name in files:
+            if name.endswith((".rt", ".antt")):
+                names.add(name.rsplit(".", 1)[0])
+                with open(os.path.join(folder, name), encoding="utf-8") as file:
+                    names.update(re.findall(r"[A-Za-z_][A-Za-z_0-9]*'?", file.read()))
+    return names
+
+
+def names_and_files():
+    wrong = []
+    known = known_names()
+    for path in DOCS:
+        text = re.sub(r"```.*?```", "", read(path), flags=re.S)
+        for quoted in re.findall(r"`([^`\n]+)`", text):
+            if "NAME" in quoted or "CRATE" in quoted or quoted in EXAMPLES:
+                continue
+            if re.fullmatch(r"(docs|tools|crates)/[\w/.-]+", quoted):
+                if not os.path.exists(os.path.join(TOP, quoted)):
+                    wrong.append(f"{path}: there is no {quoted}")
+            elif re.fullmatch(r"\w+\.md", quoted):
+                if not os.path.exists(os.path.join(TOP, os.path.dirname(path), quoted)):
+                    wrong.append(f"{path}: there is no {quoted}")
+            elif re.fullmatch(r"pearl_\w+/src/(\w+\.rt)?", quoted):
+                if not os.path.exists(os.path.join(TOP, "crates", quoted)):
+                    wrong.append(f"{path}: there is no crates/{quoted}")
+            elif re.fullmatch(r"\w*[a-z]_\w+|[A-Z][a-z]+[A-Z]\w*'?|\w+(::\w+)+", quoted):
+                wrong += [f"{path}: nothing is called {name}" for name in quoted.split("::") if name not in known]
+    return wrong
+
+
+def readme():
+    lines = read("README.md").splitlines()
+    wrong = [f"README.md has {len(lines)} lines"] if len(lines) > 80 else []
+    return wrong + [f"README.md: line {at} is too long" for at, line in enumerate(lines, 1) if len(line) > 110]
+
+
+def main():
+    wrong = definitions() + rows() + names_and_files() + readme()
+    for line in wrong:
+        print(line)
+    sys.exit(1 if wrong else 0)
+
+
+if __name__ == "__main__":
+    main()
