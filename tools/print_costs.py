@@ -97,7 +97,9 @@ def main():
             fits = figures[1] < bound and figures[4] <= RATIO
             passed = passed and fits
             if args.markdown:
-                print("| `{}` | {:.0f} MB | {:.0f} MB | {:.2f} s | {:.2f} s | {:.1f} |".format(name, *figures))
+                form, comma, note = name.partition(", ")
+                print("| `{}`{}{} | {:.0f} MB | {:.0f} MB | {:.2f} s | {:.2f} s | {:.1f} |".format(
+                    form, comma, note, *figures))
             else:
                 note = "" if fits else f"  above {bound} MB or {RATIO}"
                 print("{:32}{:9.1f}{:9.1f}{:9.3f}{:9.3f}{:8.2f}{}".format(name, *figures, note), flush=True)
