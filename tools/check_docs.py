@@ -1,7 +1,7 @@
 #!/usr/bin/env python3
 """Checks that the documents lead to what is there.
 
-usage: tools/check_docs.py
+usage: tools/check_docs.py [--write]
 
 - docs/architecture.md has one line for each file of definitions of each crate, and none for another; where the
   crate's specs/Lib.antt has a comment above the file's name, it is that line.
@@ -10,7 +10,8 @@ usage: tools/check_docs.py
 - Each file in backquotes is there.
 - README.md has at most 80 lines of at most 110 columns.
 
-Prints what doesn't hold, and ends with status 1 if there is something.
+Prints what doesn't hold, and ends with status 1 if there is something. With --write the files of definitions are first
+told anew in docs/architecture.md, each by the comment above its name in specs/Lib.antt, or else by the line that it has.
 """
 
 import os
@@ -18,6 +19,9 @@ import re
 import sys
 
 TOP = os.path.dirname(os.path.dirname(os.path.abspath(__file__)))
+# Where docs/architecture.md begins to tell the files of definitions.
+LIST = "## Every file of definitions"
+
 # Names of examples.
 EXAMPLES = {"pump_2"}
 
@@ -37,7 +41,7 @@ def crates():
 def told_files(text):
     """For each crate the files that architecture.md tells, with their lines."""
     told, crate = {}, None
-    for line in text[text.index("## Every file of definitions"):].splitlines():
+    for line in text[text.index(LIST):].splitlines():
         head = re.fullmatch(r"### `(\w+)`", line)
         entry = re.fullmatch(r"- `(\w+)`: (.*)", line)
         if head:
@@ -50,25 +54,45 @@ def told_files(text):
     return told
 
 
+def modules(crate):
+    """The files of definitions that the crate's Lib.antt names, in order, each with the comment above its name."""
+    path = f"crates/{crate}/specs/Lib.antt"
+    found, comment = {}, None
+    for line in read(path).splitlines() if os.path.exists(os.path.join(TOP, path)) else []:
+        module = re.match(r"pub mod (\w+)", line)
+        if line.startswith("-- "):
+            comment = line[3:]
+        elif module:
+            found[module[1]] = comment
+            comment = None
+    return found
+
+
 def definitions():
     wrong = []
     told = told_files(read("docs/architecture.md"))
     for crate in crates():
-        folder = os.path.join(TOP, "crates", crate, "specs")
-        there = {name[:-5] for name in os.listdir(folder)} - {"Lib"} if os.path.isdir(folder) else set()
-        lines = told.get(crate, {})
-        wrong += [f"docs/architecture.md has no line for {crate} specs/{name}" for name in sorted(there - set(lines))]
-        wrong += [f"{crate} has no specs/{name}" for name in sorted(set(lines) - there)]
-        comment = None
-        for line in read(f"crates/{crate}/specs/Lib.antt").splitlines() if there else []:
-            module = re.match(r"pub mod (\w+)", line)
-            if line.startswith("-- "):
-                comment = line[3:]
-            elif module:
-                if comment and lines.get(module[1]) not in (comment, None):
-                    wrong.append(f"{crate} specs/Lib.antt says of {module[1]}: {comment}")
-                comment = None
+        there, lines = modules(crate), told.get(crate, {})
+        wrong += [f"docs/architecture.md has no line for {crate} specs/{name}" for name in there if name not in lines]
+        wrong += [f"{crate} has no specs/{name}" for name in lines if name not in there]
+        for name, comment in there.items():
+            if comment and lines.get(name, comment) != comment:
+                wrong.append(f"{crate} specs/Lib.antt says of {name}: {comment}")
     return wrong
+
+
+def write():
+    text = read("docs/architecture.md")
+    told = told_files(text)
+    head = text[:text.index(LIST)] + LIST + text[text.index(LIST) + len(LIST):].split("\n### ")[0].rstrip("\n")
+    parts = [head + "\n"]
+    for crate in crates():
+        there = modules(crate)
+        if there:
+            lines = [f"- `{name}`: {comment or told.get(crate, {}).get(name, '')}" for name, comment in there.items()]
+            parts.append("\n".join([f"\n### `{crate}`\n"] + lines) + "\n")
+    with open(os.path.join(TOP, "docs/architecture.md"), "w", encoding="utf-8") as file:
+        file.write("".join(parts))
 
 
 def rows():
@@ -117,6 +141,8 @@ def readme():
 
 
 def main():
+    if "--write" in sys.argv[1:]:
+        write()
     wrong = definitions() + rows() + names_and_files() + readme()
     for line in wrong:
         print(line)
