@@ -7,7 +7,8 @@ usage: tools/check_docs.py [--write]
   crate's specs/Lib.antt has a comment above the file's name, it is that line.
 - Each crate of crates.txt has a row in docs/architecture.md.
 - Each name in backquotes that is written like one of the code's stands somewhere in crates/.
-- Each file in backquotes is there.
+- Each file in backquotes is there, and so is each file of definitions that is named behind its crate, as in
+  `CRATE` specs/FILE, FILE (`name`).
 - README.md has at most 80 lines of at most 110 columns.
 
 Prints what doesn't hold, and ends with status 1 if there is something. With --write the files of definitions are first
@@ -129,8 +130,19 @@ def names_and_files():
             elif re.fullmatch(r"pearl_\w+/src/(\w+\.rt)?", quoted):
                 if not os.path.exists(os.path.join(TOP, "crates", quoted)):
                     wrong.append(f"{path}: there is no crates/{quoted}")
-            elif re.fullmatch(r"\w*[a-z]_\w+|[A-Z][a-z]+[A-Z]\w*'?|\w+(::\w+)+", quoted):
+            elif re.fullmatch(r"\w*[a-z]_\w+|[A-Z][a-z]\w*'?|\w+(::\w+)+", quoted):
                 wrong += [f"{path}: nothing is called {name}" for name in quoted.split("::") if name not in known]
+    return wrong
+
+
+def cited_files():
+    wrong = []
+    one = r"[A-Z]\w*(?: \([^)]*\))?"
+    for path in DOCS:
+        text = " ".join(read(path).split())
+        for crate, files in re.findall(rf"`(pearl_\w+)`(?:'s)? specs/({one}(?:, {one})*)", text):
+            names = re.findall(r"(?:^|, )([A-Z]\w*)", re.sub(r" \([^)]*\)", "", files))
+            wrong += [f"{path}: {crate} has no specs/{name}" for name in names if name not in modules(crate)]
     return wrong
 
 
@@ -143,7 +155,7 @@ def readme():
 def main():
     if "--write" in sys.argv[1:]:
         write()
-    wrong = definitions() + rows() + names_and_files() + readme()
+    wrong = definitions() + rows() + names_and_files() + cited_files() + readme()
     for line in wrong:
         print(line)
     sys.exit(1 if wrong else 0)
