@@ -83,7 +83,7 @@ lawful_word_front bytes h =
 within : (digits : List ℕ) (max : ℕ) → IfSome (value_within digits max) (λ value. value ≤ max)
 within digits max = choose (λ value. value ≤ max) (nat_le (value_of digits) max) (Some (value_of digits)) None (λ few. at_most (value_of digits) max few) (λ _. tt)
 
-digits_are : (bytes : List ℕ) → All IsDigit (digits_of bytes)
+pub digits_are : (bytes : List ℕ) → All IsDigit (digits_of bytes)
 digits_are bytes = all_prefix is_ascii_digit IsDigit bytes digit
 
 decimals_are : (bytes : List ℕ) → All IsDigit (decimals_of bytes)

@@ -8,3 +8,5 @@ pub mod Placed
 pub mod Lawful
 pub mod Unique
 pub mod LawfulTokens
+pub mod Runs
+pub mod Numerals
