@@ -10,3 +10,4 @@ pub mod Unique
 pub mod LawfulTokens
 pub mod Runs
 pub mod Numerals
+pub mod NumeralSizes

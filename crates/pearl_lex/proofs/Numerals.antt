@@ -52,14 +52,14 @@ part_begins byte (x ∷ y ∷ rest) h = (ap (λ b. b ∷ y ∷ rest) (equal x by
 
 -- ---- values
 
-abbrev Judged : List ℕ → ℕ → Option ℕ → Type 0
+abbrev pub Judged : List ℕ → ℕ → Option ℕ → Type 0
 Judged digits max (Some value) = (value ≡ value_of digits) × (value_of digits ≤ max)
 Judged digits max None = max < value_of digits
 
 above : (n max : ℕ) → nat_le n max ≡ false → max < n
 above n max h = grind (arith, nat_tests)
 
-judged : (digits : List ℕ) (max : ℕ) → Judged digits max (value_within digits max)
+pub judged : (digits : List ℕ) (max : ℕ) → Judged digits max (value_within digits max)
 judged digits max =
     either (Judged digits max) (nat_le (value_of digits) max) (Some (value_of digits)) None (λ h. (refl, at_most (value_of digits) max h)) (λ h. above (value_of digits) max h)
 
@@ -77,11 +77,11 @@ abbrev PartJudged : List ℕ → ℕ → Option ℕ → Type 0
 PartJudged bytes size (Some part) = Parted bytes size part
 PartJudged bytes size None = HasFineDecimals bytes
 
-abbrev Thousandths : List ℕ → Option ℕ → Type 0
+abbrev pub Thousandths : List ℕ → Option ℕ → Type 0
 Thousandths digits (Some part) = (length digits ≤ 3) × (part ≡ value_of digits * 10 ^ (3 - length digits))
 Thousandths digits None = 3 < length digits
 
-thousandths_are : (digits : List ℕ) → 1 ≤ length digits → Thousandths digits (thousandths digits)
+pub thousandths_are : (digits : List ℕ) → 1 ≤ length digits → Thousandths digits (thousandths digits)
 thousandths_are [] some = absurd (omega (arith, some))
 thousandths_are (a ∷ []) some = (omega arith, omega arith)
 thousandths_are (a ∷ b ∷ []) some = (omega arith, omega arith)
