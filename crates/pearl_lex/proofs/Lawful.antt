@@ -49,11 +49,11 @@ none_differs row table text false e none go =
     All-cons (λ row. row.0 ≢ text) row table (λ is. false≢true (sym e ∙ (bytes_eq-Decides row.0 text).1 is))
     (go (sym (ap (λ b. if b then Some row.1 else meaning table text) e) ∙ none))
 
-no_meaning : (table : List (List ℕ × ℕ)) (text : List ℕ) → meaning table text ≡ None → All (λ row. row.0 ≢ text) table
+pub no_meaning : (table : List (List ℕ × ℕ)) (text : List ℕ) → meaning table text ≡ None → All (λ row. row.0 ≢ text) table
 no_meaning [] text none = All-nil (λ row. row.0 ≢ text)
 no_meaning (row ∷ table) text none = none_differs row table text (bytes_eq row.0 text) refl none (no_meaning table text)
 
-begins_name : (bytes : List ℕ) → is_ascii_alphabetic (get_or bytes 0 0) ≡ true → BeginsWithLetter (take (prefix_len is_id_byte bytes) bytes)
+pub begins_name : (bytes : List ℕ) → is_ascii_alphabetic (get_or bytes 0 0) ≡ true → BeginsWithLetter (take (prefix_len is_id_byte bytes) bytes)
 begins_name [] h = absurd (false≢true h)
 begins_name (b ∷ bytes) h = by (is_ascii_alphabetic b) refl
   where
@@ -193,7 +193,7 @@ one_char true r a f = All-nil IsChar
 one_char false true a f = All-cons IsChar a [] (range 32 126 a f) (All-nil IsChar)
 one_char false false a f = All-nil IsChar
 
-chars_are : (bytes : List ℕ) → All IsChar (chars_of (take (chars_len bytes) bytes))
+pub chars_are : (bytes : List ℕ) → All IsChar (chars_of (take (chars_len bytes) bytes))
 chars_are [] = All-nil IsChar
 chars_are (a ∷ []) = one_char (eqb a 39) (is_char a) a refl
 chars_are (a ∷ b ∷ rest) = two_chars (eqb a 39) (eqb b 39) (is_char a) a b rest refl refl (chars_are rest) (chars_are (b ∷ rest))
@@ -204,7 +204,7 @@ lawful_text text all =
     (λ h. let fits = range 1 255 (length text) h in (fits.0, fits.1, all))
     (λ _. tt)
 
-some_width : (n : ℕ) → eqb n 0 ≡ false → 1 ≤ n
+pub some_width : (n : ℕ) → eqb n 0 ≡ false → 1 ≤ n
 some_width n h = by n h
   where
     by : (n : ℕ) → eqb n 0 ≡ false → 1 ≤ n

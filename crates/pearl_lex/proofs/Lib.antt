@@ -11,3 +11,4 @@ pub mod LawfulTokens
 pub mod Runs
 pub mod Numerals
 pub mod NumeralSizes
+pub mod Names
