@@ -166,10 +166,10 @@ lawful_bits w digits some =
     ))
     (λ _. tt)
 
-abbrev IsChar : ℕ → Type 0
+abbrev pub IsChar : ℕ → Type 0
 IsChar b = (32 ≤ b) × (b ≤ 126)
 
-chars_cons : (a : ℕ) (ys : List ℕ) → eqb a 39 ≡ false → chars_of (a ∷ ys) ≡ a ∷ chars_of ys
+pub chars_cons : (a : ℕ) (ys : List ℕ) → eqb a 39 ≡ false → chars_of (a ∷ ys) ≡ a ∷ chars_of ys
 chars_cons a [] e = refl
 chars_cons a (y ∷ ys) e = ap (λ b. a ∷ (if b then chars_of ys else chars_of (y ∷ ys))) e
 

@@ -12,3 +12,4 @@ pub mod Runs
 pub mod Numerals
 pub mod NumeralSizes
 pub mod Names
+pub mod Widths
