@@ -148,7 +148,7 @@ bits_below w (d ∷ digits) value k few all =
     subst (λ n. fold (λ value digit. value * 2 ^ w + digit_value digit) (value * 2 ^ w + digit_value d) digits < 2 ^ n) e
     (bits_below w digits (value * 2 ^ w + digit_value d) (w + k) next (and_back (is_digit_of w d) (list_all (is_digit_of w) digits) all))
 
-some_bits : (w n : ℕ) → 1 ≤ w → 1 ≤ n → 1 ≤ n * w
+pub some_bits : (w n : ℕ) → 1 ≤ w → 1 ≤ n → 1 ≤ n * w
 some_bits w n some many = let up : n ≤ n * w = le-mul_of_pos_right n some in omega (arith, up, many)
 
 lawful_bits : (w : ℕ) (digits : List ℕ) → 1 ≤ w → IfSome (bits_of w digits) IsLawfulWhat

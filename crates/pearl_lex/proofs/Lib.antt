@@ -13,3 +13,5 @@ pub mod Numerals
 pub mod NumeralSizes
 pub mod Names
 pub mod Widths
+pub mod QuotedTokens
+pub mod LongestFront

@@ -76,4 +76,3 @@ run_split p bytes = sym (take-append-drop (prefix_len p bytes) bytes)
 -- a run that begins with a byte that passes has one at least
 pub some_run : (p : ℕ → Bool) (b : ℕ) (bytes : List ℕ) → p b ≡ true → 1 ≤ prefix_len p (b ∷ bytes)
 some_run p b bytes h = subst (λ t. 1 ≤ (if t then 1 + prefix_len p bytes else 0)) (sym h) (omega arith)
-

@@ -156,7 +156,7 @@ IsAlone bytes n = get_or bytes n 0 ≡ 39 → ¬ (get_or bytes (suc n) 0 ≡ 39)
 not_quote : (a : ℕ) → eqb a 39 ≡ false → ¬ (a ≡ 39)
 not_quote a e is = absurd (let f = sym e ∙ ap (λ x. eqb x 39) is in cc f)
 
-zero_quote : ¬ (◌≡◌ {A = ℕ} 0 39)
+pub zero_quote : ¬ (◌≡◌ {A = ℕ} 0 39)
 zero_quote h = omega (arith, h)
 
 alone_more : (p q r : Bool) (a b : ℕ) (rest : List ℕ) → eqb a 39 ≡ p → eqb b 39 ≡ q → IsAlone rest (chars_len rest) → IsAlone (b ∷ rest) (chars_len (b ∷ rest))
@@ -243,6 +243,7 @@ digit_is_plain d h = by (nat_le 48 d && nat_le d 57) (nat_le 65 d && nat_le d 70
   where
     off : (d : ℕ) → 39 < d → eqb d 39 ≡ false
     off d h = grind (arith, nat_tests)
+
     by : (x y : Bool) → (nat_le 48 d && nat_le d 57) ≡ x → (nat_le 65 d && nat_le d 70) ≡ y → (if x then d - 48 else (if y then d - 55 else 16)) < 16 → IsChar d × (eqb d 39 ≡ false)
     by true y e f h = let within = range 48 57 d e in ((omega (arith, within.0), omega (arith, within.1)), off d (omega (arith, within.0)))
     by false true e f h = let within = range 65 70 d f in ((omega (arith, within.0), omega (arith, within.1)), off d (omega (arith, within.0)))
