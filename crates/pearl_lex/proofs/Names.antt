@@ -60,11 +60,11 @@ front_other bytes h = by (is_ascii_alphabetic (get_or bytes 0 0)) (is_ascii_digi
 
 -- ---- words and names
 
-passing : {X : Type 0} (p : X → Bool) (xs : List X) → list_all p xs ≡ true → All (λ x. p x ≡ true) xs
+pub passing : {X : Type 0} (p : X → Bool) (xs : List X) → list_all p xs ≡ true → All (λ x. p x ≡ true) xs
 passing p xs h = (Decides-by_and p (λ y. p y ≡ true) (list_all p) (λ y. (λ e. e, λ e. e)) refl (λ _ _. refl) xs).0 h
 
 -- a word is spelled as a name would be
-abbrev is_named : List ℕ → Bool
+abbrev pub is_named : List ℕ → Bool
 is_named [] = false
 is_named (b ∷ bytes) = is_ascii_alphabetic b && (list_all is_id_byte (b ∷ bytes) && nat_le (length (b ∷ bytes)) 63)
 
@@ -72,7 +72,7 @@ words_named : each_word (λ code text. is_named text) meanings ≡ true
 unfolding meanings
 words_named = refl
 
-word_named : (text : List ℕ) (code : ℕ) → IsWord text code → is_named text ≡ true
+pub word_named : (text : List ℕ) (code : ℕ) → IsWord text code → is_named text ≡ true
 word_named text code is = each_word-at (λ code text. is_named text) meanings words_named code text is
 
 short_word : (text : List ℕ) → is_named text ≡ true → length text ≤ 63

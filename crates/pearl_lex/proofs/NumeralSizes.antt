@@ -25,16 +25,16 @@ number_least bytes n few =
     (λ _. sized_least _ n _ (omega (arith, few)))
     (λ _. sized_least _ n _ few))
 
-decimals_begin : (decimals rest : List ℕ) → AreDigits decimals → begins_part 46 (46 ∷ (decimals ++ rest)) ≡ true
+pub decimals_begin : (decimals rest : List ℕ) → AreDigits decimals → begins_part 46 (46 ∷ (decimals ++ rest)) ≡ true
 decimals_begin [] rest are = absurd (omega (arith, are.0))
 decimals_begin (d ∷ decimals) rest are = is_digit d (are.1 0 0 (omega arith))
 
-decimals_length : (decimals rest : List ℕ) → AreDigits decimals → decimals_len (46 ∷ (decimals ++ rest)) ≡ 1 + (length decimals + digit_count rest)
+pub decimals_length : (decimals rest : List ℕ) → AreDigits decimals → decimals_len (46 ∷ (decimals ++ rest)) ≡ 1 + (length decimals + digit_count rest)
 decimals_length decimals rest are =
     ap (λ b. if b then 1 + digit_count (decimals ++ rest) else 0) (decimals_begin decimals rest are) ∙ ap (λ n. 1 + n) (count_append decimals rest are.1)
 
 -- behind a period no clock goes on
-no_clock : (bytes more : List ℕ) → after_digits bytes ≡ 46 ∷ more → begins_clock bytes ≡ false
+pub no_clock : (bytes more : List ℕ) → after_digits bytes ≡ 46 ∷ more → begins_clock bytes ≡ false
 no_clock bytes more after = ap (λ a. begins_part 58 a && begins_part 58 (after_digits (drop 1 a))) after
 
 pub decimal_least : (digits decimals rest : List ℕ) → AreDigits digits → AreDigits decimals
@@ -71,15 +71,15 @@ colon_begins [] rest are = absurd (omega (arith, are.0))
 colon_begins (d ∷ digits) rest are = is_digit d (are.1 0 0 (omega arith))
 
 -- what the definition of clocks sees of three runs with colons between them
-record Runs (bytes hours minutes seconds tail : List ℕ) : Type 0 where
-  begins : begins_clock bytes ≡ true
-  hours_are : digits_of bytes ≡ hours
-  hours_count : digit_count bytes ≡ length hours
-  minutes_are : digits_of (next_part bytes) ≡ minutes
-  minutes_count : digit_count (next_part bytes) ≡ length minutes
-  behind : next_part (next_part bytes) ≡ seconds ++ tail
+pub record Runs (bytes hours minutes seconds tail : List ℕ) : Type 0 where
+  pub begins : begins_clock bytes ≡ true
+  pub hours_are : digits_of bytes ≡ hours
+  pub hours_count : digit_count bytes ≡ length hours
+  pub minutes_are : digits_of (next_part bytes) ≡ minutes
+  pub minutes_count : digit_count (next_part bytes) ≡ length minutes
+  pub behind : next_part (next_part bytes) ≡ seconds ++ tail
 
-runs : (hours minutes seconds tail : List ℕ) → AreDigits hours → AreDigits minutes → AreDigits seconds
+pub runs : (hours minutes seconds tail : List ℕ) → AreDigits hours → AreDigits minutes → AreDigits seconds
     → Runs (hours ++ 58 ∷ (minutes ++ 58 ∷ (seconds ++ tail))) hours minutes seconds tail
 runs hours minutes seconds tail h m s =
     let inner = minutes ++ 58 ∷ (seconds ++ tail) in
