@@ -49,11 +49,11 @@ none_differs row table text false e none go =
     All-cons (λ row. row.0 ≢ text) row table (λ is. false≢true (sym e ∙ (bytes_eq-Decides row.0 text).1 is))
     (go (sym (ap (λ b. if b then Some row.1 else meaning table text) e) ∙ none))
 
-no_meaning : (table : List (List ℕ × ℕ)) (text : List ℕ) → meaning table text ≡ None → All (λ row. row.0 ≢ text) table
+pub no_meaning : (table : List (List ℕ × ℕ)) (text : List ℕ) → meaning table text ≡ None → All (λ row. row.0 ≢ text) table
 no_meaning [] text none = All-nil (λ row. row.0 ≢ text)
 no_meaning (row ∷ table) text none = none_differs row table text (bytes_eq row.0 text) refl none (no_meaning table text)
 
-begins_name : (bytes : List ℕ) → is_ascii_alphabetic (get_or bytes 0 0) ≡ true → BeginsWithLetter (take (prefix_len is_id_byte bytes) bytes)
+pub begins_name : (bytes : List ℕ) → is_ascii_alphabetic (get_or bytes 0 0) ≡ true → BeginsWithLetter (take (prefix_len is_id_byte bytes) bytes)
 begins_name [] h = absurd (false≢true h)
 begins_name (b ∷ bytes) h = by (is_ascii_alphabetic b) refl
   where
@@ -83,7 +83,7 @@ lawful_word_front bytes h =
 within : (digits : List ℕ) (max : ℕ) → IfSome (value_within digits max) (λ value. value ≤ max)
 within digits max = choose (λ value. value ≤ max) (nat_le (value_of digits) max) (Some (value_of digits)) None (λ few. at_most (value_of digits) max few) (λ _. tt)
 
-digits_are : (bytes : List ℕ) → All IsDigit (digits_of bytes)
+pub digits_are : (bytes : List ℕ) → All IsDigit (digits_of bytes)
 digits_are bytes = all_prefix is_ascii_digit IsDigit bytes digit
 
 decimals_are : (bytes : List ℕ) → All IsDigit (decimals_of bytes)
@@ -148,7 +148,7 @@ bits_below w (d ∷ digits) value k few all =
     subst (λ n. fold (λ value digit. value * 2 ^ w + digit_value digit) (value * 2 ^ w + digit_value d) digits < 2 ^ n) e
     (bits_below w digits (value * 2 ^ w + digit_value d) (w + k) next (and_back (is_digit_of w d) (list_all (is_digit_of w) digits) all))
 
-some_bits : (w n : ℕ) → 1 ≤ w → 1 ≤ n → 1 ≤ n * w
+pub some_bits : (w n : ℕ) → 1 ≤ w → 1 ≤ n → 1 ≤ n * w
 some_bits w n some many = let up : n ≤ n * w = le-mul_of_pos_right n some in omega (arith, up, many)
 
 lawful_bits : (w : ℕ) (digits : List ℕ) → 1 ≤ w → IfSome (bits_of w digits) IsLawfulWhat
@@ -166,10 +166,10 @@ lawful_bits w digits some =
     ))
     (λ _. tt)
 
-abbrev IsChar : ℕ → Type 0
+abbrev pub IsChar : ℕ → Type 0
 IsChar b = (32 ≤ b) × (b ≤ 126)
 
-chars_cons : (a : ℕ) (ys : List ℕ) → eqb a 39 ≡ false → chars_of (a ∷ ys) ≡ a ∷ chars_of ys
+pub chars_cons : (a : ℕ) (ys : List ℕ) → eqb a 39 ≡ false → chars_of (a ∷ ys) ≡ a ∷ chars_of ys
 chars_cons a [] e = refl
 chars_cons a (y ∷ ys) e = ap (λ b. a ∷ (if b then chars_of ys else chars_of (y ∷ ys))) e
 
@@ -193,7 +193,7 @@ one_char true r a f = All-nil IsChar
 one_char false true a f = All-cons IsChar a [] (range 32 126 a f) (All-nil IsChar)
 one_char false false a f = All-nil IsChar
 
-chars_are : (bytes : List ℕ) → All IsChar (chars_of (take (chars_len bytes) bytes))
+pub chars_are : (bytes : List ℕ) → All IsChar (chars_of (take (chars_len bytes) bytes))
 chars_are [] = All-nil IsChar
 chars_are (a ∷ []) = one_char (eqb a 39) (is_char a) a refl
 chars_are (a ∷ b ∷ rest) = two_chars (eqb a 39) (eqb b 39) (is_char a) a b rest refl refl (chars_are rest) (chars_are (b ∷ rest))
@@ -204,7 +204,7 @@ lawful_text text all =
     (λ h. let fits = range 1 255 (length text) h in (fits.0, fits.1, all))
     (λ _. tt)
 
-some_width : (n : ℕ) → eqb n 0 ≡ false → 1 ≤ n
+pub some_width : (n : ℕ) → eqb n 0 ≡ false → 1 ≤ n
 some_width n h = by n h
   where
     by : (n : ℕ) → eqb n 0 ≡ false → 1 ≤ n

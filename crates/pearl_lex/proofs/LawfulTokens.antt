@@ -19,7 +19,6 @@ use Rattle.pearl_lex.specs.Lexes.{AreSpaces, IsSpace, AreTokens, Lexes}
 use Rattle.pearl_lex.specs.Laws.{HasLawfulTokens}
 use Rattle.pearl_lex.proofs.Passes.{choose, at_most}
 use Rattle.pearl_lex.proofs.Lawful.{lawful_front}
-use Rattle.pearl_lex.proofs.Placed.{rise_within}
 
 -- a token takes bytes
 abbrev IsSome-size : Front → Type 0
@@ -103,7 +102,7 @@ tokens_lawful bytes from (token ∷ tokens) to are =
     (subst (λ o. IfSome o (λ (f : Front). IsLawfulWhat f.what)) are.1.begins (lawful_front (drop token.place bytes)))
     (tokens_lawful bytes are.0 tokens to are.2)
 
-tokens_rise : (bytes : List ℕ) (low from : ℕ) (tokens : List Token) (to : ℕ) → low ≤ from → AreTokens bytes from tokens to → PlacesRise low (length bytes) tokens
+pub tokens_rise : (bytes : List ℕ) (low from : ℕ) (tokens : List Token) (to : ℕ) → low ≤ from → AreTokens bytes from tokens to → PlacesRise low (length bytes) tokens
 tokens_rise bytes low from [] to on are = tt
 tokens_rise bytes low from (token ∷ tokens) to on are =
     let is = are.1 in
@@ -113,6 +112,10 @@ tokens_rise bytes low from (token ∷ tokens) to on are =
       inside bytes token.place _ is.begins,
       tokens_rise bytes (token.place + 1) are.0 tokens to (omega (arith, is.end, some)) are.2,
     )
+
+rise_within : (low high next : ℕ) (tokens : List Token) → PlacesRise low high tokens → high ≤ next → PlacesRise low next tokens
+rise_within low high next [] rise on = tt
+rise_within low high next (first ∷ tokens) rise on = (rise.0, omega (arith, rise.1, on), rise_within (first.place + 1) high next tokens rise.2 on)
 
 pub lawful_tokens : HasLawfulTokens
 lawful_tokens bytes tokens lexes few = record {
