@@ -11,8 +11,9 @@ use Rattle.std.proofs.lemmas.Slice.Eq.{bytes_eq-Decides}
 use Rattle.std.proofs.lemmas.List.Elements.{All-nil, All-cons}
 use Rattle.pearl_tree.specs.declared.token.What.{What}
 use Rattle.pearl_tree.specs.declared.token.What.TheVariants as what
-use Rattle.pearl_tables.specs.Words.{words, code_count}
+use Rattle.pearl_tables.specs.Words.{words, meanings, code_count}
 use Rattle.pearl_tables.specs.Symbols.{symbol_count}
+use Rattle.pearl_tables.specs.declared.symbol.TheConstants as s
 use Rattle.pearl_tree.specs.Tokens.{IsDigit, IsIdByte, BeginsWithLetter, IsLawfulWhat}
 use Rattle.pearl_lex.specs.declared.front.Front.{Front}
 use Rattle.pearl_lex.specs.Spelling.{is_id_byte, sized, meaning, id_of, word_or_id, double_symbol, single_symbol, longer_symbol, symbol_front}
@@ -38,7 +39,7 @@ meaning_passes p (row ∷ table) text all =
     (λ _. meaning_passes p table text (and_back (p row.1) (list_all (λ row. p row.1) table) all))
 
 all_codes : list_all (λ row. nat_lt row.1 code_count) words ≡ true
-unfolding words
+unfolding words meanings
 all_codes = refl
 
 none_differs : (row : List ℕ × ℕ) (table : List (List ℕ × ℕ)) (text : List ℕ) (same : Bool) → bytes_eq row.0 text ≡ same → meaning (row ∷ table) text ≡ None
@@ -237,21 +238,21 @@ picks_below (row ∷ rows) all =
 double_below : (a b : ℕ) → IfSome (double_symbol a b) (λ s. s < symbol_count)
 double_below a b =
     picks_below (
-    (eqb a 58 && eqb b 61, 8) ∷
-    (eqb a 61 && eqb b 61, 10) ∷
-    (eqb a 47 && eqb b 61, 11) ∷
-    (eqb a 60 && eqb b 61, 14) ∷
-    (eqb a 62 && eqb b 61, 15) ∷
-    (eqb a 62 && eqb b 60, 16) ∷
-    (eqb a 60 && eqb b 62, 17) ∷
-    (eqb a 47 && eqb b 47, 21) ∷
-    (eqb a 42 && eqb b 42, 22) ∷ []
+    (eqb a 58 && eqb b 61, s.BECOMES) ∷
+    (eqb a 61 && eqb b 61, s.EQUAL) ∷
+    (eqb a 47 && eqb b 61, s.UNEQUAL) ∷
+    (eqb a 60 && eqb b 61, s.AT_MOST) ∷
+    (eqb a 62 && eqb b 61, s.AT_LEAST) ∷
+    (eqb a 62 && eqb b 60, s.CONCATENATE) ∷
+    (eqb a 60 && eqb b 62, s.ROTATE) ∷
+    (eqb a 47 && eqb b 47, s.DIVIDE) ∷
+    (eqb a 42 && eqb b 42, s.POWER) ∷ []
     ) refl
 
 single_below : (a : ℕ) → IfSome (single_symbol a) (λ s. s < symbol_count)
 single_below a =
     picks_below (
-    (eqb a 40, 0) ∷ (eqb a 41, 1) ∷ (eqb a 91, 2) ∷ (eqb a 93, 3) ∷ (eqb a 44, 4) ∷ (eqb a 59, 5) ∷ (eqb a 58, 6) ∷ (eqb a 46, 7) ∷ (eqb a 61, 9) ∷ (eqb a 60, 12) ∷ (eqb a 62, 13) ∷ (eqb a 43, 18) ∷ (eqb a 45, 19) ∷ (eqb a 42, 20) ∷ []
+    (eqb a 40, s.LEFT_ROUND) ∷ (eqb a 41, s.RIGHT_ROUND) ∷ (eqb a 91, s.LEFT_SQUARE) ∷ (eqb a 93, s.RIGHT_SQUARE) ∷ (eqb a 44, s.COMMA) ∷ (eqb a 59, s.SEMICOLON) ∷ (eqb a 58, s.COLON) ∷ (eqb a 46, s.PERIOD) ∷ (eqb a 61, s.EQUALS_SIGN) ∷ (eqb a 60, s.LESS) ∷ (eqb a 62, s.GREATER) ∷ (eqb a 43, s.PLUS) ∷ (eqb a 45, s.MINUS) ∷ (eqb a 42, s.TIMES) ∷ []
     ) refl
 
 lawful_longer : (double single : Option ℕ) → IfSome double (λ s. s < symbol_count) → IfSome single (λ s. s < symbol_count) → IfSome (longer_symbol double single) IsLawfulFront

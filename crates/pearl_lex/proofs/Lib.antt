@@ -7,3 +7,4 @@ pub mod Passes
 pub mod Placed
 pub mod Lawful
 pub mod Unique
+pub mod LawfulTokens

@@ -1,6 +1,7 @@
 -- The definitions determine the answer.
-use Rattle.std.specs.Prelude.{◌≡◌, ℕ, List}
+use Rattle.std.specs.Prelude.{◌≡◌, ◌<◌, ◌-◌, ◌^◌, ℕ, List, length}
 use Rattle.pearl_tree.specs.declared.token.Token.{Token}
+use Rattle.pearl_tree.specs.Tokens.{AreLawful}
 use Rattle.pearl_lex.specs.Lexes.{Lexes, IsStuck}
 
 -- a source has at most one list of tokens
@@ -14,3 +15,7 @@ HasOnePlace = (bytes : List ℕ) (place other : ℕ) → IsStuck bytes place →
 -- no source both has tokens and is refused
 abbrev pub IsNeverBoth : Type 0
 IsNeverBoth = (bytes : List ℕ) (tokens : List Token) (place : ℕ) → Lexes bytes tokens → ¬ IsStuck bytes place
+
+-- the tokens of a source that is not too long are lawful
+abbrev pub HasLawfulTokens : Type 0
+HasLawfulTokens = (bytes : List ℕ) (tokens : List Token) → Lexes bytes tokens → length bytes < 2 ^ 32 - 1 → AreLawful tokens
