@@ -3,7 +3,7 @@ use Rattle.pearl_parse.specs.Schedules.{SpellsActivation}
 use Rattle.pearl_parse.proofs.Steps.{Ends, err_told, past_only, no_part}
 use Rattle.pearl_parse.proofs.LeafRests.{Spelled}
 use Rattle.pearl_parse.proofs.ScheduleRests.{activate_goes}
-use Rattle.pearl_parse.proofs.schedule.plain_activation.Goals as goal
+use Rattle.pearl_parse.proofs.schedule.immediate_activation.Goals as goal
 
 pub returns-in_err-activation-clause-refused : goal.returns-in_err-activation-clause-refused
 returns-in_err-activation-clause-refused c =
@@ -16,4 +16,4 @@ pub returns-clause-longest : goal.returns-clause-longest
 returns-clause-longest c = λ depth.
     let activation = c.in_ok-activation.activation in
     let read = c.in_ok-activation.ensures in
-    past_only (Spelled depth) c.args.tokens.now c.args.from SpellsActivation Ends c.args.from c.args.from activation.end activation.stop (activate_goes c.args.tokens.now depth c.args.from c.requires.word) read.on.2 read.longest
+    past_only (Spelled depth) c.args.tokens.now c.args.from SpellsActivation Ends c.args.from c.args.from activation.end activation.stop (activate_goes c.args.tokens.now depth c.args.from c.requires.word) read.bounds.2 read.longest

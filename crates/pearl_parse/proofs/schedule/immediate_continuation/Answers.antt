@@ -4,7 +4,7 @@ use Rattle.pearl_parse_expr.specs.Stops.{is_symbol, is_name}
 use Rattle.pearl_parse.proofs.Steps.{err_told, missing_is_refused, missing, ends}
 use Rattle.pearl_parse.proofs.LeafRests.{Spelled}
 use Rattle.pearl_parse.proofs.ScheduleRests.{continue_rest, continue_goes}
-use Rattle.pearl_parse.proofs.schedule.plain_continuation.Goals as goal
+use Rattle.pearl_parse.proofs.schedule.immediate_continuation.Goals as goal
 
 pub returns-in_err-task-clause-refused : goal.returns-in_err-task-clause-refused
 returns-in_err-task-clause-refused c =
