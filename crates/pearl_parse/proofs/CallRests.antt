@@ -1,5 +1,6 @@
 -- What is left of an assignment, a call or a return behind its first tokens.
-use Rattle.std.proofs.Common.{◌≡◌, ℕ, ◌+◌, ◌≤◌, true, false, List, [], ◌∷◌, Option, Some, None, ◌⊎◌, inl, inr, T, eqb, option_map, slice_get, refl, sym, ap, subst, ◌∙◌, arith, true≢false}
+use Rattle.std.proofs.Common.{◌≡◌, ℕ, ◌+◌, ◌≤◌, Bool, true, false, List, [], ◌∷◌, Option, Some, None, ◌⊎◌, inl, inr, T, eqb, option_map, slice_get, refl, sym, ap, subst, ◌∙◌, arith, true≢false}
+use Rattle.pearl_tree.specs.declared.name.Name.{Name}
 use Rattle.pearl_tree.specs.declared.parts.Parts.{Parts}
 use Rattle.pearl_tree.specs.declared.expression.Expr.{Expr}
 use Rattle.pearl_tree.specs.declared.expression.Selector.{Selector, Subscripts}
@@ -7,9 +8,9 @@ use Rattle.pearl_tree.specs.declared.statement.Stmt.{Stmt, Assign, Call, Return}
 use Rattle.pearl_tree.specs.declared.token.What.{What}
 use Rattle.pearl_tree.specs.declared.token.What.TheVariants as what
 use Rattle.pearl_tree.specs.declared.token.Token.{Token}
-use Rattle.pearl_tree.specs.Standing.{IsAt, HasWord, HasSymbol, IsName, SpellsEach, SpellsList, SpellsMaybeBracketed, what_at}
+use Rattle.pearl_tree.specs.Standing.{IsAt, HasWord, HasSymbol, IsName, SpellsFlag, SpellsMaybe, SpellsEach, SpellsList, SpellsMaybeBracketed, what_at}
 use Rattle.pearl_tree.specs.Expressions.{SpellsWhole, SpellsSelector}
-use Rattle.pearl_tree.specs.Statements.{SpellsStmt}
+use Rattle.pearl_tree.specs.Statements.{SpellsStmt, SpellsValue}
 use Rattle.pearl_tables.specs.declared.symbol.TheConstants as s
 use Rattle.pearl_tables.specs.declared.word_code.TheConstants as w
 use Rattle.pearl_tree.proofs.ExpressionLists.{spells_subscripts}
@@ -133,38 +134,52 @@ module _ (others : List Token) (depth from end : ℕ) (named : is_name (what_at 
       let same = settled extends_operand others end b (longest list.0 b (named, list.1)) (ap extends_operand i) in
       subst (λ k. HasSymbol others k s.SEMICOLON) same i
 
+  -- it has no CALL
+  without_call : (call : Bool) (a : ℕ) → SpellsFlag others w.CALL from call a → a ≡ from
+  without_call false a h = h
+  without_call true a h = absurd (clash _ named (ap is_name h.0))
+
   pub an_assignment : is_becomes (what_at others end) ≡ true → (a : Stmt) (to : ℕ) → SpellsStmt others depth from a to → value_rest others (end + 1) to
   an_assignment here a to h = by a (kind_one a to h) h
     where
       by : (a : Stmt) → T (eqb (group a) 1) → SpellsStmt others depth from a to → value_rest others (end + 1) to
-      by (Assign target x p) e h =
-          let same = settled extends_operand others end h.0 (longest target.selectors.items.items h.0 (named, h.3.2)) (becomes_stops (what_at others h.0) h.4) in
-          (x, h.1, subst (λ k. SpellsWhole others (k + 1) x h.1) same h.5, (h.6, h.7))
-      by (Call false name xs p) e h =
-          let args = subst (λ k. SpellsMaybeBracketed others (SpellsWhole others) (k + 1) xs.items.items h.1) h.3 h.5 in
-          absurd (clash _ here (ap is_becomes (call_end xs h.1 args h.6)))
-      by (Call true name xs p) e h = absurd (clash _ named (ap is_name h.3.0))
+      by (Assign part) e h =
+          let same = settled extends_operand others end h.0 (longest part.value.target.selectors.items.items h.0 (named, h.3.2)) (becomes_stops (what_at others h.0) h.4) in
+          (part.value.value, h.1, subst (λ k. SpellsWhole others (k + 1) part.value.value h.1) same h.5, (h.6, h.7))
+      by (Call part) e h =
+          let arguments = part.value.arguments in
+          let behind = subst (λ k. SpellsMaybeBracketed others (SpellsWhole others) (k + 1) arguments.items.items h.1) (without_call part.value.call h.0 h.3) h.5 in
+          absurd (clash _ here (ap is_becomes (call_end arguments h.1 behind h.6)))
       by a e h = absurd e
 
   pub a_call : is_becomes (what_at others end) ≡ false → (a : Stmt) (to : ℕ) → SpellsStmt others depth from a to → arguments_rest others (from + 1) to
   a_call other a to h = by a (kind_one a to h) h
     where
       by : (a : Stmt) → T (eqb (group a) 1) → SpellsStmt others depth from a to → arguments_rest others (from + 1) to
-      by (Assign target x p) e h =
-          let same = settled extends_operand others end h.0 (longest target.selectors.items.items h.0 (named, h.3.2)) (becomes_stops (what_at others h.0) h.4) in
+      by (Assign part) e h =
+          let same = settled extends_operand others end h.0 (longest part.value.target.selectors.items.items h.0 (named, h.3.2)) (becomes_stops (what_at others h.0) h.4) in
           absurd (clash _ (subst (λ k. is_becomes (what_at others k) ≡ true) same (becomes_here (what_at others h.0) h.4)) other)
-      by (Call false name xs p) e h =
-          (xs.items.items, to, (h.1, subst (λ k. SpellsMaybeBracketed others (SpellsWhole others) (k + 1) xs.items.items h.1) h.3 h.5, h.6, h.7), refl)
-      by (Call true name xs p) e h = absurd (clash _ named (ap is_name h.3.0))
+      by (Call part) e h =
+          let arguments = part.value.arguments.items.items in
+          let behind = subst (λ k. SpellsMaybeBracketed others (SpellsWhole others) (k + 1) arguments h.1) (without_call part.value.call h.0 h.3) h.5 in
+          (arguments, to, (h.1, behind, h.6, h.7), refl)
       by a e h = absurd e
+
+module _ (others : List Token) (from : ℕ) where
+  optional_value : (x : Option Expr) (a : ℕ) → SpellsMaybe (SpellsValue others) from x a → HasSymbol others a s.SEMICOLON → SpellsOptionalValue others from x a
+  optional_value None a h i = (h, ap (is_symbol s.LEFT_ROUND) (subst (λ k. HasSymbol others k s.SEMICOLON) h i))
+  optional_value (Some x) a h i = h
+
+  behind_call : (call : Bool) (name : Name) (a : ℕ) → HasWord others from w.CALL → SpellsFlag others w.CALL from call a → IsName others a name → a ≡ from + 1
+  behind_call false name a word h i = absurd (clash _ (ap is_name (subst (λ k. IsName others k name) h i).0) (ap is_name word))
+  behind_call true name a word h i = h.1
 
 module _ (tokens : List Token) (depth from : ℕ) where
   pub return_goes : HasWord tokens from w.RETURN → Goes (Spelled depth) tokens from return_rest (from + 1) from
   return_goes here = behind_word tokens depth from w.RETURN 8 return_rest here refl by
     where
       by : (others : List Token) (a : Stmt) (to : ℕ) → T (eqb (group a) 8) → SpellsStmt others depth from a to → return_rest others (from + 1) to
-      by others (Return None p) to e h = (None, h.0, (h.3, ap (is_symbol s.LEFT_ROUND) (subst (λ k. HasSymbol others k s.SEMICOLON) h.3 h.4)), (h.4, h.5))
-      by others (Return (Some x) p) to e h = (Some x, h.0, h.3, (h.4, h.5))
+      by others (Return part) to e h = (part.value.value, h.0, optional_value others (from + 1) part.value.value h.0 h.3 h.4, (h.4, h.5))
       by others a to e h = absurd e
 
   pub call_goes : HasWord tokens from w.CALL → Goes (Spelled depth) tokens from call_rest (from + 1) from
@@ -173,12 +188,13 @@ module _ (tokens : List Token) (depth from : ℕ) where
       by others a to word (of_kind others depth from 1 (what.Word w.CALL) word refl a to h) h
     where
       by : (others : List Token) (a : Stmt) (to : ℕ) → HasWord others from w.CALL → T (eqb (group a) 1) → SpellsStmt others depth from a to → call_rest others (from + 1) to
-      by others (Assign target x p) to word e h = absurd (clash _ (ap is_name h.3.1.0) (ap is_name word))
-      by others (Call false name xs p) to word e h = absurd (clash _ (ap is_name (subst (λ k. IsName others k name) h.3 h.4).0) (ap is_name word))
-      by others (Call true name xs p) to word e h = (
-        ap is_name (subst (λ k. IsName others k name) h.3.1 h.4).0,
-        (xs.items.items, to, (h.1, subst (λ k. SpellsMaybeBracketed others (SpellsWhole others) (k + 1) xs.items.items h.1) h.3.1 h.5, h.6, h.7), refl),
-      )
+      by others (Assign part) to word e h = absurd (clash _ (ap is_name h.3.1.0) (ap is_name word))
+      by others (Call part) to word e h =
+          let behind = behind_call others from part.value.call part.value.name h.0 word h.3 h.4 in
+          let arguments = part.value.arguments.items.items in (
+            ap is_name (subst (λ k. IsName others k part.value.name) behind h.4).0,
+            (arguments, to, (h.1, subst (λ k. SpellsMaybeBracketed others (SpellsWhole others) (k + 1) arguments h.1) behind h.5, h.6, h.7), refl),
+          )
       by others a to word e h = absurd e
 
   pub call_goes_on : HasWord tokens from w.CALL → Goes (Spelled depth) tokens from arguments_rest (from + 2) from

@@ -185,7 +185,7 @@ module _ (others : List Token) where
           tree.system,
           whole.1 + 2,
           (whole.1, optional_system (whole.0 + 1) tree.system whole.1 whole.7 whole.8, whole.8, whole.9, refl),
-          (tree.declarations.items.items, whole.2, whole.10, (tree.semicolon, to, (whole.11, whole.12, h.1), refl)),
+          (tree.declarations.items.items, whole.2, whole.10, (tree.semicolon, to, (whole.11, whole.13, h.1), refl)),
         ),
       )
 
@@ -197,9 +197,9 @@ module _ (others : List Token) where
   maybe_system from None a h = h.0
   maybe_system from (Some system) a h = h
 
-  pub as_tree : (tree : Tree) (a b c : ℕ) → IsAt others 0 tree.place → SpellsHead others 0 tree.name a → SpellsOpening others a tree.system b →
+  pub as_tree : (tree : Tree) (a b c : ℕ) → IsAt others 0 tree.place → IsAt others c tree.modend → SpellsHead others 0 tree.name a → SpellsOpening others a tree.system b →
       Declarations others b tree.declarations.items.items c → SpellsEnding others c tree.semicolon (length others) → Spells tree others
-  as_tree tree a b c place head opening list ending = record {
+  as_tree tree a b c place modend head opening list ending = record {
     spells = (
       head.0,
       opening.0,
@@ -213,6 +213,7 @@ module _ (others : List Token) where
       opening.3,
       subst (λ k. Declarations others k tree.declarations.items.items c) opening.4 list,
       ending.0,
+      modend,
       ending.1,
     );
   }

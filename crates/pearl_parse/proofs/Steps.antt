@@ -23,9 +23,6 @@ Ends others at to = to ≡ at
 abbrev pub Then : {Y : Type 0} → (List Token → Spelling Y) → Rest → Rest
 Then {Y} spells rest others at to = (y : Y) × (m : ℕ) × spells others at y m × rest others m to
 
-abbrev pub Either : Rest → Rest → Rest
-Either first second others at to = first others at to ⊎ second others at to
-
 -- whatever begins there begins with no token of this kind
 abbrev pub Avoids : (Option What → Bool) → Rest → Type 0
 Avoids kind rest = (others : List Token) (at to : ℕ) → rest others at to → kind (what_at others at) ≡ false

@@ -6,9 +6,10 @@ ghost use Rattle.pearl_parse_expr.specs.Stops.{IsOnly};
 ghost use Rattle.pearl_parse.specs.Stops as spec;
 
 use crate::body::whole_body;
-use crate::step::{SEMICOLON, symbol, word};
+use crate::step::{symbol, word};
 use pearl_parse_decl::list::behind;
 use pearl_parse_expr::reading::{Halt, Reading};
+use pearl_tables::symbol::SEMICOLON;
 use pearl_tables::word_code::END;
 use pearl_tree::statement::Body;
 use pearl_tree::token::Token;
@@ -24,7 +25,7 @@ pub fn block(
     requires least_stop { (from ≤ least_stop) × (least_stop ≤ length tokens.now) }
     ensures spells { IfOk result (λ reading. SpellsBlock tokens.now from reading.part reading.end) }
     ensures longest { IfOk result (λ reading. IsOnly SpellsBlock tokens.now from reading.end reading.stop) }
-    ensures on { IfOk result (λ reading. spec.StopsWithin tokens.now (from + 1) least_stop reading.end reading.stop) }
+    ensures bounds { IfOk result (λ reading. spec.StopsWithin tokens.now (from + 1) least_stop reading.end reading.stop) }
     ensures refused { IfErr result (λ halt. spec.IsStopped SpellsBlock tokens.now from least_stop halt) }
 {
     symbol(tokens, from, least_stop, SEMICOLON)?;

@@ -10,10 +10,11 @@ ghost use Rattle.pearl_parse.specs.Bodies.{extends_body};
 
 use crate::each::Repeated;
 use crate::statement::{NESTED_MAX, body};
-use crate::step::{SEMICOLON, symbol, word};
+use crate::step::{symbol, word};
 use pearl_parse_decl::list::list;
 use pearl_parse_expr::reading::{Halt, Reading};
 use pearl_parse_expr::standing::place_at;
+use pearl_tables::symbol::SEMICOLON;
 use pearl_tables::word_code::DCL;
 use pearl_tree::parts::Parts;
 use pearl_tree::statement::{Body, BodyDecl};
@@ -58,7 +59,7 @@ pub fn whole_body(alloc: Global, tokens: &[Token], from: usize) -> Result<Readin
     requires { from ≤ length tokens.now }
     ensures spells { IfOk result (λ reading. SpellsWholeBody tokens.now from reading.part reading.end) }
     ensures longest { IfOk result (λ reading. IsLongest SpellsWholeBody extends_body tokens.now from reading.end reading.stop) }
-    ensures on { IfOk result (λ reading. StopsWithin tokens.now from from reading.end reading.stop) }
+    ensures bounds { IfOk result (λ reading. StopsWithin tokens.now from from reading.end reading.stop) }
     ensures refused { IfErr result (λ halt. IsHalted SpellsWholeBody tokens.now from halt) }
 {
     match body(alloc, tokens, from, from, NESTED_MAX) {

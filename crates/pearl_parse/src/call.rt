@@ -10,21 +10,17 @@ ghost use Rattle.pearl_parse_expr.specs.Stops.{IsOnly, IsAhead, IsHalted, is_nam
 ghost use Rattle.pearl_parse.specs.Stops as spec;
 ghost use Rattle.pearl_parse.specs.Calls as calls;
 
-use crate::step::{SEMICOLON, expr, name, symbol};
+use crate::step::{expr, name, symbol};
 use pearl_parse_decl::expression::own_reference;
 use pearl_parse_decl::list::list;
-use pearl_parse_expr::reading::{Halt, Reading};
+use pearl_parse_expr::reading::{Halt, Reading, boxed};
 use pearl_parse_expr::standing::{is_symbol, place_at};
-use pearl_parse_expr::symbol::{LEFT_ROUND, RIGHT_ROUND};
+use pearl_tables::symbol::{BECOMES, EQUALS_SIGN, LEFT_ROUND, RIGHT_ROUND, SEMICOLON};
 use pearl_tree::expression::Expr;
 use pearl_tree::parts::Parts;
-use pearl_tree::statement::Stmt;
+use pearl_tree::statement::{Assign, Call, Return, Stmt};
 use pearl_tree::token::Token;
 use std::alloc::Global;
-
-const BECOMES: u8 = 8;
-
-const EQUALS_SIGN: u8 = 9;
 
 /// `"(" expr ")"`
 fn value(alloc: Global, tokens: &[Token], from: usize) -> Result<Reading<Expr>, Halt>
@@ -49,7 +45,7 @@ fn maybe_value(alloc: Global, tokens: &[Token], from: usize) -> Result<Reading<O
     requires within { from ≤ length tokens.now }
     ensures spells { IfOk result (λ reading. SpellsMaybe (SpellsValue tokens.now) from reading.part reading.end) }
     ensures longest { IfOk result (λ reading. IsOnly calls.SpellsOptionalValue tokens.now from reading.end reading.stop) }
-    ensures on { IfOk result (λ reading. spec.StopsWithin tokens.now from from reading.end reading.stop) }
+    ensures bounds { IfOk result (λ reading. spec.StopsWithin tokens.now from from reading.end reading.stop) }
     ensures refused { IfErr result (λ halt. IsHalted calls.SpellsOptionalValue tokens.now from halt) }
 {
     if !is_symbol(tokens, from, LEFT_ROUND) {
@@ -80,11 +76,12 @@ pub fn return_(alloc: Global, tokens: &[Token], from: usize) -> Result<Reading<S
 {
     let value = maybe_value(alloc, tokens, from + 1)?;
     symbol(tokens, value.end, value.stop, SEMICOLON)?;
+    let returned = Return {
+        value: value.part,
+        place: place_at(tokens, from),
+    };
     Ok(Reading {
-        part: Stmt::Return {
-            value: value.part,
-            place: place_at(tokens, from),
-        },
+        part: Stmt::Return(boxed(alloc, returned)?),
         end: value.end + 1,
         stop: value.stop.max(value.end + 1),
     })
@@ -101,7 +98,7 @@ fn arguments(
     requires least_stop { least_stop ≤ length tokens.now }
     ensures spells { IfOk result (λ reading. calls.SpellsArguments tokens.now from reading.part.items reading.end) }
     ensures longest { IfOk result (λ reading. IsOnly calls.SpellsArguments tokens.now from reading.end reading.stop) }
-    ensures on { IfOk result (λ reading. spec.StopsWithin tokens.now (from + 1) least_stop reading.end reading.stop) }
+    ensures bounds { IfOk result (λ reading. spec.StopsWithin tokens.now (from + 1) least_stop reading.end reading.stop) }
     ensures refused { IfErr result (λ halt. spec.IsStopped calls.SpellsArguments tokens.now from least_stop halt) }
 {
     if !is_symbol(tokens, from, LEFT_ROUND) {
@@ -140,13 +137,14 @@ pub fn call(alloc: Global, tokens: &[Token], from: usize) -> Result<Reading<Stmt
 {
     let called = name(tokens, from + 1, from)?;
     let arguments = arguments(alloc, tokens, from + 2, from)?;
+    let call = Call {
+        call: true,
+        name: called,
+        arguments: Parts::new(arguments.part),
+        place: place_at(tokens, from),
+    };
     Ok(Reading {
-        part: Stmt::Call {
-            call: true,
-            name: called,
-            arguments: Parts::new(arguments.part),
-            place: place_at(tokens, from),
-        },
+        part: Stmt::Call(boxed(alloc, call)?),
         end: arguments.end,
         stop: arguments.stop,
     })
@@ -177,25 +175,27 @@ pub fn named(alloc: Global, tokens: &[Token], from: usize) -> Result<Reading<Stm
     if becomes(tokens, target.end) {
         let value = expr(alloc, tokens, target.end + 1, target.stop)?;
         symbol(tokens, value.end, value.stop, SEMICOLON)?;
+        let assign = Assign {
+            target: target.part,
+            value: value.part,
+            place: place_at(tokens, from),
+        };
         return Ok(Reading {
-            part: Stmt::Assign {
-                target: target.part,
-                value: value.part,
-                place: place_at(tokens, from),
-            },
+            part: Stmt::Assign(boxed(alloc, assign)?),
             end: value.end + 1,
             stop: value.stop.max(value.end + 1),
         });
     }
     let called = name(tokens, from, target.stop)?;
     let arguments = arguments(alloc, tokens, from + 1, target.stop)?;
+    let call = Call {
+        call: false,
+        name: called,
+        arguments: Parts::new(arguments.part),
+        place: place_at(tokens, from),
+    };
     Ok(Reading {
-        part: Stmt::Call {
-            call: false,
-            name: called,
-            arguments: Parts::new(arguments.part),
-            place: place_at(tokens, from),
-        },
+        part: Stmt::Call(boxed(alloc, call)?),
         end: arguments.end,
         stop: arguments.stop,
     })

@@ -41,7 +41,7 @@ pub fn each<P: Repeated>(
     requires { from ≤ length tokens.now }
     ensures spells { IfOk result (λ reading. SpellsEach (P.spelling tokens.now) from reading.part.items reading.end) }
     ensures longest { IfOk result (λ reading. IsLongest (λ tokens. SpellsEach (P.spelling tokens)) P.begins tokens.now from reading.end reading.stop) }
-    ensures on { IfOk result (λ reading. spec.StopsWithin tokens.now from from reading.end reading.stop) }
+    ensures bounds { IfOk result (λ reading. spec.StopsWithin tokens.now from from reading.end reading.stop) }
     ensures refused { IfErr result (λ halt. halt ≡ Halt.NoMemory) }
 {
     let mut list = Vec::new(alloc);

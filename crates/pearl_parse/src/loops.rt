@@ -32,7 +32,7 @@ fn control(tokens: &[Token], from: usize) -> Result<Reading<Option<Name>>, Halt>
     requires { from ≤ length tokens.now }
     ensures spells { IfOk result (λ reading. SpellsMaybe (SpellsFor tokens.now) from reading.part reading.end) }
     ensures longest { IfOk result (λ reading. IsOnly bodies.SpellsOptionalFor tokens.now from reading.end reading.stop) }
-    ensures on { IfOk result (λ reading. spec.StopsWithin tokens.now from from reading.end reading.stop) }
+    ensures bounds { IfOk result (λ reading. spec.StopsWithin tokens.now from from reading.end reading.stop) }
     ensures refused { IfErr result (λ halt. IsHalted bodies.SpellsOptionalFor tokens.now from halt) }
     ensures memory { IfErr result (λ halt. halt ≢ Halt.NoMemory) }
 {

@@ -1,6 +1,6 @@
 // Whole modules.
 
-ghost use Rattle.std.specs.Prelude.{◌≡◌, ◌≢◌, ◌+◌, ◌≤◌, length, max, IfOk, IfErr, OnOk};
+ghost use Rattle.std.specs.Prelude.{◌≡◌, ◌≢◌, ◌+◌, ◌<◌, ◌≤◌, length, max, IfOk, IfErr, OnOk};
 ghost use Rattle.pearl_tree.specs.Modules.{Spells};
 ghost use Rattle.pearl_parse_expr.specs.declared.reading.Halt.{Halt};
 ghost use Rattle.pearl_parse_expr.specs.Stops.{IsOnly, IsAhead, IsHalted};
@@ -8,11 +8,11 @@ ghost use Rattle.pearl_parse.specs.Stops as spec;
 ghost use Rattle.pearl_parse.specs.Modules as modules;
 
 use crate::each::each;
-use crate::step::{SEMICOLON, name, symbol, word};
+use crate::step::{name, symbol, word};
 use crate::system::opening;
 use pearl_parse_expr::reading::{Halt, Reading};
 use pearl_parse_expr::standing::{is_symbol, name_at, place_at};
-use pearl_parse_expr::symbol::{LEFT_ROUND, RIGHT_ROUND};
+use pearl_tables::symbol::{LEFT_ROUND, RIGHT_ROUND, SEMICOLON};
 use pearl_tables::word_code::{MODEND, MODULE};
 use pearl_tree::parts::Parts;
 use pearl_tree::token::Token;
@@ -24,7 +24,7 @@ fn module_name(tokens: &[Token], from: usize) -> Result<Reading<Option<ModuleNam
     requires { from ≤ length tokens.now }
     ensures spells { IfOk result (λ reading. modules.SpellsOptionalName tokens.now from reading.part reading.end) }
     ensures longest { IfOk result (λ reading. IsOnly modules.SpellsOptionalName tokens.now from reading.end reading.stop) }
-    ensures on { IfOk result (λ reading. spec.StopsWithin tokens.now from from reading.end reading.stop) }
+    ensures bounds { IfOk result (λ reading. spec.StopsWithin tokens.now from from reading.end reading.stop) }
     ensures close { IfOk result (λ reading. reading.stop ≡ reading.end) }
     ensures refused { IfErr result (λ halt. IsHalted modules.SpellsOptionalName tokens.now from halt) }
     ensures memory { IfErr result (λ halt. halt ≢ Halt.NoMemory) }
@@ -88,6 +88,7 @@ fn end_of_tokens(tokens: &[Token], at: usize, stop: usize) -> Result<(), Halt>
 fn ending(tokens: &[Token], from: usize, least_stop: usize) -> Result<bool, Halt>
     requires least_stop { (from ≤ least_stop) × (least_stop ≤ length tokens.now) }
     ensures spells { IfOk result (λ semicolon. modules.SpellsEnding tokens.now from semicolon (length tokens.now)) }
+    ensures within { IfOk result (λ _. from < length tokens.now) }
     ensures refused { IfErr result (λ halt. spec.IsStopped modules.SpellsEnding tokens.now from least_stop halt) }
     ensures memory { IfErr result (λ halt. halt ≢ Halt.NoMemory) }
 {
@@ -117,6 +118,7 @@ pub fn module(alloc: Global, tokens: &[Token]) -> Result<Tree, Halt>
         name: head.part,
         system: opening.part,
         declarations: Parts::new(list.part),
+        modend: place_at(tokens, list.end),
         semicolon,
         place: place_at(tokens, 0),
     })

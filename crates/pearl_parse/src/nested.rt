@@ -9,8 +9,9 @@ ghost use Rattle.pearl_parse_expr.specs.Stops.{IsOnly, IsAhead, IsHalted};
 ghost use Rattle.pearl_parse.specs.Stops as spec;
 ghost use Rattle.pearl_parse.specs.Bodies as bodies;
 
-use crate::step::{SEMICOLON, after, symbol, word as word_here};
+use crate::step::{after, symbol, word as word_here};
 use pearl_parse_expr::reading::{Halt, Reading};
+use pearl_tables::symbol::SEMICOLON;
 use pearl_tables::word_code::*;
 use pearl_tree::expression::Expr;
 use pearl_tree::token::Token;

@@ -9,13 +9,14 @@ ghost use Rattle.pearl_parse_expr.specs.Stops.{IsLongest, IsOnly, IsAhead, IsHal
 ghost use Rattle.pearl_parse.specs.Stops as spec;
 ghost use Rattle.pearl_parse.specs.Schedules as schedules;
 
-use crate::step::{SEMICOLON, after, maybe_after, name, symbol, word};
-use pearl_parse_expr::reading::{Halt, Reading};
+use crate::step::{after, maybe_after, name, symbol, word};
+use pearl_parse_expr::reading::{Halt, Reading, boxed};
 use pearl_parse_expr::standing::{is_word, place_at};
+use pearl_tables::symbol::SEMICOLON;
 use pearl_tables::word_code::*;
 use pearl_tree::expression::Expr;
 use pearl_tree::name::Name;
-use pearl_tree::statement::{Period, PeriodEnd, Start, Stmt};
+use pearl_tree::statement::{Activate, Continue, Period, PeriodEnd, Start, Stmt};
 use pearl_tree::token::Token;
 use std::alloc::Global;
 
@@ -31,7 +32,7 @@ fn maybe_end(
     ensures spells { IfOk result (λ reading. SpellsMaybe (SpellsPeriodEnd tokens.now) from reading.part reading.end) }
     ensures optional { IfOk result (λ reading. schedules.SpellsOptionalEnd tokens.now from reading.part reading.end) }
     ensures longest { IfOk result (λ reading. IsLongest schedules.SpellsOptionalEnd extends_expression tokens.now from reading.end reading.stop) }
-    ensures on { IfOk result (λ reading. spec.StopsWithin tokens.now from least_stop reading.end reading.stop) }
+    ensures bounds { IfOk result (λ reading. spec.StopsWithin tokens.now from least_stop reading.end reading.stop) }
     ensures refused { IfErr result (λ halt. spec.IsStopped schedules.SpellsOptionalEnd tokens.now from least_stop halt) }
 {
     if is_word(tokens, from, UNTIL) {
@@ -79,7 +80,7 @@ fn period(
     requires word { HasWord tokens.now from w.ALL }
     ensures spells { IfOk result (λ reading. SpellsPeriod tokens.now from reading.part reading.end) }
     ensures longest { IfOk result (λ reading. IsLongest schedules.SpellsLongPeriod extends_expression tokens.now from reading.end reading.stop) }
-    ensures on { IfOk result (λ reading. spec.StopsWithin tokens.now (from + 1) least_stop reading.end reading.stop) }
+    ensures bounds { IfOk result (λ reading. spec.StopsWithin tokens.now (from + 1) least_stop reading.end reading.stop) }
     ensures refused { IfErr result (λ halt. spec.IsStopped schedules.SpellsLongPeriod tokens.now from least_stop halt) }
 {
     let duration = after(alloc, tokens, from, least_stop, ALL)?;
@@ -113,7 +114,7 @@ pub fn activate(
     requires least_stop { (from ≤ least_stop) × (least_stop ≤ length tokens.now) }
     ensures spells { IfOk result (λ reading. schedules.SpellsActivation tokens.now from (reading.part.task, reading.part.priority) reading.end) }
     ensures longest { IfOk result (λ reading. IsOnly schedules.SpellsActivation tokens.now from reading.end reading.stop) }
-    ensures on { IfOk result (λ reading. spec.StopsWithin tokens.now (from + 1) least_stop reading.end reading.stop) }
+    ensures bounds { IfOk result (λ reading. spec.StopsWithin tokens.now (from + 1) least_stop reading.end reading.stop) }
     ensures refused { IfErr result (λ halt. spec.IsStopped schedules.SpellsActivation tokens.now from least_stop halt) }
 {
     word(tokens, from, least_stop, ACTIVATE)?;
@@ -141,7 +142,7 @@ fn maybe_period(
     requires least_stop { least_stop ≤ length tokens.now }
     ensures spells { IfOk result (λ reading. SpellsMaybe (SpellsPeriod tokens.now) from reading.part reading.end) }
     ensures longest { IfOk result (λ reading. IsLongest schedules.SpellsOptionalPeriod extends_expression tokens.now from reading.end reading.stop) }
-    ensures on { IfOk result (λ reading. spec.StopsWithin tokens.now from least_stop reading.end reading.stop) }
+    ensures bounds { IfOk result (λ reading. spec.StopsWithin tokens.now from least_stop reading.end reading.stop) }
     ensures refused { IfErr result (λ halt. spec.IsStopped schedules.SpellsOptionalPeriod tokens.now from least_stop halt) }
 {
     if !is_word(tokens, from, ALL) {
@@ -179,7 +180,7 @@ pub fn begin(
     requires least_stop { (from ≤ least_stop) × (least_stop ≤ length tokens.now) }
     ensures spells { IfOk result (λ reading. schedules.HasBegun tokens.now from reading.part.period reading.part.activation.task reading.part.activation.priority reading.end) }
     ensures longest { IfOk result (λ reading. IsOnly schedules.SpellsBegun tokens.now from reading.end reading.stop) }
-    ensures on { IfOk result (λ reading. spec.StopsWithin tokens.now (from + 1) least_stop reading.end reading.stop) }
+    ensures bounds { IfOk result (λ reading. spec.StopsWithin tokens.now (from + 1) least_stop reading.end reading.stop) }
     ensures refused { IfErr result (λ halt. spec.IsStopped schedules.SpellsBegun tokens.now from least_stop halt) }
 {
     let period = maybe_period(alloc, tokens, from, least_stop)?;
@@ -195,7 +196,11 @@ pub fn begin(
 }
 
 /// `ACTIVATE id [ PRIO expr ] ";"` with no start before it
-pub fn plain_activation(alloc: Global, tokens: &[Token], from: usize) -> Result<Reading<Stmt>, Halt>
+pub fn immediate_activation(
+    alloc: Global,
+    tokens: &[Token],
+    from: usize,
+) -> Result<Reading<Stmt>, Halt>
     requires within { from < length tokens.now }
     requires word { HasWord tokens.now from w.ACTIVATE }
     ensures spells { IfOk result (λ reading. (depth : ℕ) → SpellsStmt tokens.now depth from reading.part reading.end) }
@@ -204,36 +209,41 @@ pub fn plain_activation(alloc: Global, tokens: &[Token], from: usize) -> Result<
     ensures refused { IfErr result (λ halt. (depth : ℕ) → IsHalted (λ tokens. SpellsStmt tokens depth) tokens.now from halt) }
 {
     let activation = activate(alloc, tokens, from, from)?;
+    let activate = Activate {
+        start: None,
+        task: activation.part.task,
+        priority: activation.part.priority,
+        place: place_at(tokens, from),
+    };
     Ok(Reading {
-        part: Stmt::Activate {
-            start: None,
-            task: activation.part.task,
-            priority: activation.part.priority,
-            place: place_at(tokens, from),
-        },
+        part: Stmt::Activate(boxed(alloc, activate)?),
         end: activation.end,
         stop: activation.stop,
     })
 }
 
 /// `CONTINUE id ";"` with no time before it
-pub fn plain_continuation(tokens: &[Token], from: usize) -> Result<Reading<Stmt>, Halt>
+pub fn immediate_continuation(
+    alloc: Global,
+    tokens: &[Token],
+    from: usize,
+) -> Result<Reading<Stmt>, Halt>
     requires within { from < length tokens.now }
     requires word { HasWord tokens.now from w.CONTINUE }
     ensures spells { IfOk result (λ reading. (depth : ℕ) → SpellsStmt tokens.now depth from reading.part reading.end) }
     ensures longest { IfOk result (λ reading. (depth : ℕ) → IsOnly (λ tokens. SpellsStmt tokens depth) tokens.now from reading.end reading.stop) }
     ensures ahead { IfOk result (λ reading. IsAhead tokens.now from reading.end reading.stop) }
     ensures refused { IfErr result (λ halt. (depth : ℕ) → IsHalted (λ tokens. SpellsStmt tokens depth) tokens.now from halt) }
-    ensures memory { IfErr result (λ halt. halt ≢ Halt.NoMemory) }
 {
     let task = name(tokens, from + 1, from)?;
     symbol(tokens, from + 2, from, SEMICOLON)?;
+    let continuation = Continue {
+        once: None,
+        task,
+        place: place_at(tokens, from),
+    };
     Ok(Reading {
-        part: Stmt::Continue {
-            once: None,
-            task,
-            place: place_at(tokens, from),
-        },
+        part: Stmt::Continue(boxed(alloc, continuation)?),
         end: from + 3,
         stop: from + 3,
     })
@@ -250,13 +260,14 @@ pub fn periodic(alloc: Global, tokens: &[Token], from: usize) -> Result<Reading<
 {
     let period = period(alloc, tokens, from, from)?;
     let activation = activate(alloc, tokens, period.end, period.stop)?;
+    let activate = Activate {
+        start: Some(Start::All(period.part)),
+        task: activation.part.task,
+        priority: activation.part.priority,
+        place: place_at(tokens, from),
+    };
     Ok(Reading {
-        part: Stmt::Activate {
-            start: Some(Start::All(period.part)),
-            task: activation.part.task,
-            priority: activation.part.priority,
-            place: place_at(tokens, from),
-        },
+        part: Stmt::Activate(boxed(alloc, activate)?),
         end: activation.end,
         stop: activation.stop,
     })

@@ -13,13 +13,13 @@ use crate::each::each;
 use crate::first::{First, first_at};
 use crate::loops::loop_heads;
 use crate::nested::{closing, condition};
-use crate::plain::plain;
+use crate::simple::simple;
 use crate::step::after;
-use pearl_parse_expr::reading::{Halt, Reading, append};
+use pearl_parse_expr::reading::{Halt, Reading, append, boxed};
 use pearl_parse_expr::standing::{is_word, place_at};
 use pearl_tables::word_code::*;
 use pearl_tree::parts::Parts;
-use pearl_tree::statement::{Body, BodyDecl, Branch, Stmt};
+use pearl_tree::statement::{Begin, Body, BodyDecl, Branch, Case, If, Repeat, Stmt};
 use pearl_tree::token::Token;
 use std::alloc::Global;
 
@@ -38,7 +38,7 @@ fn statements(
     requires { (from ≤ least_stop) × (least_stop ≤ length tokens.now) }
     ensures spells { IfOk result (λ reading. bodies.SpellsStatements depth tokens.now from reading.part.items reading.end) }
     ensures longest { IfOk result (λ reading. IsLongest (bodies.SpellsStatements depth) spec.begins_statement tokens.now from reading.end reading.stop) }
-    ensures on { IfOk result (λ reading. spec.StopsWithin tokens.now from least_stop reading.end reading.stop) }
+    ensures bounds { IfOk result (λ reading. spec.StopsWithin tokens.now from least_stop reading.end reading.stop) }
     ensures refused { IfErr result (λ halt. halt ≡ Halt.NoMemory) }
 {
     let mut list = Vec::new(alloc);
@@ -80,7 +80,7 @@ fn branch(
     requires word { HasWord tokens.now from word }
     ensures spells { IfOk result (λ reading. SpellsBranch tokens.now depth word from reading.part reading.end) }
     ensures longest { IfOk result (λ reading. IsLongest (bodies.SpellsHeaded depth word) spec.begins_statement tokens.now from reading.end reading.stop) }
-    ensures on { IfOk result (λ reading. spec.StopsWithin tokens.now (from + 1) least_stop reading.end reading.stop) }
+    ensures bounds { IfOk result (λ reading. spec.StopsWithin tokens.now (from + 1) least_stop reading.end reading.stop) }
     ensures refused { IfErr result (λ halt. halt ≡ Halt.NoMemory) }
 {
     match statements(alloc, tokens, from + 1, least_stop.max(from + 1), depth) {
@@ -109,7 +109,7 @@ fn maybe_branch(
     requires { (from ≤ least_stop) × (least_stop ≤ length tokens.now) }
     ensures spells { IfOk result (λ reading. SpellsMaybe (SpellsBranch tokens.now depth word) from reading.part reading.end) }
     ensures longest { IfOk result (λ reading. IsLongest (bodies.SpellsOptionalHeaded depth word) spec.begins_statement tokens.now from reading.end reading.stop) }
-    ensures on { IfOk result (λ reading. spec.StopsWithin tokens.now from least_stop reading.end reading.stop) }
+    ensures bounds { IfOk result (λ reading. spec.StopsWithin tokens.now from least_stop reading.end reading.stop) }
     ensures refused { IfErr result (λ halt. halt ≡ Halt.NoMemory) }
 {
     if !is_word(tokens, from, word) {
@@ -141,7 +141,7 @@ fn alternatives(
     requires { (from ≤ least_stop) × (least_stop ≤ length tokens.now) }
     ensures spells { IfOk result (λ reading. SpellsSome (SpellsBranch tokens.now depth w.ALT) from reading.part.items reading.end) }
     ensures longest { IfOk result (λ reading. IsLongest (bodies.SpellsChoices depth) bodies.extends_alternatives tokens.now from reading.end reading.stop) }
-    ensures on { IfOk result (λ reading. spec.StopsWithin tokens.now from least_stop reading.end reading.stop) }
+    ensures bounds { IfOk result (λ reading. spec.StopsWithin tokens.now from least_stop reading.end reading.stop) }
     ensures refused { IfErr result (λ halt. spec.IsStopped (bodies.SpellsChoices depth) tokens.now from least_stop halt) }
 {
     if !is_word(tokens, from, ALT) {
@@ -191,13 +191,14 @@ fn if_(alloc: Global, tokens: &[Token], from: usize, depth: u8) -> Result<Readin
         ELSE,
     )?;
     closing(tokens, otherwise.end, otherwise.stop, FIN)?;
+    let if_ = If {
+        condition: condition.part,
+        statements: Parts::new(statements.part),
+        otherwise: otherwise.part,
+        place: place_at(tokens, from),
+    };
     Ok(Reading {
-        part: Stmt::If {
-            condition: condition.part,
-            statements: Parts::new(statements.part),
-            otherwise: otherwise.part,
-            place: place_at(tokens, from),
-        },
+        part: Stmt::If(boxed(alloc, if_)?),
         end: otherwise.end + 2,
         stop: otherwise.stop.max(otherwise.end + 2),
     })
@@ -227,13 +228,14 @@ fn case(alloc: Global, tokens: &[Token], from: usize, depth: u8) -> Result<Readi
         OUT,
     )?;
     closing(tokens, otherwise.end, otherwise.stop, FIN)?;
+    let case = Case {
+        selector: selector.part,
+        alternatives: Parts::new(alternatives.part),
+        otherwise: otherwise.part,
+        place: place_at(tokens, from),
+    };
     Ok(Reading {
-        part: Stmt::Case {
-            selector: selector.part,
-            alternatives: Parts::new(alternatives.part),
-            otherwise: otherwise.part,
-            place: place_at(tokens, from),
-        },
+        part: Stmt::Case(boxed(alloc, case)?),
         end: otherwise.end + 2,
         stop: otherwise.stop.max(otherwise.end + 2),
     })
@@ -251,7 +253,7 @@ pub fn body(
     requires { (from ≤ least_stop) × (least_stop ≤ length tokens.now) }
     ensures spells { IfOk result (λ reading. SpellsBody tokens.now depth from reading.part reading.end) }
     ensures longest { IfOk result (λ reading. IsLongest (bodies.SpellsBlock depth) bodies.extends_body tokens.now from reading.end reading.stop) }
-    ensures on { IfOk result (λ reading. spec.StopsWithin tokens.now from least_stop reading.end reading.stop) }
+    ensures bounds { IfOk result (λ reading. spec.StopsWithin tokens.now from least_stop reading.end reading.stop) }
     ensures refused { IfErr result (λ halt. spec.IsStopped (bodies.SpellsBlock depth) tokens.now from least_stop halt) }
 {
     if from == tokens.len() {
@@ -287,16 +289,17 @@ fn repeat(alloc: Global, tokens: &[Token], from: usize, depth: u8) -> Result<Rea
     let heads = loop_heads(alloc, tokens, from)?;
     let body = body(alloc, tokens, heads.end, heads.stop, depth - 1)?;
     closing(tokens, body.end, body.stop, END)?;
+    let repeat = Repeat {
+        control: heads.part.control,
+        begin: heads.part.begin,
+        step: heads.part.step,
+        end: heads.part.end,
+        condition: heads.part.condition,
+        body: body.part,
+        place: place_at(tokens, from),
+    };
     Ok(Reading {
-        part: Stmt::Repeat {
-            control: heads.part.control,
-            begin: heads.part.begin,
-            step: heads.part.step,
-            end: heads.part.end,
-            condition: heads.part.condition,
-            body: body.part,
-            place: place_at(tokens, from),
-        },
+        part: Stmt::Repeat(boxed(alloc, repeat)?),
         end: body.end + 2,
         stop: body.stop.max(body.end + 2),
     })
@@ -317,11 +320,12 @@ fn begin(alloc: Global, tokens: &[Token], from: usize, depth: u8) -> Result<Read
     }
     let body = body(alloc, tokens, from + 1, from + 1, depth - 1)?;
     closing(tokens, body.end, body.stop, END)?;
+    let begin = Begin {
+        body: body.part,
+        place: place_at(tokens, from),
+    };
     Ok(Reading {
-        part: Stmt::Begin {
-            body: body.part,
-            place: place_at(tokens, from),
-        },
+        part: Stmt::Begin(boxed(alloc, begin)?),
         end: body.end + 2,
         stop: body.stop.max(body.end + 2),
     })
@@ -346,7 +350,7 @@ pub fn statement(
         None => return Err(Halt::Refused(from)),
     };
     match first {
-        First::Plain(first) => plain(alloc, tokens, from, first),
+        First::Simple(first) => simple(alloc, tokens, from, first),
         First::If => if_(alloc, tokens, from, depth),
         First::Case => case(alloc, tokens, from, depth),
         First::Repeat => repeat(alloc, tokens, from, depth),

@@ -16,8 +16,6 @@ use pearl_tree::name::Name;
 use pearl_tree::token::Token;
 use std::alloc::Global;
 
-pub const SEMICOLON: u8 = 5;
-
 /// A word.
 pub fn word(tokens: &[Token], at: usize, stop: usize, word: u8) -> Result<(), Halt>
     ensures stands { OnOk result (HasWord tokens.now at word) }
@@ -65,7 +63,7 @@ pub fn expr(
     requires least_stop { least_stop ≤ length tokens.now }
     ensures spells { IfOk result (λ reading. SpellsWhole tokens.now from reading.part reading.end) }
     ensures longest { IfOk result (λ reading. IsLongest SpellsWhole extends_expression tokens.now from reading.end reading.stop) }
-    ensures on { IfOk result (λ reading. spec.StopsWithin tokens.now (from + 1) least_stop reading.end reading.stop) }
+    ensures bounds { IfOk result (λ reading. spec.StopsWithin tokens.now (from + 1) least_stop reading.end reading.stop) }
     ensures refused { IfErr result (λ halt. spec.IsStopped SpellsWhole tokens.now from least_stop halt) }
 {
     match expression_at_depth(alloc, tokens, from, BRACKETS_MAX) {
@@ -86,7 +84,7 @@ pub fn maybe_name(tokens: &[Token], from: usize) -> Reading<Option<Name>>
     requires { from ≤ length tokens.now }
     ensures spells { SpellsMaybe (SpellsName tokens.now) from result.part result.end }
     ensures longest { IsOnly (spec.SpellsOptional is_name SpellsName) tokens.now from result.end result.stop }
-    ensures on { spec.StopsWithin tokens.now from from result.end result.stop }
+    ensures bounds { spec.StopsWithin tokens.now from from result.end result.stop }
 {
     match name_at(tokens, from) {
         Some(name) => Reading {
@@ -115,7 +113,7 @@ pub fn after(
     requires word { HasWord tokens.now from word }
     ensures spells { IfOk result (λ reading. SpellsAfter tokens.now word from reading.part reading.end) }
     ensures longest { IfOk result (λ reading. IsLongest (λ tokens. SpellsAfter tokens word) extends_expression tokens.now from reading.end reading.stop) }
-    ensures on { IfOk result (λ reading. spec.StopsWithin tokens.now (from + 1) least_stop reading.end reading.stop) }
+    ensures bounds { IfOk result (λ reading. spec.StopsWithin tokens.now (from + 1) least_stop reading.end reading.stop) }
     ensures refused { IfErr result (λ halt. spec.IsStopped (λ tokens. SpellsAfter tokens word) tokens.now from least_stop halt) }
 {
     match expr(alloc, tokens, from + 1, least_stop) {
@@ -136,7 +134,7 @@ pub fn maybe_after(
     requires least_stop { least_stop ≤ length tokens.now }
     ensures spells { IfOk result (λ reading. SpellsMaybe (SpellsAfter tokens.now word) from reading.part reading.end) }
     ensures longest { IfOk result (λ reading. IsLongest (spec.SpellsOptional (is_word word) (λ tokens. SpellsAfter tokens word)) extends_expression tokens.now from reading.end reading.stop) }
-    ensures on { IfOk result (λ reading. spec.StopsWithin tokens.now from least_stop reading.end reading.stop) }
+    ensures bounds { IfOk result (λ reading. spec.StopsWithin tokens.now from least_stop reading.end reading.stop) }
     ensures refused { IfErr result (λ halt. spec.IsStopped (spec.SpellsOptional (is_word word) (λ tokens. SpellsAfter tokens word)) tokens.now from least_stop halt) }
 {
     if !is_word(tokens, from, word) {

@@ -10,10 +10,11 @@ ghost use Rattle.pearl_parse.specs.Stops as spec;
 ghost use Rattle.pearl_parse.specs.Modules as modules;
 
 use crate::each::{Repeated, each};
-use crate::step::{SEMICOLON, symbol, word};
+use crate::step::{symbol, word};
 use pearl_parse_decl::specification::device;
 use pearl_parse_expr::reading::{Halt, Reading};
 use pearl_parse_expr::standing::is_word;
+use pearl_tables::symbol::SEMICOLON;
 use pearl_tables::word_code::{PROBLEM, SYSTEM};
 use pearl_tree::declaration::Device;
 use pearl_tree::parts::Parts;
@@ -61,7 +62,7 @@ fn maybe_system(
     requires { from ≤ length tokens.now }
     ensures spells { IfOk result (λ reading. modules.SpellsOptionalSystem tokens.now from reading.part reading.end) }
     ensures longest { IfOk result (λ reading. IsLongest modules.SpellsOptionalSystem is_name tokens.now from reading.end reading.stop) }
-    ensures on { IfOk result (λ reading. spec.StopsWithin tokens.now from from reading.end reading.stop) }
+    ensures bounds { IfOk result (λ reading. spec.StopsWithin tokens.now from from reading.end reading.stop) }
     ensures refused { IfErr result (λ halt. IsHalted modules.SpellsOptionalSystem tokens.now from halt) }
 {
     if !is_word(tokens, from, SYSTEM) {

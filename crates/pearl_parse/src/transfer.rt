@@ -10,15 +10,16 @@ ghost use Rattle.pearl_parse_decl.specs.Readings.{by_comma, never};
 ghost use Rattle.pearl_parse.specs.Stops as spec;
 
 use crate::list::before;
-use crate::step::{SEMICOLON, name, symbol, word as word_here};
+use crate::step::{name, symbol, word as word_here};
 use pearl_parse_decl::list::list;
-use pearl_parse_expr::reading::{Halt, Reading};
+use pearl_parse_expr::reading::{Halt, Reading, boxed};
 use pearl_parse_expr::standing::{is_symbol, place_at};
+use pearl_tables::symbol::SEMICOLON;
 use pearl_tables::word_code::*;
 use pearl_tree::format::Fmt;
 use pearl_tree::name::Name;
 use pearl_tree::parts::Parts;
-use pearl_tree::statement::{SemaWord, Stmt};
+use pearl_tree::statement::{Get, OnSemas, Put, SemaWord, Stmt};
 use pearl_tree::token::Token;
 use std::alloc::Global;
 
@@ -49,12 +50,13 @@ pub fn on_semas(
 {
     let names = name_list(alloc, tokens, from + 1)?;
     symbol(tokens, names.end, names.stop, SEMICOLON)?;
+    let on_semas = OnSemas {
+        word,
+        names: Parts::new(names.part),
+        place: place_at(tokens, from),
+    };
     Ok(Reading {
-        part: Stmt::OnSemas {
-            word,
-            names: Parts::new(names.part),
-            place: place_at(tokens, from),
-        },
+        part: Stmt::OnSemas(boxed(alloc, on_semas)?),
         end: names.end + 1,
         stop: names.stop.max(names.end + 1),
     })
@@ -71,7 +73,7 @@ fn formats(
     requires least_stop { least_stop ≤ length tokens.now }
     ensures spells { IfOk result (λ reading. spec.SpellsFormats tokens.now from reading.part.items reading.end) }
     ensures longest { IfOk result (λ reading. IsOnly spec.SpellsFormats tokens.now from reading.end reading.stop) }
-    ensures on { IfOk result (λ reading. spec.StopsWithin tokens.now (from + 1) least_stop reading.end reading.stop) }
+    ensures bounds { IfOk result (λ reading. spec.StopsWithin tokens.now (from + 1) least_stop reading.end reading.stop) }
     ensures refused { IfErr result (λ halt. spec.IsStopped spec.SpellsFormats tokens.now from least_stop halt) }
 {
     match list(alloc, tokens, from) {
@@ -110,7 +112,7 @@ fn station(
     requires least_stop { least_stop ≤ length tokens.now }
     ensures spells { IfOk result (λ reading. spec.SpellsStation tokens.now from (reading.part.dation, reading.part.formats.items) reading.end) }
     ensures longest { IfOk result (λ reading. IsOnly spec.SpellsStation tokens.now from reading.end reading.stop) }
-    ensures on { IfOk result (λ reading. spec.StopsWithin tokens.now (from + 1) least_stop reading.end reading.stop) }
+    ensures bounds { IfOk result (λ reading. spec.StopsWithin tokens.now (from + 1) least_stop reading.end reading.stop) }
     ensures refused { IfErr result (λ halt. spec.IsStopped spec.SpellsStation tokens.now from least_stop halt) }
 {
     let dation = name(tokens, from, least_stop)?;
@@ -137,13 +139,14 @@ pub fn put(alloc: Global, tokens: &[Token], from: usize) -> Result<Reading<Stmt>
 {
     let values = before(alloc, tokens, from + 1, TO)?;
     let station = station(alloc, tokens, values.end, values.stop)?;
+    let put = Put {
+        values: Parts::new(values.part),
+        dation: station.part.dation,
+        formats: Parts::new(station.part.formats),
+        place: place_at(tokens, from),
+    };
     Ok(Reading {
-        part: Stmt::Put {
-            values: Parts::new(values.part),
-            dation: station.part.dation,
-            formats: Parts::new(station.part.formats),
-            place: place_at(tokens, from),
-        },
+        part: Stmt::Put(boxed(alloc, put)?),
         end: station.end,
         stop: station.stop,
     })
@@ -160,13 +163,14 @@ pub fn get(alloc: Global, tokens: &[Token], from: usize) -> Result<Reading<Stmt>
 {
     let targets = before(alloc, tokens, from + 1, FROM)?;
     let station = station(alloc, tokens, targets.end, targets.stop)?;
+    let get = Get {
+        targets: Parts::new(targets.part),
+        dation: station.part.dation,
+        formats: Parts::new(station.part.formats),
+        place: place_at(tokens, from),
+    };
     Ok(Reading {
-        part: Stmt::Get {
-            targets: Parts::new(targets.part),
-            dation: station.part.dation,
-            formats: Parts::new(station.part.formats),
-            place: place_at(tokens, from),
-        },
+        part: Stmt::Get(boxed(alloc, get)?),
         end: station.end,
         stop: station.stop,
     })

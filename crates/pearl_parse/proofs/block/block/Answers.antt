@@ -39,7 +39,7 @@ returns-in_err-word-clause-refused c =
     let go = end_goes tokens from least_stop body.end body.stop stop (omega (arith, c.max-stop.ensures)) (omega (arith, c.max-stop.ensures)) read.longest in
     err_told _ _ c.in_err-word.field-0.0 c.from_residual-in_err-word.result c.from_residual-in_err-word.ensures (λ e is. is)
     (missing_behind SpellsBlock tokens from least_stop (is_word w.END) end_rest body.end stop body.end c.in_err-word.field-0.0 go (λ others to h. ap (is_word w.END) h.0)
-    (omega (arith, read.on, c.max-stop.ensures)) (omega (arith, c.max-stop.ensures)) (omega (arith, read.on)) (omega (arith, read.on, c.max-stop.ensures, c.requires.least_stop)) c.in_err-word.ensures.missing)
+    (omega (arith, read.bounds, c.max-stop.ensures)) (omega (arith, c.max-stop.ensures)) (omega (arith, read.bounds)) (omega (arith, read.bounds, c.max-stop.ensures, c.requires.least_stop)) c.in_err-word.ensures.missing)
 
 pub returns-in_err-symbol-2-clause-refused : goal.returns-in_err-symbol-2-clause-refused
 returns-in_err-symbol-2-clause-refused c =
@@ -52,7 +52,7 @@ returns-in_err-symbol-2-clause-refused c =
     let go = end_goes tokens from least_stop body.end body.stop stop (omega (arith, c.max-stop.ensures)) (omega (arith, c.max-stop.ensures)) read.longest in
     err_told _ _ c.in_err-symbol-2.field-0.0 c.from_residual-in_err-symbol-2.result c.from_residual-in_err-symbol-2.ensures (λ e is. is)
     (missing_behind SpellsBlock tokens from least_stop (is_symbol s.SEMICOLON) end_rest body.end stop (body.end + 1) c.in_err-symbol-2.field-0.0 go (λ others to h. ap (is_symbol s.SEMICOLON) h.1)
-    (omega (arith, read.on, c.max-stop.ensures)) (omega (arith, c.max-stop.ensures)) (omega (arith, c.in_ok-word.ensures.within)) (omega (arith, read.on, c.max-stop.ensures, c.requires.least_stop)) c.in_err-symbol-2.ensures.missing)
+    (omega (arith, read.bounds, c.max-stop.ensures)) (omega (arith, c.max-stop.ensures)) (omega (arith, c.in_ok-word.ensures.within)) (omega (arith, read.bounds, c.max-stop.ensures, c.requires.least_stop)) c.in_err-symbol-2.ensures.missing)
 
 pub returns-clause-longest : goal.returns-clause-longest
 returns-clause-longest c =

@@ -27,4 +27,4 @@ returns-clause-longest c = λ depth.
     let from = c.args.from in
     let arguments = c.in_ok-arguments.arguments in
     let last = c.in_ok-arguments.ensures in
-    past_only (Spelled depth) tokens from SpellsArguments Ends (from + 2) from arguments.end arguments.stop (call_goes_on tokens depth from c.requires.word) last.on.2 last.longest
+    past_only (Spelled depth) tokens from SpellsArguments Ends (from + 2) from arguments.end arguments.stop (call_goes_on tokens depth from c.requires.word) last.bounds.2 last.longest

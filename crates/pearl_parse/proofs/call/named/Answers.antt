@@ -36,9 +36,9 @@ returns-in_err-symbol-clause-refused c =
     err_told _ _ c.in_err-symbol.field-0.0 c.from_residual-in_err-symbol.result c.from_residual-in_err-symbol.ensures (λ e is. is)
     (λ depth.
     let first = assign_goes tokens depth from target.end target.stop c.requires.name (omega (arith, read.ahead)) (omega (arith, read.ahead)) read.named (sym c.if-becomes.ensures.value) in
-    let go = past (Spelled depth) tokens from SpellsWhole extends_expression exit_rest (target.end + 1) target.stop value.end value.stop first next.on.2 next.longest (λ others at to h. ap extends_expression h.0) in
+    let go = past (Spelled depth) tokens from SpellsWhole extends_expression exit_rest (target.end + 1) target.stop value.end value.stop first next.bounds.2 next.longest (λ others at to h. ap extends_expression h.0) in
     missing (Spelled depth) tokens from (is_symbol s.SEMICOLON) exit_rest value.end value.stop value.end c.in_err-symbol.field-0.0 go
-    (λ others to h. ap (is_symbol s.SEMICOLON) h.0) (omega (arith, next.on, read.ahead)) (omega (arith, next.on)) (omega (arith, next.on)) c.in_err-symbol.ensures.missing)
+    (λ others to h. ap (is_symbol s.SEMICOLON) h.0) (omega (arith, next.bounds, read.ahead)) (omega (arith, next.bounds)) (omega (arith, next.bounds)) c.in_err-symbol.ensures.missing)
 
 pub returns-then-becomes-clause-longest : goal.returns-then-becomes-clause-longest
 returns-then-becomes-clause-longest c = λ depth.
@@ -49,7 +49,7 @@ returns-then-becomes-clause-longest c = λ depth.
     let value = c.in_ok-value.value in
     let next = c.in_ok-value.ensures in
     let first = assign_goes tokens depth from target.end target.stop c.requires.name (omega (arith, read.ahead)) (omega (arith, read.ahead)) read.named (sym c.if-becomes.ensures.value) in
-    let go = past (Spelled depth) tokens from SpellsWhole extends_expression exit_rest (target.end + 1) target.stop value.end value.stop first next.on.2 next.longest (λ others at to h. ap extends_expression h.0) in
+    let go = past (Spelled depth) tokens from SpellsWhole extends_expression exit_rest (target.end + 1) target.stop value.end value.stop first next.bounds.2 next.longest (λ others at to h. ap extends_expression h.0) in
     ends (Spelled depth) tokens from exit_rest value.end value.stop c.max.result (value.end + 1) go (omega (arith, c.max.ensures)) (λ others to h. h.1)
 
 pub returns-in_err-arguments-clause-refused : goal.returns-in_err-arguments-clause-refused
@@ -71,4 +71,4 @@ returns-clause-longest c = λ depth.
     let arguments = c.in_ok-arguments.arguments in
     let last = c.in_ok-arguments.ensures in
     past_only (Spelled depth) tokens from SpellsArguments Ends (from + 1) target.stop arguments.end arguments.stop
-    (named_call_goes tokens depth from target.end target.stop c.requires.name (omega (arith, read.ahead)) (omega (arith, read.ahead)) read.named (sym c.if-becomes.ensures.value)) last.on.2 last.longest
+    (named_call_goes tokens depth from target.end target.stop c.requires.name (omega (arith, read.ahead)) (omega (arith, read.ahead)) read.named (sym c.if-becomes.ensures.value)) last.bounds.2 last.longest

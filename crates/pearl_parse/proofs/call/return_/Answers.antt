@@ -23,9 +23,9 @@ returns-in_err-symbol-clause-refused c =
     let read = c.in_ok-value.ensures in
     err_told _ _ c.in_err-symbol.field-0.0 c.from_residual-in_err-symbol.result c.from_residual-in_err-symbol.ensures (λ e is. is)
     (λ depth.
-    let go = past_only (Spelled depth) tokens from SpellsOptionalValue exit_rest (from + 1) from value.end value.stop (return_goes tokens depth from c.requires.word) (omega (arith, read.on)) read.longest in
+    let go = past_only (Spelled depth) tokens from SpellsOptionalValue exit_rest (from + 1) from value.end value.stop (return_goes tokens depth from c.requires.word) (omega (arith, read.bounds)) read.longest in
     missing (Spelled depth) tokens from (is_symbol s.SEMICOLON) exit_rest value.end value.stop value.end c.in_err-symbol.field-0.0 go
-    (λ others to h. ap (is_symbol s.SEMICOLON) h.0) (omega (arith, read.on)) (omega (arith, read.on)) (omega (arith, read.on)) c.in_err-symbol.ensures.missing)
+    (λ others to h. ap (is_symbol s.SEMICOLON) h.0) (omega (arith, read.bounds)) (omega (arith, read.bounds)) (omega (arith, read.bounds)) c.in_err-symbol.ensures.missing)
 
 pub returns-clause-longest : goal.returns-clause-longest
 returns-clause-longest c = λ depth.
@@ -33,5 +33,5 @@ returns-clause-longest c = λ depth.
     let from = c.args.from in
     let value = c.in_ok-value.value in
     let read = c.in_ok-value.ensures in
-    let go = past_only (Spelled depth) tokens from SpellsOptionalValue exit_rest (from + 1) from value.end value.stop (return_goes tokens depth from c.requires.word) (omega (arith, read.on)) read.longest in
+    let go = past_only (Spelled depth) tokens from SpellsOptionalValue exit_rest (from + 1) from value.end value.stop (return_goes tokens depth from c.requires.word) (omega (arith, read.bounds)) read.longest in
     ends (Spelled depth) tokens from exit_rest value.end value.stop c.max.result (value.end + 1) go (omega (arith, c.max.ensures)) (λ others to h. h.1)

@@ -10,7 +10,7 @@ each-preserved g c =
     let tokens = c.args.tokens.now in
     let next = c.in-Ok.next in
     let read = c.in-Ok.ensures in
-    let near : c.each.end ≤ c.each.stop = omega (arith, c.each.invariant.on) in
+    let near : c.each.end ≤ c.each.stop = omega (arith, c.each.invariant.bounds) in
     let ahead : c.each.end < next.end = omega (arith, read.ahead) in
     let below : c.each.stop ≤ c.max-stop.result = omega (arith, c.max-stop.ensures) in
     let reach : next.stop ≤ c.max-stop.result = omega (arith, c.max-stop.ensures) in
@@ -19,7 +19,7 @@ each-preserved g c =
           (each_one_more (g.P.Repeated.spelling tokens) c.each.list.items c.args.from c.each.end next.end next.part c.each.invariant.spells read.spells);
       goes = each_next g.P.Repeated.spelling g.P.Repeated.begins tokens c.args.from c.each.end c.each.stop next.end next.stop c.max-stop.result c.each.invariant.goes near ahead below reach
           (g.met.P.Repeated.first tokens c.each.end next.part next.end read.spells) read.longest;
-      on = (omega (arith, c.each.invariant.on, read.ahead), omega (arith, read.ahead, c.max-stop.ensures), omega (arith, c.each.invariant.on, c.max-stop.ensures), omega (arith, c.each.invariant.on, read.ahead, c.max-stop.ensures));
+      bounds = (omega (arith, c.each.invariant.bounds, read.ahead), omega (arith, read.ahead, c.max-stop.ensures), omega (arith, c.each.invariant.bounds, c.max-stop.ensures), omega (arith, c.each.invariant.bounds, read.ahead, c.max-stop.ensures));
     }
 
 pub returns-in-Refused-clause-longest : goal.returns-in-Refused-clause-longest

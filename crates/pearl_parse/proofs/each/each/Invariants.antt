@@ -8,7 +8,7 @@ abbrev pub invariant-each : goal.invariant-each
 invariant-each g l = record {
   spells : SpellsEach (g.P.Repeated.spelling l.tokens) l.from l.list.items l.end;
   goes : EachGoes g.P.Repeated.spelling g.P.Repeated.begins l.tokens l.from l.end l.stop;
-  on : StopsWithin l.tokens l.from l.from l.end l.stop;
+  bounds : StopsWithin l.tokens l.from l.from l.end l.stop;
 }
 
 abbrev pub decreases-each : goal.decreases-each

@@ -73,8 +73,8 @@ returns-in_err-begun-clause-refused c =
     err_told _ _ c.in_err-begun.field-0.0 c.from_residual-in_err-begun.result c.from_residual-in_err-begun.ensures (λ e is. is)
     (λ depth.
     let go = past (Spelled depth) tokens from SpellsOptionalAfter extends_expression begun_rest (from + 2) (from + 2) after.end after.stop
-    (when_begins tokens depth from c.requires.word (sym c.if-is_word.ensures.value) (sym c.if-is_word-2.ensures.value)) read.on.2 read.longest avoids_begun in
-    no_part (Spelled depth) tokens from SpellsBegun Ends after.end after.stop c.in_err-begun.field-0.0 go (omega (arith, read.on)) c.in_err-begun.ensures.refused)
+    (when_begins tokens depth from c.requires.word (sym c.if-is_word.ensures.value) (sym c.if-is_word-2.ensures.value)) read.bounds.2 read.longest avoids_begun in
+    no_part (Spelled depth) tokens from SpellsBegun Ends after.end after.stop c.in_err-begun.field-0.0 go (omega (arith, read.bounds)) c.in_err-begun.ensures.refused)
 
 pub returns-clause-longest : goal.returns-clause-longest
 returns-clause-longest c = λ depth.
@@ -85,5 +85,5 @@ returns-clause-longest c = λ depth.
     let begun = c.in_ok-begun.begun in
     let last = c.in_ok-begun.ensures in
     let go = past (Spelled depth) tokens from SpellsOptionalAfter extends_expression begun_rest (from + 2) (from + 2) after.end after.stop
-    (when_begins tokens depth from c.requires.word (sym c.if-is_word.ensures.value) (sym c.if-is_word-2.ensures.value)) read.on.2 read.longest avoids_begun in
-    past_only (Spelled depth) tokens from SpellsBegun Ends after.end after.stop begun.end begun.stop go last.on.2 last.longest
+    (when_begins tokens depth from c.requires.word (sym c.if-is_word.ensures.value) (sym c.if-is_word-2.ensures.value)) read.bounds.2 read.longest avoids_begun in
+    past_only (Spelled depth) tokens from SpellsBegun Ends after.end after.stop begun.end begun.stop go last.bounds.2 last.longest

@@ -39,5 +39,5 @@ returns-clause-spells c =
     let tokens = c.args.tokens.now in
     let opening = c.in_ok-opening.opening in
     let list = c.in-Ok.list in
-    as_tree tokens _ c.in_ok-head.head.end opening.end list.end c.place_at.ensures c.in_ok-head.ensures.spells c.in_ok-opening.ensures.spells
-    (subst (λ parts. Declarations tokens opening.end parts.items list.end) (sym c.new.ensures) c.in-Ok.ensures.spells) c.in_ok-semicolon.ensures.spells
+    as_tree tokens _ c.in_ok-head.head.end opening.end list.end c.place_at-2.ensures c.place_at.ensures c.in_ok-head.ensures.spells c.in_ok-opening.ensures.spells
+    (subst (λ xs. Declarations tokens opening.end xs list.end) (sym c.new.ensures) c.in-Ok.ensures.spells) c.in_ok-semicolon.ensures.spells

@@ -20,9 +20,9 @@ returns-in_err-activation-clause-refused c =
     let least_stop = c.args.least_stop in
     let period = c.in_ok-period.period in
     let read = c.in_ok-period.ensures in
-    let go = past SpellsBegun tokens from SpellsOptionalPeriod extends_expression activation_rest from least_stop period.end period.stop (begun_goes tokens from least_stop) read.on.2 read.longest (λ others at to h. ap extends_expression h.2.1) in
+    let go = past SpellsBegun tokens from SpellsOptionalPeriod extends_expression activation_rest from least_stop period.end period.stop (begun_goes tokens from least_stop) read.bounds.2 read.longest (λ others at to h. ap extends_expression h.2.1) in
     err_told _ _ c.in_err-activation.field-0.0 c.from_residual-in_err-activation.result c.from_residual-in_err-activation.ensures (λ e is. is)
-    (no_part_behind SpellsBegun tokens from least_stop SpellsActivation Ends period.end period.stop c.in_err-activation.field-0.0 go (omega (arith, read.on)) read.on.2 c.in_err-activation.ensures.refused)
+    (no_part_behind SpellsBegun tokens from least_stop SpellsActivation Ends period.end period.stop c.in_err-activation.field-0.0 go (omega (arith, read.bounds)) read.bounds.2 c.in_err-activation.ensures.refused)
 
 pub returns-clause-longest : goal.returns-clause-longest
 returns-clause-longest c =
@@ -33,5 +33,5 @@ returns-clause-longest c =
     let read = c.in_ok-period.ensures in
     let activation = c.in_ok-activation.activation in
     let last = c.in_ok-activation.ensures in
-    let go = past SpellsBegun tokens from SpellsOptionalPeriod extends_expression activation_rest from least_stop period.end period.stop (begun_goes tokens from least_stop) read.on.2 read.longest (λ others at to h. ap extends_expression h.2.1) in
-    past_only SpellsBegun tokens from SpellsActivation Ends period.end period.stop activation.end activation.stop go last.on.2 last.longest
+    let go = past SpellsBegun tokens from SpellsOptionalPeriod extends_expression activation_rest from least_stop period.end period.stop (begun_goes tokens from least_stop) read.bounds.2 read.longest (λ others at to h. ap extends_expression h.2.1) in
+    past_only SpellsBegun tokens from SpellsActivation Ends period.end period.stop activation.end activation.stop go last.bounds.2 last.longest

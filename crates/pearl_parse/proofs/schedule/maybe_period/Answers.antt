@@ -7,7 +7,7 @@ use Rattle.pearl_parse.proofs.schedule.maybe_period.Goals as goal
 
 pub returns-in-Ok-clause-longest : goal.returns-in-Ok-clause-longest
 returns-in-Ok-clause-longest c =
-    optional_is_longest (is_word w.ALL) SpellsLongPeriod c.args.tokens.now c.args.from extends_expression c.in-Ok.read.end c.in-Ok.read.stop (sym c.if-not-is_word.ensures.value) (omega (arith, c.in-Ok.ensures.on)) c.in-Ok.ensures.longest
+    optional_is_longest (is_word w.ALL) SpellsLongPeriod c.args.tokens.now c.args.from extends_expression c.in-Ok.read.end c.in-Ok.read.stop (sym c.if-not-is_word.ensures.value) (omega (arith, c.in-Ok.ensures.bounds)) c.in-Ok.ensures.longest
 
 pub returns-in-Err-clause-refused : goal.returns-in-Err-clause-refused
 returns-in-Err-clause-refused c =

@@ -22,7 +22,7 @@ statements-each-preserved t c =
     let depth = c.args.depth in
     let next = c.in-Ok.next in
     let read = c.in-Ok.ensures in
-    let near : c.each.end ≤ c.each.stop = omega (arith, c.each.invariant.on) in
+    let near : c.each.end ≤ c.each.stop = omega (arith, c.each.invariant.bounds) in
     let ahead : c.each.end < next.end = omega (arith, read.ahead) in
     let below : c.each.stop ≤ c.max-stop.result = omega (arith, c.max-stop.ensures) in
     let reach : next.stop ≤ c.max-stop.result = omega (arith, c.max-stop.ensures) in
@@ -31,7 +31,7 @@ statements-each-preserved t c =
           (each_one_more (SpellsStmt tokens depth) c.each.list.items c.args.from c.each.end next.end next.part c.each.invariant.spells read.spells);
       goes = each_next (λ tokens. SpellsStmt tokens depth) begins_statement tokens c.args.from c.each.end c.each.stop next.end next.stop c.max-stop.result c.each.invariant.goes near ahead below reach
           (stmt_begins tokens depth c.each.end next.part next.end read.spells) read.longest;
-      on = (omega (arith, c.each.invariant.on, read.ahead), omega (arith, read.ahead, c.max-stop.ensures), omega (arith, c.each.invariant.on, c.max-stop.ensures), omega (arith, c.each.invariant.on, read.ahead, c.max-stop.ensures));
+      bounds = (omega (arith, c.each.invariant.bounds, read.ahead), omega (arith, read.ahead, c.max-stop.ensures), omega (arith, c.each.invariant.bounds, c.max-stop.ensures), omega (arith, c.each.invariant.bounds, read.ahead, c.max-stop.ensures));
     }
 
 pub statements-returns-in-Refused-clause-longest : goal.statements-returns-in-Refused-clause-longest
@@ -45,7 +45,7 @@ statements-returns-in-Refused-clause-longest t c =
 pub branch-returns-in-Ok-clause-spells : goal.branch-returns-in-Ok-clause-spells
 branch-returns-in-Ok-clause-spells t c =
     let statements = c.in-Ok.statements in
-    (c.place_at.ensures, c.requires.word, subst (λ xs. SpellsStatements c.args.depth c.args.tokens.now (c.args.from + 1) xs.items statements.end) (sym c.new.ensures) c.in-Ok.ensures.spells)
+    (c.place_at.ensures, c.requires.word, subst (λ xs. SpellsStatements c.args.depth c.args.tokens.now (c.args.from + 1) xs statements.end) (sym c.new.ensures) c.in-Ok.ensures.spells)
 
 pub branch-returns-in-Ok-clause-longest : goal.branch-returns-in-Ok-clause-longest
 branch-returns-in-Ok-clause-longest t c = λ others agree xs to h. c.in-Ok.ensures.longest others agree xs to h.1
@@ -59,7 +59,7 @@ maybe_branch-returns-then-not-is_word-clause-longest t c =
 pub maybe_branch-returns-in_Ok-branch-clause-longest : goal.maybe_branch-returns-in_Ok-branch-clause-longest
 maybe_branch-returns-in_Ok-branch-clause-longest t c =
     optional_is_longest (is_word c.args.word) (SpellsHeaded c.args.depth c.args.word) c.args.tokens.now c.args.from begins_statement c.in_Ok-branch.branch.end c.in_Ok-branch.branch.stop (sym c.if-not-is_word.ensures.value)
-    (omega (arith, c.in_Ok-branch.ensures.on)) c.in_Ok-branch.ensures.longest
+    (omega (arith, c.in_Ok-branch.ensures.bounds)) c.in_Ok-branch.ensures.longest
 
 pub alternatives-returns-then-not-is_word-clause-refused : goal.alternatives-returns-then-not-is_word-clause-refused
 alternatives-returns-then-not-is_word-clause-refused t c = no_choice c.args.tokens.now c.args.depth c.args.from c.args.least_stop c.requires.0 c.requires.1 (sym c.if-not-is_word.ensures.value)
@@ -71,13 +71,13 @@ alternatives-each-preserved t c =
     let next = c.in_Ok-next.next in
     let read = c.in_Ok-next.ensures in
     let here = c.each-test.ensures.stands refl in
-    let near : c.each.end ≤ c.each.stop = omega (arith, c.each.invariant.on) in
-    let ahead : c.each.end < next.end = omega (arith, read.on) in
+    let near : c.each.end ≤ c.each.stop = omega (arith, c.each.invariant.bounds) in
+    let ahead : c.each.end < next.end = omega (arith, read.bounds) in
     record {
       spells = subst (λ xs. SpellsEach (SpellsBranch tokens depth w.ALT) c.args.from xs next.end) (sym c.in_ok-append-in_Ok-next.ensures.appended)
           (each_one_more (SpellsBranch tokens depth w.ALT) c.each.list.items c.args.from c.each.end next.end next.part c.each.invariant.spells read.spells);
-      goes = choices_next tokens depth c.args.from c.each.end c.each.stop next.end next.stop c.each.invariant.goes near ahead read.on.2 here read.longest;
-      on = (omega (arith, c.each.invariant.on, read.on), read.on.1, omega (arith, c.each.invariant.on, read.on), read.on.3);
+      goes = choices_next tokens depth c.args.from c.each.end c.each.stop next.end next.stop c.each.invariant.goes near ahead read.bounds.2 here read.longest;
+      bounds = (omega (arith, c.each.invariant.bounds, read.bounds), read.bounds.1, omega (arith, c.each.invariant.bounds, read.bounds), read.bounds.3);
     }
 
 pub alternatives-returns-in_Err-next-clause-refused : goal.alternatives-returns-in_Err-next-clause-refused
@@ -87,7 +87,7 @@ pub alternatives-returns-clause-spells : goal.alternatives-returns-clause-spells
 alternatives-returns-clause-spells t c = some_of c.args.tokens.now c.args.depth c.args.from c.each.list.items c.each.end (c.if-not-is_word.ensures.stands refl) (sym c.each-test.ensures.value) c.each.invariant.spells
 
 pub alternatives-returns-clause-longest : goal.alternatives-returns-clause-longest
-alternatives-returns-clause-longest t c = choices_end c.args.tokens.now c.args.depth c.args.from c.each.end c.each.stop c.each.invariant.goes (omega (arith, c.each.invariant.on)) (sym c.each-test.ensures.value)
+alternatives-returns-clause-longest t c = choices_end c.args.tokens.now c.args.depth c.args.from c.each.end c.each.stop c.each.invariant.goes (omega (arith, c.each.invariant.bounds)) (sym c.each-test.ensures.value)
 
 pub if_-returns-then-depth-eq0-clause-refused : goal.if_-returns-then-depth-eq0-clause-refused
 if_-returns-then-depth-eq0-clause-refused t c = no_if c.args.tokens.now c.args.depth c.args.from c.if-depth-eq0.true (omega (arith, c.requires.within)) c.requires.word
@@ -121,10 +121,10 @@ if_-returns-in_err-closing-clause-refused t c =
     let otherwise = c.in_ok-otherwise.otherwise in
     let go_0 = if_goes tokens depth from c.requires.word in
     let go_1 = past_only (Spelled depth) tokens from SpellsCondition (then_rest (depth - 1)) from from condition.end condition.stop go_0 (omega (arith, c.in_ok-condition.ensures.ahead)) c.in_ok-condition.ensures.longest in
-    let go_2 = past (Spelled depth) tokens from (SpellsStatements (depth - 1)) begins_statement (otherwise_rest (depth - 1) w.ELSE) condition.end condition.stop statements.end statements.stop go_1 (omega (arith, c.in_ok-statements.ensures.on)) c.in_ok-statements.ensures.longest (avoids_otherwise begins_statement (depth - 1) w.ELSE refl refl) in
-    let go_3 = past (Spelled depth) tokens from (SpellsOptionalHeaded (depth - 1) w.ELSE) begins_statement (closing_rest w.FIN) statements.end statements.stop otherwise.end otherwise.stop go_2 (omega (arith, c.in_ok-otherwise.ensures.on)) c.in_ok-otherwise.ensures.longest (avoids_closing begins_statement w.FIN refl) in
+    let go_2 = past (Spelled depth) tokens from (SpellsStatements (depth - 1)) begins_statement (otherwise_rest (depth - 1) w.ELSE) condition.end condition.stop statements.end statements.stop go_1 (omega (arith, c.in_ok-statements.ensures.bounds)) c.in_ok-statements.ensures.longest (avoids_otherwise begins_statement (depth - 1) w.ELSE refl refl) in
+    let go_3 = past (Spelled depth) tokens from (SpellsOptionalHeaded (depth - 1) w.ELSE) begins_statement (closing_rest w.FIN) statements.end statements.stop otherwise.end otherwise.stop go_2 (omega (arith, c.in_ok-otherwise.ensures.bounds)) c.in_ok-otherwise.ensures.longest (avoids_closing begins_statement w.FIN refl) in
     err_told _ _ c.in_err-closing.field-0.0 c.from_residual-in_err-closing.result c.from_residual-in_err-closing.ensures (λ e is. is)
-    (no_part (Spelled depth) tokens from (SpellsClosing w.FIN) Ends otherwise.end otherwise.stop c.in_err-closing.field-0.0 go_3 (omega (arith, c.in_ok-condition.ensures.ahead, c.in_ok-statements.ensures.on, c.in_ok-otherwise.ensures.on)) c.in_err-closing.ensures.refused)
+    (no_part (Spelled depth) tokens from (SpellsClosing w.FIN) Ends otherwise.end otherwise.stop c.in_err-closing.field-0.0 go_3 (omega (arith, c.in_ok-condition.ensures.ahead, c.in_ok-statements.ensures.bounds, c.in_ok-otherwise.ensures.bounds)) c.in_err-closing.ensures.refused)
 
 pub if_-returns-clause-spells : goal.if_-returns-clause-spells
 if_-returns-clause-spells t c =
@@ -135,8 +135,8 @@ if_-returns-clause-spells t c =
     let statements = c.in_ok-statements.statements in
     let otherwise = c.in_ok-otherwise.otherwise in
     let deep : 0 < depth = omega (arith, c.if-depth-eq0.false) in
-    if_spelled tokens depth from c.place_at.result c.place_at.ensures deep condition.part c.new.result otherwise.part condition.end statements.end otherwise.end c.in_ok-condition.ensures.spells
-    (subst (λ xs. SpellsStatements (depth - 1) tokens condition.end xs.items statements.end) (sym c.new.ensures) c.in_ok-statements.ensures.spells) c.in_ok-otherwise.ensures.spells c.in_ok-closing.ensures.stands
+    if_spelled tokens depth from c.place_at.result c.place_at.ensures deep c.in_ok-boxed.field-0 condition.part c.new.result otherwise.part c.in_ok-boxed.ensures.value condition.end statements.end otherwise.end c.in_ok-condition.ensures.spells
+    (subst (λ xs. SpellsStatements (depth - 1) tokens condition.end xs statements.end) (sym c.new.ensures) c.in_ok-statements.ensures.spells) c.in_ok-otherwise.ensures.spells c.in_ok-closing.ensures.stands
 
 pub if_-returns-clause-longest : goal.if_-returns-clause-longest
 if_-returns-clause-longest t c =
@@ -148,8 +148,8 @@ if_-returns-clause-longest t c =
     let otherwise = c.in_ok-otherwise.otherwise in
     let go_0 = if_goes tokens depth from c.requires.word in
     let go_1 = past_only (Spelled depth) tokens from SpellsCondition (then_rest (depth - 1)) from from condition.end condition.stop go_0 (omega (arith, c.in_ok-condition.ensures.ahead)) c.in_ok-condition.ensures.longest in
-    let go_2 = past (Spelled depth) tokens from (SpellsStatements (depth - 1)) begins_statement (otherwise_rest (depth - 1) w.ELSE) condition.end condition.stop statements.end statements.stop go_1 (omega (arith, c.in_ok-statements.ensures.on)) c.in_ok-statements.ensures.longest (avoids_otherwise begins_statement (depth - 1) w.ELSE refl refl) in
-    let go_3 = past (Spelled depth) tokens from (SpellsOptionalHeaded (depth - 1) w.ELSE) begins_statement (closing_rest w.FIN) statements.end statements.stop otherwise.end otherwise.stop go_2 (omega (arith, c.in_ok-otherwise.ensures.on)) c.in_ok-otherwise.ensures.longest (avoids_closing begins_statement w.FIN refl) in
+    let go_2 = past (Spelled depth) tokens from (SpellsStatements (depth - 1)) begins_statement (otherwise_rest (depth - 1) w.ELSE) condition.end condition.stop statements.end statements.stop go_1 (omega (arith, c.in_ok-statements.ensures.bounds)) c.in_ok-statements.ensures.longest (avoids_otherwise begins_statement (depth - 1) w.ELSE refl refl) in
+    let go_3 = past (Spelled depth) tokens from (SpellsOptionalHeaded (depth - 1) w.ELSE) begins_statement (closing_rest w.FIN) statements.end statements.stop otherwise.end otherwise.stop go_2 (omega (arith, c.in_ok-otherwise.ensures.bounds)) c.in_ok-otherwise.ensures.longest (avoids_closing begins_statement w.FIN refl) in
     ends (Spelled depth) tokens from (closing_rest w.FIN) otherwise.end otherwise.stop c.max.result (otherwise.end + 2) go_3 (omega (arith, c.max.ensures)) (λ others to h. omega (arith, h.2.2, h.3))
 
 pub case-returns-then-depth-eq0-clause-refused : goal.case-returns-then-depth-eq0-clause-refused
@@ -171,9 +171,9 @@ case-returns-in_err-alternatives-clause-refused t c =
     let depth = c.args.depth in
     let selector = c.in_ok-selector.selector in
     let go_0 = case_goes tokens depth from c.requires.word in
-    let go_1 = past (Spelled depth) tokens from (λ tokens. SpellsAfter tokens w.CASE) extends_expression (choices_rest (depth - 1)) from from selector.end selector.stop go_0 (omega (arith, c.in_ok-selector.ensures.on)) c.in_ok-selector.ensures.longest (avoids_choices extends_expression (depth - 1) refl) in
+    let go_1 = past (Spelled depth) tokens from (λ tokens. SpellsAfter tokens w.CASE) extends_expression (choices_rest (depth - 1)) from from selector.end selector.stop go_0 (omega (arith, c.in_ok-selector.ensures.bounds)) c.in_ok-selector.ensures.longest (avoids_choices extends_expression (depth - 1) refl) in
     err_told _ _ c.in_err-alternatives.field-0.0 c.from_residual-in_err-alternatives.result c.from_residual-in_err-alternatives.ensures (λ e is. is)
-    (no_part (Spelled depth) tokens from (SpellsChoices (depth - 1)) (otherwise_rest (depth - 1) w.OUT) selector.end selector.stop c.in_err-alternatives.field-0.0 go_1 (omega (arith, c.in_ok-selector.ensures.on)) c.in_err-alternatives.ensures.refused)
+    (no_part (Spelled depth) tokens from (SpellsChoices (depth - 1)) (otherwise_rest (depth - 1) w.OUT) selector.end selector.stop c.in_err-alternatives.field-0.0 go_1 (omega (arith, c.in_ok-selector.ensures.bounds)) c.in_err-alternatives.ensures.refused)
 
 pub case-returns-in_err-otherwise-clause-refused : goal.case-returns-in_err-otherwise-clause-refused
 case-returns-in_err-otherwise-clause-refused t c =
@@ -189,11 +189,11 @@ case-returns-in_err-closing-clause-refused t c =
     let alternatives = c.in_ok-alternatives.alternatives in
     let otherwise = c.in_ok-otherwise.otherwise in
     let go_0 = case_goes tokens depth from c.requires.word in
-    let go_1 = past (Spelled depth) tokens from (λ tokens. SpellsAfter tokens w.CASE) extends_expression (choices_rest (depth - 1)) from from selector.end selector.stop go_0 (omega (arith, c.in_ok-selector.ensures.on)) c.in_ok-selector.ensures.longest (avoids_choices extends_expression (depth - 1) refl) in
-    let go_2 = past (Spelled depth) tokens from (SpellsChoices (depth - 1)) extends_alternatives (otherwise_rest (depth - 1) w.OUT) selector.end selector.stop alternatives.end alternatives.stop go_1 (omega (arith, c.in_ok-alternatives.ensures.on)) c.in_ok-alternatives.ensures.longest (avoids_otherwise extends_alternatives (depth - 1) w.OUT refl refl) in
-    let go_3 = past (Spelled depth) tokens from (SpellsOptionalHeaded (depth - 1) w.OUT) begins_statement (closing_rest w.FIN) alternatives.end alternatives.stop otherwise.end otherwise.stop go_2 (omega (arith, c.in_ok-otherwise.ensures.on)) c.in_ok-otherwise.ensures.longest (avoids_closing begins_statement w.FIN refl) in
+    let go_1 = past (Spelled depth) tokens from (λ tokens. SpellsAfter tokens w.CASE) extends_expression (choices_rest (depth - 1)) from from selector.end selector.stop go_0 (omega (arith, c.in_ok-selector.ensures.bounds)) c.in_ok-selector.ensures.longest (avoids_choices extends_expression (depth - 1) refl) in
+    let go_2 = past (Spelled depth) tokens from (SpellsChoices (depth - 1)) extends_alternatives (otherwise_rest (depth - 1) w.OUT) selector.end selector.stop alternatives.end alternatives.stop go_1 (omega (arith, c.in_ok-alternatives.ensures.bounds)) c.in_ok-alternatives.ensures.longest (avoids_otherwise extends_alternatives (depth - 1) w.OUT refl refl) in
+    let go_3 = past (Spelled depth) tokens from (SpellsOptionalHeaded (depth - 1) w.OUT) begins_statement (closing_rest w.FIN) alternatives.end alternatives.stop otherwise.end otherwise.stop go_2 (omega (arith, c.in_ok-otherwise.ensures.bounds)) c.in_ok-otherwise.ensures.longest (avoids_closing begins_statement w.FIN refl) in
     err_told _ _ c.in_err-closing.field-0.0 c.from_residual-in_err-closing.result c.from_residual-in_err-closing.ensures (λ e is. is)
-    (no_part (Spelled depth) tokens from (SpellsClosing w.FIN) Ends otherwise.end otherwise.stop c.in_err-closing.field-0.0 go_3 (omega (arith, c.in_ok-selector.ensures.on, c.in_ok-alternatives.ensures.on, c.in_ok-otherwise.ensures.on)) c.in_err-closing.ensures.refused)
+    (no_part (Spelled depth) tokens from (SpellsClosing w.FIN) Ends otherwise.end otherwise.stop c.in_err-closing.field-0.0 go_3 (omega (arith, c.in_ok-selector.ensures.bounds, c.in_ok-alternatives.ensures.bounds, c.in_ok-otherwise.ensures.bounds)) c.in_err-closing.ensures.refused)
 
 pub case-returns-clause-spells : goal.case-returns-clause-spells
 case-returns-clause-spells t c =
@@ -204,8 +204,8 @@ case-returns-clause-spells t c =
     let alternatives = c.in_ok-alternatives.alternatives in
     let otherwise = c.in_ok-otherwise.otherwise in
     let deep : 0 < depth = omega (arith, c.if-depth-eq0.false) in
-    case_spelled tokens depth from c.place_at.result c.place_at.ensures deep selector.part c.new.result otherwise.part selector.end alternatives.end otherwise.end c.in_ok-selector.ensures.spells
-    (subst (λ xs. SpellsSome (SpellsBranch tokens (depth - 1) w.ALT) selector.end xs.items alternatives.end) (sym c.new.ensures) c.in_ok-alternatives.ensures.spells) c.in_ok-otherwise.ensures.spells c.in_ok-closing.ensures.stands
+    case_spelled tokens depth from c.place_at.result c.place_at.ensures deep c.in_ok-boxed.field-0 selector.part c.new.result otherwise.part c.in_ok-boxed.ensures.value selector.end alternatives.end otherwise.end c.in_ok-selector.ensures.spells
+    (subst (λ xs. SpellsSome (SpellsBranch tokens (depth - 1) w.ALT) selector.end xs alternatives.end) (sym c.new.ensures) c.in_ok-alternatives.ensures.spells) c.in_ok-otherwise.ensures.spells c.in_ok-closing.ensures.stands
 
 pub case-returns-clause-longest : goal.case-returns-clause-longest
 case-returns-clause-longest t c =
@@ -216,9 +216,9 @@ case-returns-clause-longest t c =
     let alternatives = c.in_ok-alternatives.alternatives in
     let otherwise = c.in_ok-otherwise.otherwise in
     let go_0 = case_goes tokens depth from c.requires.word in
-    let go_1 = past (Spelled depth) tokens from (λ tokens. SpellsAfter tokens w.CASE) extends_expression (choices_rest (depth - 1)) from from selector.end selector.stop go_0 (omega (arith, c.in_ok-selector.ensures.on)) c.in_ok-selector.ensures.longest (avoids_choices extends_expression (depth - 1) refl) in
-    let go_2 = past (Spelled depth) tokens from (SpellsChoices (depth - 1)) extends_alternatives (otherwise_rest (depth - 1) w.OUT) selector.end selector.stop alternatives.end alternatives.stop go_1 (omega (arith, c.in_ok-alternatives.ensures.on)) c.in_ok-alternatives.ensures.longest (avoids_otherwise extends_alternatives (depth - 1) w.OUT refl refl) in
-    let go_3 = past (Spelled depth) tokens from (SpellsOptionalHeaded (depth - 1) w.OUT) begins_statement (closing_rest w.FIN) alternatives.end alternatives.stop otherwise.end otherwise.stop go_2 (omega (arith, c.in_ok-otherwise.ensures.on)) c.in_ok-otherwise.ensures.longest (avoids_closing begins_statement w.FIN refl) in
+    let go_1 = past (Spelled depth) tokens from (λ tokens. SpellsAfter tokens w.CASE) extends_expression (choices_rest (depth - 1)) from from selector.end selector.stop go_0 (omega (arith, c.in_ok-selector.ensures.bounds)) c.in_ok-selector.ensures.longest (avoids_choices extends_expression (depth - 1) refl) in
+    let go_2 = past (Spelled depth) tokens from (SpellsChoices (depth - 1)) extends_alternatives (otherwise_rest (depth - 1) w.OUT) selector.end selector.stop alternatives.end alternatives.stop go_1 (omega (arith, c.in_ok-alternatives.ensures.bounds)) c.in_ok-alternatives.ensures.longest (avoids_otherwise extends_alternatives (depth - 1) w.OUT refl refl) in
+    let go_3 = past (Spelled depth) tokens from (SpellsOptionalHeaded (depth - 1) w.OUT) begins_statement (closing_rest w.FIN) alternatives.end alternatives.stop otherwise.end otherwise.stop go_2 (omega (arith, c.in_ok-otherwise.ensures.bounds)) c.in_ok-otherwise.ensures.longest (avoids_closing begins_statement w.FIN refl) in
     ends (Spelled depth) tokens from (closing_rest w.FIN) otherwise.end otherwise.stop c.max.result (otherwise.end + 2) go_3 (omega (arith, c.max.ensures)) (λ others to h. omega (arith, h.2.2, h.3))
 
 pub repeat-returns-then-depth-eq0-clause-refused : goal.repeat-returns-then-depth-eq0-clause-refused
@@ -253,9 +253,9 @@ repeat-returns-in_err-closing-clause-refused t c =
     let body = c.in_ok-body.body in
     let go_0 = repeat_goes tokens depth from c.requires.word in
     let go_1 = past_only (Spelled depth) tokens from SpellsHeads (block_rest (depth - 1)) from from heads.end heads.stop go_0 (omega (arith, c.in_ok-heads.ensures.ahead)) c.in_ok-heads.ensures.longest in
-    let go_2 = past (Spelled depth) tokens from (SpellsBlock (depth - 1)) extends_body (closing_rest w.END) heads.end heads.stop body.end body.stop go_1 (omega (arith, c.in_ok-body.ensures.on)) c.in_ok-body.ensures.longest (avoids_closing extends_body w.END refl) in
+    let go_2 = past (Spelled depth) tokens from (SpellsBlock (depth - 1)) extends_body (closing_rest w.END) heads.end heads.stop body.end body.stop go_1 (omega (arith, c.in_ok-body.ensures.bounds)) c.in_ok-body.ensures.longest (avoids_closing extends_body w.END refl) in
     err_told _ _ c.in_err-closing.field-0.0 c.from_residual-in_err-closing.result c.from_residual-in_err-closing.ensures (λ e is. is)
-    (no_part (Spelled depth) tokens from (SpellsClosing w.END) Ends body.end body.stop c.in_err-closing.field-0.0 go_2 (omega (arith, c.in_ok-heads.ensures.ahead, c.in_ok-body.ensures.on)) c.in_err-closing.ensures.refused)
+    (no_part (Spelled depth) tokens from (SpellsClosing w.END) Ends body.end body.stop c.in_err-closing.field-0.0 go_2 (omega (arith, c.in_ok-heads.ensures.ahead, c.in_ok-body.ensures.bounds)) c.in_err-closing.ensures.refused)
 
 pub repeat-returns-clause-spells : goal.repeat-returns-clause-spells
 repeat-returns-clause-spells t c =
@@ -265,7 +265,7 @@ repeat-returns-clause-spells t c =
     let heads = c.in_ok-heads.heads in
     let body = c.in_ok-body.body in
     let deep : 0 < depth = omega (arith, c.if-depth-eq0.false) in
-    repeat_spelled tokens depth from c.place_at.result c.place_at.ensures deep heads.part body.part heads.end body.end c.in_ok-heads.ensures.spells c.in_ok-body.ensures.spells c.in_ok-closing.ensures.stands
+    repeat_spelled tokens depth from c.place_at.result c.place_at.ensures deep c.in_ok-boxed.field-0 heads.part body.part c.in_ok-boxed.ensures.value heads.end body.end c.in_ok-heads.ensures.spells c.in_ok-body.ensures.spells c.in_ok-closing.ensures.stands
 
 pub repeat-returns-clause-longest : goal.repeat-returns-clause-longest
 repeat-returns-clause-longest t c =
@@ -276,7 +276,7 @@ repeat-returns-clause-longest t c =
     let body = c.in_ok-body.body in
     let go_0 = repeat_goes tokens depth from c.requires.word in
     let go_1 = past_only (Spelled depth) tokens from SpellsHeads (block_rest (depth - 1)) from from heads.end heads.stop go_0 (omega (arith, c.in_ok-heads.ensures.ahead)) c.in_ok-heads.ensures.longest in
-    let go_2 = past (Spelled depth) tokens from (SpellsBlock (depth - 1)) extends_body (closing_rest w.END) heads.end heads.stop body.end body.stop go_1 (omega (arith, c.in_ok-body.ensures.on)) c.in_ok-body.ensures.longest (avoids_closing extends_body w.END refl) in
+    let go_2 = past (Spelled depth) tokens from (SpellsBlock (depth - 1)) extends_body (closing_rest w.END) heads.end heads.stop body.end body.stop go_1 (omega (arith, c.in_ok-body.ensures.bounds)) c.in_ok-body.ensures.longest (avoids_closing extends_body w.END refl) in
     ends (Spelled depth) tokens from (closing_rest w.END) body.end body.stop c.max.result (body.end + 2) go_2 (omega (arith, c.max.ensures)) (λ others to h. omega (arith, h.2.2, h.3))
 
 pub begin-returns-then-depth-eq0-clause-refused : goal.begin-returns-then-depth-eq0-clause-refused
@@ -298,9 +298,9 @@ begin-returns-in_err-closing-clause-refused t c =
     let depth = c.args.depth in
     let body = c.in_ok-body.body in
     let go_0 = begin_goes tokens depth from c.requires.word in
-    let go_1 = past (Spelled depth) tokens from (SpellsBlock (depth - 1)) extends_body (closing_rest w.END) (from + 1) from body.end body.stop go_0 (omega (arith, c.in_ok-body.ensures.on)) c.in_ok-body.ensures.longest (avoids_closing extends_body w.END refl) in
+    let go_1 = past (Spelled depth) tokens from (SpellsBlock (depth - 1)) extends_body (closing_rest w.END) (from + 1) from body.end body.stop go_0 (omega (arith, c.in_ok-body.ensures.bounds)) c.in_ok-body.ensures.longest (avoids_closing extends_body w.END refl) in
     err_told _ _ c.in_err-closing.field-0.0 c.from_residual-in_err-closing.result c.from_residual-in_err-closing.ensures (λ e is. is)
-    (no_part (Spelled depth) tokens from (SpellsClosing w.END) Ends body.end body.stop c.in_err-closing.field-0.0 go_1 (omega (arith, c.in_ok-body.ensures.on)) c.in_err-closing.ensures.refused)
+    (no_part (Spelled depth) tokens from (SpellsClosing w.END) Ends body.end body.stop c.in_err-closing.field-0.0 go_1 (omega (arith, c.in_ok-body.ensures.bounds)) c.in_err-closing.ensures.refused)
 
 pub begin-returns-clause-spells : goal.begin-returns-clause-spells
 begin-returns-clause-spells t c =
@@ -309,7 +309,7 @@ begin-returns-clause-spells t c =
     let depth = c.args.depth in
     let body = c.in_ok-body.body in
     let deep : 0 < depth = omega (arith, c.if-depth-eq0.false) in
-    begin_spelled tokens depth from c.place_at.result c.place_at.ensures deep body.part body.end c.requires.word c.in_ok-body.ensures.spells c.in_ok-closing.ensures.stands
+    begin_spelled tokens depth from c.place_at.result c.place_at.ensures deep c.in_ok-boxed.field-0 body.part c.in_ok-boxed.ensures.value body.end c.requires.word c.in_ok-body.ensures.spells c.in_ok-closing.ensures.stands
 
 pub begin-returns-clause-longest : goal.begin-returns-clause-longest
 begin-returns-clause-longest t c =
@@ -318,7 +318,7 @@ begin-returns-clause-longest t c =
     let depth = c.args.depth in
     let body = c.in_ok-body.body in
     let go_0 = begin_goes tokens depth from c.requires.word in
-    let go_1 = past (Spelled depth) tokens from (SpellsBlock (depth - 1)) extends_body (closing_rest w.END) (from + 1) from body.end body.stop go_0 (omega (arith, c.in_ok-body.ensures.on)) c.in_ok-body.ensures.longest (avoids_closing extends_body w.END refl) in
+    let go_1 = past (Spelled depth) tokens from (SpellsBlock (depth - 1)) extends_body (closing_rest w.END) (from + 1) from body.end body.stop go_0 (omega (arith, c.in_ok-body.ensures.bounds)) c.in_ok-body.ensures.longest (avoids_closing extends_body w.END refl) in
     ends (Spelled depth) tokens from (closing_rest w.END) body.end body.stop c.max.result (body.end + 2) go_1 (omega (arith, c.max.ensures)) (λ others to h. omega (arith, h.2.2, h.3))
 
 pub body-returns-then-from-tokens-clause-refused : goal.body-returns-then-from-tokens-clause-refused
@@ -341,8 +341,8 @@ body-returns-clause-spells t c =
     let statements = c.in_ok-statements.statements in (
       declarations.end,
       c.place_at.ensures,
-      subst (λ xs. SpellsEach (SpellsBodyDecl tokens) c.args.from xs.items declarations.end) (sym c.new.ensures) c.in_ok-declarations.ensures.spells,
-      subst (λ xs. SpellsStatements c.args.depth tokens declarations.end xs.items statements.end) (sym c.new-2.ensures) c.in_ok-statements.ensures.spells,
+      subst (λ xs. SpellsEach (SpellsBodyDecl tokens) c.args.from xs declarations.end) (sym c.new.ensures) c.in_ok-declarations.ensures.spells,
+      subst (λ xs. SpellsStatements c.args.depth tokens declarations.end xs statements.end) (sym c.new-2.ensures) c.in_ok-statements.ensures.spells,
     )
 
 pub body-returns-clause-longest : goal.body-returns-clause-longest
@@ -350,16 +350,16 @@ body-returns-clause-longest t c =
     let declarations = c.in_ok-declarations.declarations in
     let statements = c.in_ok-statements.statements in
     block_is_longest c.args.tokens.now c.args.depth c.args.from declarations.end declarations.stop statements.end statements.stop
-    (omega (arith, c.max-least_stop.ensures, c.in_ok-statements.ensures.on)) (omega (arith, c.in_ok-statements.ensures.on)) c.in_ok-declarations.ensures.longest c.in_ok-statements.ensures.longest
+    (omega (arith, c.max-least_stop.ensures, c.in_ok-statements.ensures.bounds)) (omega (arith, c.in_ok-statements.ensures.bounds)) c.in_ok-declarations.ensures.longest c.in_ok-statements.ensures.longest
 
 pub statement-returns-in-None-clause-refused : goal.statement-returns-in-None-clause-refused
 statement-returns-in-None-clause-refused t c = no_statement c.args.tokens.now c.args.depth c.args.from c.requires (c.in-None.ensures.none refl)
 
-pub statement-returns-in-Plain-clause-spells : goal.statement-returns-in-Plain-clause-spells
-statement-returns-in-Plain-clause-spells t c = ok_map _ _ c.plain.result (λ reading h. h c.args.depth) c.plain.ensures.spells
+pub statement-returns-in-Simple-clause-spells : goal.statement-returns-in-Simple-clause-spells
+statement-returns-in-Simple-clause-spells t c = ok_map _ _ c.simple.result (λ reading h. h c.args.depth) c.simple.ensures.spells
 
-pub statement-returns-in-Plain-clause-longest : goal.statement-returns-in-Plain-clause-longest
-statement-returns-in-Plain-clause-longest t c = ok_map _ _ c.plain.result (λ reading h. h c.args.depth) c.plain.ensures.longest
+pub statement-returns-in-Simple-clause-longest : goal.statement-returns-in-Simple-clause-longest
+statement-returns-in-Simple-clause-longest t c = ok_map _ _ c.simple.result (λ reading h. h c.args.depth) c.simple.ensures.longest
 
-pub statement-returns-in-Plain-clause-refused : goal.statement-returns-in-Plain-clause-refused
-statement-returns-in-Plain-clause-refused t c = at_depth (λ depth halt. IsHalted (λ tokens. SpellsStmt tokens depth) c.args.tokens.now c.args.from halt) c.args.depth c.plain.result c.plain.ensures.refused
+pub statement-returns-in-Simple-clause-refused : goal.statement-returns-in-Simple-clause-refused
+statement-returns-in-Simple-clause-refused t c = at_depth (λ depth halt. IsHalted (λ tokens. SpellsStmt tokens depth) c.args.tokens.now c.args.from halt) c.args.depth c.simple.result c.simple.ensures.refused

@@ -38,4 +38,4 @@ returns-clause-longest c = λ depth.
     let station = c.in_ok-station.station in
     let last = c.in_ok-station.ensures in
     let go = past_only (Spelled depth) tokens from (SpellsBefore w.TO SpellsWhole) station_ends (from + 1) from values.end values.stop (put_goes tokens depth from c.requires.word) (omega (arith, read.ahead)) read.longest in
-    past_only (Spelled depth) tokens from SpellsStation Ends values.end values.stop station.end station.stop go last.on.2 last.longest
+    past_only (Spelled depth) tokens from SpellsStation Ends values.end values.stop station.end station.stop go last.bounds.2 last.longest

@@ -32,4 +32,4 @@ returns-clause-longest c =
     let last = c.in_ok-block.ensures in
     let go = block_goes tokens from (ap is_name c.requires.name.0) c.requires.word params.end params.stop returns.end returns.stop stop (omega (arith, first.ahead))
     (omega (arith, c.max.ensures)) (omega (arith, c.max.ensures)) first.longest second.longest in
-    past_only SpellsDecl tokens from SpellsBlock Ends returns.end stop block.end block.stop go last.on.2 last.longest
+    past_only SpellsDecl tokens from SpellsBlock Ends returns.end stop block.end block.stop go last.bounds.2 last.longest

@@ -28,4 +28,4 @@ returns-clause-longest c =
     let last = c.in_ok-block.ensures in
     let go = past SpellsDecl tokens from SpellsTaskHead extends_head block_rest (from + 3) (from + 2) head.end head.stop
     (task_goes tokens from (ap is_name c.requires.name.0) c.requires.word) (omega (arith, read.ahead)) read.longest head_stops in
-    past_only SpellsDecl tokens from SpellsBlock Ends head.end head.stop block.end block.stop go last.on.2 last.longest
+    past_only SpellsDecl tokens from SpellsBlock Ends head.end head.stop block.end block.stop go last.bounds.2 last.longest
