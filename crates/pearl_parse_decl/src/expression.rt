@@ -32,10 +32,7 @@ pub fn own_reference(alloc: Global, tokens: &[Token], from: usize) -> Result<Rea
     ensures refused { IfErr result (λ halt. stops.IsHalted SpellsOwnRef tokens.now from halt) }
     ensures unnamed { IfErr result (λ halt. stops.IsHalted (λ tokens. stops.SpellsNamed tokens 33) tokens.now from halt) }
 {
-    match reference(alloc, tokens, from, BRACKETS_MAX + 1) {
-        Ok(read) => Ok(read),
-        Err(halt) => Err(halt),
-    }
+    reference(alloc, tokens, from, BRACKETS_MAX + 1)
 }
 
 impl Readable for Expr {

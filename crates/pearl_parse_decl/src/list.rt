@@ -16,7 +16,7 @@ use pearl_tables::symbol::{COMMA, LEFT_ROUND, RIGHT_ROUND};
 use pearl_tree::token::Token;
 use std::alloc::Global;
 
-/// What is read by the tokens from a place on.
+/// What can be read from the tokens that begin at a place.
 pub trait Readable: Drop {
     // The tokens that a part spells.
     ghost spelling: { List Token → Spelling Self };
@@ -137,11 +137,7 @@ pub fn maybe_bracketed<P: Readable>(
     ensures refused { IfErr result (λ halt. halt ≡ Halt.NoMemory) }
 {
     match bracketed(alloc, tokens, from) {
-        Ok(list) => Ok(Reading {
-            part: list.part,
-            end: list.end,
-            stop: list.stop,
-        }),
+        Ok(list) => Ok(list),
         Err(halt) => match halt {
             Halt::Refused(stop) => Ok(Reading {
                 part: Vec::new(alloc),
@@ -174,11 +170,7 @@ pub fn maybe_headed<P: Readable>(
         });
     }
     match bracketed(alloc, tokens, from + 1) {
-        Ok(list) => Ok(Reading {
-            part: list.part,
-            end: list.end,
-            stop: list.stop,
-        }),
+        Ok(list) => Ok(list),
         Err(halt) => match halt {
             Halt::Refused(stop) => Ok(Reading {
                 part: Vec::new(alloc),
