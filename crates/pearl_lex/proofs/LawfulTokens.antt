@@ -8,14 +8,13 @@ use Rattle.std.proofs.lemmas.Bool.Decides.{nat_tests}
 use Rattle.std.proofs.lemmas.List.Elements.{All-nil, All-cons}
 use Rattle.pearl_tree.specs.declared.token.What.{What}
 use Rattle.pearl_tree.specs.declared.token.Token.{Token}
-use Rattle.pearl_tree.specs.Tokens.{IsLawfulWhat, PlacesRise, AreLawful}
-use Rattle.pearl_tables.specs.Words.{words}
+use Rattle.pearl_tree.specs.Tokens.{IsLawfulWhat, PlacesRise}
 use Rattle.pearl_lex.specs.declared.front.Front.{Front}
-use Rattle.pearl_lex.specs.Spelling.{is_id_byte, sized, meaning, word_or_id, longer_symbol, symbol_front, double_symbol, single_symbol, space_len}
+use Rattle.pearl_lex.specs.Spelling.{is_id_byte, sized, longer_symbol, symbol_front, double_symbol, single_symbol}
 use Rattle.pearl_lex.specs.Literals.{digit_count, begins_clock, begins_part, after_digits, clock_front, decimal_front, number_front, numeral}
-use Rattle.pearl_lex.specs.Quoted.{chars_len, chars_of, text_of, bits_of, digit_width, suffix_len, closed, quoted}
+use Rattle.pearl_lex.specs.Quoted.{chars_len, chars_of, text_of, digit_width, closed, quoted}
 use Rattle.pearl_lex.specs.Front.{word_front, front}
-use Rattle.pearl_lex.specs.Lexes.{AreSpaces, IsSpace, AreTokens, Lexes}
+use Rattle.pearl_lex.specs.Lexes.{AreSpaces, AreTokens}
 use Rattle.pearl_lex.specs.Laws.{HasLawfulTokens}
 use Rattle.pearl_lex.proofs.Passes.{choose, at_most}
 use Rattle.pearl_lex.proofs.Lawful.{lawful_front}

@@ -1,15 +1,15 @@
 -- Words, names and symbols are taken as they are spelled.
-use Rattle.std.proofs.Common.{◌≡◌, ◌<◌, ◌≤◌, ◌+◌, inl, inr, ℕ, zero, suc, Bool, true, false, ◌&&◌, ◌||◌, List, [], ◌∷◌, ◌++◌, length, take, drop, get_or, eqb, nat_le, nat_lt, All, Option, Some, None, IfSome, is_some, if◌then◌else◌, refl, sym, subst, ap, ◌∙◌, arith}
+use Rattle.std.proofs.Common.{◌≡◌, ◌<◌, ◌≤◌, ◌+◌, inl, ℕ, Bool, true, false, ◌&&◌, List, [], ◌∷◌, ◌++◌, length, take, drop, get_or, eqb, nat_le, nat_lt, All, Option, Some, None, IfSome, is_some, if◌then◌else◌, refl, sym, subst, ap, ◌∙◌, arith}
 use Rattle.std.specs.Char.{is_ascii_alphabetic, is_ascii_digit}
 use Rattle.std.specs.List.{prefix_len, list_all}
 use Rattle.std.specs.Str.{bytes_eq}
-use Rattle.std.proofs.lemmas.Bool.{false≢true, true≢false}
+use Rattle.std.proofs.lemmas.Bool.{false≢true}
 use Rattle.std.proofs.lemmas.Bool.Decides.{nat_tests, Decides-by_and}
 use Rattle.std.proofs.lemmas.Slice.Eq.{bytes_eq-Decides}
 use Rattle.std.proofs.lemmas.List.Folds.{length-prefix_len}
 use Rattle.pearl_tree.specs.declared.token.What.{What}
 use Rattle.pearl_tree.specs.declared.token.What.TheVariants as what
-use Rattle.pearl_tree.specs.Tokens.{IsLetter, IsDigit, IsIdByte, BeginsWithLetter, IsId}
+use Rattle.pearl_tree.specs.Tokens.{IsIdByte, BeginsWithLetter}
 use Rattle.pearl_tables.specs.declared.symbol.TheConstants as s
 use Rattle.pearl_tables.specs.Symbols.{symbol_texts, symbol_text, symbol_count}
 use Rattle.pearl_tables.specs.Words.{words, meanings, IsWord}
@@ -18,11 +18,11 @@ use Rattle.pearl_lex.specs.Spelling.{is_id_byte, sized, meaning, word_or_id, id_
 use Rattle.pearl_lex.specs.Literals.{numeral}
 use Rattle.pearl_lex.specs.Quoted.{quoted}
 use Rattle.pearl_lex.specs.Front.{word_front, front}
-use Rattle.pearl_lex.specs.Spells.{BeginsToken, IsLongName, IsNoToken}
+use Rattle.pearl_lex.specs.Spells.{BeginsToken}
 use Rattle.pearl_lex.proofs.Passes.{and_front, and_back, at_most, less, equal, id_byte, all_prefix, choose}
 use Rattle.pearl_lex.proofs.Lawful.{begins_name, no_meaning}
 use Rattle.pearl_lex.proofs.WordMeaning.{each_word, each_word-at, code_has_word}
-use Rattle.pearl_lex.proofs.Runs.{Outcome, AtLeast, Meets, meets_from, either, sized_least, is_digit, is_letter, digit_is_no_letter, is_of_id, run_append, run_split, All-map}
+use Rattle.pearl_lex.proofs.Runs.{Outcome, AtLeast, Meets, meets_from, either, sized_least, is_letter, is_of_id, run_append, run_split, All-map}
 
 -- ---- which definition a first byte leads to
 

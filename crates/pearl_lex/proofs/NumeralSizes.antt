@@ -1,15 +1,14 @@
 -- No number, decimal or clock that begins the bytes is longer than what is taken, and out of range none is.
-use Rattle.std.proofs.Common.{◌≡◌, ◌<◌, ◌≤◌, ◌+◌, ◌-◌, ◌*◌, ◌^◌, ◌⊎◌, inl, inr, ℕ, zero, suc, Bool, true, false, ◌&&◌, List, [], ◌∷◌, ◌++◌, append_assoc, length-append, length, take, drop, fold, get_or, eqb, nat_le, All, Option, Some, None, IfSome, if◌then◌else◌, refl, sym, subst, ap, ◌∙◌, arith}
-use Rattle.std.specs.Char.{is_ascii_digit}
+use Rattle.std.proofs.Common.{◌≡◌, ◌<◌, ◌≤◌, ◌+◌, ◌-◌, ◌^◌, ◌⊎◌, inl, inr, ℕ, true, false, ◌&&◌, List, [], ◌∷◌, ◌++◌, length-append, length, take, drop, fold, All, Option, Some, None, if◌then◌else◌, refl, sym, subst, ap, ◌∙◌, arith}
 use Rattle.std.specs.Option.{option_map}
 use Rattle.std.proofs.Math.Seq.{take-add, take-append_seam, drop-append_seam}
-use Rattle.std.proofs.lemmas.Bool.{false≢true, true≢false}
+use Rattle.std.proofs.lemmas.Bool.{true≢false}
 use Rattle.pearl_tree.specs.declared.token.What.{What}
 use Rattle.pearl_tree.specs.declared.token.What.TheVariants as what
 use Rattle.pearl_tree.specs.Tokens.{IsDigit}
 use Rattle.pearl_lex.specs.declared.front.Front.{Front}
 use Rattle.pearl_lex.specs.Spelling.{sized}
-use Rattle.pearl_lex.specs.Literals.{next_value, value_of, value_within, digit_count, digits_of, after_digits, next_part, begins_part, begins_clock, decimals_of, decimals_len, thousandths, number_of, decimal_by, decimal_of, milliseconds, clock_of, clock_front, decimal_front, number_front, numeral}
+use Rattle.pearl_lex.specs.Literals.{next_value, value_of, value_within, digit_count, digits_of, after_digits, next_part, begins_part, begins_clock, decimals_of, decimals_len, thousandths, decimal_by, milliseconds, clock_of, clock_front, decimal_front, number_front, numeral}
 use Rattle.pearl_lex.specs.Spells.{AreDigits, SpellsPart, HasFineDecimals}
 use Rattle.pearl_lex.proofs.Values.{grows}
 use Rattle.pearl_lex.proofs.Runs.{AtLeast, either, sized_least, is_digit}

@@ -1,22 +1,19 @@
 -- Numbers, decimals and clocks are taken as they are spelled.
-use Rattle.std.proofs.Common.{◌≡◌, ◌<◌, ◌≤◌, ◌+◌, ◌-◌, ◌*◌, ◌^◌, ◌⊎◌, inl, inr, ℕ, zero, suc, Bool, true, false, ◌&&◌, List, [], ◌∷◌, ◌++◌, append_assoc, length-append, length, take, drop, fold, get_or, eqb, nat_le, All, Option, Some, None, IfSome, if◌then◌else◌, refl, sym, subst, ap, ◌∙◌, arith}
+use Rattle.std.proofs.Common.{◌≡◌, ◌<◌, ◌≤◌, ◌+◌, ◌-◌, ◌*◌, ◌^◌, ◌⊎◌, inl, inr, ℕ, Bool, true, false, List, [], ◌∷◌, ◌++◌, append_assoc, length-append, length, drop, eqb, nat_le, All, Option, Some, None, if◌then◌else◌, refl, sym, subst, ap, ◌∙◌, arith}
 use Rattle.std.specs.Char.{is_ascii_digit}
-use Rattle.std.specs.List.{prefix_len}
 use Rattle.std.specs.Option.{option_map}
-use Rattle.std.proofs.lemmas.Bool.{false≢true, true≢false}
+use Rattle.std.proofs.lemmas.Bool.{false≢true}
 use Rattle.std.proofs.lemmas.Bool.Decides.{nat_tests}
 use Rattle.std.proofs.lemmas.List.{drop_at, take_at}
 use Rattle.std.proofs.lemmas.List.Folds.{length-prefix_len}
-use Rattle.pearl_tree.specs.declared.token.What.{What}
 use Rattle.pearl_tree.specs.declared.token.What.TheVariants as what
 use Rattle.pearl_tree.specs.Tokens.{IsDigit}
-use Rattle.pearl_lex.specs.declared.front.Front.{Front}
 use Rattle.pearl_lex.specs.Spelling.{sized}
-use Rattle.pearl_lex.specs.Literals.{next_value, value_of, value_within, digit_count, digits_of, after_digits, next_part, begins_part, begins_clock, decimals_of, decimals_len, thousandths, number_of, decimal_by, decimal_of, milliseconds, clock_of, clock_front, decimal_front, number_front, numeral}
-use Rattle.pearl_lex.specs.Spells.{AreDigits, AreDecimals, SpellsNumber, SpellsDecimal, SpellsPart, SpellsClock, BeginsToken, HasFineDecimals, IsLargeNumber, IsFineDecimal, IsNoTime, IsNoToken}
+use Rattle.pearl_lex.specs.Literals.{value_of, value_within, digit_count, digits_of, after_digits, next_part, begins_part, begins_clock, decimals_of, decimals_len, thousandths, decimal_by, milliseconds, clock_of, clock_front, decimal_front, number_front, numeral}
+use Rattle.pearl_lex.specs.Spells.{AreDigits, SpellsPart, HasFineDecimals, IsNoToken}
 use Rattle.pearl_lex.proofs.Passes.{and_front, and_back, at_most, equal}
 use Rattle.pearl_lex.proofs.Lawful.{digits_are}
-use Rattle.pearl_lex.proofs.Runs.{Outcome, AtLeast, either, sized_least, is_digit, run_append, run_stops, All-map, run_split, some_run}
+use Rattle.pearl_lex.proofs.Runs.{Outcome, either, is_digit, run_append, run_stops, All-map, run_split, some_run}
 
 -- ---- runs of digits
 

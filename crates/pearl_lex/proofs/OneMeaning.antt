@@ -1,6 +1,6 @@
 -- The bytes that a token takes have no other meaning.
-use Rattle.std.proofs.Common.{◌≡◌, ◌<◌, ◌≤◌, ◌+◌, ◌-◌, ◌*◌, ◌^◌, ◌⊎◌, inl, inr, ℕ, zero, suc, Bool, true, false, ◌&&◌, List, [], ◌∷◌, ◌++◌, append_assoc, length-append, length, take, drop, get_or, eqb, nat_le, All, Option, Some, None, IfSome, if◌then◌else◌, refl, sym, subst, ap, ◌∙◌, arith}
-use Rattle.std.specs.Char.{is_ascii_digit, is_ascii_alphabetic}
+use Rattle.std.proofs.Common.{◌≡◌, ◌<◌, ◌≤◌, ◌+◌, ◌-◌, ◌*◌, ◌^◌, inl, inr, ℕ, zero, suc, Bool, true, false, ◌&&◌, List, [], ◌∷◌, ◌++◌, length, take, drop, get_or, eqb, All, Option, Some, None, IfSome, if◌then◌else◌, refl, sym, subst, ap, ◌∙◌, arith}
+use Rattle.std.specs.Char.{is_ascii_alphabetic}
 use Rattle.std.specs.List.{prefix_len, list_all}
 use Rattle.std.specs.Option.{option_map}
 use Rattle.std.specs.Str.{bytes_eq}
@@ -12,19 +12,19 @@ use Rattle.std.proofs.lemmas.List.Elements.{All-head, All-tail}
 use Rattle.std.proofs.lemmas.Slice.Eq.{bytes_eq-Decides}
 use Rattle.pearl_tree.specs.declared.token.What.{What}
 use Rattle.pearl_tree.specs.declared.token.What.TheVariants as what
-use Rattle.pearl_tree.specs.Tokens.{IsDigit, IsIdByte, IsId, BeginsWithLetter}
+use Rattle.pearl_tree.specs.Tokens.{IsIdByte, IsId}
 use Rattle.pearl_tables.specs.Words.{words, IsWord}
 use Rattle.pearl_tables.specs.Symbols.{symbol_texts, symbol_text, symbol_count}
 use Rattle.pearl_lex.specs.declared.front.Front.{Front}
 use Rattle.pearl_lex.specs.Spelling.{is_id_byte, sized, meaning, word_or_id, id_of, double_symbol, single_symbol, longer_symbol}
-use Rattle.pearl_lex.specs.Literals.{next_value, value_of, value_within, digit_count, digits_of, after_digits, next_part, begins_part, begins_clock, decimals_of, decimals_len, thousandths, number_of, decimal_by, decimal_of, milliseconds, clock_of, clock_front, decimal_front, number_front, numeral}
-use Rattle.pearl_lex.specs.Front.{word_front, front}
+use Rattle.pearl_lex.specs.Literals.{value_of, value_within, digit_count, digits_of, after_digits, next_part, begins_part, begins_clock, decimals_of, decimals_len, thousandths, decimal_by, milliseconds, clock_of, clock_front, decimal_front, number_front, numeral}
+use Rattle.pearl_lex.specs.Front.{front}
 use Rattle.pearl_lex.specs.Spells.{AreDigits, AreDecimals, SpellsNumber, SpellsPart}
 use Rattle.pearl_lex.proofs.Passes.{and_front, and_back, equal}
 use Rattle.pearl_lex.proofs.WordMeaning.{word_has_code}
-use Rattle.pearl_lex.proofs.Runs.{either, is_letter, is_of_id, run_append, All-map}
+use Rattle.pearl_lex.proofs.Runs.{either, is_letter, is_of_id, All-map}
 use Rattle.pearl_lex.proofs.Numerals.{count_append, count_stops, after_stops, digits_stop, Thousandths, thousandths_are}
-use Rattle.pearl_lex.proofs.NumeralSizes.{Runs, runs, no_clock, decimals_begin, decimals_length}
+use Rattle.pearl_lex.proofs.NumeralSizes.{runs, no_clock, decimals_begin, decimals_length}
 use Rattle.pearl_lex.proofs.Names.{front_letter, front_other, is_other, is_named, word_named, passing}
 
 -- where so many bytes are taken, they mean this

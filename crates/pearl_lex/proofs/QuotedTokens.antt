@@ -1,21 +1,20 @@
 -- Bits and texts are taken as they are spelled.
-use Rattle.std.proofs.Common.{◌≡◌, ◌<◌, ◌≤◌, ◌+◌, ◌-◌, ◌*◌, ◌^◌, ◌⊎◌, inl, inr, ℕ, zero, suc, Bool, true, false, ◌&&◌, List, [], ◌∷◌, ◌++◌, append_assoc, length-append, length, take, drop, get_or, eqb, nat_le, nat_lt, All, Option, Some, None, IfSome, if◌then◌else◌, refl, sym, subst, ap, ◌∙◌, arith}
+use Rattle.std.proofs.Common.{◌≡◌, ◌<◌, ◌≤◌, ◌+◌, ◌*◌, ◌^◌, ◌⊎◌, inl, inr, ℕ, zero, suc, Bool, true, false, ◌&&◌, List, [], ◌∷◌, ◌++◌, append_assoc, length-append, length, take, drop, get_or, eqb, nat_le, nat_lt, All, Option, Some, None, IfSome, if◌then◌else◌, refl, sym, subst, ap, ◌∙◌, arith}
 use Rattle.std.specs.List.{list_all}
 use Rattle.std.proofs.Math.Nat.{pow-le-pow_right}
-use Rattle.std.proofs.lemmas.Bool.{false≢true, true≢false}
+use Rattle.std.proofs.lemmas.Bool.{true≢false}
 use Rattle.std.proofs.lemmas.Bool.Decides.{nat_tests, Decides-by_and}
-use Rattle.pearl_tree.specs.declared.token.What.{What}
 use Rattle.pearl_tree.specs.declared.token.What.TheVariants as what
 use Rattle.pearl_tree.specs.Tokens.{IsIdByte, IsText}
 use Rattle.pearl_lex.specs.declared.front.Front.{Front}
 use Rattle.pearl_lex.specs.Spelling.{sized}
 use Rattle.pearl_lex.specs.Quoted.{chars_len, chars_of, text_of, digit_width, suffix_len, digit_value, is_digit_of, bits_value, bits_of, closed, quoted}
 use Rattle.pearl_lex.specs.Front.{front}
-use Rattle.pearl_lex.specs.Spells.{SpellsWidth, SpellsBits, BeginsWith, MakesBits, BeginsToken, doubled}
+use Rattle.pearl_lex.specs.Spells.{SpellsWidth, BeginsWith, MakesBits, BeginsToken, doubled}
 use Rattle.pearl_lex.proofs.Passes.{and_front, and_back, at_most, less, equal, range, choose}
 use Rattle.pearl_lex.proofs.Chars.{text_fits}
 use Rattle.pearl_lex.proofs.Lawful.{IsChar, chars_are, some_bits, some_width}
-use Rattle.pearl_lex.proofs.Runs.{Meets, All-map}
+use Rattle.pearl_lex.proofs.Runs.{All-map}
 use Rattle.pearl_lex.proofs.Names.{front_quote}
 use Rattle.pearl_lex.proofs.Widths.{Ending, width_written, width_read, are_doubled, zero_quote, is_alone, chars_read, chars_back, quoted_is, digit_is_plain, plain_doubled}
 
@@ -149,17 +148,13 @@ is_none_wide rest none = by (width_written rest)
     by (inl e) = e
     by (inr is) = absurd (none (record { ending = is.ending; tail = is.tail; width = digit_width rest; written = is.written; width_is = is.width_is; ends = is.ends }))
 
-pub text_meets : (cs rest : List ℕ) → IsText cs → ¬ BeginsWith (λ byte. byte ≡ 39) rest → ¬ MakesBits rest
-    → Meets (length (doubled cs) + 2) (39 ∷ (doubled cs ++ 39 ∷ rest)) (front (39 ∷ (doubled cs ++ 39 ∷ rest)))
-text_meets cs rest is alone none =
-    let bytes = doubled cs ++ 39 ∷ rest in
+pub text_answer : (cs rest : List ℕ) → IsText cs → ¬ BeginsWith (λ byte. byte ≡ 39) rest → ¬ MakesBits rest
+    → front (39 ∷ (doubled cs ++ 39 ∷ rest)) ≡ Some (record { what = what.Text (record { items = cs }); size = length (doubled cs) + 2 })
+text_answer cs rest is alone none =
     let size = length (doubled cs) + 2 in
-    let width : digit_width rest ≡ 0 = is_none_wide rest none in
-    let answer : front (39 ∷ bytes) ≡ Some (record { what = what.Text (record { items = cs }); size = size }) =
-    front_quote bytes ∙ quoted_is (doubled cs) rest (chars_read cs rest is.2 alone) ∙
-    ap (λ w. if eqb w 0 then sized (text_of (chars_of (doubled cs))) size else sized (bits_of (digit_width rest) (doubled cs)) (size + suffix_len rest)) width ∙
-    ap (λ t. sized (text_of t) size) (chars_back cs) ∙ ap (λ w. sized w size) (sym (text_fits cs is.0 is.1)) in
-    subst (Meets size (39 ∷ bytes)) (sym answer) (omega arith)
+    front_quote (doubled cs ++ 39 ∷ rest) ∙ quoted_is (doubled cs) rest (chars_read cs rest is.2 alone) ∙
+    ap (λ w. if eqb w 0 then sized (text_of (chars_of (doubled cs))) size else sized (bits_of (digit_width rest) (doubled cs)) (size + suffix_len rest)) (is_none_wide rest none) ∙
+    ap (λ t. sized (text_of t) size) (chars_back cs) ∙ ap (λ w. sized w size) (sym (text_fits cs is.0 is.1))
 
 width_range : (ending : List ℕ) (width : ℕ) → SpellsWidth ending width → (1 ≤ width) × (width ≤ 4)
 width_range ending width (inl is) = (omega (arith, is.1), omega (arith, is.1))
@@ -197,22 +192,20 @@ bits_fit digits width each some few =
 not_zero : (n : ℕ) → 1 ≤ n → eqb n 0 ≡ false
 not_zero n h = grind (arith, nat_tests)
 
-pub bits_meets : (digits ending rest : List ℕ) (width : ℕ) → SpellsWidth ending width → All (λ d. digit_value d < 2 ^ width) digits → 1 ≤ length digits * width → length digits * width ≤ 64
-    → ¬ BeginsWith IsIdByte rest → Meets (length digits + 2 + length ending) (39 ∷ (digits ++ 39 ∷ (ending ++ rest))) (front (39 ∷ (digits ++ 39 ∷ (ending ++ rest))))
-bits_meets digits ending rest width spells each some few ends =
+pub bits_answer : (digits ending rest : List ℕ) (width : ℕ) → SpellsWidth ending width → All (λ d. digit_value d < 2 ^ width) digits → 1 ≤ length digits * width → length digits * width ≤ 64
+    → ¬ BeginsWith IsIdByte rest → front (39 ∷ (digits ++ 39 ∷ (ending ++ rest))) ≡ Some (record { what = what.Bits (length digits * width) (bits_value width digits); size = length digits + 2 + length ending })
+bits_answer digits ending rest width spells each some few ends =
     let after = ending ++ rest in
-    let bytes = digits ++ 39 ∷ after in
     let size = length digits + 2 in
     let wide = width_range ending width spells in
     let most : 2 ^ width ≤ 2 ^ 4 = pow-le-pow_right (let two : 0 < 2 = omega arith in two) wide.1 in
     let plain = All-map (λ d. digit_value d < 2 ^ width) (λ d. IsChar d × (eqb d 39 ≡ false)) digits (λ d h. digit_is_plain d (omega (arith, h, most))) each in
     let chars = All-map (λ d. IsChar d × (eqb d 39 ≡ false)) IsChar digits (λ d h. h.0) plain in
     let same : doubled digits ≡ digits = plain_doubled digits (All-map (λ d. IsChar d × (eqb d 39 ≡ false)) (λ d. eqb d 39 ≡ false) digits (λ d h. h.1) plain) in
-    let run : chars_len bytes ≡ length digits = subst (λ t. chars_len (t ++ 39 ∷ after) ≡ length t) same (chars_read digits after chars (no_quote ending rest width spells)) in
+    let run : chars_len (digits ++ 39 ∷ after) ≡ length digits = subst (λ t. chars_len (t ++ 39 ∷ after) ≡ length t) same (chars_read digits after chars (no_quote ending rest width spells)) in
     let read = width_read ending rest width spells ends in
-    let answer : front (39 ∷ bytes) ≡ Some (record { what = what.Bits (length digits * width) (bits_value width digits); size = size + suffix_len after }) =
-    front_quote bytes ∙ quoted_is digits after run ∙
+    front_quote (digits ++ 39 ∷ after) ∙ quoted_is digits after run ∙
     ap (λ w. if eqb w 0 then sized (text_of (chars_of digits)) size else sized (bits_of w digits) (size + suffix_len after)) read.0 ∙
     ap (λ b. if b then sized (text_of (chars_of digits)) size else sized (bits_of width digits) (size + suffix_len after)) (not_zero width wide.0) ∙
-    ap (λ w. sized w (size + suffix_len after)) (bits_fit digits width each some few) in
-    subst (Meets (size + length ending) (39 ∷ bytes)) (sym answer) (omega (arith, read.1))
+    ap (λ w. sized w (size + suffix_len after)) (bits_fit digits width each some few) ∙
+    ap (λ k. Some (record { what = what.Bits (length digits * width) (bits_value width digits); size = size + k })) read.1

@@ -1,17 +1,14 @@
 -- The width that ends bits, and the characters between apostrophes.
-use Rattle.std.proofs.Common.{◌≡◌, ◌≢◌, ◌<◌, ◌≤◌, ◌+◌, ◌-◌, ◌*◌, ◌^◌, ◌⊎◌, inl, inr, ℕ, zero, suc, Bool, true, false, ◌&&◌, List, [], ◌∷◌, ◌++◌, length, take, drop, get_or, eqb, nat_le, nat_lt, All, Option, Some, None, if◌then◌else◌, refl, sym, subst, ap, ◌∙◌, arith}
-use Rattle.std.specs.List.{list_all}
+use Rattle.std.proofs.Common.{◌≡◌, ◌<◌, ◌≤◌, ◌+◌, ◌-◌, ◌⊎◌, inl, inr, ℕ, suc, Bool, true, false, ◌&&◌, List, [], ◌∷◌, ◌++◌, length, take, drop, get_or, eqb, nat_le, All, None, if◌then◌else◌, refl, sym, subst, ap, ◌∙◌, arith}
 use Rattle.std.proofs.Math.Seq.{take-append_seam}
-use Rattle.std.proofs.lemmas.Bool.{false≢true, true≢false}
+use Rattle.std.proofs.lemmas.Bool.{true≢false}
 use Rattle.std.proofs.lemmas.Bool.Decides.{nat_tests}
-use Rattle.std.proofs.lemmas.Grind.{common_steps}
 use Rattle.std.proofs.lemmas.List.Elements.{All-head, All-tail}
 use Rattle.pearl_tree.specs.Tokens.{IsIdByte}
-use Rattle.pearl_lex.specs.declared.front.Front.{Front}
 use Rattle.pearl_lex.specs.Spelling.{is_id_byte, sized}
-use Rattle.pearl_lex.specs.Quoted.{is_char, char_len, chars_len, chars_of, text_of, digit_width, suffix_len, digit_value, bits_of, closed, quoted}
+use Rattle.pearl_lex.specs.Quoted.{is_char, chars_len, chars_of, text_of, digit_width, suffix_len, digit_value, bits_of, closed, quoted}
 use Rattle.pearl_lex.specs.Spells.{SpellsWidth, BeginsWith, doubled}
-use Rattle.pearl_lex.proofs.Passes.{and_front, and_back, equal, range, id_byte, one_more}
+use Rattle.pearl_lex.proofs.Passes.{equal, range, id_byte, one_more}
 use Rattle.pearl_lex.proofs.Lawful.{IsChar, chars_cons}
 use Rattle.pearl_lex.proofs.Runs.{is_of_id}
 

@@ -1,5 +1,5 @@
 -- The definitions determine the answer.
-use Rattle.std.specs.Prelude.{◌≡◌, ◌<◌, ◌-◌, ◌^◌, ℕ, List, length, Some, None}
+use Rattle.std.specs.Prelude.{◌≡◌, ◌↔◌, ◌<◌, ◌-◌, ◌^◌, ℕ, List, length, Some, None}
 use Rattle.pearl_tree.specs.declared.token.Token.{Token}
 use Rattle.pearl_tree.specs.Tokens.{AreLawful}
 use Rattle.pearl_tree.specs.declared.token.What.{What}
@@ -24,14 +24,10 @@ IsNeverBoth = (bytes : List ℕ) (tokens : List Token) (place : ℕ) → Lexes b
 abbrev pub HasLawfulTokens : Type 0
 HasLawfulTokens = (bytes : List ℕ) (tokens : List Token) → Lexes bytes tokens → length bytes < 2 ^ 32 - 1 → AreLawful tokens
 
--- what is taken is the longest token that begins the bytes
-abbrev pub HasLongestFronts : Type 0
-HasLongestFronts = (bytes : List ℕ) (f : Front) → front bytes ≡ Some f → IsLongest bytes f
+-- what is taken is the longest token that begins the bytes, unless they begin a form that is no token
+abbrev pub TakesTheLongest : Type 0
+TakesTheLongest = (bytes : List ℕ) (f : Front) → front bytes ≡ Some f ↔ (IsLongest bytes f × ¬ IsNoToken bytes)
 
--- where nothing is taken, no token begins the bytes, unless they begin a form that is no token
-abbrev pub HasNoOthers : Type 0
-HasNoOthers = (bytes : List ℕ) → front bytes ≡ None → (token : What) (size : ℕ) → BeginsToken bytes token size → IsNoToken bytes
-
--- nothing is taken of bytes that begin a form that is no token
-abbrev pub RefusesForms : Type 0
-RefusesForms = (bytes : List ℕ) → IsNoToken bytes → front bytes ≡ None
+-- nothing is taken exactly where no token begins the bytes, or where they begin a form that is no token
+abbrev pub TakesNone : Type 0
+TakesNone = (bytes : List ℕ) → front bytes ≡ None ↔ ((token : What) (size : ℕ) → BeginsToken bytes token size → IsNoToken bytes)

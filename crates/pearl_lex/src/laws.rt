@@ -1,6 +1,6 @@
 // The definitions determine what a source gives.
 
-ghost use Rattle.pearl_lex.specs.Laws.{HasOneReading, HasOnePlace, IsNeverBoth, HasLawfulTokens, HasLongestFronts, HasNoOthers, RefusesForms};
+ghost use Rattle.pearl_lex.specs.Laws.{HasOneReading, HasOnePlace, IsNeverBoth, HasLawfulTokens, TakesTheLongest, TakesNone};
 
 /// A source has at most one list of tokens.
 pub fn one_reading()
@@ -25,7 +25,6 @@ pub fn tokens_are_lawful()
 /// What is taken of some bytes is the longest token that begins them, and nothing is taken where none does or where they
 /// begin a form that is no token.
 pub fn fronts_are_longest()
-    ensures longest { HasLongestFronts }
-    ensures no_others { HasNoOthers }
-    ensures forms { RefusesForms }
+    ensures longest { TakesTheLongest }
+    ensures none { TakesNone }
 {}
