@@ -3,7 +3,7 @@
 
 ghost use Rattle.std.specs.Prelude.{◌≡◌, ◌<◌, ◌^◌, ◌++◌, OnOk};
 ghost use Rattle.pearl_tree.specs.ShownLiterals.{shown_literal};
-ghost use Rattle.pearl_print.specs.Spelled.{text_of};
+ghost use Rattle.pearl_print.specs.Spelled.{text_of_tokens};
 ghost use Rattle.pearl_print.specs.Expressions.{secs_milliseconds, maybe_seconds, maybe_minutes, duration_milliseconds, carried, literal_tokens, sign_tokens, const_tokens};
 
 use crate::lists::Part;
@@ -70,7 +70,7 @@ fn duration_milliseconds(duration: &Duration) -> u128
 }
 
 fn put_carried(into: &mut Vec<u8>, milliseconds: u128) -> Result<(), NoMemory>
-    ensures { OnOk result (into.new.items ≡ into.old.items ++ text_of (carried milliseconds)) }
+    ensures { OnOk result (into.new.items ≡ into.old.items ++ text_of_tokens (carried milliseconds)) }
 {
     put_value(into, milliseconds / 3_600_000)?;
     put_word(into, HRS)?;
@@ -82,7 +82,7 @@ fn put_carried(into: &mut Vec<u8>, milliseconds: u128) -> Result<(), NoMemory>
 }
 
 pub(crate) fn put_literal(into: &mut Vec<u8>, literal: &Literal) -> Result<(), NoMemory>
-    ensures { OnOk result (into.new.items ≡ into.old.items ++ text_of (literal_tokens (shown_literal literal.now))) }
+    ensures { OnOk result (into.new.items ≡ into.old.items ++ text_of_tokens (literal_tokens (shown_literal literal.now))) }
 {
     match literal {
         Literal::Number(number) => number.put(into),
@@ -94,7 +94,7 @@ pub(crate) fn put_literal(into: &mut Vec<u8>, literal: &Literal) -> Result<(), N
 }
 
 fn put_sign(into: &mut Vec<u8>, sign: Sign) -> Result<(), NoMemory>
-    ensures { OnOk result (into.new.items ≡ into.old.items ++ text_of (sign_tokens sign)) }
+    ensures { OnOk result (into.new.items ≡ into.old.items ++ text_of_tokens (sign_tokens sign)) }
 {
     match sign {
         Sign::Plus => put_symbol(into, PLUS),
