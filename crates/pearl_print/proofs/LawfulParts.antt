@@ -78,6 +78,7 @@ use Rattle.pearl_tree.specs.declared.statement.InterruptWord.TheVariants.{Enable
 use Rattle.pearl_tables.specs.declared.symbol.TheConstants as s
 use Rattle.pearl_tables.specs.declared.word_code.TheConstants as w
 use Rattle.pearl_tables.specs.Words.{code_count}
+use Rattle.pearl_tree.specs.Durations.{milliseconds_of}
 use Rattle.pearl_tree.specs.Tokens.{IsNumberValue}
 use Rattle.pearl_tree.specs.Expressions.{monad_what, side_word}
 use Rattle.pearl_tree.specs.ShownLiterals.{shown_literal}
@@ -86,7 +87,7 @@ use Rattle.pearl_tree.specs.Declarations.{direction_word}
 use Rattle.pearl_tree.specs.Statements.{task_word, sema_word, interrupt_word}
 use Rattle.pearl_tree.specs.Lawful.{IsLawfulName, IsLawfulNumber, AreLawfulNames, IsLawfulLiteral, IsLawfulConst, HasLawfulTerms, IsLawfulPrimary, AreLawfulSelectors, IsLawfulSelector, AreLawfulSubscripts, IsLawfulExpr, IsLawfulRef, IsLawfulFmt, IsLawfulBound, IsLawfulBasic, HasLawfulTyping, AreLawfulFields, IsLawfulDeviceWord, IsLawfulDevice, IsLawfulItem, IsLawfulSema, IsLawfulDeclared, IsLawfulClass, IsLawfulSpec, IsLawfulParam, IsLawfulPeriodEnd, IsLawfulPeriod, IsLawfulStart, IsLawfulOnce, IsLawfulBodyDecl, IsLawfulStmt, AreLawfulStmts, AreLawfulBranches, IsLawfulOtherwise, IsLawfulBody, IsLawfulTaskHead, IsLawfulDecl, IsLawfulModuleName, IsLawful}
 use Rattle.pearl_print.specs.Lists.{word, symbol, name_tokens, number_tokens, maybe, bracketed_number}
-use Rattle.pearl_print.specs.Expressions.{duration_milliseconds, carried, literal_tokens, sign_tokens, const_tokens, monadic_tokens, dyad_what, expr_tokens, primary_tokens, selectors_tokens, selector_tokens, subscripts_tokens, more_subscripts_tokens, ref_tokens}
+use Rattle.pearl_print.specs.Expressions.{carried, literal_tokens, sign_tokens, const_tokens, monadic_tokens, dyad_what, expr_tokens, primary_tokens, selectors_tokens, selector_tokens, subscripts_tokens, more_subscripts_tokens, ref_tokens}
 use Rattle.pearl_print.specs.Literals.{InExpr, InPrimary, InSelectors, InSelector, InSubscripts, InRef, InItem, InDeclared, InPeriodEnd, InPeriod, InStart, InOnce, InBodyDecl, InStmt, InStmts, InBranches, InOtherwise, InBody, InDecl}
 use Rattle.pearl_print.specs.Types.{names_tokens, minus_tokens, int_tokens, upper_tokens, bound_tokens, bounds_tokens, basic_tokens, typing_tokens, fields_tokens, more_fields_tokens}
 use Rattle.pearl_print.specs.Formats.{fmt_tokens, by_tokens}
@@ -117,7 +118,7 @@ literal_lawful (literal.Number number) is fits = number_lawful number is
 literal_lawful (literal.Bits len value place) is fits = one (what.Bits len value) is
 literal_lawful (literal.Text text place) is fits = one (what.Text text.value) is
 literal_lawful (literal.Clock milliseconds place) is fits = one (what.Clock milliseconds) is
-literal_lawful (literal.Duration duration) is fits = carried_lawful (duration_milliseconds duration.value) fits
+literal_lawful (literal.Duration duration) is fits = carried_lawful (milliseconds_of duration.value) fits
 
 sign_lawful : (part : Sign) → AllLawful (sign_tokens part)
 sign_lawful sign.Plus = symbol_lawful s.PLUS (omega arith)

@@ -20,6 +20,7 @@ use Rattle.pearl_tree.specs.declared.typing.Basic.TheVariants as basic
 use Rattle.pearl_tree.specs.declared.typing.Typing.{Typing, Row_of-Field, end_of-Field, more_of-Field}
 use Rattle.pearl_tree.specs.declared.typing.Typing as typing
 use Rattle.pearl_tree.specs.declared.token.Token.{Token}
+use Rattle.pearl_tree.specs.Durations.{milliseconds_of}
 use Rattle.pearl_tree.specs.Standing.{SpellsSymbolFlag, SpellsMaybe, SpellsBracketedNumber}
 use Rattle.pearl_tree.specs.Expressions.{SpellsMinutes, SpellsSeconds, SpellsDuration, SpellsLiteral, SpellsSign, SpellsConst}
 use Rattle.pearl_tree.specs.Types.{SpellsNames, SpellsInt, SpellsUpper, SpellsBound, SpellsBounds, SpellsBasic, SpellsTyping, SpellsFields, SpellsMoreFields}
@@ -28,7 +29,7 @@ use Rattle.pearl_tables.specs.declared.symbol.TheConstants as s
 use Rattle.pearl_tree.specs.ShownLiterals.{OfNumber, OfDuration, shown_literal, shown_const}
 use Rattle.pearl_tree.specs.ShownDeclarations.{shown_names, OfOne, OfSeveral, shown_typing, shown_fields, OfBasic, OfStruct, OfNamed, MoreFields}
 use Rattle.pearl_print.specs.Lists.{symbol, number_tokens, maybe, bracketed_number}
-use Rattle.pearl_print.specs.Expressions.{duration_milliseconds, carried, literal_tokens, sign_tokens, const_tokens}
+use Rattle.pearl_print.specs.Expressions.{carried, literal_tokens, sign_tokens, const_tokens}
 use Rattle.pearl_print.specs.Types.{names_tokens, minus_tokens, int_tokens, upper_tokens, bound_tokens, bounds_tokens, basic_tokens, typing_tokens, fields_tokens, more_fields_tokens}
 use Rattle.pearl_print.specs.Formats.{fmt_tokens}
 use Rattle.pearl_print.specs.Plain.{plain_number, plain_duration, plain_literal, plain_const, plain_names, plain_int, plain_bound, plain_basic, plain_typing, plain_fields, plain_fmt}
@@ -44,7 +45,7 @@ carried_back ms =
 module _ (before tokens : List Token) where
   -- hours, minutes and seconds, which make so many milliseconds
   duration_at : (ms from to : ℕ) → HasTokens tokens from (carried ms) to →
-      (duration : Duration) × SpellsDuration tokens from duration to × (duration_milliseconds duration ≡ ms)
+      (duration : Duration) × SpellsDuration tokens from duration to × (milliseconds_of duration ≡ ms)
   duration_at ms from to g =
       let k = from + 1 + 1 in
       let m = k + 1 + 1 in
@@ -70,7 +71,7 @@ module _ (before tokens : List Token) where
   literal_at a (literal.Clock milliseconds place) b h from to g =
       record { copy = literal.Clock milliseconds (place_of tokens from); spelled = (g.0, here tokens from _ g.0, g.1.0); same = refl }
   literal_at a (literal.Duration duration) b h from to g =
-      let p = duration_at (duration_milliseconds duration.value) from to g in
+      let p = duration_at (milliseconds_of duration.value) from to g in
       record { copy = literal.Duration (record duration { value = p.0 }); spelled = p.1; same = ap (λ ms. OfDuration (plain_duration ms)) p.2 }
 
   pub literal_places : Places tokens (SpellsLiteral before) (SpellsLiteral tokens) (λ part. literal_tokens (shown_literal part))
