@@ -21,14 +21,14 @@ use Rattle.pearl_print.specs.Formats.{by_tokens}
 use Rattle.pearl_print.specs.Schedules.{after_tokens, start_tokens, once_tokens}
 use Rattle.pearl_print.specs.Statements.{for_tokens, value_tokens, body_decl_tokens, loop_tokens, stmt_tokens, stmts_tokens, alternatives_tokens, otherwise_tokens, body_tokens}
 use Rattle.pearl_print.specs.Plain.{plain_name, plain_expr, plain_ref, plain_start, plain_once, plain_stmt, plain_stmts, plain_branches, plain_otherwise, plain_body}
-use Rattle.pearl_print.proofs.PlainSpans.{place_of, here, starts, Span, cut, cut3, cut4, cut5, cut_token, cut_two, two, three}
+use Rattle.pearl_print.proofs.TokenRanges.{place_of, here, starts, HasTokens, cut, cut3, cut4, cut5, cut_token, cut_two, plus_two, plus_three}
 use Rattle.pearl_print.proofs.PlainLists.{Placed, Places, in_parts, each_at, list_at, maybe_list_at, maybe_bracketed_at, maybe_at, seen, seen_option, name_places}
 use Rattle.pearl_print.proofs.PlainExpressions.{expr_places, ref_places}
 use Rattle.pearl_print.proofs.PlainSchedules.{after_places, maybe_after, for_places, value_places, start_places, once_places, decls_at, by_at}
 
 module _ (before tokens : List Token) where
   mutual
-    stmt_at : (depth a : ℕ) (statement : Stmt) (b : ℕ) → SpellsStmt before depth a statement b → (from to : ℕ) → Span tokens from (stmt_tokens statement) to →
+    stmt_at : (depth a : ℕ) (statement : Stmt) (b : ℕ) → SpellsStmt before depth a statement b → (from to : ℕ) → HasTokens tokens from (stmt_tokens statement) to →
         Placed (SpellsStmt tokens depth) (λ statement. plain_stmt (shown_stmt statement)) from statement to
     stmt_at depth a (Empty place) b h from to g =
         record { copy = Empty (place_of tokens from); spelled = (here tokens from _ g.0, g.0, g.1.0); same = refl }
@@ -72,7 +72,7 @@ module _ (before tokens : List Token) where
             third.spelled,
             p.4.0,
             p.4.1.0,
-            two (λ k. to ≡ k) p.1 p.4.1.1.0,
+            plus_two (λ k. to ≡ k) p.1 p.4.1.1.0,
           );
           same = λ i. OfIf (first.same i) (second.same i) (third.same i) 0;
         }
@@ -94,7 +94,7 @@ module _ (before tokens : List Token) where
             third.spelled,
             p.6.0,
             p.6.1.0,
-            two (λ k. to ≡ k) p.2 p.6.1.1.0,
+            plus_two (λ k. to ≡ k) p.2 p.6.1.1.0,
           );
           same = λ i. OfCase (first.same i) (second.same i) (third.same i) 0;
         }
@@ -132,13 +132,13 @@ module _ (before tokens : List Token) where
             (q.0, starts tokens k _ to p.2.1, decls.spelled, body.spelled),
             q.4.0,
             q.4.1.0,
-            two (λ n. to ≡ n) q.1 q.4.1.1.0,
+            plus_two (λ n. to ≡ n) q.1 q.4.1.1.0,
           );
           same = λ i. OfRepeat (loop.same i) (seen_option shown_expr plain_expr first.copy begin first.same i) (seen_option shown_expr plain_expr second.copy step second.same i)
               (seen_option shown_expr plain_expr third.copy end third.same i) (seen_option shown_expr plain_expr fourth.copy condition fourth.same i) (decls.same i) (body.same i) 0 0;
         }
     stmt_at depth a (Exit place) b h from to g =
-        record { copy = Exit (place_of tokens from); spelled = (here tokens from _ g.0, g.0, g.1.0, two (λ k. to ≡ k) from g.1.1.0); same = refl }
+        record { copy = Exit (place_of tokens from); spelled = (here tokens from _ g.0, g.0, g.1.0, plus_two (λ k. to ≡ k) from g.1.1.0); same = refl }
     stmt_at depth a (Begin' ptr declarations shape statements body_place place) b h from to g =
         let k = from + 1 in
         let q = cut3 tokens k (flat_map body_decl_tokens declarations.items.items) (stmts_tokens statements) (word w.END ++ symbol s.SEMICOLON) to g.1 in
@@ -154,7 +154,7 @@ module _ (before tokens : List Token) where
             (q.0, starts tokens k _ to g.1, decls.spelled, body.spelled),
             q.4.0,
             q.4.1.0,
-            two (λ n. to ≡ n) q.1 q.4.1.1.0,
+            plus_two (λ n. to ≡ n) q.1 q.4.1.1.0,
           );
           same = λ i. OfBegin (decls.same i) (body.same i) 0 0;
         }
@@ -180,7 +180,7 @@ module _ (before tokens : List Token) where
             first.spelled,
             q.2,
             (q.3.0, here tokens (q.0 + 1) _ q.3.0),
-            subst (λ k. SpellsMaybe (SpellsAfter tokens w.PRIO) k second.copy p.1) (two (λ k. p.0 ≡ k) q.0 q.3.1.0) second.spelled,
+            subst (λ k. SpellsMaybe (SpellsAfter tokens w.PRIO) k second.copy p.1) (plus_two (λ k. p.0 ≡ k) q.0 q.3.1.0) second.spelled,
             p.4.0,
             p.4.1.0,
           );
@@ -198,8 +198,8 @@ module _ (before tokens : List Token) where
             first.spelled,
             p.2,
             (p.3, here tokens (p.0 + 1) _ p.3),
-            two (λ k. HasSymbol tokens k s.SEMICOLON) p.0 p.4.0,
-            three (λ k. to ≡ k) p.0 p.4.1.0,
+            plus_two (λ k. HasSymbol tokens k s.SEMICOLON) p.0 p.4.0,
+            plus_three (λ k. to ≡ k) p.0 p.4.1.0,
           );
           same = λ i. OfContinue (seen_option shown_once plain_once first.copy box.value.once first.same i) (plain_name box.value.task) 0;
         }
@@ -208,7 +208,7 @@ module _ (before tokens : List Token) where
         let first = (once_places before tokens).at a box.value.once h.0 h.2 from p.0 p.1 in
         record {
           copy = Resume (record box { value = record { once = first.copy; place = place_of tokens from } });
-          spelled = (p.0, starts tokens from _ to g, first.spelled, p.2, p.3.0, two (λ k. to ≡ k) p.0 p.3.1.0);
+          spelled = (p.0, starts tokens from _ to g, first.spelled, p.2, p.3.0, plus_two (λ k. to ≡ k) p.0 p.3.1.0);
           same = ap (λ once. OfResume once 0) first.same;
         }
     stmt_at depth a (OnTask box) b h from to g =
@@ -234,8 +234,8 @@ module _ (before tokens : List Token) where
         here tokens from _ g.0,
         g.0,
         (g.1.0, here tokens (from + 1) _ g.1.0),
-        two (λ k. HasSymbol tokens k s.SEMICOLON) from g.1.1.0,
-        three (λ k. to ≡ k) from g.1.1.1.0,
+        plus_two (λ k. HasSymbol tokens k s.SEMICOLON) from g.1.1.0,
+        plus_three (λ k. to ≡ k) from g.1.1.1.0,
       );
       same = refl;
     }
@@ -270,8 +270,8 @@ module _ (before tokens : List Token) where
             first.spelled,
             p.2,
             (p.3, here tokens (p.0 + 1) _ p.3),
-            two (λ k. HasSymbol tokens k s.SEMICOLON) p.0 p.4.0,
-            three (λ k. to ≡ k) p.0 p.4.1.0,
+            plus_two (λ k. HasSymbol tokens k s.SEMICOLON) p.0 p.4.0,
+            plus_three (λ k. to ≡ k) p.0 p.4.1.0,
           );
           same = ap (λ value. OfSend value (plain_name box.value.dation) 0) first.same;
         }
@@ -287,13 +287,13 @@ module _ (before tokens : List Token) where
             first.spelled,
             p.2,
             (p.3, here tokens (p.0 + 1) _ p.3),
-            two (λ k. HasSymbol tokens k s.SEMICOLON) p.0 p.4.0,
-            three (λ k. to ≡ k) p.0 p.4.1.0,
+            plus_two (λ k. HasSymbol tokens k s.SEMICOLON) p.0 p.4.0,
+            plus_three (λ k. to ≡ k) p.0 p.4.1.0,
           );
           same = ap (λ target. OfTake target (plain_name box.value.dation) 0) first.same;
         }
 
-    stmts_at : (depth a : ℕ) (n : _) (row : Row_of-Stmt n) (b : ℕ) → SpellsStmts before depth a row b → (from to : ℕ) → Span tokens from (stmts_tokens row) to →
+    stmts_at : (depth a : ℕ) (n : _) (row : Row_of-Stmt n) (b : ℕ) → SpellsStmts before depth a row b → (from to : ℕ) → HasTokens tokens from (stmts_tokens row) to →
         Placed (λ from (row : Row_of-Stmt n) to. SpellsStmts tokens depth from row to) (λ (row : Row_of-Stmt n). plain_stmts (shown_stmts row)) from row to
     stmts_at depth a _ end_of-Stmt b h from to g = record { copy = end_of-Stmt; spelled = g.0; same = refl }
     stmts_at depth a _ (more_of-Stmt statement rest) b h from to g =
@@ -306,7 +306,7 @@ module _ (before tokens : List Token) where
           same = λ i. MoreStmts (first.same i) (others.same i);
         }
 
-    alternatives_at : (depth a : ℕ) (n : _) (row : Row_of-Branch n) (b : ℕ) → SpellsAlternatives before depth a row b → (from to : ℕ) → Span tokens from (alternatives_tokens row) to →
+    alternatives_at : (depth a : ℕ) (n : _) (row : Row_of-Branch n) (b : ℕ) → SpellsAlternatives before depth a row b → (from to : ℕ) → HasTokens tokens from (alternatives_tokens row) to →
         Placed (λ from (row : Row_of-Branch n) to. SpellsAlternatives tokens depth from row to) (λ (row : Row_of-Branch n). plain_branches (shown_branches row)) from row to
     alternatives_at depth a _ end_of-Branch b h from to g = absurd h
     alternatives_at depth a _ (more_of-Branch shape statements place rest) b h from to g =
@@ -319,7 +319,7 @@ module _ (before tokens : List Token) where
           same = λ i. MoreBranches (first.same i) 0 (others.same i);
         }
 
-    more_alternatives_at : (depth a : ℕ) (n : _) (row : Row_of-Branch n) (b : ℕ) → SpellsMoreAlternatives before depth a row b → (from to : ℕ) → Span tokens from (alternatives_tokens row) to →
+    more_alternatives_at : (depth a : ℕ) (n : _) (row : Row_of-Branch n) (b : ℕ) → SpellsMoreAlternatives before depth a row b → (from to : ℕ) → HasTokens tokens from (alternatives_tokens row) to →
         Placed (λ from (row : Row_of-Branch n) to. SpellsMoreAlternatives tokens depth from row to) (λ (row : Row_of-Branch n). plain_branches (shown_branches row)) from row to
     more_alternatives_at depth a _ end_of-Branch b h from to g = record { copy = end_of-Branch; spelled = g.0; same = refl }
     more_alternatives_at depth a _ (more_of-Branch shape statements place rest) b h from to g =
@@ -332,7 +332,7 @@ module _ (before tokens : List Token) where
           same = λ i. MoreBranches (first.same i) 0 (others.same i);
         }
 
-    otherwise_at : (depth code a : ℕ) (otherwise : Held-Case-otherwise) (b : ℕ) → SpellsOtherwise before depth code a otherwise b → (from to : ℕ) → Span tokens from (otherwise_tokens code otherwise) to →
+    otherwise_at : (depth code a : ℕ) (otherwise : Held-Case-otherwise) (b : ℕ) → SpellsOtherwise before depth code a otherwise b → (from to : ℕ) → HasTokens tokens from (otherwise_tokens code otherwise) to →
         Placed (SpellsOtherwise tokens depth code) (λ otherwise. plain_otherwise (shown_otherwise otherwise)) from otherwise to
     otherwise_at depth code a None' b h from to g = record { copy = None'; spelled = g.0; same = refl }
     otherwise_at depth code a (Some' shape statements place) b h from to g =

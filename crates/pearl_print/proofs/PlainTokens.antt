@@ -17,6 +17,7 @@ use Rattle.pearl_tree.specs.declared.tree.TaskHead.TheVariants.{PrioFirst, MainF
 use Rattle.pearl_tree.specs.declared.tree.ModuleName.{ModuleName}
 use Rattle.pearl_tree.specs.declared.tree.ModuleName.TheVariants.{Bracketed, Bare}
 use Rattle.pearl_tree.specs.declared.tree.Tree.{Tree}
+use Rattle.pearl_tree.specs.Durations.{milliseconds_of}
 use Rattle.pearl_tree.specs.Types.{sort_word}
 use Rattle.pearl_tree.specs.Expressions.{side_word}
 use Rattle.pearl_tree.specs.Formats.{free_text}
@@ -30,7 +31,7 @@ use Rattle.pearl_tree.specs.ShownModules.{ShownBody, ShownDecl, OfLength, OfType
 use Rattle.pearl_tables.specs.declared.symbol.TheConstants as s
 use Rattle.pearl_tables.specs.declared.word_code.TheConstants as w
 use Rattle.pearl_print.specs.Lists.{word, symbol, id, name_tokens, number_tokens, maybe, flag, bracketed_number}
-use Rattle.pearl_print.specs.Expressions.{carried, duration_milliseconds, literal_tokens, sign_tokens, monadic_tokens, dyadic_tokens}
+use Rattle.pearl_print.specs.Expressions.{carried, literal_tokens, sign_tokens, monadic_tokens, dyadic_tokens}
 use Rattle.pearl_print.specs.Types.{int_tokens, upper_tokens, bound_tokens, bounds_tokens, basic_tokens}
 use Rattle.pearl_print.specs.Formats.{fmt_tokens}
 use Rattle.pearl_print.specs.Declarations.{device_word_tokens, device_tokens, prio_tokens, class_tokens}
@@ -52,7 +53,7 @@ literal_kept (OfNumber number) = refl
 literal_kept (OfBits len value place) = refl
 literal_kept (OfText text place) = refl
 literal_kept (OfClock milliseconds place) = refl
-literal_kept (OfDuration duration) = ap carried (carried_back (duration_milliseconds duration))
+literal_kept (OfDuration duration) = ap carried (carried_back (milliseconds_of duration))
 
 const_kept : (constant : ShownConst) → said_const (plain_const constant) ≡ said_const constant
 const_kept constant = λ i. maybe sign_tokens constant.sign ++ literal_kept constant.literal i

@@ -15,11 +15,11 @@ use Rattle.pearl_tree.specs.declared.expression.Ref.{Ref, Row_of-Selector, end_o
 use Rattle.pearl_tree.specs.Expressions.{side_word}
 use Rattle.pearl_tables.specs.declared.symbol.TheConstants as s
 use Rattle.pearl_tables.specs.declared.word_code.TheConstants as w
-use Rattle.pearl_print.specs.Lists.{word, symbol, name_tokens, number_tokens, more, listed, bracketed, maybe}
+use Rattle.pearl_print.specs.Lists.{word, symbol, name_tokens, number_tokens, after_commas, listed, bracketed, maybe}
 use Rattle.pearl_print.specs.Types.{names_tokens, bounds_tokens, typing_tokens, fields_tokens, more_fields_tokens, field_tokens, struct_tokens}
 use Rattle.pearl_print.specs.Expressions.{expr_tokens, primary_tokens, selectors_tokens, selector_tokens, subscripts_tokens, more_subscripts_tokens, ref_tokens, limit_tokens}
 
-more_fields : (n : _) (row : Row_of-Field n) → more_fields_tokens row ≡ more field_tokens (items-the_row-Field n row)
+more_fields : (n : _) (row : Row_of-Field n) → more_fields_tokens row ≡ after_commas field_tokens (items-the_row-Field n row)
 more_fields _ end_of-Field = refl
 more_fields _ (more_of-Field names bounds typing place rest) =
     ap (λ t. (symbol s.COMMA ++ names_tokens names ++ bounds_tokens bounds.items.items ++ typing_tokens typing) ++ t) (more_fields _ rest)
@@ -40,7 +40,7 @@ struct_shown fields place =
     ap (λ t. word w.STRUCT ++ symbol s.LEFT_SQUARE ++ t ++ symbol s.RIGHT_SQUARE)
     (fields_listed row.0 row.1 ∙ ap (λ xs. listed field_tokens xs) (items_hidden-the_row-Field-0 fields.items))
 
-more_subscripts : (n : _) (row : Row_of-Expr n) → more_subscripts_tokens row ≡ more expr_tokens (items-the_row-Expr n row)
+more_subscripts : (n : _) (row : Row_of-Expr n) → more_subscripts_tokens row ≡ after_commas expr_tokens (items-the_row-Expr n row)
 more_subscripts _ end_of-Expr = refl
 more_subscripts _ (more_of-Expr expr rest) = ap (λ t. (symbol s.COMMA ++ expr_tokens expr) ++ t) (more_subscripts _ rest)
 

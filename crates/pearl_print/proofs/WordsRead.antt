@@ -115,10 +115,10 @@ word_reads code inside =
       no_space = λ rest. ap space_len (append_assoc text (32 ∷ []) rest) ∙ name_no_space text (32 ∷ rest) plain;
     }
 
-both : (a b : Bool) → a ≡ true → b ≡ true → a && b ≡ true
-both true true e f = refl
-both true false e f = f
-both false b e f = e
+and_true : (a b : Bool) → a ≡ true → b ≡ true → a && b ≡ true
+and_true true true e f = refl
+and_true true false e f = f
+and_true false b e f = e
 
 letter_is_solid : (b : ℕ) → IsLetter b → is_solid b ≡ true
 letter_is_solid b h = grind (arith, common_steps, nat_tests)
@@ -132,12 +132,12 @@ id_byte_is b h = grind (arith, common_steps, nat_tests)
 id_bytes_are : (bytes : List ℕ) → All IsIdByte bytes → list_all is_id_byte bytes ≡ true
 id_bytes_are [] each = refl
 id_bytes_are (b ∷ bytes) each =
-    both (is_id_byte b) (list_all is_id_byte bytes) (id_byte_is b (All-head IsIdByte b bytes each)) (id_bytes_are bytes (All-tail IsIdByte b bytes each))
+    and_true (is_id_byte b) (list_all is_id_byte bytes) (id_byte_is b (All-head IsIdByte b bytes each)) (id_bytes_are bytes (All-tail IsIdByte b bytes each))
 
 id_is_name_text : (text : List ℕ) → BeginsWithLetter text → All IsIdByte text → is_name_text text ≡ true
 id_is_name_text [] begins each = absurd begins
 id_is_name_text (b ∷ bytes) begins each =
-    both (is_solid b) _ (letter_is_solid b begins) (both (is_ascii_alphabetic b) _ (letter_is_letter b begins) (id_bytes_are (b ∷ bytes) each))
+    and_true (is_solid b) _ (letter_is_solid b begins) (and_true (is_ascii_alphabetic b) _ (letter_is_letter b begins) (id_bytes_are (b ∷ bytes) each))
 
 no_meaning : (rows : List (List ℕ × ℕ)) (text : List ℕ) → All (λ row. row.0 ≢ text) rows → meaning rows text ≡ None
 no_meaning [] text each = refl

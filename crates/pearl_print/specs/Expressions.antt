@@ -1,11 +1,7 @@
 -- The tokens of literals, references and expressions.
-use Rattle.std.specs.Prelude.{ℕ, ◌+◌, ◌*◌, ◌/◌, ◌%◌, List, [], ◌∷◌, ◌++◌, Option, Some, None}
+use Rattle.std.specs.Prelude.{ℕ, ◌/◌, ◌%◌, List, [], ◌∷◌, ◌++◌, Option}
 use Rattle.std.specs.List.{flat_map}
 use Rattle.pearl_tree.specs.declared.name.Number.{Number}
-use Rattle.pearl_tree.specs.declared.literal.Secs.{Secs}
-use Rattle.pearl_tree.specs.declared.literal.Secs.TheVariants as secs
-use Rattle.pearl_tree.specs.declared.literal.Duration.{Duration}
-use Rattle.pearl_tree.specs.declared.literal.Duration.TheVariants.{Hours, Minutes, Seconds}
 use Rattle.pearl_tree.specs.declared.literal.Sign.{Sign}
 use Rattle.pearl_tree.specs.declared.literal.Sign.TheVariants as sign
 use Rattle.pearl_tree.specs.declared.literal.Const.{Const}
@@ -22,29 +18,12 @@ use Rattle.pearl_tree.specs.declared.expression.Selector.{Selector, Subscripts',
 use Rattle.pearl_tree.specs.declared.expression.Ref.{Ref, Row_of-Selector, end_of-Selector, more_of-Selector}
 use Rattle.pearl_tree.specs.declared.token.What.{What}
 use Rattle.pearl_tree.specs.declared.token.What.TheVariants as what
+use Rattle.pearl_tree.specs.Durations.{milliseconds_of}
 use Rattle.pearl_tree.specs.Expressions.{monad_what, side_word}
 use Rattle.pearl_tree.specs.ShownLiterals.{ShownLiteral, OfNumber, OfBits, OfText, OfClock, OfDuration, shown_literal}
 use Rattle.pearl_tables.specs.declared.symbol.TheConstants as s
 use Rattle.pearl_tables.specs.declared.word_code.TheConstants as w
 use Rattle.pearl_print.specs.Lists.{word, symbol, name_tokens, number_tokens, maybe}
-
-abbrev pub secs_milliseconds : Secs → ℕ
-secs_milliseconds (secs.Number number) = 1000 * number.value
-secs_milliseconds (secs.Decimal whole thousandths place) = 1000 * whole + thousandths
-
-abbrev pub maybe_seconds : Option Secs → ℕ
-maybe_seconds None = 0
-maybe_seconds (Some part) = secs_milliseconds part
-
-abbrev pub maybe_minutes : Option Number → ℕ
-maybe_minutes None = 0
-maybe_minutes (Some number) = 60000 * number.value
-
-abbrev pub duration_milliseconds : Duration → ℕ
-duration_milliseconds (Hours hours minutes seconds place) =
-    3600000 * hours.value + maybe_minutes minutes + maybe_seconds seconds
-duration_milliseconds (Minutes minutes seconds place) = 60000 * minutes.value + maybe_seconds seconds
-duration_milliseconds (Seconds seconds place) = secs_milliseconds seconds
 
 -- number HRS number MIN decimal SEC, with minutes and seconds below 60
 abbrev pub carried : ℕ → List What
@@ -58,7 +37,7 @@ literal_tokens (OfNumber number) = number_tokens number
 literal_tokens (OfBits len value place) = what.Bits len value ∷ []
 literal_tokens (OfText text place) = what.Text (record { items = text }) ∷ []
 literal_tokens (OfClock milliseconds place) = what.Clock milliseconds ∷ []
-literal_tokens (OfDuration duration) = carried (duration_milliseconds duration)
+literal_tokens (OfDuration duration) = carried (milliseconds_of duration)
 
 -- "+" | "-"
 abbrev pub sign_tokens : Sign → List What

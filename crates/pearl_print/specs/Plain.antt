@@ -26,6 +26,7 @@ use Rattle.pearl_tree.specs.declared.tree.ModuleName.{ModuleName}
 use Rattle.pearl_tree.specs.declared.tree.ModuleName.TheVariants.{Bracketed, Bare}
 use Rattle.pearl_tree.specs.declared.tree.Tree.{Tree}
 use Rattle.pearl_tree.specs.declared.token.Token.{Token}
+use Rattle.pearl_tree.specs.Durations.{milliseconds_of}
 use Rattle.pearl_tree.specs.Modules.{Spells}
 use Rattle.pearl_tree.specs.ShownLiterals.{ShownLiteral, OfNumber, OfBits, OfText, OfClock, OfDuration, ShownConst}
 use Rattle.pearl_tree.specs.ShownExpressions.{ShownExpr, OfOperand, OfDyadic, ShownPrimary, OfLiteral, OfRef, OfGroup, OfNow, OfTry, OfLimit, ShownSelectors, NoSelectors, MoreSelectors, ShownSelector, OfSubscripts, OfComponent, ShownExprs, NoExprs, MoreExprs, ShownRef}
@@ -33,7 +34,6 @@ use Rattle.pearl_tree.specs.ShownDeclarations.{ShownNames, OfOne, OfSeveral, Sho
 use Rattle.pearl_tree.specs.ShownStatements.{ShownPeriodEnd, OfUntil, OfDuring, ShownPeriod, ShownStart, OfAt, OfAfter, OfWhen, OfAll, ShownOnce, OnceAt, OnceAfter, OnceWhen, ShownBodyDecl, ShownStmt, OfEmpty, OfAssign, OfCall, OfIf, OfCase, OfRepeat, OfExit, OfBegin, OfReturn, OfActivate, OfContinue, OfResume, OfOnTask, OfOnSemas, OfOnInterrupt, OfPut, OfGet, OfSend, OfTake, ShownStmts, NoStmts, MoreStmts, ShownBranches, NoBranches, MoreBranches, ShownOtherwise, NoOtherwise, OfOtherwise}
 use Rattle.pearl_tree.specs.ShownModules.{ShownBody, ShownDecl, OfLength, OfType, OfDeclare, OfSpecify, OfTask, OfProc, ShownTree, shown_tree}
 use Rattle.pearl_lex.specs.Lexes.{Lexes}
-use Rattle.pearl_print.specs.Expressions.{duration_milliseconds}
 
 abbrev pub plain_name : Name → Name
 plain_name name = record name { place = 0 }
@@ -52,7 +52,7 @@ plain_literal (OfNumber number) = OfNumber (plain_number number)
 plain_literal (OfBits len value place) = OfBits len value 0
 plain_literal (OfText text place) = OfText text 0
 plain_literal (OfClock milliseconds place) = OfClock milliseconds 0
-plain_literal (OfDuration duration) = OfDuration (plain_duration (duration_milliseconds duration))
+plain_literal (OfDuration duration) = OfDuration (plain_duration (milliseconds_of duration))
 
 abbrev pub plain_const : ShownConst → ShownConst
 plain_const constant = record constant { literal = plain_literal constant.literal; place = 0 }

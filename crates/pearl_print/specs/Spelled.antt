@@ -54,5 +54,5 @@ gap (what.Symbol symbol) = if symbol == s.SEMICOLON then codes "\n" else codes "
 gap _ = codes " "
 
 -- the text of tokens in order
-unfoldable pub text_of : List What → List ℕ
-text_of tokens = flat_map (λ token. spelled token ++ gap token) tokens
+unfoldable pub text_of_tokens : List What → List ℕ
+text_of_tokens tokens = flat_map (λ token. spelled token ++ gap token) tokens

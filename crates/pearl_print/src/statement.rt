@@ -7,7 +7,7 @@ ghost use Rattle.pearl_tables.specs.declared.symbol.TheConstants as s;
 ghost use Rattle.pearl_tables.specs.declared.word_code.TheConstants as w;
 ghost use Rattle.pearl_tables.specs.Words.{code_count};
 ghost use Rattle.pearl_print.specs.Lists.{word, symbol, maybe};
-ghost use Rattle.pearl_print.specs.Spelled.{text_of};
+ghost use Rattle.pearl_print.specs.Spelled.{text_of_tokens};
 ghost use Rattle.pearl_print.specs.Statements.{assign_tokens, call_tokens, return_tokens, value_tokens, body_decl_tokens, for_tokens, loop_tokens, stmt_tokens, branch_tokens, body_tokens, block_tokens};
 
 use crate::expression::{put_expr, put_ref};
@@ -41,7 +41,7 @@ impl Part for BodyDecl {
 }
 
 fn put_assign(into: &mut Vec<u8>, part: &Assign) -> Result<(), NoMemory>
-    ensures { OnOk result (into.new.items ≡ into.old.items ++ text_of (assign_tokens part.now)) }
+    ensures { OnOk result (into.new.items ≡ into.old.items ++ text_of_tokens (assign_tokens part.now)) }
 {
     put_ref(into, &part.target)?;
     put_symbol(into, BECOMES)?;
@@ -51,7 +51,7 @@ fn put_assign(into: &mut Vec<u8>, part: &Assign) -> Result<(), NoMemory>
 }
 
 fn put_call(into: &mut Vec<u8>, part: &Call) -> Result<(), NoMemory>
-    ensures { OnOk result (into.new.items ≡ into.old.items ++ text_of (call_tokens part.now)) }
+    ensures { OnOk result (into.new.items ≡ into.old.items ++ text_of_tokens (call_tokens part.now)) }
 {
     put_word(into, CALL)?;
     part.name.put(into)?;
@@ -61,7 +61,7 @@ fn put_call(into: &mut Vec<u8>, part: &Call) -> Result<(), NoMemory>
 }
 
 fn put_return(into: &mut Vec<u8>, part: &Return) -> Result<(), NoMemory>
-    ensures { OnOk result (into.new.items ≡ into.old.items ++ text_of (return_tokens part.now)) }
+    ensures { OnOk result (into.new.items ≡ into.old.items ++ text_of_tokens (return_tokens part.now)) }
 {
     put_word(into, RETURN)?;
     put_returned(into, &part.value)?;
@@ -70,7 +70,7 @@ fn put_return(into: &mut Vec<u8>, part: &Return) -> Result<(), NoMemory>
 }
 
 fn put_returned(into: &mut Vec<u8>, value: &Option<Expr>) -> Result<(), NoMemory>
-    ensures { OnOk result (into.new.items ≡ into.old.items ++ text_of (maybe value_tokens value.now)) }
+    ensures { OnOk result (into.new.items ≡ into.old.items ++ text_of_tokens (maybe value_tokens value.now)) }
 {
     if let Some(value) = value {
         put_symbol(into, LEFT_ROUND)?;
@@ -82,7 +82,7 @@ fn put_returned(into: &mut Vec<u8>, value: &Option<Expr>) -> Result<(), NoMemory
 
 fn put_ended(into: &mut Vec<u8>, code: u8) -> Result<(), NoMemory>
     requires { code < code_count }
-    ensures { OnOk result (into.new.items ≡ into.old.items ++ text_of (word code ++ symbol s.SEMICOLON)) }
+    ensures { OnOk result (into.new.items ≡ into.old.items ++ text_of_tokens (word code ++ symbol s.SEMICOLON)) }
 {
     put_word(into, code)?;
     put_symbol(into, SEMICOLON)?;
@@ -93,7 +93,7 @@ fn put_ended(into: &mut Vec<u8>, code: u8) -> Result<(), NoMemory>
 fn put_loop(into: &mut Vec<u8>, part: &Repeat) -> Result<(), NoMemory>
     ensures { OnOk result
         (let tokens = loop_tokens part.now.control part.now.begin part.now.step part.now.end part.now.condition in
-        into.new.items ≡ into.old.items ++ text_of tokens) }
+        into.new.items ≡ into.old.items ++ text_of_tokens tokens) }
 {
     put_for(into, &part.control)?;
     put_maybe_after(into, FROM, &part.begin)?;
@@ -104,7 +104,7 @@ fn put_loop(into: &mut Vec<u8>, part: &Repeat) -> Result<(), NoMemory>
 }
 
 fn put_for(into: &mut Vec<u8>, control: &Option<Name>) -> Result<(), NoMemory>
-    ensures { OnOk result (into.new.items ≡ into.old.items ++ text_of (maybe for_tokens control.now)) }
+    ensures { OnOk result (into.new.items ≡ into.old.items ++ text_of_tokens (maybe for_tokens control.now)) }
 {
     if let Some(name) = control {
         put_word(into, FOR)?;
@@ -115,7 +115,7 @@ fn put_for(into: &mut Vec<u8>, control: &Option<Name>) -> Result<(), NoMemory>
 
 #[cycle(statement)]
 fn put_stmt(into: &mut Vec<u8>, stmt: &Stmt) -> Result<(), NoMemory>
-    ensures { OnOk result (into.new.items ≡ into.old.items ++ text_of (stmt_tokens stmt.now)) }
+    ensures { OnOk result (into.new.items ≡ into.old.items ++ text_of_tokens (stmt_tokens stmt.now)) }
 {
     match stmt {
         Stmt::Empty { .. } => put_symbol(into, SEMICOLON),
@@ -160,7 +160,7 @@ fn put_stmt(into: &mut Vec<u8>, stmt: &Stmt) -> Result<(), NoMemory>
 #[cycle(statement)]
 fn put_stmts(into: &mut Vec<u8>, stmts: &Parts<Stmt>) -> Result<(), NoMemory>
     ensures { OnOk result
-        (into.new.items ≡ into.old.items ++ text_of (flat_map stmt_tokens stmts.now.items.items)) }
+        (into.new.items ≡ into.old.items ++ text_of_tokens (flat_map stmt_tokens stmts.now.items.items)) }
 {
     for stmt in stmts.as_slice() {
         put_stmt(into, stmt)?;
@@ -172,7 +172,7 @@ fn put_stmts(into: &mut Vec<u8>, stmts: &Parts<Stmt>) -> Result<(), NoMemory>
 fn put_alternatives(into: &mut Vec<u8>, branches: &Parts<Branch>) -> Result<(), NoMemory>
     ensures { OnOk result
         (let tokens = flat_map (branch_tokens w.ALT) branches.now.items.items in
-        into.new.items ≡ into.old.items ++ text_of tokens) }
+        into.new.items ≡ into.old.items ++ text_of_tokens tokens) }
 {
     for branch in branches.as_slice() {
         put_branch(into, ALT, branch)?;
@@ -184,7 +184,7 @@ fn put_alternatives(into: &mut Vec<u8>, branches: &Parts<Branch>) -> Result<(), 
 fn put_otherwise(into: &mut Vec<u8>, code: u8, branch: &Option<Branch>) -> Result<(), NoMemory>
     requires { code < code_count }
     ensures { OnOk result
-        (into.new.items ≡ into.old.items ++ text_of (maybe (branch_tokens code) branch.now)) }
+        (into.new.items ≡ into.old.items ++ text_of_tokens (maybe (branch_tokens code) branch.now)) }
 {
     if let Some(branch) = branch {
         put_branch(into, code, branch)?;
@@ -195,7 +195,7 @@ fn put_otherwise(into: &mut Vec<u8>, code: u8, branch: &Option<Branch>) -> Resul
 #[cycle(statement)]
 fn put_branch(into: &mut Vec<u8>, code: u8, branch: &Branch) -> Result<(), NoMemory>
     requires { code < code_count }
-    ensures { OnOk result (into.new.items ≡ into.old.items ++ text_of (branch_tokens code branch.now)) }
+    ensures { OnOk result (into.new.items ≡ into.old.items ++ text_of_tokens (branch_tokens code branch.now)) }
 {
     put_word(into, code)?;
     put_stmts(into, &branch.statements)?;
@@ -206,7 +206,7 @@ fn put_branch(into: &mut Vec<u8>, code: u8, branch: &Branch) -> Result<(), NoMem
 #[cycle(statement)]
 fn put_block(into: &mut Vec<u8>, code: u8, body: &Body) -> Result<(), NoMemory>
     requires { code < code_count }
-    ensures { OnOk result (into.new.items ≡ into.old.items ++ text_of (block_tokens code body.now)) }
+    ensures { OnOk result (into.new.items ≡ into.old.items ++ text_of_tokens (block_tokens code body.now)) }
 {
     put_word(into, code)?;
     put_body(into, body)?;
@@ -216,7 +216,7 @@ fn put_block(into: &mut Vec<u8>, code: u8, body: &Body) -> Result<(), NoMemory>
 
 #[cycle(statement)]
 pub(crate) fn put_body(into: &mut Vec<u8>, body: &Body) -> Result<(), NoMemory>
-    ensures { OnOk result (into.new.items ≡ into.old.items ++ text_of (body_tokens body.now)) }
+    ensures { OnOk result (into.new.items ≡ into.old.items ++ text_of_tokens (body_tokens body.now)) }
 {
     put_each(into, body.declarations.as_slice())?;
     put_stmts(into, &body.statements)?;

@@ -3,7 +3,7 @@
 
 ghost use Rattle.std.specs.Prelude.{◌≡◌, ◌++◌, OnOk};
 ghost use Rattle.pearl_tree.specs.Statements.{task_word, sema_word, interrupt_word};
-ghost use Rattle.pearl_print.specs.Spelled.{text_of};
+ghost use Rattle.pearl_print.specs.Spelled.{text_of_tokens};
 ghost use Rattle.pearl_print.specs.Statements.{activate_tokens, continue_tokens, resume_tokens, on_task_tokens, on_semas_tokens, on_interrupt_tokens};
 
 use crate::lists::{Part, put_listed, put_maybe};
@@ -20,7 +20,7 @@ use pearl_tree::statement::{
 use std::alloc::AllocError as NoMemory;
 
 pub(crate) fn put_activate(into: &mut Vec<u8>, part: &Activate) -> Result<(), NoMemory>
-    ensures { OnOk result (into.new.items ≡ into.old.items ++ text_of (activate_tokens part.now)) }
+    ensures { OnOk result (into.new.items ≡ into.old.items ++ text_of_tokens (activate_tokens part.now)) }
 {
     put_maybe(into, &part.start)?;
     put_word(into, ACTIVATE)?;
@@ -31,7 +31,7 @@ pub(crate) fn put_activate(into: &mut Vec<u8>, part: &Activate) -> Result<(), No
 }
 
 pub(crate) fn put_continue(into: &mut Vec<u8>, part: &Continue) -> Result<(), NoMemory>
-    ensures { OnOk result (into.new.items ≡ into.old.items ++ text_of (continue_tokens part.now)) }
+    ensures { OnOk result (into.new.items ≡ into.old.items ++ text_of_tokens (continue_tokens part.now)) }
 {
     put_maybe(into, &part.once)?;
     put_word(into, CONTINUE)?;
@@ -41,7 +41,7 @@ pub(crate) fn put_continue(into: &mut Vec<u8>, part: &Continue) -> Result<(), No
 }
 
 pub(crate) fn put_resume(into: &mut Vec<u8>, part: &Resume) -> Result<(), NoMemory>
-    ensures { OnOk result (into.new.items ≡ into.old.items ++ text_of (resume_tokens part.now)) }
+    ensures { OnOk result (into.new.items ≡ into.old.items ++ text_of_tokens (resume_tokens part.now)) }
 {
     part.once.put(into)?;
     put_word(into, RESUME)?;
@@ -60,7 +60,7 @@ fn task_word(word: TaskWord) -> u8
 }
 
 pub(crate) fn put_on_task(into: &mut Vec<u8>, part: &OnTask) -> Result<(), NoMemory>
-    ensures { OnOk result (into.new.items ≡ into.old.items ++ text_of (on_task_tokens part.now)) }
+    ensures { OnOk result (into.new.items ≡ into.old.items ++ text_of_tokens (on_task_tokens part.now)) }
 {
     put_word(into, task_word(part.word))?;
     put_maybe(into, &part.task)?;
@@ -78,7 +78,7 @@ fn sema_word(word: SemaWord) -> u8
 }
 
 pub(crate) fn put_on_semas(into: &mut Vec<u8>, part: &OnSemas) -> Result<(), NoMemory>
-    ensures { OnOk result (into.new.items ≡ into.old.items ++ text_of (on_semas_tokens part.now)) }
+    ensures { OnOk result (into.new.items ≡ into.old.items ++ text_of_tokens (on_semas_tokens part.now)) }
 {
     put_word(into, sema_word(part.word))?;
     put_listed(into, part.names.as_slice())?;
@@ -97,7 +97,7 @@ fn interrupt_word(word: InterruptWord) -> u8
 }
 
 pub(crate) fn put_on_interrupt(into: &mut Vec<u8>, part: &OnInterrupt) -> Result<(), NoMemory>
-    ensures { OnOk result (into.new.items ≡ into.old.items ++ text_of (on_interrupt_tokens part.now)) }
+    ensures { OnOk result (into.new.items ≡ into.old.items ++ text_of_tokens (on_interrupt_tokens part.now)) }
 {
     put_word(into, interrupt_word(part.word))?;
     part.name.put(into)?;

@@ -2,7 +2,7 @@
 #![tactic(auto, using(crate::proofs::Texts::text_steps, std::proofs::lemmas::Grind::common_steps))]
 
 ghost use Rattle.std.specs.Prelude.{◌≡◌, ◌++◌, OnOk};
-ghost use Rattle.pearl_print.specs.Spelled.{text_of};
+ghost use Rattle.pearl_print.specs.Spelled.{text_of_tokens};
 ghost use Rattle.pearl_print.specs.Formats.{by_tokens};
 ghost use Rattle.pearl_print.specs.Statements.{put_tokens, get_tokens, send_tokens, take_tokens};
 
@@ -19,7 +19,7 @@ use pearl_tree::statement::{Get, Put, Send, Take};
 use std::alloc::AllocError as NoMemory;
 
 fn put_by(into: &mut Vec<u8>, name: &Name, formats: &Parts<Fmt>) -> Result<(), NoMemory>
-    ensures { OnOk result (into.new.items ≡ into.old.items ++ text_of (by_tokens name.now formats.now)) }
+    ensures { OnOk result (into.new.items ≡ into.old.items ++ text_of_tokens (by_tokens name.now formats.now)) }
 {
     name.put(into)?;
     put_word(into, BY)?;
@@ -29,7 +29,7 @@ fn put_by(into: &mut Vec<u8>, name: &Name, formats: &Parts<Fmt>) -> Result<(), N
 }
 
 pub(crate) fn put_put(into: &mut Vec<u8>, part: &Put) -> Result<(), NoMemory>
-    ensures { OnOk result (into.new.items ≡ into.old.items ++ text_of (put_tokens part.now)) }
+    ensures { OnOk result (into.new.items ≡ into.old.items ++ text_of_tokens (put_tokens part.now)) }
 {
     put_word(into, PUT)?;
     put_listed(into, part.values.as_slice())?;
@@ -39,7 +39,7 @@ pub(crate) fn put_put(into: &mut Vec<u8>, part: &Put) -> Result<(), NoMemory>
 }
 
 pub(crate) fn put_get(into: &mut Vec<u8>, part: &Get) -> Result<(), NoMemory>
-    ensures { OnOk result (into.new.items ≡ into.old.items ++ text_of (get_tokens part.now)) }
+    ensures { OnOk result (into.new.items ≡ into.old.items ++ text_of_tokens (get_tokens part.now)) }
 {
     put_word(into, GET)?;
     put_listed(into, part.targets.as_slice())?;
@@ -49,7 +49,7 @@ pub(crate) fn put_get(into: &mut Vec<u8>, part: &Get) -> Result<(), NoMemory>
 }
 
 pub(crate) fn put_send(into: &mut Vec<u8>, part: &Send) -> Result<(), NoMemory>
-    ensures { OnOk result (into.new.items ≡ into.old.items ++ text_of (send_tokens part.now)) }
+    ensures { OnOk result (into.new.items ≡ into.old.items ++ text_of_tokens (send_tokens part.now)) }
 {
     put_after(into, SEND, &part.value)?;
     put_word(into, TO)?;
@@ -59,7 +59,7 @@ pub(crate) fn put_send(into: &mut Vec<u8>, part: &Send) -> Result<(), NoMemory>
 }
 
 pub(crate) fn put_take(into: &mut Vec<u8>, part: &Take) -> Result<(), NoMemory>
-    ensures { OnOk result (into.new.items ≡ into.old.items ++ text_of (take_tokens part.now)) }
+    ensures { OnOk result (into.new.items ≡ into.old.items ++ text_of_tokens (take_tokens part.now)) }
 {
     put_word(into, TAKE)?;
     put_ref(into, &part.target)?;

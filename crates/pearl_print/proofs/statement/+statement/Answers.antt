@@ -11,7 +11,7 @@ use Rattle.pearl_tables.specs.declared.symbol.TheConstants as s
 use Rattle.pearl_tables.specs.declared.word_code.TheConstants as w
 use Rattle.pearl_print.specs.Lists.{word, symbol, maybe}
 use Rattle.pearl_print.specs.Schedules.{after_tokens}
-use Rattle.pearl_print.specs.Spelled.{text_of}
+use Rattle.pearl_print.specs.Spelled.{text_of_tokens}
 use Rattle.pearl_print.specs.Statements.{stmt_tokens, branch_tokens, loop_tokens, block_tokens}
 use Rattle.pearl_print.proofs.Texts.{adds, adds_other}
 use Rattle.pearl_print.proofs.StatementRows.{if_shown, case_shown, repeat_shown, begin_shown}
@@ -55,5 +55,5 @@ pub put_stmt-returns-in-Begin : goal.put_stmt-returns-in-Begin
 put_stmt-returns-in-Begin t c =
     let part = c.in-Begin.part.value in
     let e : stmt_tokens c.args.stmt.now ≡ block_tokens w.BEGIN part.body = ap stmt_tokens c.in-Begin.is ∙ begin_shown c.in-Begin.part in
-    rw e (subst (λ (p : Begin). OnOk c.put_block-in-Begin.result (c.put_block-in-Begin.new.into.items ≡ c.args.into.now.items ++ text_of (block_tokens w.BEGIN p.body)))
+    rw e (subst (λ (p : Begin). OnOk c.put_block-in-Begin.result (c.put_block-in-Begin.new.into.items ≡ c.args.into.now.items ++ text_of_tokens (block_tokens w.BEGIN p.body)))
     c.deref-in-Begin.ensures c.put_block-in-Begin.ensures)
