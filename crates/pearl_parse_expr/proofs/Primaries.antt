@@ -45,7 +45,7 @@ duration_head tokens from (Minutes minutes seconds place) to h = ap is_literal h
 duration_head tokens from (Seconds (secs.Number number) place) to h = ap is_literal h.1.1.0.0
 duration_head tokens from (Seconds (secs.Decimal whole thousandths place) _) to h = ap is_literal h.1.1.0
 
-literal_head : (tokens : List Token) (from : ℕ) (part : Literal) (to : ℕ) → SpellsLiteral tokens from part to → is_literal (what_at tokens from) ≡ true
+pub literal_head : (tokens : List Token) (from : ℕ) (part : Literal) (to : ℕ) → SpellsLiteral tokens from part to → is_literal (what_at tokens from) ≡ true
 literal_head tokens from (literal.Number number) to h = ap is_literal h.0.0
 literal_head tokens from (literal.Bits len value place) to h = ap is_literal h.0
 literal_head tokens from (literal.Text text place) to h = ap is_literal h.0
