@@ -1,7 +1,7 @@
 use Rattle.std.proofs.Common.{◌+◌, ap, arith}
 use Rattle.pearl_tables.specs.declared.symbol.TheConstants as s
 use Rattle.pearl_parse_expr.specs.Stops.{is_symbol, is_name}
-use Rattle.pearl_parse.proofs.Steps.{err_told, missing_is_refused, missing, ends}
+use Rattle.pearl_parse.proofs.Steps.{err_told, missing, ends}
 use Rattle.pearl_parse.proofs.LeafRests.{Spelled}
 use Rattle.pearl_parse.proofs.ScheduleRests.{continue_rest, continue_goes}
 use Rattle.pearl_parse.proofs.schedule.immediate_continuation.Goals as goal
@@ -25,13 +25,3 @@ returns-in_err-symbol-clause-refused c =
 pub returns-clause-longest : goal.returns-clause-longest
 returns-clause-longest c = λ depth.
     ends (Spelled depth) c.args.tokens.now c.args.from continue_rest c.args.from c.args.from (c.args.from + 3) (c.args.from + 3) (continue_goes c.args.tokens.now depth c.args.from c.requires.word) (omega arith) (λ others to h. h.2)
-
-pub returns-in_err-task-clause-memory : goal.returns-in_err-task-clause-memory
-returns-in_err-task-clause-memory c =
-    err_told _ _ c.in_err-task.field-0.0 c.from_residual.result c.from_residual.ensures (λ e is. is)
-    (missing_is_refused c.args.tokens.now is_name (c.args.from + 1) c.args.from c.in_err-task.field-0.0 c.in_err-task.ensures.missing)
-
-pub returns-in_err-symbol-clause-memory : goal.returns-in_err-symbol-clause-memory
-returns-in_err-symbol-clause-memory c =
-    err_told _ _ c.in_err-symbol.field-0.0 c.from_residual-in_err-symbol.result c.from_residual-in_err-symbol.ensures (λ e is. is)
-    (missing_is_refused c.args.tokens.now (is_symbol s.SEMICOLON) (c.args.from + 2) c.args.from c.in_err-symbol.field-0.0 c.in_err-symbol.ensures.missing)
