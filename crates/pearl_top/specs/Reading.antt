@@ -17,9 +17,9 @@ UnreadDue file limit rose NoMemory bytes = bytes ≡ refusal_line refusal.Memory
 UnreadDue file limit rose status bytes = ⊥
 
 -- the file was read whole and is within the limit, or what is due is a line that says why not
-abbrev pub IsReadOf : List ℕ → ℕ → Type 0 → Result (Vec ℕ) Failure → Type 0
-IsReadOf file limit rose (Ok bytes) = (bytes.items ≡ file) × (length file ≤ limit)
-IsReadOf file limit rose (Err failure) = IsDue (UnreadDue file limit rose) failure
+abbrev pub IsReadWhole : List ℕ → ℕ → Type 0 → Result (Vec ℕ) Failure → Type 0
+IsReadWhole file limit rose (Ok bytes) = (bytes.items ≡ file) × (length file ≤ limit)
+IsReadWhole file limit rose (Err failure) = IsDue (UnreadDue file limit rose) failure
 
 -- bytes that a file of this name may have: those held, where that is told
 abbrev pub MayHave : Option Files → List ℕ → List ℕ → Type 0

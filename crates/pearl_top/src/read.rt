@@ -2,7 +2,7 @@
 
 ghost use Rattle.std.specs.Prelude.{◌≡◌, ◌<◌, ◌≤◌, ◌^◌, ℕ, List};
 ghost use Rattle.pearl_io.specs.Outside.{CountRose};
-ghost use Rattle.pearl_top.specs.Reading.{IsReadOf, MayHave};
+ghost use Rattle.pearl_top.specs.Reading.{IsReadWhole, MayHave};
 
 use crate::failure::Failure;
 use pearl_io::{Fetched, Shelf, fetch_all};
@@ -18,7 +18,7 @@ pub fn read_whole<S: Shelf>(
 ) -> Result<Vec<u8>, Failure>
     requires { limit < 2 ^ 40 }
     ensures read { let rose = CountRose (S.faults shelf.old name.now) (S.faults shelf.new name.now) in
-        (file : List ℕ) × MayHave (S.holds shelf.old) name.now file × IsReadOf file limit rose result }
+        (file : List ℕ) × MayHave (S.holds shelf.old) name.now file × IsReadWhole file limit rose result }
     ensures held { S.holds shelf.new ≡ S.holds shelf.old }
     ensures later { (other : List ℕ) → S.faults shelf.old other ≤ S.faults shelf.new other }
 {
