@@ -4,7 +4,7 @@ use Rattle.std.specs.List.{flat_map}
 use Rattle.pearl_tree.specs.ShownDeclarations.{ShownItem, ShownDeclared, OfItem, OfSema, ShownParam}
 use Rattle.pearl_tree.specs.ShownStatements.{ShownBodyDecl, ShownStmt, OfIf, OfCase, OfRepeat, OfBegin, ShownStmts, NoStmts, MoreStmts, ShownBranches, NoBranches, MoreBranches, ShownOtherwise, NoOtherwise, OfOtherwise}
 use Rattle.pearl_tree.specs.ShownModules.{ShownBody}
-use Rattle.pearl_scope.specs.Names.{names_of}
+use Rattle.pearl_tree.specs.Names.{names_of}
 use Rattle.pearl_scope.specs.Scopes.{Entry, item_entries, body_decl_entries, body_entries, declared_entries, control_entries, param_entries, as_stmts, scopes_in, scopes_in_all, scopes_in_branches, stmt_scopes, all_scopes, branch_scopes, otherwise_scopes, routine_scopes}
 use Rattle.pearl_scope.specs.Sorts.{sorted_names, names_of_scopes, body_scopes}
 use Rattle.pearl_scope.proofs.Collecting.{sorted_names-append, sorted_names-as, names_of_scopes-append, names_of_scopes-cons}

@@ -4,5 +4,4 @@ pub mod Collecting
 pub mod AnyTypes
 pub mod DeclLists
 mod Outers
-mod OneList
 mod Examples

@@ -9,7 +9,7 @@ use Rattle.pearl_tree.specs.declared.literal.Sign.{Sign}
 use Rattle.pearl_tree.specs.declared.literal.Sign.TheVariants.{Minus}
 use Rattle.pearl_tree.specs.ShownLiterals.{ShownLiteral, OfNumber, OfBits, OfText, OfClock, OfDuration, ShownConst}
 use Rattle.pearl_scope.specs.Durations.{is_too_long}
-use Rattle.pearl_scope.specs.FaultLists.{fault_if}
+use Rattle.pearl_tree.specs.Faults.{fault_if}
 
 -- a sign may stand before FIXED and DURATION
 abbrev pub has_wrong_sign : ShownConst → Bool

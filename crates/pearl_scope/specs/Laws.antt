@@ -2,9 +2,9 @@
 use Rattle.std.specs.Prelude.{◌≡◌, ℕ, ◌+◌, ◌<◌, List, [], ◌∷◌, Option, Some, None}
 use Rattle.pearl_tree.specs.declared.fault.RuleFault.{RuleFault}
 use Rattle.pearl_tree.specs.ShownModules.{ShownTree}
-use Rattle.pearl_scope.specs.FaultLists.{ListFaults}
+use Rattle.pearl_tree.specs.Faults.{ListFaults}
 use Rattle.pearl_scope.specs.Scopes.{Scope, scopes_of}
-use Rattle.pearl_scope.specs.Rules.{IsBroken}
+use Rattle.pearl_scope.specs.Rules.{broken}
 
 abbrev pub IsEarlier : Option ℕ → ℕ → Type 0
 IsEarlier None number = Unit {0}
@@ -22,5 +22,5 @@ OuterIsEarlier = (tree : ShownTree) → AreWithinEarlier 0 (scopes_of tree)
 -- the rules S1 to S9 that a module breaks have one list
 abbrev pub HasOneList : Type 0
 HasOneList =
-    (tree : ShownTree) (faults others : List RuleFault) → ListFaults (IsBroken tree) faults → ListFaults (IsBroken tree) others →
+    (tree : ShownTree) (faults others : List RuleFault) → ListFaults (broken tree) faults → ListFaults (broken tree) others →
     faults ≡ others

@@ -1,5 +1,3 @@
-pub mod FaultLists
-pub mod Names
 pub mod Lengths
 pub mod Durations
 pub mod Scopes

@@ -1,5 +1,5 @@
 -- The rules S1 to S9, one after the other, and the faults of a module in them.
-use Rattle.std.specs.Prelude.{ℕ, ◌-◌, ◌^◌, Bool, true, false, ◌&&◌, ◌||◌, not, nat_le, nat_lt, List, [], ◌∷◌, ◌++◌, length, take, map, Option, Some, None, is_none, Contains}
+use Rattle.std.specs.Prelude.{ℕ, ◌-◌, ◌^◌, Bool, true, false, ◌&&◌, ◌||◌, not, nat_le, nat_lt, List, [], ◌∷◌, ◌++◌, length, take, map, Option, Some, None, is_none}
 use Rattle.std.specs.List.{list_all, flat_map}
 use Rattle.pearl_value.specs.declared.kind.Kind.{Kind}
 use Rattle.pearl_tree.specs.declared.fault.RuleFault.{RuleFault}
@@ -8,10 +8,11 @@ use Rattle.pearl_tree.specs.declared.name.Number.{Number}
 use Rattle.pearl_tree.specs.ShownLiterals.{ShownConst}
 use Rattle.pearl_tree.specs.ShownModules.{ShownTree}
 use Rattle.pearl_scope.specs.declared.length.DefaultLength.{DefaultLength}
-use Rattle.pearl_scope.specs.FaultLists.{fault_if}
+use Rattle.pearl_tree.specs.Faults.{fault_if}
 use Rattle.pearl_scope.specs.Lengths.{is_length, lengths_set}
-use Rattle.pearl_scope.specs.Durations.{is_too_long, place_of_duration}
-use Rattle.pearl_scope.specs.Names.{name_text, names_of, repeats}
+use Rattle.pearl_tree.specs.Durations.{place_of_duration}
+use Rattle.pearl_scope.specs.Durations.{is_too_long}
+use Rattle.pearl_tree.specs.Names.{text_of as name_text, names_of, repeats}
 use Rattle.pearl_scope.specs.declared.scope.NameSort.{NameSort}
 use Rattle.pearl_scope.specs.declared.scope.NameSort.TheVariants.{NewType as TypeNumber}
 use Rattle.pearl_scope.specs.declared.scope.ScopeNames.{ScopeNames}
@@ -142,10 +143,6 @@ part_faults known part =
 unfoldable pub faults_in : Known → List Part → List RuleFault
 faults_in known parts = flat_map (part_faults known) parts
 
--- what is broken in a module, in no order and perhaps more than once
+-- the rules S1 to S9 that a module breaks, in no order and perhaps more than once
 abbrev pub broken : ShownTree → List RuleFault
 broken tree = flat_map s1 (known_of tree).scopes ++ faults_in (known_of tree) (parts_of tree)
-
--- the rules S1 to S9 that a module breaks
-abbrev pub IsBroken : ShownTree → RuleFault → Type 0
-IsBroken tree fault = Contains (broken tree) fault

@@ -10,7 +10,7 @@ use Rattle.pearl_tree.specs.declared.declaration.Class.{Class}
 use Rattle.pearl_tree.specs.ShownDeclarations.{ShownItem, ShownDeclared, OfItem, OfSema, ShownSpec, OfInterrupt, OfDation, ShownParam}
 use Rattle.pearl_tree.specs.ShownStatements.{ShownBodyDecl, ShownStmt, OfIf, OfCase, OfRepeat, OfBegin, ShownStmts, NoStmts, MoreStmts, ShownBranches, NoBranches, MoreBranches, ShownOtherwise, NoOtherwise, OfOtherwise}
 use Rattle.pearl_tree.specs.ShownModules.{ShownBody, ShownDecl, OfType, OfDeclare, OfSpecify, OfTask, OfProc, ShownTree}
-use Rattle.pearl_scope.specs.Names.{names_of}
+use Rattle.pearl_tree.specs.Names.{names_of}
 
 -- what declares a name. TYPEs have numbers in order, and a variable tells how many of them stand before it.
 pub data Meaning : Type 0 where

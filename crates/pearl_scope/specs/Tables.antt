@@ -12,7 +12,7 @@ use Rattle.pearl_tree.specs.ShownDeclarations.{ShownItem, ShownParam}
 use Rattle.pearl_tree.specs.ShownModules.{ShownTree}
 use Rattle.pearl_scope.specs.declared.length.DefaultLength.{DefaultLength}
 use Rattle.pearl_scope.specs.Lengths.{length_at, kind_of_basic}
-use Rattle.pearl_scope.specs.Names.{names_of}
+use Rattle.pearl_tree.specs.Names.{names_of}
 use Rattle.pearl_scope.specs.Scopes.{Meaning, Entry, Scope, scopes_of}
 use Rattle.pearl_scope.specs.Scopes as scopes
 use Rattle.pearl_scope.specs.Shapes.{Shape, Around, shape_of, sound_bounds}

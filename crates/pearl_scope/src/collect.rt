@@ -6,7 +6,7 @@ ghost use Rattle.std.specs.List.{flat_map};
 ghost use Rattle.pearl_tree.specs.ShownDeclarations.{shown_names, shown_item, shown_declared, shown_spec, shown_param};
 ghost use Rattle.pearl_tree.specs.ShownStatements.{shown_body_decl, shown_stmt};
 ghost use Rattle.pearl_tree.specs.ShownModules.{shown_decl, shown_tree};
-ghost use Rattle.pearl_scope.specs.Names.{names_of};
+ghost use Rattle.pearl_tree.specs.Names.{names_of};
 ghost use Rattle.pearl_scope.specs.Listed.{stmts_shown, branches_shown, otherwise_shown};
 ghost use Rattle.pearl_scope.specs.Scopes as spec;
 ghost use Rattle.pearl_scope.specs.Sorts.{names_as, sorted_names, names_of_scopes, body_scopes};
@@ -44,10 +44,7 @@ fn declare_each(into: &mut Vec<SortedName>, names: &[Name], sort: NameSort) -> R
 fn declare_names(into: &mut Vec<SortedName>, names: &Names, sort: NameSort) -> Result<(), NoMemory>
     ensures { OnOk result (into.new.items ≡ into.old.items ++ names_as sort (names_of (shown_names names.now))) }
 {
-    match names {
-        Names::One(name) => declare_name(into, name, sort),
-        Names::Several { names, .. } => declare_each(into, names.as_slice(), sort),
-    }
+    declare_each(into, names.as_slice(), sort)
 }
 
 fn declare_items(into: &mut Vec<SortedName>, items: &[Item]) -> Result<(), NoMemory>

@@ -102,5 +102,5 @@ adds_more P xs n x {a} {b} {c} read before here =
 
 -- what holds after an `Ok`, from two facts that do
 pub on_ok : {T E : Type 0} (P Q R : Type 0) (r : Result T E) → (P → Q → R) → OnOk r P → OnOk r Q → OnOk r R
-on_ok P Q R (Ok v) both p q = both p q
-on_ok P Q R (Err e) both p q = tt
+on_ok P Q R (Ok v) join p q = join p q
+on_ok P Q R (Err e) join p q = tt

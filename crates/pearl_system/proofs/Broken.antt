@@ -112,8 +112,8 @@ lists_faults tree devices names {b} {c} part_is names_are first second =
     let of_names : Adds (IsOfNames (devices_of tree) (specified tree) (length (specified tree))) b c =
     subst (λ d. Adds (IsOfNames d (specified tree) (length (specified tree))) b c) part_is
     (subst (λ s. Adds (IsOfNames devices s (length s)) b c) names_are second) in
-    let both = adds_then (IsOfPart (devices_of tree) (length (devices_of tree))) (IsOfNames (devices_of tree) (specified tree) (length (specified tree))) of_part of_names in
-    record { rising = both.rising; exact = λ f. (λ h. forth f ((both.exact f).0 h), λ h. (both.exact f).1 (inr (broken_is tree f h))) }
+    let adds = adds_then (IsOfPart (devices_of tree) (length (devices_of tree))) (IsOfNames (devices_of tree) (specified tree) (length (specified tree))) of_part of_names in
+    record { rising = adds.rising; exact = λ f. (λ h. forth f ((adds.exact f).0 h), λ h. (adds.exact f).1 (inr (broken_is tree f h))) }
   where
     forth : (f : RuleFault) → Contains [] f ⊎ (IsOfPart (devices_of tree) (length (devices_of tree)) f ⊎ IsOfNames (devices_of tree) (specified tree) (length (specified tree)) f) → IsBroken tree f
     forth f (inl (k, below, is)) = absurd (omega arith)

@@ -21,10 +21,10 @@ find_passes p (y ∷ ys) x h = by p y ys x (p y) refl h (find_passes p ys x)
 
 pub has_key_is : (key : ℕ × ℕ) (device : SpecifiedDevice) → has_key key device ≡ true → device_key device ≡ key
 has_key_is key device h =
-    let both = (Decides-and _ _ (Decides-eqb (rank device.role) key.0) (Decides-eqb device.number key.1)).0 h in
+    let equal = (Decides-and _ _ (Decides-eqb (rank device.role) key.0) (Decides-eqb device.number key.1)).0 h in
     let pair : ℕ → ℕ → ℕ × ℕ = λ a b. (a, b) in
-    let ranked : pair (rank device.role) device.number ≡ pair key.0 device.number = ap (λ a. pair a device.number) both.0 in
-    ranked ∙ ap (λ b. pair key.0 b) both.1
+    let ranked : pair (rank device.role) device.number ≡ pair key.0 device.number = ap (λ a. pair a device.number) equal.0 in
+    ranked ∙ ap (λ b. pair key.0 b) equal.1
 
 pub has_key_of : (key : ℕ × ℕ) (device : SpecifiedDevice) → device_key device ≡ key → has_key key device ≡ true
 has_key_of key device e =

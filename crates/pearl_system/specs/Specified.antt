@@ -1,16 +1,13 @@
 -- Which names a module specifies, and as what: the rule `spec` of the grammar.
-use Rattle.std.specs.Prelude.{List, [], ◌∷◌, map}
+use Rattle.std.specs.Prelude.{List, [], map}
 use Rattle.std.specs.List.{flat_map}
 use Rattle.pearl_tree.specs.declared.name.Name.{Name}
-use Rattle.pearl_tree.specs.ShownDeclarations.{ShownNames, OfOne, OfSeveral, ShownSpec, OfInterrupt, OfDation}
+use Rattle.pearl_tree.specs.Names.{names_of}
+use Rattle.pearl_tree.specs.ShownDeclarations.{ShownSpec, OfInterrupt, OfDation}
 use Rattle.pearl_tree.specs.ShownModules.{ShownDecl, OfLength, OfType, OfDeclare, OfSpecify, OfTask, OfProc, ShownTree}
 use Rattle.pearl_system.specs.declared.specified.Form.{Form}
 use Rattle.pearl_system.specs.declared.specified.Form.TheVariants.{Interrupt, Dation}
 use Rattle.pearl_system.specs.declared.specified.Specified.{Specified}
-
-abbrev pub names_of : ShownNames → List Name
-names_of (OfOne name) = name ∷ []
-names_of (OfSeveral names place) = names
 
 abbrev pub as_form : Form → Name → Specified
 as_form form name = record { text = name.text; place = name.place; form = form }

@@ -12,22 +12,8 @@ use crate::rising::add;
 use crate::specified::{Form, Specified};
 use pearl_tree::declaration::{Class, Device, Direction};
 use pearl_tree::fault::RuleFault;
+use pearl_tree::rule::{S10, S11, S12, S13, S14};
 use std::alloc::AllocError as NoMemory;
-
-// A name of the system part that an earlier device has.
-const S10: u8 = 10;
-
-// A word that is none of the four, or a number that isn't 1 to 99.
-const S11: u8 = 11;
-
-// A word and number that an earlier device has.
-const S12: u8 = 12;
-
-// A specified name that no device has, or that is specified as what its device isn't.
-const S13: u8 = 13;
-
-// A dation that its device can't be.
-const S14: u8 = 14;
 
 fn is_alphic(class: Class) -> bool
     ensures { result ≡ spec.is_alphic class }

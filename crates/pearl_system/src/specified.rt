@@ -2,16 +2,15 @@
 
 ghost use Rattle.std.specs.Prelude.{◌≡◌, ◌++◌, map, IfOk, OnOk};
 ghost use Rattle.std.specs.List.{flat_map};
-ghost use Rattle.pearl_tree.specs.ShownDeclarations.{shown_names, shown_spec};
+ghost use Rattle.pearl_tree.specs.ShownDeclarations.{shown_spec};
 ghost use Rattle.pearl_tree.specs.ShownModules.{shown_decl, shown_tree};
 ghost use Rattle.pearl_system.specs.Specified as spec;
 
 use arrayvec::ArrayVec;
 use pearl_tree::declaration::{Class, Direction, Spec};
-use pearl_tree::name::{Name, Names};
+use pearl_tree::name::Name;
 use pearl_tree::tree::{Decl, Tree};
 use std::alloc::{AllocError as NoMemory, Global};
-use std::slice;
 
 /// What a name is specified as.
 #[derive(Clone, Copy)]
@@ -26,15 +25,6 @@ pub struct Specified {
     pub text: ArrayVec<u8, 63>,
     pub place: u32,
     pub form: Form,
-}
-
-fn names_of(names: &Names) -> &[Name]
-    ensures { result.now ≡ spec.names_of (shown_names names.now) }
-{
-    match names {
-        Names::One(name) => slice::from_ref(name),
-        Names::Several { names, .. } => names.as_slice(),
-    }
 }
 
 fn as_form(name: &Name, form: Form) -> Specified
@@ -60,7 +50,7 @@ fn add_spec(into: &mut Vec<Specified>, part: &Spec) -> Result<(), NoMemory>
     ensures { OnOk result (into.new.items ≡ into.old.items ++ spec.specified_by (shown_spec part.now)) }
 {
     match part {
-        Spec::Interrupt { names, .. } => add_names(into, names_of(names), Form::Interrupt),
+        Spec::Interrupt { names, .. } => add_names(into, names.as_slice(), Form::Interrupt),
         Spec::Dation {
             names,
             direction,
@@ -68,7 +58,7 @@ fn add_spec(into: &mut Vec<Specified>, part: &Spec) -> Result<(), NoMemory>
             ..
         } => add_names(
             into,
-            names_of(names),
+            names.as_slice(),
             Form::Dation {
                 direction: *direction,
                 class: *class,

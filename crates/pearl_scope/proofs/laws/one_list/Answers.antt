@@ -1,5 +1,6 @@
-use Rattle.pearl_scope.proofs.OneList.{one_list}
+use Rattle.pearl_tree.proofs.OneFaultList.{one_list}
+use Rattle.pearl_scope.specs.Rules.{broken}
 use Rattle.pearl_scope.proofs.laws.one_list.Goals as goal
 
 pub returns : goal.returns
-returns c = one_list
+returns c = λ tree. one_list (broken tree)
