@@ -1,4 +1,4 @@
--- The definitions determine the answer.
+-- The definitions determine the answer, and what they take is what the language spells.
 use Rattle.std.specs.Prelude.{◌≡◌, ◌↔◌, ◌<◌, ◌-◌, ◌^◌, ℕ, List, length, Some, None}
 use Rattle.pearl_tree.specs.declared.token.Token.{Token}
 use Rattle.pearl_tree.specs.Tokens.{AreLawful}

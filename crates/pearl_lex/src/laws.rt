@@ -1,4 +1,4 @@
-// The definitions determine what a source gives.
+// The definitions determine what a source gives, and take what the language spells.
 
 ghost use Rattle.pearl_lex.specs.Laws.{HasOneReading, HasOnePlace, IsNeverBoth, HasLawfulTokens, TakesTheLongest, TakesNone, PassesSpaces};
 
