@@ -15,3 +15,4 @@ pub mod Widths
 pub mod QuotedTokens
 pub mod OneMeaning
 pub mod LongestFront
+pub mod Spaces

@@ -1,4 +1,4 @@
--- The definitions determine the answer.
+-- The definitions determine the answer, and what they take is what the language spells.
 use Rattle.std.specs.Prelude.{◌≡◌, ◌↔◌, ◌<◌, ◌-◌, ◌^◌, ℕ, List, length, Some, None}
 use Rattle.pearl_tree.specs.declared.token.Token.{Token}
 use Rattle.pearl_tree.specs.Tokens.{AreLawful}
@@ -6,6 +6,8 @@ use Rattle.pearl_tree.specs.declared.token.What.{What}
 use Rattle.pearl_lex.specs.declared.front.Front.{Front}
 use Rattle.pearl_lex.specs.Front.{front}
 use Rattle.pearl_lex.specs.Lexes.{Lexes, IsStuck}
+use Rattle.pearl_lex.specs.Spaces.{BeginsSpace}
+use Rattle.pearl_lex.specs.Spelling.{space_len}
 use Rattle.pearl_lex.specs.Spells.{BeginsToken, IsLongest, IsNoToken}
 
 -- a source has at most one list of tokens
@@ -31,3 +33,7 @@ TakesTheLongest = (bytes : List ℕ) (f : Front) → front bytes ≡ Some f ↔ 
 -- nothing is taken exactly where no token begins the bytes, or where they begin a form that is no token
 abbrev pub TakesNone : Type 0
 TakesNone = (bytes : List ℕ) → front bytes ≡ None ↔ ((token : What) (size : ℕ) → BeginsToken bytes token size → IsNoToken bytes)
+
+-- what is passed over is a blank or a comment that begins the bytes, where one does
+abbrev pub PassesSpaces : Type 0
+PassesSpaces = (bytes : List ℕ) (size : ℕ) → ((0 < size) × (space_len bytes ≡ size)) ↔ BeginsSpace bytes size

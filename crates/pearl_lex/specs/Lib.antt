@@ -4,4 +4,5 @@ pub mod Quoted
 pub mod Front
 pub mod Lexes
 pub mod Spells
+pub mod Spaces
 pub mod Laws

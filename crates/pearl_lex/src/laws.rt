@@ -1,6 +1,6 @@
-// The definitions determine what a source gives.
+// The definitions determine what a source gives, and take what the language spells.
 
-ghost use Rattle.pearl_lex.specs.Laws.{HasOneReading, HasOnePlace, IsNeverBoth, HasLawfulTokens, TakesTheLongest, TakesNone};
+ghost use Rattle.pearl_lex.specs.Laws.{HasOneReading, HasOnePlace, IsNeverBoth, HasLawfulTokens, TakesTheLongest, TakesNone, PassesSpaces};
 
 /// A source has at most one list of tokens.
 pub fn one_reading()
@@ -27,4 +27,9 @@ pub fn tokens_are_lawful()
 pub fn fronts_are_longest()
     ensures longest { TakesTheLongest }
     ensures none { TakesNone }
+{}
+
+/// What is passed over between tokens is a blank or a comment.
+pub fn spaces_are_spelled()
+    ensures { PassesSpaces }
 {}
