@@ -1,7 +1,7 @@
 //! Reading a whole file.
 
 ghost use Rattle.std.specs.Prelude.{◌≡◌, ℕ, ◌^◌, ◌<◌, ◌≤◌, List};
-ghost use Rattle.pearl_io.specs.Outside.{Files, content, Rose};
+ghost use Rattle.pearl_io.specs.Outside.{Files, content, CountRose};
 ghost use Rattle.pearl_io.specs.Fetched.{IsReadOf, IsWithin, OnFault};
 
 use crate::outside::{Failed, Shelf};
@@ -34,7 +34,7 @@ pub fn fetch_all<S: Shelf>(alloc: Global, shelf: &mut S, name: &str, limit: u64)
     ensures within { IsWithin limit result }
     ensures read { (files : Files) → S.holds shelf.old ≡ Some files →
         IsReadOf (content files name.now) limit result }
-    ensures cause { OnFault result (Rose (S.faults shelf.old name.now) (S.faults shelf.new name.now)) }
+    ensures cause { OnFault result (CountRose (S.faults shelf.old name.now) (S.faults shelf.new name.now)) }
     ensures held { S.holds shelf.new ≡ S.holds shelf.old }
     ensures later { (other : List ℕ) → S.faults shelf.old other ≤ S.faults shelf.new other }
 {

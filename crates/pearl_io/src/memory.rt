@@ -1,7 +1,7 @@
 //! A shelf and a sink in memory that fail at chosen calls.
 
 ghost use Rattle.std.specs.Prelude.{◌≡◌, ◌-◌, ◌<◌, ◌≤◌, ◌↔◌, [], ◌++◌, min, length, take, Contains, IsErr, IfOk, OnOk, OnErr, Some};
-ghost use Rattle.pearl_io.specs.Outside.{content, following, IsPiece, Rose};
+ghost use Rattle.pearl_io.specs.Outside.{content, following, IsPiece, CountRose};
 
 use crate::files::{File, content_of, copy_piece};
 use crate::outside::{Failed, Shelf, Sink};
@@ -76,7 +76,7 @@ impl Shelf for MemoryShelf {
         ensures count { let left = length (content self.old.files name.now) - at in
             IfOk result (λ count. count ≡ min self.old.most (min (length into.old) left)) }
         ensures piece { IfOk result (λ count. IsPiece (content self.old.files name.now) at count into.new) }
-        ensures cause { OnErr result (Rose self.old.faults self.new.faults) }
+        ensures cause { OnErr result (CountRose self.old.faults self.new.faults) }
         ensures later { self.old.faults ≤ self.new.faults }
     {
         self.calls = self.calls.saturating_add(1);
@@ -162,7 +162,7 @@ impl Sink for MemorySink {
           faults = following self.old.faults;
         }) }
         ensures count { IfOk result (λ count. count ≡ min self.old.most (length piece.now)) }
-        ensures cause { OnErr result (Rose self.old.faults self.new.faults) }
+        ensures cause { OnErr result (CountRose self.old.faults self.new.faults) }
         ensures later { self.old.faults ≤ self.new.faults }
     {
         self.calls = self.calls.saturating_add(1);

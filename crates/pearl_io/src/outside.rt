@@ -1,7 +1,7 @@
 //! What is asked of a shelf and of a sink.
 
 ghost use Rattle.std.specs.Prelude.{◌≡◌, ℕ, ◌^◌, ◌<◌, ◌≤◌, ◌↔◌, List, Option, length, take, IfOk, OnErr};
-ghost use Rattle.pearl_io.specs.Outside.{Files, content, IsPiece, Rose, Takes};
+ghost use Rattle.pearl_io.specs.Outside.{Files, content, IsPiece, CountRose, Takes};
 
 /// A call of a shelf or of a sink failed, and its count of faults rose in that call.
 #[derive(Debug, Clone, Copy, PartialEq, Eq)]
@@ -34,7 +34,7 @@ pub trait Shelf {
         ensures bound { IfOk result (λ count. count ≤ length into.old) }
         ensures piece { (files : Files) → holds self.old ≡ Some files →
             IfOk result (λ count. IsPiece (content files name.now) at count into.new) }
-        ensures cause { OnErr result (Rose (faults self.old name.now) (faults self.new name.now)) }
+        ensures cause { OnErr result (CountRose (faults self.old name.now) (faults self.new name.now)) }
         ensures later { (other : List ℕ) → faults self.old other ≤ faults self.new other };
 }
 
@@ -60,6 +60,6 @@ pub trait Sink {
         ensures none_where_full { IfOk result (λ count. (count ≡ 0) ↔ full self.old) }
         ensures still_full { IfOk result (λ count. count ≡ 0 → full self.new) }
         ensures same { OnErr result (taken self.new ≡ taken self.old) }
-        ensures cause { OnErr result (Rose (faults self.old) (faults self.new)) }
+        ensures cause { OnErr result (CountRose (faults self.old) (faults self.new)) }
         ensures later { faults self.old ≤ faults self.new };
 }

@@ -1,7 +1,7 @@
 //! Writing a whole piece.
 
-ghost use Rattle.std.specs.Prelude.{◌≤◌, ◌⊎◌, OnOk, OnErr};
-ghost use Rattle.pearl_io.specs.Outside.{Rose, Takes, TakesFront};
+ghost use Rattle.std.specs.Prelude.{◌≤◌, OnOk, OnErr};
+ghost use Rattle.pearl_io.specs.Outside.{Takes, TakesFront, WriteFailed};
 
 use crate::outside::{Sink, WriteFault};
 
@@ -13,7 +13,7 @@ use crate::outside::{Sink, WriteFault};
 pub fn put_all<K: Sink>(sink: &mut K, piece: &[u8]) -> Result<(), WriteFault>
     ensures ok { OnOk result (Takes (K.taken sink.old) (K.taken sink.new) piece.now) }
     ensures err { OnErr result (TakesFront (K.taken sink.old) (K.taken sink.new) piece.now) }
-    ensures cause { OnErr result (Rose (K.faults sink.old) (K.faults sink.new) ⊎ K.full sink.new) }
+    ensures cause { OnErr result (WriteFailed (K.faults sink.old) (K.faults sink.new) (K.full sink.new)) }
     ensures later { K.faults sink.old ≤ K.faults sink.new }
 {
     let mut done = 0;

@@ -1,1 +1,2 @@
+-- with which tokens a part goes on, and what is known of all tokens that begin alike: where a part ends, or that none begins
 pub mod Stops

@@ -43,14 +43,14 @@ len_binary (suc n) value rest =
     let others : chars_len (binary n value ++ 39 ∷ 66 ∷ rest) ≡ length (binary n value) = len_binary n value rest in
     len_plain (48 + value / 2 ^ n % 2) (binary n value ++ 39 ∷ 66 ∷ rest) (bit_plain _ h) (bit_char _ h) (some_left (binary n value) (66 ∷ rest) 39) ∙ omega (arith, others)
 
-both : (a b : Bool) → a ≡ true → b ≡ true → a && b ≡ true
-both true true e f = refl
-both true false e f = f
-both false b e f = e
+and_true : (a b : Bool) → a ≡ true → b ≡ true → a && b ≡ true
+and_true true true e f = refl
+and_true true false e f = f
+and_true false b e f = e
 
 binary_digits : (n value : ℕ) → list_all (is_digit_of 1) (binary n value) ≡ true
 binary_digits zero value = refl
-binary_digits (suc n) value = both (is_digit_of 1 (48 + value / 2 ^ n % 2)) _ (bit_digit _ (bit_byte (value / 2 ^ n))) (binary_digits n value)
+binary_digits (suc n) value = and_true (is_digit_of 1 (48 + value / 2 ^ n % 2)) _ (bit_digit _ (bit_byte (value / 2 ^ n))) (binary_digits n value)
 
 halved : (value n : ℕ) → value / 2 ^ suc n ≡ value / 2 ^ n / 2
 halved value n =

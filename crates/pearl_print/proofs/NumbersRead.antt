@@ -95,7 +95,7 @@ number_reads value small =
       no_space = λ rest. ap space_len (append_assoc ds (32 ∷ []) rest) ∙ digits_no_space ds (32 ∷ rest) some all;
     }
 
--- what stands at the front of digits, a period, three digits and a blank
+-- what stands at the front of digits, a period, plus_three digits and a blank
 decimal_front : (bytes ds rest : List ℕ) (a b c : ℕ) → is_ascii_alphabetic (slice_index bytes 0) ≡ false → is_ascii_digit (slice_index bytes 0) ≡ true →
     prefix_len is_ascii_digit bytes ≡ length ds → take (length ds) bytes ≡ ds → drop (length ds) bytes ≡ 46 ∷ a ∷ b ∷ c ∷ 32 ∷ rest →
     is_ascii_digit a ≡ true → is_ascii_digit b ≡ true → is_ascii_digit c ≡ true → front bytes ≡ sized (decimal_of ds (a ∷ b ∷ c ∷ [])) (length ds + 4)

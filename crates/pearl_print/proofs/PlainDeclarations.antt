@@ -13,6 +13,7 @@ use Rattle.pearl_tree.specs.declared.token.What.TheVariants as what
 use Rattle.pearl_tree.specs.declared.token.Token.{Token}
 use Rattle.pearl_tree.specs.Standing.{HasWord, HasSymbol, IsNumber}
 use Rattle.pearl_tree.specs.Declarations.{IsDeviceWord, SpellsDevice, SpellsPrio, SpellsItem, SpellsSema, SpellsDeclared, direction_word, SpellsClass, SpellsSpec, SpellsParam}
+use Rattle.pearl_tree.specs.ShownLiterals.{shown_const}
 use Rattle.pearl_tree.specs.ShownDeclarations.{OfItem, OfSema, OfInterrupt, OfDation, shown_item, shown_sema, shown_declared, shown_spec, shown_param}
 use Rattle.pearl_tables.specs.declared.symbol.TheConstants as s
 use Rattle.pearl_tables.specs.declared.word_code.TheConstants as w
@@ -20,9 +21,9 @@ use Rattle.pearl_print.specs.Lists.{word, symbol, number_tokens, maybe_headed, f
 use Rattle.pearl_print.specs.Expressions.{const_tokens}
 use Rattle.pearl_print.specs.Types.{names_tokens, bounds_tokens, basic_tokens, typing_tokens}
 use Rattle.pearl_print.specs.Declarations.{device_word_tokens, device_tokens, prio_tokens, item_tokens, sema_tokens, declared_tokens, class_tokens, spec_tokens, param_tokens}
-use Rattle.pearl_print.specs.Plain.{plain_name, plain_number, plain_device_word, plain_device, plain_prio, plain_item, plain_sema, plain_declared, plain_class, plain_spec, plain_param}
-use Rattle.pearl_print.proofs.PlainSpans.{place_of, here, starts, Span, cut, cut3, cut5, cut_token, two}
-use Rattle.pearl_print.proofs.PlainLists.{Placed, Places, in_parts, maybe_headed_at, flag_at, number_places}
+use Rattle.pearl_print.specs.Plain.{plain_name, plain_number, plain_device_word, plain_device, plain_prio, plain_const, plain_item, plain_sema, plain_declared, plain_class, plain_spec, plain_param}
+use Rattle.pearl_print.proofs.TokenRanges.{place_of, here, starts, HasTokens, cut, cut3, cut5, cut_token, plus_two}
+use Rattle.pearl_print.proofs.PlainLists.{Placed, Places, in_parts, maybe_headed_at, flag_at, number_places, seen}
 use Rattle.pearl_print.proofs.PlainLiterals.{const_places, names_places, bounds_places, typing_places, basic_places}
 
 module _ (before tokens : List Token) where
@@ -30,12 +31,12 @@ module _ (before tokens : List Token) where
   prio_places = record {
     at = λ a prio b h from to g. record {
       copy = record { number = record { value = prio.number.value; place = place_of tokens (from + 1) }; place = place_of tokens from };
-      spelled = (here tokens from _ g.0, g.0, (g.1.0, here tokens (from + 1) _ g.1.0), two (λ k. to ≡ k) from g.1.1.0);
+      spelled = (here tokens from _ g.0, g.0, (g.1.0, here tokens (from + 1) _ g.1.0), plus_two (λ k. to ≡ k) from g.1.1.0);
       same = refl;
     };
   }
 
-  device_word_at : (part : DeviceWord) (from to : ℕ) → Span tokens from (device_word_tokens part) to →
+  device_word_at : (part : DeviceWord) (from to : ℕ) → HasTokens tokens from (device_word_tokens part) to →
       (copy : DeviceWord) × IsDeviceWord tokens from copy × (to ≡ from + 1) × (plain_device_word copy ≡ plain_device_word part)
   device_word_at (device.Id name) from to g =
       (device.Id (record { text = name.text; place = place_of tokens from }), (g.0, here tokens from _ g.0), g.1.0, refl)
@@ -59,7 +60,7 @@ module _ (before tokens : List Token) where
             here tokens from _ g.0,
             (g.0, here tokens from _ g.0),
             g.1.0,
-            two (λ k. IsDeviceWord tokens k word.0) from word.1,
+            plus_two (λ k. IsDeviceWord tokens k word.0) from word.1,
             subst (λ k. HasSymbol tokens k s.LEFT_ROUND) left p.3.0,
             subst (λ k. IsNumber tokens k number) inner is_number,
             subst (λ k. HasSymbol tokens k s.RIGHT_ROUND) close p.3.1.1.0,
@@ -83,7 +84,14 @@ module _ (before tokens : List Token) where
         record {
           copy = record { names = first.copy; bounds = second.copy; inv = item.inv; typing = third.copy; init = fourth.copy; place = place_of tokens from };
           spelled = (p.0, p.1, p.2, p.3, starts tokens from _ to g, first.spelled, second.spelled, flag_at tokens w.INV item.inv p.1 p.2 p.6, third.spelled, fourth.spelled);
-          same = λ i. record { names = first.same i; bounds = second.same i; inv = item.inv; part = third.same i; init = fourth.same i; place = 0 };
+          same = λ i. record {
+            names = first.same i;
+            bounds = second.same i;
+            inv = item.inv;
+            part = third.same i;
+            init = seen shown_const plain_const fourth.copy.items.items item.init.items.items fourth.same i;
+            place = 0;
+          };
         };
   }
 
@@ -101,7 +109,7 @@ module _ (before tokens : List Token) where
         };
   }
 
-  declared_at : (a : ℕ) (part : Declared) (b : ℕ) → SpellsDeclared before a part b → (from to : ℕ) → Span tokens from (declared_tokens part) to →
+  declared_at : (a : ℕ) (part : Declared) (b : ℕ) → SpellsDeclared before a part b → (from to : ℕ) → HasTokens tokens from (declared_tokens part) to →
       Placed (SpellsDeclared tokens) (λ part. plain_declared (shown_declared part)) from part to
   declared_at a (declared.Item item) b h from to g =
       let p = item_places.at a item b h from to g in
@@ -113,7 +121,7 @@ module _ (before tokens : List Token) where
   pub declared_places : Places tokens (SpellsDeclared before) (SpellsDeclared tokens) declared_tokens (λ part. plain_declared (shown_declared part))
   declared_places = record { at = declared_at }
 
-  class_at : (a : ℕ) (part : Class) (b : ℕ) → SpellsClass before a part b → (from to : ℕ) → Span tokens from (class_tokens part) to →
+  class_at : (a : ℕ) (part : Class) (b : ℕ) → SpellsClass before a part b → (from to : ℕ) → HasTokens tokens from (class_tokens part) to →
       Placed (SpellsClass tokens) plain_class from part to
   class_at a (class.Alphic place) b h from to g =
       record { copy = class.Alphic (place_of tokens from); spelled = (here tokens from _ g.0, g.0, g.1.0); same = refl }
@@ -125,7 +133,7 @@ module _ (before tokens : List Token) where
         same = ap (λ part. class.Basic part 0) p.same;
       }
 
-  spec_at : (a : ℕ) (part : Spec) (b : ℕ) → SpellsSpec before a part b → (from to : ℕ) → Span tokens from (spec_tokens part) to →
+  spec_at : (a : ℕ) (part : Spec) (b : ℕ) → SpellsSpec before a part b → (from to : ℕ) → HasTokens tokens from (spec_tokens part) to →
       Placed (SpellsSpec tokens) (λ part. plain_spec (shown_spec part)) from part to
   spec_at a (spec.Interrupt names place) b h from to g =
       let p = cut tokens from (names_tokens names) (word w.INTERRUPT) to g in
@@ -149,7 +157,7 @@ module _ (before tokens : List Token) where
           first.spelled,
           q.2.0,
           subst (λ k. HasWord tokens k (direction_word direction)) q.2.1.0 p.2,
-          two (λ k. SpellsClass tokens k second.copy to) q.0 (subst (λ k. SpellsClass tokens (k + 1) second.copy to) q.2.1.0 second.spelled),
+          plus_two (λ k. SpellsClass tokens k second.copy to) q.0 (subst (λ k. SpellsClass tokens (k + 1) second.copy to) q.2.1.0 second.spelled),
           refl,
         );
         same = λ i. OfDation (first.same i) direction (second.same i) false 0;

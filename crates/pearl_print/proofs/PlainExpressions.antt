@@ -2,8 +2,8 @@
 use Rattle.std.proofs.Common.{◌≡◌, ℕ, ◌+◌, ◌-◌, ◌≤◌, ◌<◌, List, [], ◌∷◌, ◌++◌, map, Some, refl, sym, subst, ap, ◌∙◌}
 use Rattle.std.specs.List.{flat_map}
 use Rattle.std.specs.Option.{option_and_then}
-use Rattle.pearl_tree.specs.declared.expression.Dyad.{Dyad}
-use Rattle.pearl_tree.specs.declared.expression.Dyad.TheVariants as dyad
+use Rattle.pearl_value.specs.declared.operator.Dyad.{Dyad}
+use Rattle.pearl_value.specs.declared.operator.Dyad.TheVariants as dyad
 use Rattle.pearl_tree.specs.declared.expression.Expr.{Expr, Operand', Dyadic'}
 use Rattle.pearl_tree.specs.declared.expression.Primary.{Primary}
 use Rattle.pearl_tree.specs.declared.expression.Primary as primary
@@ -18,18 +18,18 @@ use Rattle.pearl_tables.specs.declared.symbol.TheConstants as s
 use Rattle.pearl_print.specs.Lists.{symbol, name_tokens, number_tokens, maybe}
 use Rattle.pearl_print.specs.Expressions.{monadic_tokens, dyad_what, expr_tokens, primary_tokens, selectors_tokens, selector_tokens, subscripts_tokens, more_subscripts_tokens, ref_tokens}
 use Rattle.pearl_print.specs.Plain.{plain_name, plain_monadic, plain_expr, plain_primary, plain_selectors, plain_selector, plain_exprs, plain_ref}
-use Rattle.pearl_print.proofs.PlainSpans.{place_of, here, starts, Span, cut, cut_token, two}
+use Rattle.pearl_print.proofs.TokenRanges.{place_of, here, starts, HasTokens, cut, cut_token, plus_two}
 use Rattle.pearl_print.proofs.PlainLists.{Placed, Places, same_length, in_parts, each_at, maybe_at, number_places}
 use Rattle.pearl_print.proofs.PlainLiterals.{literal_places}
 
 read_back : (operator : Dyad) → dyad_of (dyad_what operator) ≡ Some operator
-read_back dyad.Power = refl
-read_back dyad.Times = refl
-read_back dyad.Over = refl
+read_back dyad.Pow = refl
+read_back dyad.Mul = refl
+read_back dyad.Div = refl
 read_back dyad.Rem = refl
 read_back dyad.Cat = refl
-read_back dyad.Plus = refl
-read_back dyad.Minus = refl
+read_back dyad.Add = refl
+read_back dyad.Sub = refl
 read_back dyad.Cshift = refl
 read_back dyad.Shift = refl
 read_back dyad.Lt = refl
@@ -88,7 +88,7 @@ module _ (before tokens : List Token) where
   }
 
   mutual
-    terms_at : (depth a : ℕ) (expr : Expr) (b : ℕ) → SpellsTerms before depth a expr b → (from to : ℕ) → Span tokens from (expr_tokens expr) to →
+    terms_at : (depth a : ℕ) (expr : Expr) (b : ℕ) → SpellsTerms before depth a expr b → (from to : ℕ) → HasTokens tokens from (expr_tokens expr) to →
         Placed (SpellsTerms tokens depth) (λ expr. plain_expr (shown_expr expr)) from expr to
     terms_at depth a (Operand' monadics part place) b h from to g =
         let p = cut tokens from (flat_map monadic_tokens monadics.items.items) (primary_tokens part) to g in
@@ -121,7 +121,7 @@ module _ (before tokens : List Token) where
           same = λ i. OfDyadic (first.same i) (record { operator = operator; place = 0 }) (second.same i) 0;
         }
 
-    primary_at : (depth a : ℕ) (part : Primary) (b : ℕ) → SpellsPrimary before depth a part b → (from to : ℕ) → Span tokens from (primary_tokens part) to →
+    primary_at : (depth a : ℕ) (part : Primary) (b : ℕ) → SpellsPrimary before depth a part b → (from to : ℕ) → HasTokens tokens from (primary_tokens part) to →
         Placed (SpellsPrimary tokens depth) (λ part. plain_primary (shown_primary part)) from part to
     primary_at depth a (primary.Literal part) b h from to g =
         let p = (literal_places before tokens).at a part b h from to g in
@@ -146,21 +146,21 @@ module _ (before tokens : List Token) where
         record { copy = primary.Now (place_of tokens from); spelled = (here tokens from _ g.0, g.0, g.1.0); same = refl }
     primary_at depth a (primary.Try name place) b h from to g = record {
       copy = primary.Try (record { text = name.text; place = place_of tokens (from + 1) }) (place_of tokens from);
-      spelled = (here tokens from _ g.0, g.0, (g.1.0, here tokens (from + 1) _ g.1.0), two (λ k. to ≡ k) from g.1.1.0);
+      spelled = (here tokens from _ g.0, g.0, (g.1.0, here tokens (from + 1) _ g.1.0), plus_two (λ k. to ≡ k) from g.1.1.0);
       same = refl;
     }
-    primary_at depth a (primary.Limit' dimension side name shape selectors ref_place place) b h from to g =
+    primary_at depth a (primary.Limit' dimension side ptr name shape selectors ref_place place) b h from to g =
         let p = cut_token tokens from (maybe number_tokens dimension) (what.Word (side_word side)) (name_tokens name ++ selectors_tokens selectors) to g in
         let k = p.0 + 1 in
         let first = maybe_at before tokens (number_places before tokens) dimension a h.0 h.2 from p.0 p.1 in
         let inner = selectors_at depth (h.0 + 1 + 1) _ selectors b h.4.2 (k + 1) to p.3.1 in
         record {
-          copy = primary.Limit' first.copy side (record { text = name.text; place = place_of tokens k }) shape inner.copy (place_of tokens k) (place_of tokens from);
+          copy = primary.Limit' first.copy side ptr (record { text = name.text; place = place_of tokens k }) shape inner.copy (place_of tokens k) (place_of tokens from);
           spelled = (p.0, starts tokens from _ to g, first.spelled, p.2, (here tokens k _ p.3.0, (p.3.0, here tokens k _ p.3.0), inner.spelled));
           same = λ i. OfLimit (first.same i) side (plain_name name) (inner.same i) 0 0;
         }
 
-    selectors_at : (depth a : ℕ) (n : _) (row : Row_of-Selector n) (b : ℕ) → SpellsSelectors before depth a row b → (from to : ℕ) → Span tokens from (selectors_tokens row) to →
+    selectors_at : (depth a : ℕ) (n : _) (row : Row_of-Selector n) (b : ℕ) → SpellsSelectors before depth a row b → (from to : ℕ) → HasTokens tokens from (selectors_tokens row) to →
         Placed (λ from (row : Row_of-Selector n) to. SpellsSelectors tokens depth from row to) (λ (row : Row_of-Selector n). plain_selectors (shown_selectors row)) from row to
     selectors_at depth a _ end_of-Selector b h from to g = record { copy = end_of-Selector; spelled = g.0; same = refl }
     selectors_at depth a _ (more_of-Selector selector rest) b h from to g =
@@ -173,7 +173,7 @@ module _ (before tokens : List Token) where
           same = λ i. MoreSelectors (first.same i) (others.same i);
         }
 
-    selector_at : (depth a : ℕ) (selector : Selector) (b : ℕ) → SpellsSelector before depth a selector b → (from to : ℕ) → Span tokens from (selector_tokens selector) to →
+    selector_at : (depth a : ℕ) (selector : Selector) (b : ℕ) → SpellsSelector before depth a selector b → (from to : ℕ) → HasTokens tokens from (selector_tokens selector) to →
         Placed (SpellsSelector tokens depth) (λ selector. plain_selector (shown_selector selector)) from selector to
     selector_at depth a (Subscripts' shape subscripts place) b h from to g =
         let p = cut tokens (from + 1) (subscripts_tokens subscripts) (symbol s.RIGHT_ROUND) to g.1 in
@@ -185,11 +185,11 @@ module _ (before tokens : List Token) where
         }
     selector_at depth a (Component name place) b h from to g = record {
       copy = Component (record { text = name.text; place = place_of tokens (from + 1) }) (place_of tokens from);
-      spelled = (here tokens from _ g.0, g.0, (g.1.0, here tokens (from + 1) _ g.1.0), two (λ k. to ≡ k) from g.1.1.0);
+      spelled = (here tokens from _ g.0, g.0, (g.1.0, here tokens (from + 1) _ g.1.0), plus_two (λ k. to ≡ k) from g.1.1.0);
       same = refl;
     }
 
-    subscripts_at : (depth a : ℕ) (n : _) (row : Row_of-Expr n) (b : ℕ) → SpellsSubscripts before depth a row b → (from to : ℕ) → Span tokens from (subscripts_tokens row) to →
+    subscripts_at : (depth a : ℕ) (n : _) (row : Row_of-Expr n) (b : ℕ) → SpellsSubscripts before depth a row b → (from to : ℕ) → HasTokens tokens from (subscripts_tokens row) to →
         Placed (λ from (row : Row_of-Expr n) to. SpellsSubscripts tokens depth from row to) (λ (row : Row_of-Expr n). plain_exprs (shown_exprs row)) from row to
     subscripts_at depth a _ end_of-Expr b h from to g = absurd h
     subscripts_at depth a _ (more_of-Expr expr rest) b h from to g =
@@ -203,7 +203,7 @@ module _ (before tokens : List Token) where
           same = λ i. MoreExprs (first.same i) (others.same i);
         }
 
-    more_subscripts_at : (depth a : ℕ) (n : _) (row : Row_of-Expr n) (b : ℕ) → SpellsMoreSubscripts before depth a row b → (from to : ℕ) → Span tokens from (more_subscripts_tokens row) to →
+    more_subscripts_at : (depth a : ℕ) (n : _) (row : Row_of-Expr n) (b : ℕ) → SpellsMoreSubscripts before depth a row b → (from to : ℕ) → HasTokens tokens from (more_subscripts_tokens row) to →
         Placed (λ from (row : Row_of-Expr n) to. SpellsMoreSubscripts tokens depth from row to) (λ (row : Row_of-Expr n). plain_exprs (shown_exprs row)) from row to
     more_subscripts_at depth a _ end_of-Expr b h from to g = record { copy = end_of-Expr; spelled = g.0; same = refl }
     more_subscripts_at depth a _ (more_of-Expr expr rest) b h from to g =

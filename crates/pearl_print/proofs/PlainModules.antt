@@ -32,17 +32,17 @@ use Rattle.pearl_print.specs.Declarations.{prio_tokens, declared_tokens, spec_to
 use Rattle.pearl_print.specs.Statements.{body_tokens}
 use Rattle.pearl_print.specs.Modules.{head_tokens, returns_tokens, task_body_tokens, decl_tokens, bracketed_name, module_name_tokens, system_tokens, front_tokens, tokens_of}
 use Rattle.pearl_print.specs.Reading.{FitsHours}
-use Rattle.pearl_print.specs.Spelled.{text_of}
+use Rattle.pearl_print.specs.Spelled.{text_of_tokens}
 use Rattle.pearl_print.specs.Plain.{plain_name, plain_device, plain_basic, plain_declared, plain_spec, plain_param, plain_body, plain_task_head, plain_decl, plain_module_name, plain, IsPrintOf}
-use Rattle.pearl_print.proofs.PlainSpans.{place_of, here, Span, cut, cut3, cut_token, two, three}
+use Rattle.pearl_print.proofs.TokenRanges.{place_of, here, HasTokens, cut, cut3, cut_token, plus_two, plus_three}
 use Rattle.pearl_print.proofs.PlainLists.{Placed, Places, in_parts, each_at, list_at, maybe_bracketed_at, maybe_at, seen, seen_option, flag_at}
 use Rattle.pearl_print.proofs.PlainLiterals.{typing_places, basic_places}
 use Rattle.pearl_print.proofs.PlainDeclarations.{prio_places, device_places, declared_places, spec_places, param_places}
 use Rattle.pearl_print.proofs.PlainStatements.{body_places}
-use Rattle.pearl_print.proofs.SureTokens.{printed_reads}
+use Rattle.pearl_print.proofs.LawfulParts.{printed_reads}
 
 module _ (before tokens : List Token) where
-  head_at : (a : ℕ) (part : TaskHead) (b : ℕ) → SpellsTaskHead before a part b → (from to : ℕ) → Span tokens from (head_tokens part) to →
+  head_at : (a : ℕ) (part : TaskHead) (b : ℕ) → SpellsTaskHead before a part b → (from to : ℕ) → HasTokens tokens from (head_tokens part) to →
       Placed (SpellsTaskHead tokens) plain_task_head from part to
   head_at a (PrioFirst prio main) b h from to g =
       let p = cut tokens from (maybe prio_tokens prio) (flag w.MAIN main) to g in
@@ -69,7 +69,7 @@ module _ (before tokens : List Token) where
         let inner = (basic_places before tokens).at (a + 2) part h.0 h.3 k p.0 p.1 in
         record {
           copy = inner.copy;
-          spelled = (p.0, g.0, g.1.0, two (λ k. SpellsBasic tokens k inner.copy p.0) from inner.spelled, p.2.0, p.2.1.0);
+          spelled = (p.0, g.0, g.1.0, plus_two (λ k. SpellsBasic tokens k inner.copy p.0) from inner.spelled, p.2.0, p.2.1.0);
           same = inner.same;
         };
   }
@@ -81,12 +81,12 @@ module _ (before tokens : List Token) where
         let inner = (body_places before tokens).at (a + 1) body h.0 h.2 (from + 1) p.0 p.1 in
         record {
           copy = inner.copy;
-          spelled = (p.0, g.0, inner.spelled, p.2, p.3.0, two (λ k. to ≡ k) p.0 p.3.1.0);
+          spelled = (p.0, g.0, inner.spelled, p.2, p.3.0, plus_two (λ k. to ≡ k) p.0 p.3.1.0);
           same = inner.same;
         };
   }
 
-  decl_at : (a : ℕ) (part : Decl) (b : ℕ) → SpellsDecl before a part b → (from to : ℕ) → Span tokens from (decl_tokens part) to →
+  decl_at : (a : ℕ) (part : Decl) (b : ℕ) → SpellsDecl before a part b → (from to : ℕ) → HasTokens tokens from (decl_tokens part) to →
       Placed (SpellsDecl tokens) (λ part. plain_decl (shown_decl part)) from part to
   decl_at a (decl.Length sort number place) b h from to g =
       let k = from + 1 + 1 + 1 in
@@ -100,8 +100,8 @@ module _ (before tokens : List Token) where
           here tokens from _ g.0,
           g.0,
           g.1.0,
-          two (λ n. HasSymbol tokens n s.LEFT_ROUND) from g.1.1.0,
-          three (λ n. IsNumber tokens n copy) from is,
+          plus_two (λ n. HasSymbol tokens n s.LEFT_ROUND) from g.1.1.0,
+          plus_three (λ n. IsNumber tokens n copy) from is,
           subst (λ n. HasSymbol tokens n s.RIGHT_ROUND) close g.1.1.1.1.0,
           subst (λ n. HasSymbol tokens n s.SEMICOLON) last g.1.1.1.1.1.0,
           omega (arith, g.1.1.1.1.1.1.0),
@@ -119,7 +119,7 @@ module _ (before tokens : List Token) where
           here tokens from _ g.0,
           g.0,
           (g.1.0, here tokens (from + 1) _ g.1.0),
-          two (λ k. SpellsWholeTyping tokens k inner.copy p.0) from inner.spelled,
+          plus_two (λ k. SpellsWholeTyping tokens k inner.copy p.0) from inner.spelled,
           p.2.0,
           p.2.1.0,
         );
@@ -155,8 +155,8 @@ module _ (before tokens : List Token) where
           here tokens from _ g.0,
           (g.0, here tokens from _ g.0),
           g.1.0,
-          two (λ k. HasWord tokens k w.TASK) from g.1.1.0,
-          three (λ k. SpellsTaskHead tokens k first.copy p.0) from first.spelled,
+          plus_two (λ k. HasWord tokens k w.TASK) from g.1.1.0,
+          plus_three (λ k. SpellsTaskHead tokens k first.copy p.0) from first.spelled,
           second.spelled,
         );
         same = λ i. OfTask (plain_name name) (first.same i) (second.same i) 0;
@@ -176,8 +176,8 @@ module _ (before tokens : List Token) where
           here tokens from _ g.0,
           (g.0, here tokens from _ g.0),
           g.1.0,
-          two (λ k. HasWord tokens k w.PROC) from g.1.1.0,
-          three (λ k. SpellsMaybeBracketed tokens (SpellsParam tokens) k list.copy.items.items p.0) from list.spelled,
+          plus_two (λ k. HasWord tokens k w.PROC) from g.1.1.0,
+          plus_three (λ k. SpellsMaybeBracketed tokens (SpellsParam tokens) k list.copy.items.items p.0) from list.spelled,
           second.spelled,
           third.spelled,
         );
@@ -187,20 +187,20 @@ module _ (before tokens : List Token) where
   decl_places : Places tokens (SpellsDecl before) (SpellsDecl tokens) decl_tokens (λ part. plain_decl (shown_decl part))
   decl_places = record { at = decl_at }
 
-  in_brackets : (name : Name) (from to : ℕ) → Span tokens from (bracketed_name name) to →
+  in_brackets : (name : Name) (from to : ℕ) → HasTokens tokens from (bracketed_name name) to →
       Placed (SpellsModuleName tokens) plain_module_name from (Bracketed name) to
   in_brackets name from to g = record {
     copy = Bracketed (record { text = name.text; place = place_of tokens (from + 1) });
     spelled = (
       g.0,
       (g.1.0, here tokens (from + 1) _ g.1.0),
-      two (λ k. HasSymbol tokens k s.RIGHT_ROUND) from g.1.1.0,
-      three (λ k. to ≡ k) from g.1.1.1.0,
+      plus_two (λ k. HasSymbol tokens k s.RIGHT_ROUND) from g.1.1.0,
+      plus_three (λ k. to ≡ k) from g.1.1.1.0,
     );
     same = refl;
   }
 
-  module_name_at : (a : ℕ) (part : ModuleName) (b : ℕ) → SpellsModuleName before a part b → (from to : ℕ) → Span tokens from (module_name_tokens part) to →
+  module_name_at : (a : ℕ) (part : ModuleName) (b : ℕ) → SpellsModuleName before a part b → (from to : ℕ) → HasTokens tokens from (module_name_tokens part) to →
       Placed (SpellsModuleName tokens) plain_module_name from part to
   module_name_at a (Bracketed name) b h from to g = in_brackets name from to g
   module_name_at a (Bare name) b h from to g =
@@ -218,14 +218,14 @@ module _ (before tokens : List Token) where
         (each_at before tokens (device_places before tokens) devices.items.items (a + 2) b h.2 k to g.1.1) in
         record {
           copy = list.copy;
-          spelled = (g.0, g.1.0, two (λ k. SpellsEach (SpellsDevice tokens) k list.copy.items.items to) from list.spelled);
+          spelled = (g.0, g.1.0, plus_two (λ k. SpellsEach (SpellsDevice tokens) k list.copy.items.items to) from list.spelled);
           same = list.same;
         };
   }
 
   -- a module, but for the last semicolon
   tree_at : (tree : Tree) (end : ℕ) → SpellsTree before 0 tree end → (n : ℕ) →
-      Span tokens 0 (front_tokens tree ++ flat_map decl_tokens tree.declarations.items.items ++ word w.MODEND) n → HasSymbol tokens n s.SEMICOLON →
+      HasTokens tokens 0 (front_tokens tree ++ flat_map decl_tokens tree.declarations.items.items ++ word w.MODEND) n → HasSymbol tokens n s.SEMICOLON →
       Placed (SpellsTree tokens) (λ tree. plain (shown_tree tree)) 0 tree (n + 1)
   tree_at tree end h n g last =
       let decls = tree.declarations in
@@ -237,7 +237,7 @@ module _ (before tokens : List Token) where
       let third = in_parts p.0 decls p.1
       (each_at before tokens decl_places decls.items.items (h.1 + 2) h.2 h.10 p.0 p.1 p.3) in
       record {
-        copy = record { name = first.copy; system = second.copy; declarations = third.copy; semicolon = true; place = place_of tokens 0 };
+        copy = record { name = first.copy; system = second.copy; declarations = third.copy; modend = place_of tokens p.1; semicolon = true; place = place_of tokens 0 };
         spelled = (
           k.0,
           f.0,
@@ -249,14 +249,16 @@ module _ (before tokens : List Token) where
           second.spelled,
           f.2,
           f.3.0,
-          subst (λ k. SpellsEach (SpellsDecl tokens) k third.copy.items.items p.1) (two (λ k. p.0 ≡ k) f.0 f.3.1.0) third.spelled,
+          subst (λ k. SpellsEach (SpellsDecl tokens) k third.copy.items.items p.1) (plus_two (λ k. p.0 ≡ k) f.0 f.3.1.0) third.spelled,
           p.4.0,
+          here tokens p.1 _ p.4.0,
           (subst (λ k. HasSymbol tokens k s.SEMICOLON) p.4.1.0 last, ap (λ k. k + 1) p.4.1.0),
         );
         same = λ i. record {
           name = first.same i;
           system = seen_option shown_devices (map plain_device) second.copy tree.system second.same i;
           declarations = seen shown_decl plain_decl third.copy.items.items decls.items.items third.same i;
+          modend = 0;
           semicolon = true;
           place = 0;
         };
@@ -272,15 +274,15 @@ module _ (tokens : List Token) where
   what_is xs y ys are =
       sym (slice_get-map (λ (token : Token). token.what) tokens (length xs)) ∙ ap (λ whats. slice_get whats (length xs)) are ∙ one_at xs y ys
 
-  span_of : (before xs : List What) (y : What) → map (λ token. token.what) tokens ≡ before ++ (xs ++ y ∷ []) →
-      Span tokens (length before) xs (length before + length xs)
-  span_of before [] y are = (omega arith, here tokens (length before) y (what_is before y [] are))
-  span_of before (x ∷ xs) y are =
+  has_tokens : (before xs : List What) (y : What) → map (λ token. token.what) tokens ≡ before ++ (xs ++ y ∷ []) →
+      HasTokens tokens (length before) xs (length before + length xs)
+  has_tokens before [] y are = (omega arith, here tokens (length before) y (what_is before y [] are))
+  has_tokens before (x ∷ xs) y are =
       let longer = before ++ x ∷ [] in
       let size : length longer ≡ length before + 1 = length-append before (x ∷ []) in
-      let rest : Span tokens (length longer) xs (length longer + length xs) = span_of longer xs y (are ∙ sym (append_assoc before (x ∷ []) (xs ++ y ∷ []))) in
+      let rest : HasTokens tokens (length longer) xs (length longer + length xs) = has_tokens longer xs y (are ∙ sym (append_assoc before (x ∷ []) (xs ++ y ∷ []))) in
       let end : length longer + length xs ≡ length before + suc (length xs) = omega (arith, size) in
-      (what_is before x (xs ++ y ∷ []) are, subst (λ n. Span tokens n xs (length before + suc (length xs))) size (subst (λ n. Span tokens (length longer) xs n) end rest))
+      (what_is before x (xs ++ y ∷ []) are, subst (λ n. HasTokens tokens n xs (length before + suc (length xs))) size (subst (λ n. HasTokens tokens (length longer) xs n) end rest))
 
 pub placed_tree : (tree : Tree) (before tokens : List Token) → Spells tree before → map (λ token. token.what) tokens ≡ tokens_of tree →
     (copy : Tree) × Spells copy tokens × (plain (shown_tree copy) ≡ plain (shown_tree tree))
@@ -289,13 +291,13 @@ placed_tree tree before tokens h are =
     let xs = front_tokens tree ++ flat_map decl_tokens tree.declarations.items.items ++ word w.MODEND in
     let end = what.Symbol s.SEMICOLON in
     let none : 0 + length xs ≡ length xs = omega arith in
-    let span : Span tokens 0 xs (length xs) = subst (λ n. Span tokens 0 xs n) none (span_of tokens [] xs end are) in
+    let span : HasTokens tokens 0 xs (length xs) = subst (λ n. HasTokens tokens 0 xs n) none (has_tokens tokens [] xs end are) in
     let p = tree_at before tokens tree (length before) h.spells (length xs) span (what_is tokens xs end [] are) in
     let all : length xs + 1 ≡ length tokens = sym (length-append xs (end ∷ [])) ∙ ap length (sym are) ∙ length-map tokens (λ (token : Token). token.what) in
     (p.copy, record { spells = subst (λ n. SpellsTree tokens 0 p.copy n) all p.spelled }, p.same)
 
 -- a text that has the tokens of a lawful tree
-pub printed_says : (tree : Tree) (text : List ℕ) → text ≡ text_of (tokens_of tree) → IsLawful tree → FitsHours tree → (before : List Token) → Spells tree before →
+pub printed_says : (tree : Tree) (text : List ℕ) → text ≡ text_of_tokens (tokens_of tree) → IsLawful tree → FitsHours tree → (before : List Token) → Spells tree before →
     IsPrintOf tree text
 printed_says tree text spelled is fits before h =
     let reads = printed_reads tree text spelled is fits in

@@ -29,7 +29,7 @@ use Rattle.pearl_print.specs.Declarations.{item_tokens}
 use Rattle.pearl_print.specs.Schedules.{after_tokens, period_end_tokens, period_tokens, start_tokens, once_tokens}
 use Rattle.pearl_print.specs.Statements.{for_tokens, value_tokens, body_decl_tokens}
 use Rattle.pearl_print.specs.Plain.{plain_name, plain_expr, plain_fmt, plain_item, plain_period_end, plain_period, plain_start, plain_once, plain_body_decl}
-use Rattle.pearl_print.proofs.PlainSpans.{place_of, here, Span, cut, two, three}
+use Rattle.pearl_print.proofs.TokenRanges.{place_of, here, HasTokens, cut, plus_two, plus_three}
 use Rattle.pearl_print.proofs.PlainLists.{Placed, Places, in_parts, each_at, list_at, maybe_at, seen, seen_option}
 use Rattle.pearl_print.proofs.PlainLiterals.{fmt_places}
 use Rattle.pearl_print.proofs.PlainExpressions.{expr_places}
@@ -46,7 +46,7 @@ module _ (before tokens : List Token) where
         record { copy = p.copy; spelled = (g.0, p.spelled); same = p.same };
   }
 
-  pub maybe_after : (code : ℕ) (o : Option Expr) (a b : ℕ) → SpellsMaybe (SpellsAfter before code) a o b → (from to : ℕ) → Span tokens from (maybe (after_tokens code) o) to →
+  pub maybe_after : (code : ℕ) (o : Option Expr) (a b : ℕ) → SpellsMaybe (SpellsAfter before code) a o b → (from to : ℕ) → HasTokens tokens from (maybe (after_tokens code) o) to →
       Placed (SpellsMaybe (SpellsAfter tokens code)) (option_map expr_view) from o to
   maybe_after code o a b h from to g =
       maybe_at before tokens (after_places code) o a b h from to g
@@ -55,7 +55,7 @@ module _ (before tokens : List Token) where
   for_places = record {
     at = λ a name b h from to g. record {
       copy = record { text = name.text; place = place_of tokens (from + 1) };
-      spelled = (g.0, (g.1.0, here tokens (from + 1) _ g.1.0), two (λ k. to ≡ k) from g.1.1.0);
+      spelled = (g.0, (g.1.0, here tokens (from + 1) _ g.1.0), plus_two (λ k. to ≡ k) from g.1.1.0);
       same = refl;
     };
   }
@@ -68,7 +68,7 @@ module _ (before tokens : List Token) where
         record { copy = part.copy; spelled = (p.0, g.0, part.spelled, p.2.0, p.2.1.0); same = part.same };
   }
 
-  period_end_at : (a : ℕ) (part : PeriodEnd) (b : ℕ) → SpellsPeriodEnd before a part b → (from to : ℕ) → Span tokens from (period_end_tokens part) to →
+  period_end_at : (a : ℕ) (part : PeriodEnd) (b : ℕ) → SpellsPeriodEnd before a part b → (from to : ℕ) → HasTokens tokens from (period_end_tokens part) to →
       Placed (SpellsPeriodEnd tokens) (λ part. plain_period_end (shown_period_end part)) from part to
   period_end_at a (Until time place) b h from to g =
       let p = (after_places w.UNTIL).at a time b h.1 from to g in
@@ -93,13 +93,13 @@ module _ (before tokens : List Token) where
         };
   }
 
-  maybe_period : (o : Option Period) (a b : ℕ) → SpellsMaybe (SpellsPeriod before) a o b → (from to : ℕ) → Span tokens from (maybe period_tokens o) to →
+  maybe_period : (o : Option Period) (a b : ℕ) → SpellsMaybe (SpellsPeriod before) a o b → (from to : ℕ) → HasTokens tokens from (maybe period_tokens o) to →
       Placed (SpellsMaybe (SpellsPeriod tokens)) (λ o. option_map plain_period (option_map shown_period o)) from o to
   maybe_period o a b h from to g =
       let p = maybe_at before tokens period_places o a b h from to g in
       record { copy = p.copy; spelled = p.spelled; same = seen_option shown_period plain_period p.copy o p.same }
 
-  start_at : (a : ℕ) (part : Start) (b : ℕ) → SpellsStart before a part b → (from to : ℕ) → Span tokens from (start_tokens part) to →
+  start_at : (a : ℕ) (part : Start) (b : ℕ) → SpellsStart before a part b → (from to : ℕ) → HasTokens tokens from (start_tokens part) to →
       Placed (SpellsStart tokens) (λ part. plain_start (shown_start part)) from part to
   start_at a (start.At time period place) b h from to g =
       let p = cut tokens from (after_tokens w.AT time) (maybe period_tokens period) to g in
@@ -131,7 +131,7 @@ module _ (before tokens : List Token) where
           here tokens from _ g.0,
           g.0,
           (g.1.0, here tokens (from + 1) _ g.1.0),
-          two (λ k. SpellsMaybe (SpellsAfter tokens w.AFTER) k first.copy p.0) from first.spelled,
+          plus_two (λ k. SpellsMaybe (SpellsAfter tokens w.AFTER) k first.copy p.0) from first.spelled,
           second.spelled,
         );
         same = λ i. OfWhen (plain_name interrupt) (seen_option shown_expr plain_expr first.copy after first.same i) (second.same i) 0;
@@ -143,7 +143,7 @@ module _ (before tokens : List Token) where
   pub start_places : Places tokens (SpellsStart before) (SpellsStart tokens) start_tokens (λ part. plain_start (shown_start part))
   start_places = record { at = start_at }
 
-  once_at : (a : ℕ) (part : Once) (b : ℕ) → SpellsOnce before a part b → (from to : ℕ) → Span tokens from (once_tokens part) to →
+  once_at : (a : ℕ) (part : Once) (b : ℕ) → SpellsOnce before a part b → (from to : ℕ) → HasTokens tokens from (once_tokens part) to →
       Placed (SpellsOnce tokens) (λ part. plain_once (shown_once part)) from part to
   once_at a (once.At time place) b h from to g =
       let p = (after_places w.AT).at a time b h.1 from to g in
@@ -153,7 +153,7 @@ module _ (before tokens : List Token) where
       record { copy = once.After p.copy (place_of tokens from); spelled = (here tokens from _ g.0, p.spelled); same = ap (λ duration. OnceAfter duration 0) p.same }
   once_at a (once.When interrupt place) b h from to g = record {
     copy = once.When (record { text = interrupt.text; place = place_of tokens (from + 1) }) (place_of tokens from);
-    spelled = (here tokens from _ g.0, g.0, (g.1.0, here tokens (from + 1) _ g.1.0), two (λ k. to ≡ k) from g.1.1.0);
+    spelled = (here tokens from _ g.0, g.0, (g.1.0, here tokens (from + 1) _ g.1.0), plus_two (λ k. to ≡ k) from g.1.1.0);
     same = refl;
   }
 
@@ -176,7 +176,7 @@ module _ (before tokens : List Token) where
 
   -- { DCL item { "," item } ";" }
   pub decls_at : (a : ℕ) (parts : Parts BodyDecl) (b : ℕ) → SpellsEach (SpellsBodyDecl before) a parts.items.items b → (from to : ℕ) →
-      Span tokens from (flat_map body_decl_tokens parts.items.items) to →
+      HasTokens tokens from (flat_map body_decl_tokens parts.items.items) to →
       Placed (λ from (parts : Parts BodyDecl) to. SpellsEach (SpellsBodyDecl tokens) from parts.items.items to)
       (λ (parts : Parts BodyDecl). map plain_body_decl (map shown_body_decl parts.items.items)) from parts to
   decls_at a parts b h from to g =
@@ -186,7 +186,7 @@ module _ (before tokens : List Token) where
 
   -- id BY fmt { "," fmt } ";" behind a token
   pub by_at : (dation : Name) (formats : Parts Fmt) (a b : ℕ) → SpellsList before (SpellsFmt before) a formats.items.items b → (k to : ℕ) →
-      Span tokens (k + 1) (by_tokens dation formats) to →
+      HasTokens tokens (k + 1) (by_tokens dation formats) to →
       (copy : Parts Fmt) × (m : ℕ) × IsName tokens (k + 1) (record { text = dation.text; place = place_of tokens (k + 1) }) × HasWord tokens (k + 2) w.BY ×
       SpellsList tokens (SpellsFmt tokens) (k + 3) copy.items.items m × HasSymbol tokens m s.SEMICOLON × (to ≡ m + 1) ×
       (map plain_fmt copy.items.items ≡ map plain_fmt formats.items.items)
@@ -198,8 +198,8 @@ module _ (before tokens : List Token) where
         list.copy,
         p.0,
         (g.0, here tokens (k + 1) _ g.0),
-        two (λ n. HasWord tokens n w.BY) k g.1.0,
-        three (λ n. SpellsList tokens (SpellsFmt tokens) n list.copy.items.items p.0) k list.spelled,
+        plus_two (λ n. HasWord tokens n w.BY) k g.1.0,
+        plus_three (λ n. SpellsList tokens (SpellsFmt tokens) n list.copy.items.items p.0) k list.spelled,
         p.2.0,
         p.2.1.0,
         list.same,

@@ -1,5 +1,5 @@
 -- The tokens of nodes with lists, told by the lists that their fields show.
-use Rattle.std.proofs.Common.{◌≡◌, ℕ, ◌++◌, Option, refl, ap, ◌∙◌}
+use Rattle.std.proofs.Common.{◌≡◌, ℕ, ◌++◌, Option, refl, ap, ◌∙◌, Box, Global}
 use mathlib.Core.Former.{Count}
 use Rattle.std.specs.List.{flat_map}
 use Rattle.pearl_tree.specs.declared.parts.Parts.{Parts}
@@ -15,11 +15,11 @@ use Rattle.pearl_tree.specs.declared.expression.Ref.{Ref, Row_of-Selector, end_o
 use Rattle.pearl_tree.specs.Expressions.{side_word}
 use Rattle.pearl_tables.specs.declared.symbol.TheConstants as s
 use Rattle.pearl_tables.specs.declared.word_code.TheConstants as w
-use Rattle.pearl_print.specs.Lists.{word, symbol, name_tokens, number_tokens, more, listed, bracketed, maybe}
+use Rattle.pearl_print.specs.Lists.{word, symbol, name_tokens, number_tokens, after_commas, listed, bracketed, maybe}
 use Rattle.pearl_print.specs.Types.{names_tokens, bounds_tokens, typing_tokens, fields_tokens, more_fields_tokens, field_tokens, struct_tokens}
 use Rattle.pearl_print.specs.Expressions.{expr_tokens, primary_tokens, selectors_tokens, selector_tokens, subscripts_tokens, more_subscripts_tokens, ref_tokens, limit_tokens}
 
-more_fields : (n : _) (row : Row_of-Field n) → more_fields_tokens row ≡ more field_tokens (items-the_row-Field n row)
+more_fields : (n : _) (row : Row_of-Field n) → more_fields_tokens row ≡ after_commas field_tokens (items-the_row-Field n row)
 more_fields _ end_of-Field = refl
 more_fields _ (more_of-Field names bounds typing place rest) =
     ap (λ t. (symbol s.COMMA ++ names_tokens names ++ bounds_tokens bounds.items.items ++ typing_tokens typing) ++ t) (more_fields _ rest)
@@ -40,7 +40,7 @@ struct_shown fields place =
     ap (λ t. word w.STRUCT ++ symbol s.LEFT_SQUARE ++ t ++ symbol s.RIGHT_SQUARE)
     (fields_listed row.0 row.1 ∙ ap (λ xs. listed field_tokens xs) (items_hidden-the_row-Field-0 fields.items))
 
-more_subscripts : (n : _) (row : Row_of-Expr n) → more_subscripts_tokens row ≡ more expr_tokens (items-the_row-Expr n row)
+more_subscripts : (n : _) (row : Row_of-Expr n) → more_subscripts_tokens row ≡ after_commas expr_tokens (items-the_row-Expr n row)
 more_subscripts _ end_of-Expr = refl
 more_subscripts _ (more_of-Expr expr rest) = ap (λ t. (symbol s.COMMA ++ expr_tokens expr) ++ t) (more_subscripts _ rest)
 
@@ -65,7 +65,7 @@ selectors_each _ (more_of-Selector selector rest) = ap (λ t. selector_tokens se
 
 abbrev selectors_of : Primary → (n : Count) × Row_of-Selector n
 selectors_of (primary.Ref' _ _ row _) = (_, row)
-selectors_of (primary.Limit' _ _ _ _ row _ _) = (_, row)
+selectors_of (primary.Limit' _ _ _ _ _ row _ _) = (_, row)
 selectors_of _ = (_, end_of-Selector)
 
 -- ref
@@ -76,8 +76,8 @@ ref_shown reference =
     (selectors_each row.0 row.1 ∙ ap (λ xs. flat_map selector_tokens xs) (items_hidden-the_row-Selector-0 reference.selectors.items))
 
 -- [ number ] ( LWB | UPB ) ref
-pub limit_shown : (dimension : Option Number) (side : Side) (array : Ref) (place : ℕ) → primary_tokens (primary.Limit dimension side array place) ≡ limit_tokens dimension side array
+pub limit_shown : (dimension : Option Number) (side : Side) (array : Box Ref Global) (place : ℕ) → primary_tokens (primary.Limit dimension side array place) ≡ limit_tokens dimension side array.value
 limit_shown dimension side array place =
     let row = selectors_of (primary.Limit dimension side array place) in
-    ap (λ t. maybe number_tokens dimension ++ word (side_word side) ++ (name_tokens array.name ++ t))
-    (selectors_each row.0 row.1 ∙ ap (λ xs. flat_map selector_tokens xs) (items_hidden-the_row-Selector-0 array.selectors.items))
+    ap (λ t. maybe number_tokens dimension ++ word (side_word side) ++ (name_tokens array.value.name ++ t))
+    (selectors_each row.0 row.1 ∙ ap (λ xs. flat_map selector_tokens xs) (items_hidden-the_row-Selector-0 array.value.selectors.items))

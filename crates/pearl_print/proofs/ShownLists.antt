@@ -3,20 +3,20 @@ use Rattle.std.proofs.Common.{◌≡◌, ℕ, List, [], ◌∷◌, ◌++◌, Opt
 use Rattle.std.specs.List.{flat_map}
 use Rattle.pearl_tree.specs.declared.token.What.{What}
 use Rattle.pearl_tables.specs.declared.symbol.TheConstants as s
-use Rattle.pearl_print.specs.Lists.{word, symbol, more, listed, bracketed, maybe_bracketed, maybe_headed, maybe}
+use Rattle.pearl_print.specs.Lists.{word, symbol, after_commas, listed, bracketed, maybe_bracketed, maybe_headed, maybe}
 
 module _ {X S : Type 0} (show : X → S) (said : S → List What) (tokens : X → List What) (same : (x : X) → said (show x) ≡ tokens x) where
   pub each_same : (xs : List X) → flat_map said (map show xs) ≡ flat_map tokens xs
   each_same [] = refl
   each_same (x ∷ xs) = λ i. same x i ++ each_same xs i
 
-  more_same : (xs : List X) → more said (map show xs) ≡ more tokens xs
-  more_same [] = refl
-  more_same (x ∷ xs) = λ i. (symbol s.COMMA ++ same x i) ++ more_same xs i
+  after_commas_same : (xs : List X) → after_commas said (map show xs) ≡ after_commas tokens xs
+  after_commas_same [] = refl
+  after_commas_same (x ∷ xs) = λ i. (symbol s.COMMA ++ same x i) ++ after_commas_same xs i
 
   pub listed_same : (xs : List X) → listed said (map show xs) ≡ listed tokens xs
   listed_same [] = refl
-  listed_same (x ∷ xs) = λ i. same x i ++ more_same xs i
+  listed_same (x ∷ xs) = λ i. same x i ++ after_commas_same xs i
 
   pub bracketed_same : (xs : List X) → bracketed said (map show xs) ≡ bracketed tokens xs
   bracketed_same xs = λ i. symbol s.LEFT_ROUND ++ listed_same xs i ++ symbol s.RIGHT_ROUND

@@ -6,13 +6,13 @@ use Rattle.std.specs.Str.{bytes_eq}
 use Rattle.std.proofs.lemmas.Bool.{eqb-true}
 use Rattle.std.proofs.lemmas.Slice.Eq.{bytes_eq-Decides}
 use Rattle.std.proofs.lemmas.List.Elements.{All-head, All-tail}
-use Rattle.pearl_tables.specs.Words.{words, code_count}
+use Rattle.pearl_tables.specs.Words.{words, meanings, word_texts, word_text, code_count}
 use Rattle.pearl_tree.specs.declared.token.What.TheVariants as what
 use Rattle.pearl_lex.specs.declared.front.Front.{Front}
 use Rattle.pearl_lex.specs.Spelling.{is_id_byte, is_blank, space_len, sized, meaning, word_or_id, id_of}
 use Rattle.pearl_lex.specs.Front.{front}
 use Rattle.pearl_lex.proofs.Passes.{and_front, and_back}
-use Rattle.pearl_print.specs.Spelled.{word_texts, word_text, spelled}
+use Rattle.pearl_print.specs.Spelled.{spelled}
 use Rattle.pearl_print.specs.Reading.{IsReadBack}
 use Rattle.pearl_tree.specs.Tokens.{IsLetter, IsIdByte, IsId, BeginsWithLetter}
 use Rattle.std.proofs.lemmas.Grind.{common_steps}
@@ -91,11 +91,11 @@ each_row-at test (text ∷ texts) (suc code) e inside =
     each_row-at (λ n. test (suc n)) texts code (and_back (test 0 text) (each_row (λ n. test (suc n)) texts) e) (omega arith)
 
 words_pass : each_row is_word_text word_texts ≡ true
-unfolding words word_texts
+unfolding words word_texts meanings
 words_pass = refl
 
 words_length : length word_texts ≡ code_count
-unfolding word_texts
+unfolding word_texts meanings
 words_length = refl
 
 word_passes : (code : ℕ) → code < code_count → is_word_text code (word_text code) ≡ true
@@ -115,10 +115,10 @@ word_reads code inside =
       no_space = λ rest. ap space_len (append_assoc text (32 ∷ []) rest) ∙ name_no_space text (32 ∷ rest) plain;
     }
 
-both : (a b : Bool) → a ≡ true → b ≡ true → a && b ≡ true
-both true true e f = refl
-both true false e f = f
-both false b e f = e
+and_true : (a b : Bool) → a ≡ true → b ≡ true → a && b ≡ true
+and_true true true e f = refl
+and_true true false e f = f
+and_true false b e f = e
 
 letter_is_solid : (b : ℕ) → IsLetter b → is_solid b ≡ true
 letter_is_solid b h = grind (arith, common_steps, nat_tests)
@@ -132,12 +132,12 @@ id_byte_is b h = grind (arith, common_steps, nat_tests)
 id_bytes_are : (bytes : List ℕ) → All IsIdByte bytes → list_all is_id_byte bytes ≡ true
 id_bytes_are [] each = refl
 id_bytes_are (b ∷ bytes) each =
-    both (is_id_byte b) (list_all is_id_byte bytes) (id_byte_is b (All-head IsIdByte b bytes each)) (id_bytes_are bytes (All-tail IsIdByte b bytes each))
+    and_true (is_id_byte b) (list_all is_id_byte bytes) (id_byte_is b (All-head IsIdByte b bytes each)) (id_bytes_are bytes (All-tail IsIdByte b bytes each))
 
 id_is_name_text : (text : List ℕ) → BeginsWithLetter text → All IsIdByte text → is_name_text text ≡ true
 id_is_name_text [] begins each = absurd begins
 id_is_name_text (b ∷ bytes) begins each =
-    both (is_solid b) _ (letter_is_solid b begins) (both (is_ascii_alphabetic b) _ (letter_is_letter b begins) (id_bytes_are (b ∷ bytes) each))
+    and_true (is_solid b) _ (letter_is_solid b begins) (and_true (is_ascii_alphabetic b) _ (letter_is_letter b begins) (id_bytes_are (b ∷ bytes) each))
 
 no_meaning : (rows : List (List ℕ × ℕ)) (text : List ℕ) → All (λ row. row.0 ≢ text) rows → meaning rows text ≡ None
 no_meaning [] text each = refl

@@ -23,13 +23,13 @@ abbrev pub number_tokens : Number → List What
 number_tokens number = what.Number number.value ∷ []
 
 -- { "," part }
-abbrev pub more : {X : Type 0} → (X → List What) → List X → List What
-more each parts = flat_map (λ part. symbol s.COMMA ++ each part) parts
+abbrev pub after_commas : {X : Type 0} → (X → List What) → List X → List What
+after_commas each parts = flat_map (λ part. symbol s.COMMA ++ each part) parts
 
 -- part { "," part }
 abbrev pub listed : {X : Type 0} → (X → List What) → List X → List What
 listed each [] = []
-listed each (first ∷ rest) = each first ++ more each rest
+listed each (first ∷ rest) = each first ++ after_commas each rest
 
 -- "(" part { "," part } ")"
 abbrev pub bracketed : {X : Type 0} → (X → List What) → List X → List What

@@ -5,13 +5,13 @@ use Rattle.pearl_tree.specs.declared.literal.Literal.{Literal}
 use Rattle.pearl_tree.specs.declared.literal.Literal.TheVariants as literal
 use Rattle.pearl_tree.specs.declared.token.Token.{Token}
 use Rattle.pearl_tree.specs.declared.tree.Tree.{Tree}
+use Rattle.pearl_tree.specs.Durations.{milliseconds_of}
 use Rattle.pearl_tree.specs.Tokens.{IsNumberValue, IsLawfulWhat}
 use Rattle.pearl_tree.specs.Lawful.{IsLawful}
 use Rattle.pearl_lex.specs.Spelling.{space_len}
 use Rattle.pearl_lex.specs.Front.{front}
 use Rattle.pearl_lex.specs.Lexes.{Lexes}
-use Rattle.pearl_print.specs.Spelled.{spelled, gap, text_of}
-use Rattle.pearl_print.specs.Expressions.{duration_milliseconds}
+use Rattle.pearl_print.specs.Spelled.{spelled, gap, text_of_tokens}
 use Rattle.pearl_print.specs.Modules.{tokens_of}
 use Rattle.pearl_print.specs.Literals.{EachLiteral}
 
@@ -28,15 +28,15 @@ pub record Reads (text : List ℕ) (whats : List What) : Type 0 where
 
 -- where each token is read back by itself, the text of tokens has exactly these tokens
 abbrev pub TextReads : Type 0
-TextReads = (whats : List What) → All IsReadBack whats → Reads (text_of whats) whats
+TextReads = (whats : List What) → All IsReadBack whats → Reads (text_of_tokens whats) whats
 
 -- the text of lawful tokens has exactly these tokens
 abbrev pub LawfulTextReads : Type 0
-LawfulTextReads = (whats : List What) → All IsLawfulWhat whats → Reads (text_of whats) whats
+LawfulTextReads = (whats : List What) → All IsLawfulWhat whats → Reads (text_of_tokens whats) whats
 
 -- a duration has less than 2^63 hours, once its minutes and seconds are carried into them
 abbrev pub HasFittingHours : Literal → Type 0
-HasFittingHours (literal.Duration duration) = IsNumberValue (duration_milliseconds duration / 3600000)
+HasFittingHours (literal.Duration duration) = IsNumberValue (milliseconds_of duration.value / 3600000)
 HasFittingHours _ = Unit {0}
 
 -- so has each duration of a tree

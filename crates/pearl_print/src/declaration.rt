@@ -3,13 +3,13 @@
 
 ghost use Rattle.std.specs.Prelude.{◌≡◌, ◌++◌, OnOk};
 ghost use Rattle.pearl_tree.specs.Declarations.{direction_word};
-ghost use Rattle.pearl_print.specs.Spelled.{text_of};
+ghost use Rattle.pearl_print.specs.Spelled.{text_of_tokens};
 ghost use Rattle.pearl_print.specs.Declarations.{device_word_tokens, device_tokens, prio_tokens, item_tokens, sema_tokens, declared_tokens, class_tokens, spec_tokens, param_tokens};
 
 use crate::lists::{Part, put_bracketed_number, put_flag, put_maybe_headed};
 use crate::put::{put_symbol, put_word};
-use crate::symbol::{COLON, SEMICOLON};
 use crate::typing::{put_basic, put_bounds, put_names, put_typing};
+use pearl_tables::symbol::{COLON, SEMICOLON};
 use pearl_tables::word_code::{
     ALPHIC, BASIC, DATION, IDENT, IN, INIT, INOUT, INTERRUPT, INV, OUT, PRESET, PRIO, SEMA,
 };
@@ -19,7 +19,7 @@ use pearl_tree::declaration::{
 use std::alloc::AllocError as NoMemory;
 
 fn put_device_word(into: &mut Vec<u8>, word: &DeviceWord) -> Result<(), NoMemory>
-    ensures { OnOk result (into.new.items ≡ into.old.items ++ text_of (device_word_tokens word.now)) }
+    ensures { OnOk result (into.new.items ≡ into.old.items ++ text_of_tokens (device_word_tokens word.now)) }
 {
     match word {
         DeviceWord::Id(name) => name.put(into),
@@ -64,7 +64,7 @@ impl Part for Item {
 }
 
 fn put_sema(into: &mut Vec<u8>, sema: &Sema) -> Result<(), NoMemory>
-    ensures { OnOk result (into.new.items ≡ into.old.items ++ text_of (sema_tokens sema.now)) }
+    ensures { OnOk result (into.new.items ≡ into.old.items ++ text_of_tokens (sema_tokens sema.now)) }
 {
     put_names(into, &sema.names)?;
     put_word(into, SEMA)?;
@@ -94,7 +94,7 @@ fn direction_word(direction: Direction) -> u8
 }
 
 fn put_class(into: &mut Vec<u8>, class: &Class) -> Result<(), NoMemory>
-    ensures { OnOk result (into.new.items ≡ into.old.items ++ text_of (class_tokens class.now)) }
+    ensures { OnOk result (into.new.items ≡ into.old.items ++ text_of_tokens (class_tokens class.now)) }
 {
     match class {
         Class::Alphic { .. } => put_word(into, ALPHIC),

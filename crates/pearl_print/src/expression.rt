@@ -5,17 +5,21 @@ ghost use Rattle.std.specs.Prelude.{◌≡◌, ◌++◌, [], ◌∷◌, OnOk};
 ghost use Rattle.std.specs.List.{flat_map};
 ghost use Rattle.pearl_tree.specs.Expressions.{side_word};
 ghost use Rattle.pearl_print.specs.Lists.{listed, bracketed};
-ghost use Rattle.pearl_print.specs.Spelled.{text_of};
+ghost use Rattle.pearl_print.specs.Spelled.{text_of_tokens};
 ghost use Rattle.pearl_print.specs.Expressions.{monadic_tokens, dyad_what, expr_tokens, operand_tokens, primary_tokens, limit_tokens, selector_tokens, ref_tokens};
 
 use crate::lists::{Part, put_each, put_maybe};
 use crate::literal::put_literal;
 use crate::put::{put_symbol, put_word};
-use crate::symbol::*;
+use pearl_tables::symbol::{
+    AT_LEAST, AT_MOST, COMMA, CONCATENATE, DIVIDE, EQUAL, GREATER, LEFT_ROUND, LESS, MINUS, PERIOD,
+    PLUS, POWER, RIGHT_ROUND, ROTATE, TIMES, UNEQUAL,
+};
 use pearl_tables::word_code::{ABS, AND, EXOR, LWB, NOT, NOW, OR, REM, SHIFT, SIGN, TRY, UPB};
-use pearl_tree::expression::{Dyad, Expr, Monad, Monadic, Operand, Primary, Ref, Selector, Side};
+use pearl_tree::expression::{Expr, Monadic, Operand, Primary, Ref, Selector, Side};
 use pearl_tree::name::Number;
 use pearl_tree::parts::Parts;
+use pearl_value::operator::{Dyad, Monad};
 use std::alloc::AllocError as NoMemory;
 
 impl Part for Monadic {
@@ -33,16 +37,16 @@ impl Part for Monadic {
 }
 
 fn put_dyad(into: &mut Vec<u8>, operator: Dyad) -> Result<(), NoMemory>
-    ensures { OnOk result (into.new.items ≡ into.old.items ++ text_of (dyad_what operator ∷ [])) }
+    ensures { OnOk result (into.new.items ≡ into.old.items ++ text_of_tokens (dyad_what operator ∷ [])) }
 {
     match operator {
-        Dyad::Power => put_symbol(into, POWER),
-        Dyad::Times => put_symbol(into, TIMES),
-        Dyad::Over => put_symbol(into, DIVIDE),
+        Dyad::Pow => put_symbol(into, POWER),
+        Dyad::Mul => put_symbol(into, TIMES),
+        Dyad::Div => put_symbol(into, DIVIDE),
         Dyad::Rem => put_word(into, REM),
         Dyad::Cat => put_symbol(into, CONCATENATE),
-        Dyad::Plus => put_symbol(into, PLUS),
-        Dyad::Minus => put_symbol(into, MINUS),
+        Dyad::Add => put_symbol(into, PLUS),
+        Dyad::Sub => put_symbol(into, MINUS),
         Dyad::Cshift => put_symbol(into, ROTATE),
         Dyad::Shift => put_word(into, SHIFT),
         Dyad::Lt => put_symbol(into, LESS),
@@ -68,7 +72,7 @@ fn side_word(side: Side) -> u8
 
 #[cycle(expression)]
 pub(crate) fn put_expr(into: &mut Vec<u8>, expr: &Expr) -> Result<(), NoMemory>
-    ensures { OnOk result (into.new.items ≡ into.old.items ++ text_of (expr_tokens expr.now)) }
+    ensures { OnOk result (into.new.items ≡ into.old.items ++ text_of_tokens (expr_tokens expr.now)) }
 {
     match expr {
         Expr::Operand(operand) => put_operand(into, operand),
@@ -88,7 +92,7 @@ pub(crate) fn put_expr(into: &mut Vec<u8>, expr: &Expr) -> Result<(), NoMemory>
 
 #[cycle(expression)]
 fn put_operand(into: &mut Vec<u8>, operand: &Operand) -> Result<(), NoMemory>
-    ensures { OnOk result (into.new.items ≡ into.old.items ++ text_of (operand_tokens operand.now)) }
+    ensures { OnOk result (into.new.items ≡ into.old.items ++ text_of_tokens (operand_tokens operand.now)) }
 {
     put_each(into, operand.monadics.as_slice())?;
     put_primary(into, &operand.primary)?;
@@ -97,7 +101,7 @@ fn put_operand(into: &mut Vec<u8>, operand: &Operand) -> Result<(), NoMemory>
 
 #[cycle(expression)]
 fn put_primary(into: &mut Vec<u8>, primary: &Primary) -> Result<(), NoMemory>
-    ensures { OnOk result (into.new.items ≡ into.old.items ++ text_of (primary_tokens primary.now)) }
+    ensures { OnOk result (into.new.items ≡ into.old.items ++ text_of_tokens (primary_tokens primary.now)) }
 {
     match primary {
         Primary::Literal(literal) => put_literal(into, literal),
@@ -131,7 +135,7 @@ fn put_limit(
     array: &Ref,
 ) -> Result<(), NoMemory>
     ensures { OnOk result
-        (into.new.items ≡ into.old.items ++ text_of (limit_tokens dimension.now side array.now)) }
+        (into.new.items ≡ into.old.items ++ text_of_tokens (limit_tokens dimension.now side array.now)) }
 {
     put_maybe(into, dimension)?;
     put_word(into, side_word(side))?;
@@ -141,7 +145,7 @@ fn put_limit(
 
 #[cycle(expression)]
 pub(crate) fn put_ref(into: &mut Vec<u8>, reference: &Ref) -> Result<(), NoMemory>
-    ensures { OnOk result (into.new.items ≡ into.old.items ++ text_of (ref_tokens reference.now)) }
+    ensures { OnOk result (into.new.items ≡ into.old.items ++ text_of_tokens (ref_tokens reference.now)) }
 {
     reference.name.put(into)?;
     put_selectors(into, reference.selectors.as_slice())?;
@@ -151,7 +155,7 @@ pub(crate) fn put_ref(into: &mut Vec<u8>, reference: &Ref) -> Result<(), NoMemor
 #[cycle(expression)]
 fn put_selectors(into: &mut Vec<u8>, selectors: &[Selector]) -> Result<(), NoMemory>
     ensures { OnOk result
-        (into.new.items ≡ into.old.items ++ text_of (flat_map selector_tokens selectors.now)) }
+        (into.new.items ≡ into.old.items ++ text_of_tokens (flat_map selector_tokens selectors.now)) }
 {
     for selector in selectors {
         put_selector(into, selector)?;
@@ -161,7 +165,7 @@ fn put_selectors(into: &mut Vec<u8>, selectors: &[Selector]) -> Result<(), NoMem
 
 #[cycle(expression)]
 fn put_selector(into: &mut Vec<u8>, selector: &Selector) -> Result<(), NoMemory>
-    ensures { OnOk result (into.new.items ≡ into.old.items ++ text_of (selector_tokens selector.now)) }
+    ensures { OnOk result (into.new.items ≡ into.old.items ++ text_of_tokens (selector_tokens selector.now)) }
 {
     match selector {
         Selector::Subscripts { subscripts, .. } => put_subscripts(into, subscripts),
@@ -176,7 +180,7 @@ fn put_selector(into: &mut Vec<u8>, selector: &Selector) -> Result<(), NoMemory>
 #[cycle(expression)]
 fn put_subscripts(into: &mut Vec<u8>, subscripts: &Parts<Expr>) -> Result<(), NoMemory>
     ensures { OnOk result
-        (into.new.items ≡ into.old.items ++ text_of (bracketed expr_tokens subscripts.now.items.items)) }
+        (into.new.items ≡ into.old.items ++ text_of_tokens (bracketed expr_tokens subscripts.now.items.items)) }
 {
     put_symbol(into, LEFT_ROUND)?;
     put_exprs(into, subscripts.as_slice())?;
@@ -186,7 +190,7 @@ fn put_subscripts(into: &mut Vec<u8>, subscripts: &Parts<Expr>) -> Result<(), No
 
 #[cycle(expression)]
 fn put_exprs(into: &mut Vec<u8>, exprs: &[Expr]) -> Result<(), NoMemory>
-    ensures { OnOk result (into.new.items ≡ into.old.items ++ text_of (listed expr_tokens exprs.now)) }
+    ensures { OnOk result (into.new.items ≡ into.old.items ++ text_of_tokens (listed expr_tokens exprs.now)) }
 {
     if let [first, rest @ ..] = exprs {
         put_expr(into, first)?;

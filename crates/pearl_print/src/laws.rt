@@ -1,6 +1,6 @@
 // What the text of tokens is read as, which tokens a tree has, and that printing a printed text changes nothing.
 
-ghost use Rattle.pearl_print.specs.Canonical.{PrintsAgain};
+ghost use Rattle.pearl_print.specs.Canonical.{PrintsAgain, SourcePrintsAgain};
 ghost use Rattle.pearl_print.specs.Reading.{LawfulTextReads, LawfulTokens};
 ghost use Rattle.pearl_print.specs.ShownText.{HasOneText, SourceHasOneText, PlainHasOneText};
 
@@ -33,4 +33,11 @@ pub fn plain_has_one_text()
 /// a tree spells, and each tree that spells them has this text, unless a duration in the first tree has 2^63 hours or more.
 pub fn prints_again()
     ensures { PrintsAgain }
+{}
+
+/// Printing a source and then the printed text gives the printed text: where bytes lex to tokens that a tree spells, the
+/// tree's text lexes to tokens that a tree spells, and each such tree has this text, unless a duration in the source has
+/// 2^63 hours or more.
+pub fn source_prints_again()
+    ensures { SourcePrintsAgain }
 {}

@@ -5,11 +5,11 @@ ghost use Rattle.std.specs.Prelude.{◌≡◌, ◌<◌, ◌++◌, List, OnOk};
 ghost use Rattle.std.specs.List.{flat_map};
 ghost use Rattle.pearl_tree.specs.declared.token.What.{What};
 ghost use Rattle.pearl_tables.specs.Words.{code_count};
-ghost use Rattle.pearl_print.specs.Spelled.{text_of};
+ghost use Rattle.pearl_print.specs.Spelled.{text_of_tokens};
 ghost use Rattle.pearl_print.specs.Lists.{listed, bracketed, maybe_bracketed, maybe_headed, maybe, flag, bracketed_number, name_tokens, number_tokens};
 
 use crate::put::{put_id, put_symbol, put_value, put_word};
-use crate::symbol::{COMMA, LEFT_ROUND, RIGHT_ROUND};
+use pearl_tables::symbol::{COMMA, LEFT_ROUND, RIGHT_ROUND};
 use pearl_tree::name::{Name, Number};
 use std::alloc::AllocError as NoMemory;
 
@@ -18,7 +18,7 @@ pub(crate) trait Part {
     ghost tokens: { Self → List What };
 
     fn put(&self, into: &mut Vec<u8>) -> Result<(), NoMemory>
-        ensures { OnOk result (into.new.items ≡ into.old.items ++ text_of (tokens self.now)) };
+        ensures { OnOk result (into.new.items ≡ into.old.items ++ text_of_tokens (tokens self.now)) };
 }
 
 impl Part for Name {
@@ -38,7 +38,7 @@ impl Part for Number {
 }
 
 pub(crate) fn put_each<T: Part>(into: &mut Vec<u8>, parts: &[T]) -> Result<(), NoMemory>
-    ensures { OnOk result (into.new.items ≡ into.old.items ++ text_of (flat_map T.tokens parts.now)) }
+    ensures { OnOk result (into.new.items ≡ into.old.items ++ text_of_tokens (flat_map T.tokens parts.now)) }
 {
     for part in parts {
         part.put(into)?;
@@ -47,7 +47,7 @@ pub(crate) fn put_each<T: Part>(into: &mut Vec<u8>, parts: &[T]) -> Result<(), N
 }
 
 pub(crate) fn put_listed<T: Part>(into: &mut Vec<u8>, parts: &[T]) -> Result<(), NoMemory>
-    ensures { OnOk result (into.new.items ≡ into.old.items ++ text_of (listed T.tokens parts.now)) }
+    ensures { OnOk result (into.new.items ≡ into.old.items ++ text_of_tokens (listed T.tokens parts.now)) }
 {
     if let [first, rest @ ..] = parts {
         first.put(into)?;
@@ -60,7 +60,7 @@ pub(crate) fn put_listed<T: Part>(into: &mut Vec<u8>, parts: &[T]) -> Result<(),
 }
 
 pub(crate) fn put_bracketed<T: Part>(into: &mut Vec<u8>, parts: &[T]) -> Result<(), NoMemory>
-    ensures { OnOk result (into.new.items ≡ into.old.items ++ text_of (bracketed T.tokens parts.now)) }
+    ensures { OnOk result (into.new.items ≡ into.old.items ++ text_of_tokens (bracketed T.tokens parts.now)) }
 {
     put_symbol(into, LEFT_ROUND)?;
     put_listed(into, parts)?;
@@ -70,7 +70,7 @@ pub(crate) fn put_bracketed<T: Part>(into: &mut Vec<u8>, parts: &[T]) -> Result<
 
 pub(crate) fn put_maybe_bracketed<T: Part>(into: &mut Vec<u8>, parts: &[T]) -> Result<(), NoMemory>
     ensures { OnOk result
-        (into.new.items ≡ into.old.items ++ text_of (maybe_bracketed T.tokens parts.now)) }
+        (into.new.items ≡ into.old.items ++ text_of_tokens (maybe_bracketed T.tokens parts.now)) }
 {
     if !parts.is_empty() {
         put_bracketed(into, parts)?;
@@ -85,7 +85,7 @@ pub(crate) fn put_maybe_headed<T: Part>(
 ) -> Result<(), NoMemory>
     requires { code < code_count }
     ensures { OnOk result
-        (into.new.items ≡ into.old.items ++ text_of (maybe_headed code T.tokens parts.now)) }
+        (into.new.items ≡ into.old.items ++ text_of_tokens (maybe_headed code T.tokens parts.now)) }
 {
     if !parts.is_empty() {
         put_word(into, code)?;
@@ -95,7 +95,7 @@ pub(crate) fn put_maybe_headed<T: Part>(
 }
 
 pub(crate) fn put_maybe<T: Part>(into: &mut Vec<u8>, part: &Option<T>) -> Result<(), NoMemory>
-    ensures { OnOk result (into.new.items ≡ into.old.items ++ text_of (maybe T.tokens part.now)) }
+    ensures { OnOk result (into.new.items ≡ into.old.items ++ text_of_tokens (maybe T.tokens part.now)) }
 {
     if let Some(part) = part {
         part.put(into)?;
@@ -105,7 +105,7 @@ pub(crate) fn put_maybe<T: Part>(into: &mut Vec<u8>, part: &Option<T>) -> Result
 
 pub(crate) fn put_flag(into: &mut Vec<u8>, code: u8, is_there: bool) -> Result<(), NoMemory>
     requires { code < code_count }
-    ensures { OnOk result (into.new.items ≡ into.old.items ++ text_of (flag code is_there)) }
+    ensures { OnOk result (into.new.items ≡ into.old.items ++ text_of_tokens (flag code is_there)) }
 {
     if is_there {
         put_word(into, code)?;
@@ -114,7 +114,7 @@ pub(crate) fn put_flag(into: &mut Vec<u8>, code: u8, is_there: bool) -> Result<(
 }
 
 pub(crate) fn put_bracketed_number(into: &mut Vec<u8>, number: &Number) -> Result<(), NoMemory>
-    ensures { OnOk result (into.new.items ≡ into.old.items ++ text_of (bracketed_number number.now)) }
+    ensures { OnOk result (into.new.items ≡ into.old.items ++ text_of_tokens (bracketed_number number.now)) }
 {
     put_symbol(into, LEFT_ROUND)?;
     number.put(into)?;

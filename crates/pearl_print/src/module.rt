@@ -3,7 +3,7 @@
 
 ghost use Rattle.std.specs.Prelude.{◌≡◌, ◌++◌, OnOk};
 ghost use Rattle.pearl_print.specs.Lists.{maybe};
-ghost use Rattle.pearl_print.specs.Spelled.{text_of};
+ghost use Rattle.pearl_print.specs.Spelled.{text_of_tokens};
 ghost use Rattle.pearl_print.specs.Modules.{head_tokens, returns_tokens, task_body_tokens, task_tokens, proc_tokens, decl_tokens, bracketed_name, module_name_tokens, system_tokens, front_tokens, tokens_of};
 
 use crate::lists::{
@@ -11,11 +11,10 @@ use crate::lists::{
 };
 use crate::put::{put_symbol, put_word};
 use crate::statement::put_body;
-use crate::symbol::{COLON, LEFT_ROUND, RIGHT_ROUND, SEMICOLON};
 use crate::typing::{put_basic, put_typing, sort_word};
+use pearl_tables::symbol::{COLON, LEFT_ROUND, RIGHT_ROUND, SEMICOLON};
 use pearl_tables::word_code::{
-    DCL, END, LENGTH, MAIN, MODEND, MODULE, PROBLEM, PROC, RETURNS, SPC, SYSTEM, TASK,
-    TYPE,
+    DCL, END, LENGTH, MAIN, MODEND, MODULE, PROBLEM, PROC, RETURNS, SPC, SYSTEM, TASK, TYPE,
 };
 use pearl_tree::declaration::{Device, Param};
 use pearl_tree::name::Name;
@@ -26,7 +25,7 @@ use pearl_tree::typing::Basic;
 use std::alloc::AllocError as NoMemory;
 
 fn put_head(into: &mut Vec<u8>, head: &TaskHead) -> Result<(), NoMemory>
-    ensures { OnOk result (into.new.items ≡ into.old.items ++ text_of (head_tokens head.now)) }
+    ensures { OnOk result (into.new.items ≡ into.old.items ++ text_of_tokens (head_tokens head.now)) }
 {
     match head {
         TaskHead::PrioFirst { prio, main } => {
@@ -43,7 +42,7 @@ fn put_head(into: &mut Vec<u8>, head: &TaskHead) -> Result<(), NoMemory>
 }
 
 fn put_returns(into: &mut Vec<u8>, returns: &Option<Basic>) -> Result<(), NoMemory>
-    ensures { OnOk result (into.new.items ≡ into.old.items ++ text_of (maybe returns_tokens returns.now)) }
+    ensures { OnOk result (into.new.items ≡ into.old.items ++ text_of_tokens (maybe returns_tokens returns.now)) }
 {
     if let Some(basic) = returns {
         put_word(into, RETURNS)?;
@@ -55,7 +54,7 @@ fn put_returns(into: &mut Vec<u8>, returns: &Option<Basic>) -> Result<(), NoMemo
 }
 
 fn put_block(into: &mut Vec<u8>, body: &Body) -> Result<(), NoMemory>
-    ensures { OnOk result (into.new.items ≡ into.old.items ++ text_of (task_body_tokens body.now)) }
+    ensures { OnOk result (into.new.items ≡ into.old.items ++ text_of_tokens (task_body_tokens body.now)) }
 {
     put_symbol(into, SEMICOLON)?;
     put_body(into, body)?;
@@ -66,7 +65,7 @@ fn put_block(into: &mut Vec<u8>, body: &Body) -> Result<(), NoMemory>
 
 fn put_task(into: &mut Vec<u8>, name: &Name, head: &TaskHead, body: &Body) -> Result<(), NoMemory>
     ensures { OnOk result
-        (into.new.items ≡ into.old.items ++ text_of (task_tokens name.now head.now body.now)) }
+        (into.new.items ≡ into.old.items ++ text_of_tokens (task_tokens name.now head.now body.now)) }
 {
     name.put(into)?;
     put_symbol(into, COLON)?;
@@ -84,7 +83,7 @@ fn put_proc(
     body: &Body,
 ) -> Result<(), NoMemory>
     ensures { OnOk result
-        (into.new.items ≡ into.old.items ++ text_of (proc_tokens name.now params.now returns.now body.now)) }
+        (into.new.items ≡ into.old.items ++ text_of_tokens (proc_tokens name.now params.now returns.now body.now)) }
 {
     name.put(into)?;
     put_symbol(into, COLON)?;
@@ -144,7 +143,7 @@ impl Part for Decl {
 }
 
 fn put_bracketed_name(into: &mut Vec<u8>, name: &Name) -> Result<(), NoMemory>
-    ensures { OnOk result (into.new.items ≡ into.old.items ++ text_of (bracketed_name name.now)) }
+    ensures { OnOk result (into.new.items ≡ into.old.items ++ text_of_tokens (bracketed_name name.now)) }
 {
     put_symbol(into, LEFT_ROUND)?;
     name.put(into)?;
@@ -164,7 +163,7 @@ impl Part for ModuleName {
 }
 
 fn put_system(into: &mut Vec<u8>, system: &Option<Parts<Device>>) -> Result<(), NoMemory>
-    ensures { OnOk result (into.new.items ≡ into.old.items ++ text_of (maybe system_tokens system.now)) }
+    ensures { OnOk result (into.new.items ≡ into.old.items ++ text_of_tokens (maybe system_tokens system.now)) }
 {
     if let Some(devices) = system {
         put_word(into, SYSTEM)?;
@@ -176,7 +175,7 @@ fn put_system(into: &mut Vec<u8>, system: &Option<Parts<Device>>) -> Result<(), 
 
 // Up to PROBLEM and its semicolon.
 fn put_front(into: &mut Vec<u8>, tree: &Tree) -> Result<(), NoMemory>
-    ensures { OnOk result (into.new.items ≡ into.old.items ++ text_of (front_tokens tree.now)) }
+    ensures { OnOk result (into.new.items ≡ into.old.items ++ text_of_tokens (front_tokens tree.now)) }
 {
     put_word(into, MODULE)?;
     put_maybe(into, &tree.name)?;
@@ -189,7 +188,7 @@ fn put_front(into: &mut Vec<u8>, tree: &Tree) -> Result<(), NoMemory>
 
 #[tactic(auto, using(crate::proofs::Texts::text_steps, std::proofs::lemmas::Grind::common_steps), unfolding(crate::specs::Modules::tokens_of))]
 pub(crate) fn put_tree(into: &mut Vec<u8>, tree: &Tree) -> Result<(), NoMemory>
-    ensures { OnOk result (into.new.items ≡ into.old.items ++ text_of (tokens_of tree.now)) }
+    ensures { OnOk result (into.new.items ≡ into.old.items ++ text_of_tokens (tokens_of tree.now)) }
 {
     put_front(into, tree)?;
     put_each(into, tree.declarations.as_slice())?;

@@ -4,7 +4,7 @@ ghost use Rattle.std.specs.Prelude.{◌≡◌, List, IfOk};
 ghost use Rattle.pearl_print.specs.Modules.{tokens_of};
 ghost use Rattle.pearl_print.specs.Plain.{IsPrintOf};
 ghost use Rattle.pearl_print.specs.Reading.{FitsHours, Reads};
-ghost use Rattle.pearl_print.specs.Spelled.{text_of};
+ghost use Rattle.pearl_print.specs.Spelled.{text_of_tokens};
 ghost use Rattle.pearl_tree.specs.Lawful.{IsLawful};
 ghost use Rattle.pearl_tree.specs.Modules.{Spells};
 ghost use Rattle.pearl_tree.specs.declared.token.Token.{Token};
@@ -21,7 +21,7 @@ use std::alloc::{AllocError as NoMemory, Global};
 /// has hours, minutes and seconds with thousandths. Comments aren't in the tree, so they are gone. Want of memory is
 /// answered only where the text couldn't grow.
 pub fn print(alloc: Global, tree: &Tree) -> Result<Vec<u8>, NoMemory>
-    ensures spells { IfOk result (λ text. text.items ≡ text_of (tokens_of tree.now)) }
+    ensures spells { IfOk result (λ text. text.items ≡ text_of_tokens (tokens_of tree.now)) }
     ensures reads { IsLawful tree.now → FitsHours tree.now → IfOk result (λ text. Reads text.items (tokens_of tree.now)) }
     ensures same { IsLawful tree.now → FitsHours tree.now → (tokens : List Token) → Spells tree.now tokens → IfOk result (λ text. IsPrintOf tree.now text.items) }
 {

@@ -1,23 +1,23 @@
 // The text of one token, appended to a text.
-#![tactic(auto, unfolding(crate::specs::Spelled::text_of, crate::specs::Spelled::spelled))]
+#![tactic(auto, unfolding(crate::specs::Spelled::text_of_tokens, crate::specs::Spelled::spelled))]
 
 ghost use Rattle.std.specs.Prelude.{◌≡◌, ◌<◌, ◌+◌, ◌/◌, ◌%◌, ◌^◌, ◌++◌, [], ◌∷◌, codes, OnOk};
 ghost use Rattle.std.specs.Fmt.{decimal};
 ghost use Rattle.pearl_tree.specs.declared.token.What.TheVariants as what;
 ghost use Rattle.pearl_tables.specs.Symbols.{symbol_count};
 ghost use Rattle.pearl_tables.specs.Words.{code_count};
-ghost use Rattle.pearl_print.specs.Spelled.{binary, doubled, two_digits, three_digits, clock_text, fraction, text_of};
+ghost use Rattle.pearl_print.specs.Spelled.{binary, doubled, two_digits, three_digits, clock_text, fraction, text_of_tokens};
 ghost use Rattle.pearl_print.specs.Lists.{word, symbol, id};
 
-use crate::spelling::{symbol_text, word_text};
-use crate::symbol::SEMICOLON;
 use arrayvec::ArrayVec;
 use itoa::Buffer;
+use pearl_tables::symbol::{SEMICOLON, symbol_text};
+use pearl_tables::word::word_text;
 use std::alloc::AllocError as NoMemory;
 
 pub(crate) fn put_word(into: &mut Vec<u8>, code: u8) -> Result<(), NoMemory>
     requires { code < code_count }
-    ensures { OnOk result (into.new.items ≡ into.old.items ++ text_of (word code)) }
+    ensures { OnOk result (into.new.items ≡ into.old.items ++ text_of_tokens (word code)) }
 {
     into.extend_from_slice(word_text(code))?;
     into.push(b' ')?;
@@ -26,7 +26,7 @@ pub(crate) fn put_word(into: &mut Vec<u8>, code: u8) -> Result<(), NoMemory>
 
 pub(crate) fn put_symbol(into: &mut Vec<u8>, code: u8) -> Result<(), NoMemory>
     requires { code < symbol_count }
-    ensures { OnOk result (into.new.items ≡ into.old.items ++ text_of (symbol code)) }
+    ensures { OnOk result (into.new.items ≡ into.old.items ++ text_of_tokens (symbol code)) }
 {
     into.extend_from_slice(symbol_text(code))?;
     if code == SEMICOLON {
@@ -38,7 +38,7 @@ pub(crate) fn put_symbol(into: &mut Vec<u8>, code: u8) -> Result<(), NoMemory>
 }
 
 pub(crate) fn put_id(into: &mut Vec<u8>, text: &[u8]) -> Result<(), NoMemory>
-    ensures { OnOk result (into.new.items ≡ into.old.items ++ text_of (id text.now)) }
+    ensures { OnOk result (into.new.items ≡ into.old.items ++ text_of_tokens (id text.now)) }
 {
     into.extend_from_slice(text)?;
     into.push(b' ')?;
@@ -47,7 +47,7 @@ pub(crate) fn put_id(into: &mut Vec<u8>, text: &[u8]) -> Result<(), NoMemory>
 
 // A number may be greater than one in a source, where hours were carried.
 pub(crate) fn put_value(into: &mut Vec<u8>, value: u128) -> Result<(), NoMemory>
-    ensures { OnOk result (into.new.items ≡ into.old.items ++ text_of (what.Number value ∷ [])) }
+    ensures { OnOk result (into.new.items ≡ into.old.items ++ text_of_tokens (what.Number value ∷ [])) }
 {
     put_digits(into, value)?;
     into.push(b' ')?;
@@ -56,7 +56,7 @@ pub(crate) fn put_value(into: &mut Vec<u8>, value: u128) -> Result<(), NoMemory>
 
 pub(crate) fn put_decimal(into: &mut Vec<u8>, whole: u128, thousandths: u32) -> Result<(), NoMemory>
     ensures { OnOk result
-        (into.new.items ≡ into.old.items ++ text_of (what.Decimal whole thousandths ∷ [])) }
+        (into.new.items ≡ into.old.items ++ text_of_tokens (what.Decimal whole thousandths ∷ [])) }
 {
     put_digits(into, whole)?;
     into.push(b'.')?;
@@ -67,7 +67,7 @@ pub(crate) fn put_decimal(into: &mut Vec<u8>, whole: u128, thousandths: u32) -> 
 
 pub(crate) fn put_clock(into: &mut Vec<u8>, milliseconds: u32) -> Result<(), NoMemory>
     ensures { OnOk result
-        (into.new.items ≡ into.old.items ++ text_of (what.Clock milliseconds ∷ [])) }
+        (into.new.items ≡ into.old.items ++ text_of_tokens (what.Clock milliseconds ∷ [])) }
 {
     put_two(into, milliseconds / 3_600_000)?;
     into.push(b':')?;
@@ -81,7 +81,7 @@ pub(crate) fn put_clock(into: &mut Vec<u8>, milliseconds: u32) -> Result<(), NoM
 
 pub(crate) fn put_bits(into: &mut Vec<u8>, len: u8, value: u64) -> Result<(), NoMemory>
     ensures { OnOk result
-        (into.new.items ≡ into.old.items ++ text_of (what.Bits len value ∷ [])) }
+        (into.new.items ≡ into.old.items ++ text_of_tokens (what.Bits len value ∷ [])) }
 {
     into.push(b'\'')?;
     put_binary(into, len, value)?;
@@ -92,7 +92,7 @@ pub(crate) fn put_bits(into: &mut Vec<u8>, len: u8, value: u64) -> Result<(), No
 
 pub(crate) fn put_text(into: &mut Vec<u8>, text: &ArrayVec<u8, 255>) -> Result<(), NoMemory>
     ensures { OnOk result
-        (into.new.items ≡ into.old.items ++ text_of (what.Text text.now ∷ [])) }
+        (into.new.items ≡ into.old.items ++ text_of_tokens (what.Text text.now ∷ [])) }
 {
     into.push(b'\'')?;
     put_doubled(into, text.as_slice())?;

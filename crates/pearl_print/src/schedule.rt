@@ -4,7 +4,7 @@
 ghost use Rattle.std.specs.Prelude.{◌≡◌, ◌<◌, ◌++◌, OnOk};
 ghost use Rattle.pearl_tables.specs.Words.{code_count};
 ghost use Rattle.pearl_print.specs.Lists.{maybe};
-ghost use Rattle.pearl_print.specs.Spelled.{text_of};
+ghost use Rattle.pearl_print.specs.Spelled.{text_of_tokens};
 ghost use Rattle.pearl_print.specs.Schedules.{after_tokens, period_end_tokens, period_tokens, start_tokens, once_tokens};
 
 use crate::expression::put_expr;
@@ -17,7 +17,7 @@ use std::alloc::AllocError as NoMemory;
 
 pub(crate) fn put_after(into: &mut Vec<u8>, code: u8, expr: &Expr) -> Result<(), NoMemory>
     requires { code < code_count }
-    ensures { OnOk result (into.new.items ≡ into.old.items ++ text_of (after_tokens code expr.now)) }
+    ensures { OnOk result (into.new.items ≡ into.old.items ++ text_of_tokens (after_tokens code expr.now)) }
 {
     put_word(into, code)?;
     put_expr(into, expr)?;
@@ -31,7 +31,7 @@ pub(crate) fn put_maybe_after(
 ) -> Result<(), NoMemory>
     requires { code < code_count }
     ensures { OnOk result
-        (into.new.items ≡ into.old.items ++ text_of (maybe (after_tokens code) expr.now)) }
+        (into.new.items ≡ into.old.items ++ text_of_tokens (maybe (after_tokens code) expr.now)) }
 {
     if let Some(expr) = expr {
         put_after(into, code, expr)?;

@@ -4,12 +4,12 @@
 ghost use Rattle.std.specs.Prelude.{◌≡◌, ◌++◌, OnOk};
 ghost use Rattle.pearl_tree.specs.Types.{sort_word};
 ghost use Rattle.pearl_print.specs.Lists.{listed};
-ghost use Rattle.pearl_print.specs.Spelled.{text_of};
+ghost use Rattle.pearl_print.specs.Spelled.{text_of_tokens};
 ghost use Rattle.pearl_print.specs.Types.{names_tokens, int_tokens, bound_tokens, bounds_tokens, basic_tokens, typing_tokens, struct_tokens, field_tokens};
 
 use crate::lists::{Part, put_bracketed, put_bracketed_number, put_maybe_bracketed};
 use crate::put::{put_symbol, put_word};
-use crate::symbol::{COLON, COMMA, LEFT_SQUARE, MINUS, RIGHT_SQUARE};
+use pearl_tables::symbol::{COLON, COMMA, LEFT_SQUARE, MINUS, RIGHT_SQUARE};
 use pearl_tables::word_code::{BIT, CHAR, CLOCK, DURATION, FIXED, STRUCT};
 use pearl_tree::name::Names;
 use pearl_tree::parts::Parts;
@@ -17,7 +17,7 @@ use pearl_tree::typing::{Basic, Bound, Field, Int, Sort, Typing};
 use std::alloc::AllocError as NoMemory;
 
 pub(crate) fn put_names(into: &mut Vec<u8>, names: &Names) -> Result<(), NoMemory>
-    ensures { OnOk result (into.new.items ≡ into.old.items ++ text_of (names_tokens names.now)) }
+    ensures { OnOk result (into.new.items ≡ into.old.items ++ text_of_tokens (names_tokens names.now)) }
 {
     match names {
         Names::One(name) => name.put(into),
@@ -26,7 +26,7 @@ pub(crate) fn put_names(into: &mut Vec<u8>, names: &Names) -> Result<(), NoMemor
 }
 
 fn put_int(into: &mut Vec<u8>, int: &Int) -> Result<(), NoMemory>
-    ensures { OnOk result (into.new.items ≡ into.old.items ++ text_of (int_tokens int.now)) }
+    ensures { OnOk result (into.new.items ≡ into.old.items ++ text_of_tokens (int_tokens int.now)) }
 {
     if int.minus {
         put_symbol(into, MINUS)?;
@@ -49,7 +49,7 @@ impl Part for Bound {
 }
 
 pub(crate) fn put_bounds(into: &mut Vec<u8>, bounds: &[Bound]) -> Result<(), NoMemory>
-    ensures { OnOk result (into.new.items ≡ into.old.items ++ text_of (bounds_tokens bounds.now)) }
+    ensures { OnOk result (into.new.items ≡ into.old.items ++ text_of_tokens (bounds_tokens bounds.now)) }
 {
     put_maybe_bracketed(into, bounds)
 }
@@ -65,7 +65,7 @@ pub(crate) fn sort_word(sort: Sort) -> u8
 }
 
 pub(crate) fn put_basic(into: &mut Vec<u8>, basic: &Basic) -> Result<(), NoMemory>
-    ensures { OnOk result (into.new.items ≡ into.old.items ++ text_of (basic_tokens basic.now)) }
+    ensures { OnOk result (into.new.items ≡ into.old.items ++ text_of_tokens (basic_tokens basic.now)) }
 {
     match basic {
         Basic::Sized { sort, number, .. } => {
@@ -82,7 +82,7 @@ pub(crate) fn put_basic(into: &mut Vec<u8>, basic: &Basic) -> Result<(), NoMemor
 
 #[cycle(typing)]
 pub(crate) fn put_typing(into: &mut Vec<u8>, typing: &Typing) -> Result<(), NoMemory>
-    ensures { OnOk result (into.new.items ≡ into.old.items ++ text_of (typing_tokens typing.now)) }
+    ensures { OnOk result (into.new.items ≡ into.old.items ++ text_of_tokens (typing_tokens typing.now)) }
 {
     match typing {
         Typing::Basic(basic) => put_basic(into, basic),
@@ -93,7 +93,7 @@ pub(crate) fn put_typing(into: &mut Vec<u8>, typing: &Typing) -> Result<(), NoMe
 
 #[cycle(typing)]
 fn put_struct(into: &mut Vec<u8>, fields: &Parts<Field>) -> Result<(), NoMemory>
-    ensures { OnOk result (into.new.items ≡ into.old.items ++ text_of (struct_tokens fields.now.items.items)) }
+    ensures { OnOk result (into.new.items ≡ into.old.items ++ text_of_tokens (struct_tokens fields.now.items.items)) }
 {
     put_word(into, STRUCT)?;
     put_symbol(into, LEFT_SQUARE)?;
@@ -104,7 +104,7 @@ fn put_struct(into: &mut Vec<u8>, fields: &Parts<Field>) -> Result<(), NoMemory>
 
 #[cycle(typing)]
 fn put_fields(into: &mut Vec<u8>, fields: &[Field]) -> Result<(), NoMemory>
-    ensures { OnOk result (into.new.items ≡ into.old.items ++ text_of (listed field_tokens fields.now)) }
+    ensures { OnOk result (into.new.items ≡ into.old.items ++ text_of_tokens (listed field_tokens fields.now)) }
 {
     if let [first, rest @ ..] = fields {
         put_field(into, first)?;
@@ -118,7 +118,7 @@ fn put_fields(into: &mut Vec<u8>, fields: &[Field]) -> Result<(), NoMemory>
 
 #[cycle(typing)]
 fn put_field(into: &mut Vec<u8>, field: &Field) -> Result<(), NoMemory>
-    ensures { OnOk result (into.new.items ≡ into.old.items ++ text_of (field_tokens field.now)) }
+    ensures { OnOk result (into.new.items ≡ into.old.items ++ text_of_tokens (field_tokens field.now)) }
 {
     put_names(into, &field.names)?;
     put_bounds(into, field.bounds.as_slice())?;

@@ -14,7 +14,7 @@ use Rattle.pearl_run.specs.Seen.{Seen, IsAt, Goes}
 use Rattle.pearl_top.specs.JournalDue.{opening_lines}
 use Rattle.pearl_top.specs.Transcript.{Close, Closed, Cut, IsTranscript}
 use Rattle.pearl_top.specs.Replay.{start_of, Ran, Tells}
-use Rattle.pearl_top.proofs.ReplayLaws.{append_nil}
+use Rattle.pearl_top.proofs.TakenLaws.{append_nil}
 use Rattle.pearl_top.proofs.TranscriptLaws.{lines_of-append, machine_closing, closed_text, cut_text, HasRest, front_text}
 
 -- the state of the run at which the machine stands when its entries are used up

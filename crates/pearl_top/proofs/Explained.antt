@@ -3,7 +3,7 @@ use Rattle.std.proofs.Common.{◌≡◌, ◌<◌, ℕ, List, [], ◌∷◌, ◌+
 use Rattle.std.proofs.lemmas.List.{take_all}
 use Rattle.std.proofs.Math.Seq.{take-append_seam}
 use Rattle.pearl_io.specs.Outside.{Files, content}
-use Rattle.pearl_top.specs.Outcome.{MayHave}
+use Rattle.pearl_top.specs.Reading.{MayHave}
 
 -- the bytes held, where they are told, and else a guess
 pub explained : Option Files → List ℕ → List ℕ → List ℕ

@@ -9,10 +9,8 @@ pub mod DueLaws
 pub mod Endings
 pub mod LineLaws
 pub mod ReplayEnds
-pub mod RunLaws
 pub mod WordLaws
 pub mod Completeness
 pub mod AlikeLaws
 pub mod OneOutcome
-pub mod Settled
 pub mod Explained

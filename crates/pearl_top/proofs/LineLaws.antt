@@ -1,6 +1,7 @@
 -- One line of a journal after another.
+use Rattle.std.specs.Prelude.{Result, Ok, Err, OnOk, IfErr}
 use Rattle.std.proofs.Common.{◌≡◌, ℕ, ◌+◌, List, [], ◌∷◌, ◌++◌, Option, Some, None, refl, ap, sym, ◌∙◌, subst, append_assoc, ◌<◌, ◌≤◌, ◌⊎◌, inl, inr, arith, length}
-use Rattle.pearl_io.specs.Outside.{Takes, TakesFront, Rose}
+use Rattle.pearl_io.specs.Outside.{Takes, TakesFront}
 use Rattle.pearl_io.proofs.Pieces.{takes_more, takes_front_more}
 use Rattle.pearl_rules.specs.declared.entry.Entry.{Entry}
 use Rattle.pearl_rules.specs.declared.setup.Setup.{Setup}
@@ -9,21 +10,15 @@ use Rattle.pearl_script.specs.Lines.{lines_of}
 use Rattle.pearl_run.specs.Seen.{Seen, Handles}
 use Rattle.pearl_run.specs.Told.{IsCutOff}
 use Rattle.pearl_top.specs.declared.journal.Line.TheVariants.{Blank, Item, Wrong}
-use Rattle.pearl_top.specs.declared.replay.Part.{Part}
-use Rattle.pearl_top.specs.declared.replay.Part.TheVariants.{Whole, TooLong, Fault}
-use Rattle.pearl_top.specs.declared.replay.Halt.{Halt}
-use Rattle.pearl_top.specs.declared.replay.Halt.TheVariants as halts
-use Rattle.pearl_top.specs.Halts.{IsLineHalt, IsLinesHalt}
+use Rattle.pearl_top.specs.declared.failure.Failure.{Failure}
+use Rattle.pearl_top.specs.declared.failure.Failure.TheVariants as failure
+use Rattle.pearl_top.specs.declared.replay.Lines.{Lines}
+use Rattle.pearl_top.specs.declared.replay.Lines.TheVariants as kinds
 use Rattle.pearl_top.specs.Journal.{All, Bad, Entries, entries_from, meaning, more_entries, journal_lines, ended_lines}
-use Rattle.pearl_top.specs.Parts.{part_lines}
-use Rattle.pearl_top.specs.Replay.{with_front, LineDone, LineBroken, LinesDone, LinesBroken, Progress}
-use Rattle.pearl_top.proofs.ReplayLaws.{append_nil, advances-none, advances-then, advances-entry, breaks-then, breaks-entry, cut_off_front}
+use Rattle.pearl_top.specs.Replay.{lines_in, IsLineFailure, IsLinesFailure, with_front, LineDone, LineBroken, LinesDone, LinesBroken, Progress}
+use Rattle.pearl_top.proofs.ReplayLaws.{advances-none, advances-then, advances-entry, breaks-then, breaks-entry, cut_off_front}
+use Rattle.pearl_top.proofs.TakenLaws.{append_nil, takes_none}
 use Rattle.pearl_top.proofs.TranscriptLaws.{lines_of-append}
-
--- nothing was taken
-pub takes_none : (old : Option (List ℕ)) → Takes old old []
-takes_none None = refl
-takes_none (Some bytes) = ap Some (sym (append_nil bytes))
 
 -- a line that is skipped
 pub line_blank : (setup : Setup) (line : ℕ) (text : List ℕ) (seen : Seen) (old : Option (List ℕ)) → Blank ≡ meaning text → LineDone setup line text seen seen old old
@@ -94,15 +89,15 @@ progress_all setup lines count seen after old new so_far = record {
 
 -- the next line is refused
 pub progress_bad : (setup : Setup) (lines : List (List ℕ)) (count code : ℕ) (text : List ℕ) (left : List (List ℕ)) (seen after : Seen) (old between new : Option (List ℕ)) →
-    Progress setup lines count (text ∷ left) seen after old between → meaning text ≡ Wrong code → Takes between new [] →
+    Progress setup lines count (text ∷ left) seen after old between → meaning text ≡ Wrong code → new ≡ between →
     LinesDone setup lines (Bad (count + 1) code) seen after old new
-progress_bad setup lines count code text left seen after old between new so_far wrong taken = record {
+progress_bad setup lines count code text left seen after old between new so_far wrong same = record {
   es = so_far.es;
   told = so_far.told;
   read = so_far.read ∙ ap (λ means. with_front so_far.es (more_entries means (count + 1) (entries_from (count + 1) left))) wrong
       ∙ ap (λ accepted. record { accepted = accepted; ending = Bad (count + 1) code }) (append_nil so_far.es);
   advances = so_far.advances;
-  taken = subst (Takes old new) (append_nil (lines_of setup so_far.told)) (takes_more old between new (lines_of setup so_far.told) [] so_far.taken taken);
+  taken = subst (λ n. Takes old n (lines_of setup so_far.told)) (sym same) so_far.taken;
 }
 
 -- the output of the next line was cut off
@@ -119,46 +114,39 @@ progress_broken setup lines count text left seen mid old between new so_far brok
           (takes_front_more old between new (lines_of setup so_far.told) (lines_of setup broken.told) so_far.taken broken.taken);
     }
 
--- a first line that is ended is the first of every part
-pub part_more : (part : Part) (bytes text after : List ℕ) → journal_lines bytes ≡ text ∷ journal_lines after → ended_lines bytes ≡ text ∷ ended_lines after →
-    part_lines part bytes ≡ text ∷ part_lines part after
-part_more Whole bytes text after whole ended = whole
-part_more TooLong bytes text after whole ended = ended
-part_more Fault bytes text after whole ended = ended
+-- a first line that is ended is one of the lines that count
+next_line : (lines : Lines) (bytes text after : List ℕ) → journal_lines bytes ≡ text ∷ journal_lines after → ended_lines bytes ≡ text ∷ ended_lines after →
+    lines_in lines bytes ≡ text ∷ lines_in lines after
+next_line kinds.All bytes text after whole ended = whole
+next_line kinds.Ended bytes text after whole ended = ended
 
--- the first line of a part, where one is ended
-pub progress_next : (setup : Setup) (part : Part) (journal bytes text after : List ℕ) (count : ℕ) (seen mid : Seen) (old between : Option (List ℕ)) →
+-- the next line, where one is ended
+pub progress_next : (setup : Setup) (lines : Lines) (journal bytes text after : List ℕ) (count : ℕ) (seen mid : Seen) (old between : Option (List ℕ)) →
     (journal_lines bytes ≡ text ∷ journal_lines after) × (ended_lines bytes ≡ text ∷ ended_lines after) × (length after < length bytes) →
-    Progress setup (part_lines part journal) count (part_lines part bytes) seen mid old between →
-    Progress setup (part_lines part journal) count (text ∷ part_lines part after) seen mid old between
-progress_next setup part journal bytes text after count seen mid old between cut so_far =
-    subst (λ left. Progress setup (part_lines part journal) count left seen mid old between) (part_more part bytes text after cut.0 cut.1) so_far
+    Progress setup (lines_in lines journal) count (lines_in lines bytes) seen mid old between →
+    Progress setup (lines_in lines journal) count (text ∷ lines_in lines after) seen mid old between
+progress_next setup lines journal bytes text after count seen mid old between cut so_far =
+    subst (λ left. Progress setup (lines_in lines journal) count left seen mid old between) (next_line lines bytes text after cut.0 cut.1) so_far
 
--- a line that stops early stops all lines
-pub halted : (setup : Setup) (lines : List (List ℕ)) (count : ℕ) (text : List ℕ) (left : List (List ℕ)) (seen mid after : Seen) (old between new : Option (List ℕ))
-    (halt : Halt) (cause wider : Type 0) → (cause → wider) → seen.object.setup ≡ setup → mid.object.setup ≡ setup →
-    Progress setup lines count (text ∷ left) seen mid old between → IsLineHalt halt (count + 1) text mid after between new cause → IsLinesHalt halt lines seen after old new wider
-halted setup lines count text left seen mid after old between new (halts.Bad line code) cause wider widen same_seen same_mid so_far stop =
-    subst (λ s. LinesDone s lines (Bad line code) seen after old new) (sym same_seen)
-    (subst (λ n. LinesDone setup lines (Bad n code) seen after old new) (sym stop.0)
-    (subst (λ at. LinesDone setup lines (Bad (count + 1) code) seen at old new) (sym stop.2)
-    (progress_bad setup lines count code text left seen mid old between new so_far stop.1 stop.3)))
-halted setup lines count text left seen mid after old between new halts.WriteFault cause wider widen same_seen same_mid so_far stop = (
+-- a line that fails makes all lines fail
+pub lines_fail : (setup : Setup) (lines : List (List ℕ)) (count : ℕ) (text : List ℕ) (left : List (List ℕ)) (seen mid after : Seen) (old between new : Option (List ℕ))
+    (why : Failure) (failed wider : Type 0) → (failed → wider) → seen.object.setup ≡ setup → mid.object.setup ≡ setup →
+    Progress setup lines count (text ∷ left) seen mid old between → IsLineFailure why (count + 1) text mid after between new failed →
+    IsLinesFailure why lines seen after old new wider
+lines_fail setup lines count text left seen mid after old between new (failure.Refused refusal) failed wider widen same_seen same_mid so_far fails = (
+  count + 1,
+  fails.0,
+  fails.1,
+  subst (λ s. LinesDone s lines (Bad (count + 1) fails.0) seen after old new) (sym same_seen)
+      (subst (λ at. LinesDone setup lines (Bad (count + 1) fails.0) seen at old new) (sym fails.3)
+      (progress_bad setup lines count fails.0 text left seen mid old between new so_far fails.2 fails.4)),
+)
+lines_fail setup lines count text left seen mid after old between new failure.WriteFault failed wider widen same_seen same_mid so_far fails = (
+  widen fails.0,
   subst (λ s. LinesBroken s lines seen old new) (sym same_seen)
       (progress_broken setup lines count text left seen mid old between new so_far
-      (subst (λ s. LineBroken s (count + 1) text mid between new) same_mid stop.0)),
-  widen stop.1,
+      (subst (λ s. LineBroken s (count + 1) text mid between new) same_mid fails.1)),
 )
-
--- a count that rose later rose from earlier on
-pub rose_from : (a b c : ℕ) (full : Type 0) → a ≤ b → (Rose b c ⊎ full) → Rose a c ⊎ full
-rose_from a b c full h (inl (inl less)) = inl (inl (omega arith))
-rose_from a b c full h (inl (inr last)) = inl (inr last)
-rose_from a b c full h (inr is_full) = inr is_full
-
--- the last line of a whole journal, which no byte 10 ends
-pub whole_last : (part : Part) (bytes : List ℕ) → part ≡ Whole → journal_lines bytes ≡ bytes ∷ [] → part_lines part bytes ≡ bytes ∷ []
-whole_last part bytes e h = subst (λ q. part_lines q bytes ≡ bytes ∷ []) (sym e) h
 
 -- one more line, by the tables of the machine as it stands
 pub progress_more_at : (setup : Setup) (lines : List (List ℕ)) (count : ℕ) (text : List ℕ) (left : List (List ℕ)) (seen mid after : Seen)
@@ -169,10 +157,41 @@ progress_more_at setup lines count text left seen mid after old between new same
     progress_more setup lines count text left seen mid after old between new so_far
     (subst (λ s. LineDone s (count + 1) text mid after between new) same done)
 
--- the last line of a whole journal
-pub progress_last : (setup : Setup) (part : Part) (journal bytes : List ℕ) (count : ℕ) (seen mid : Seen) (old between : Option (List ℕ)) → part ≡ Whole →
+all_lines : (lines : Lines) (bytes : List ℕ) → lines ≡ kinds.All → journal_lines bytes ≡ bytes ∷ [] → lines_in lines bytes ≡ bytes ∷ []
+all_lines lines bytes e h = subst (λ q. lines_in q bytes ≡ bytes ∷ []) (sym e) h
+
+ended_only : (lines : Lines) (bytes : List ℕ) → lines ≡ kinds.Ended → ended_lines bytes ≡ [] → lines_in lines bytes ≡ []
+ended_only lines bytes e h = subst (λ q. lines_in q bytes ≡ []) (sym e) h
+
+-- the last line, which no byte 10 ends
+pub progress_last : (setup : Setup) (lines : Lines) (journal bytes : List ℕ) (count : ℕ) (seen mid : Seen) (old between : Option (List ℕ)) → lines ≡ kinds.All →
     (journal_lines bytes ≡ bytes ∷ []) × (ended_lines bytes ≡ []) →
-    Progress setup (part_lines part journal) count (part_lines part bytes) seen mid old between →
-    Progress setup (part_lines part journal) count (bytes ∷ []) seen mid old between
-progress_last setup part journal bytes count seen mid old between whole none so_far =
-    subst (λ left. Progress setup (part_lines part journal) count left seen mid old between) (whole_last part bytes whole none.0) so_far
+    Progress setup (lines_in lines journal) count (lines_in lines bytes) seen mid old between →
+    Progress setup (lines_in lines journal) count (bytes ∷ []) seen mid old between
+progress_last setup lines journal bytes count seen mid old between all none so_far =
+    subst (λ left. Progress setup (lines_in lines journal) count left seen mid old between) (all_lines lines bytes all none.0) so_far
+
+-- no line is left that counts
+pub progress_ended : (setup : Setup) (lines : Lines) (journal bytes : List ℕ) (count : ℕ) (seen mid : Seen) (old between : Option (List ℕ)) → lines ≡ kinds.Ended →
+    (journal_lines bytes ≡ bytes ∷ []) × (ended_lines bytes ≡ []) →
+    Progress setup (lines_in lines journal) count (lines_in lines bytes) seen mid old between → LinesDone setup (lines_in lines journal) All seen mid old between
+progress_ended setup lines journal bytes count seen mid old between ended none so_far =
+    progress_all setup (lines_in lines journal) count seen mid old between
+    (subst (λ left. Progress setup (lines_in lines journal) count left seen mid old between) (ended_only lines bytes ended none.1) so_far)
+
+-- the last line was carried out, where it was
+pub last_done : (r : Result (Unit {0}) Failure) (setup : Setup) (lines : List (List ℕ)) (count : ℕ) (text : List ℕ) (seen mid after : Seen)
+    (old between new : Option (List ℕ)) → mid.object.setup ≡ setup → Progress setup lines count (text ∷ []) seen mid old between →
+    OnOk r (LineDone mid.object.setup (count + 1) text mid after between new) → OnOk r (LinesDone setup lines All seen after old new)
+last_done (Ok is) setup lines count text seen mid after old between new same so_far done =
+    progress_all setup lines (count + 1) seen after old new (progress_more_at setup lines count text [] seen mid after old between new same so_far done)
+last_done (Err why) setup lines count text seen mid after old between new same so_far done = tt
+
+-- and failed, where it failed
+pub last_fails : (r : Result (Unit {0}) Failure) (setup : Setup) (lines : List (List ℕ)) (count : ℕ) (text : List ℕ) (seen mid after : Seen)
+    (old between new : Option (List ℕ)) (failed wider : Type 0) → (failed → wider) → seen.object.setup ≡ setup → mid.object.setup ≡ setup →
+    Progress setup lines count (text ∷ []) seen mid old between → IfErr r (λ why. IsLineFailure why (count + 1) text mid after between new failed) →
+    IfErr r (λ why. IsLinesFailure why lines seen after old new wider)
+last_fails (Ok is) setup lines count text seen mid after old between new failed wider widen same_seen same_mid so_far fails = tt
+last_fails (Err why) setup lines count text seen mid after old between new failed wider widen same_seen same_mid so_far fails =
+    lines_fail setup lines count text [] seen mid after old between new why failed wider widen same_seen same_mid so_far fails

@@ -1,6 +1,5 @@
 -- A command and the files held have at most one status and one list of bytes.
 use Rattle.std.proofs.Common.{◌≡◌, ◌≢◌, ◌<◌, ◌⊎◌, ◌+◌, ℕ, List, Bool, true, false, nat_le, length, refl, ap, sym, ◌∙◌, subst, inl, inr, arith}
-use Rattle.pearl_io.specs.Outside.{Files, content}
 use Rattle.pearl_prog.specs.declared.program.Program.{Program}
 use Rattle.pearl_first.specs.declared.fault.FrontFault.{FrontFault}
 use Rattle.pearl_first.specs.declared.fault.FrontFault.TheVariants as fault
@@ -10,11 +9,13 @@ use Rattle.pearl_script.specs.declared.refusal.Refusal.TheVariants as refusal
 use Rattle.pearl_script.specs.Refusals.{refusal_line}
 use Rattle.pearl_top.specs.declared.status.Status.{Status}
 use Rattle.pearl_top.specs.declared.status.Status.TheVariants.{Done, Usage, Refused, BadObject, BadJournal, ReadFault, WriteFault, NoMemory, TooLong}
-use Rattle.pearl_top.specs.Commands.{Run, Print, NoCommand, source_limit}
+use Rattle.pearl_top.specs.declared.limits.TheConstants.{SOURCE_LIMIT, JOURNAL_LIMIT}
+use Rattle.pearl_top.specs.Commands.{Run, Print, NoCommand}
+use Rattle.pearl_top.specs.Failures.{front_refusal}
 use Rattle.pearl_top.specs.Journal.{Ending, Entries, All, Bad}
-use Rattle.pearl_top.specs.JournalDue.{IsRun, JournalDue, handled, journal_limit}
+use Rattle.pearl_top.specs.JournalDue.{IsRun, JournalDue, handled}
 use Rattle.pearl_top.specs.Laws.{AreAlike, HasOneOutcome}
-use Rattle.pearl_top.specs.Outcome.{Due, IsRefused, IsSource, SourceAndJournal, SourceDue, fault_line}
+use Rattle.pearl_top.specs.Outcome.{Due, IsRefused, IsSource, RunDue, SourceDue}
 use Rattle.pearl_top.specs.Transcript.{Close, Closed, Cut, IsTranscript}
 use Rattle.pearl_top.proofs.AlikeLaws.{one_meaning, transcript_same}
 use Rattle.pearl_top.proofs.Completeness.{not_refused}
@@ -32,11 +33,11 @@ status_of (Bad line code) fits = BadJournal
 -- and what closes the transcript
 abbrev close_of : Ending → Bool → Close
 close_of All true = Closed
-close_of All false = Cut (refusal.TooLong (journal_limit + 1))
+close_of All false = Cut (refusal.TooLong (JOURNAL_LIMIT + 1))
 close_of (Bad line code) fits = Cut (refusal.Journal line code)
 
 abbrev fits_in : List ℕ → Bool
-fits_in journal = nat_le (length journal) journal_limit
+fits_in journal = nat_le (length journal) JOURNAL_LIMIT
 
 -- what comes where nothing outside fails and memory is there
 record Comes (p : Program) (journal : List ℕ) (status : Status) (bytes : List ℕ) : Type 0 where
@@ -55,7 +56,7 @@ comes_all p journal bytes fits e run = record {
 comes : (p : Program) (journal : List ℕ) (status : Status) (bytes : List ℕ) → status ≢ NoMemory → JournalDue p journal ⊥ status bytes →
     Comes p journal status bytes
 comes p journal Done bytes known due =
-    comes_all p journal bytes true (le_true (length journal) journal_limit due.0)
+    comes_all p journal bytes true (le_true (length journal) JOURNAL_LIMIT due.0)
     (subst (λ lines. IsRun p lines All Closed bytes) (sym (handled-whole journal due.0)) due.1)
 comes p journal Usage bytes known due = absurd due
 comes p journal Refused bytes known due = absurd due
@@ -64,7 +65,7 @@ comes p journal BadJournal bytes known due = record { ending = Bad due.line due.
 comes p journal ReadFault bytes known due = absurd due.0
 comes p journal WriteFault bytes known due = absurd due
 comes p journal NoMemory bytes known due = absurd (known refl)
-comes p journal TooLong bytes known due = comes_all p journal bytes false (le_false (length journal) journal_limit due.0) due.1
+comes p journal TooLong bytes known due = comes_all p journal bytes false (le_false (length journal) JOURNAL_LIMIT due.0) due.1
 
 -- programs that are alike bring one thing about over one journal
 comes_once : (p q : Program) (journal : List ℕ) (status other : Status) (bytes others : List ℕ) → AreAlike p q → Comes p journal status bytes →
@@ -96,11 +97,11 @@ same_fault (fault.Source place rule) (fault.Source other also) known too same = 
 refused_once : (source bytes others : List ℕ) → IsRefused source bytes → IsRefused source others → bytes ≡ others
 refused_once source bytes others one two =
     let same : one.cause ≡ two.cause = same_fault one.cause two.cause one.known two.known (one_fault source one.cause two.cause one.refused two.refused) in
-    one.text ∙ ap (λ cause. refusal_line (fault_line cause)) same ∙ sym two.text
+    one.text ∙ ap (λ cause. refusal_line (front_refusal cause)) same ∙ sym two.text
 
 -- a source that is too long
 abbrev IsLong : List ℕ → List ℕ → Type 0
-IsLong source bytes = (source_limit < length source) × (bytes ≡ refusal_line (refusal.TooLong (source_limit + 1)))
+IsLong source bytes = (SOURCE_LIMIT < length source) × (bytes ≡ refusal_line (refusal.TooLong (SOURCE_LIMIT + 1)))
 
 -- the source is refused, or is too long, or is accepted and brings something about over the journal
 abbrev Ended : List ℕ → List ℕ → Status → List ℕ → Type 0
@@ -120,7 +121,7 @@ ended_at_source source journal WriteFault bytes known due = absurd due
 ended_at_source source journal NoMemory bytes known due = absurd (known refl)
 ended_at_source source journal TooLong bytes known due = inr (inl (refl, due))
 
-ended : (source journal : List ℕ) (status : Status) (bytes : List ℕ) → status ≢ NoMemory → SourceAndJournal source journal ⊥ ⊥ status bytes →
+ended : (source journal : List ℕ) (status : Status) (bytes : List ℕ) → status ≢ NoMemory → RunDue source journal ⊥ ⊥ status bytes →
     Ended source journal status bytes
 ended source journal status bytes known (inl due) = ended_at_source source journal status bytes known due
 ended source journal status bytes known (inr (p, is_source, due)) = inr (inr (p, is_source, comes p journal status bytes known due))
@@ -146,25 +147,11 @@ ended_once source journal status other bytes others (inr (inr (p, is_source, com
 
 -- FOR ALL WORDS
 
-pub no_command : (files : Files) (rose : List ℕ → Type 0) (status : Status) (bytes : List ℕ) → Due NoCommand files rose status bytes →
-    (status ≡ Usage) × (bytes ≡ refusal_line refusal.Usage)
-no_command files rose Done bytes due = absurd due
-no_command files rose Usage bytes due = (refl, due)
-no_command files rose Refused bytes due = absurd due
-no_command files rose BadObject bytes due = absurd due
-no_command files rose BadJournal bytes due = absurd due
-no_command files rose ReadFault bytes due = absurd due
-no_command files rose WriteFault bytes due = absurd due
-no_command files rose NoMemory bytes due = absurd due
-no_command files rose TooLong bytes due = absurd due
-
 pub one_outcome : HasOneOutcome
-one_outcome NoCommand files status other bytes others is its =
-    let one = no_command files (λ name. ⊥) status bytes is.due in
-    let two = no_command files (λ name. ⊥) other others its.due in (one.0 ∙ sym two.0, one.1 ∙ sym two.1)
+one_outcome NoCommand files status other bytes others is its = (is.due.0 ∙ sym its.due.0, is.due.1 ∙ sym its.due.1)
 one_outcome (Run source journal) files status other bytes others is its =
-    ended_once (content files source) (content files journal) status other bytes others
-    (ended (content files source) (content files journal) status bytes is.memory is.due)
-    (ended (content files source) (content files journal) other others its.memory its.due)
+    ended_once (files source) (files journal) status other bytes others
+    (ended (files source) (files journal) status bytes is.memory is.due)
+    (ended (files source) (files journal) other others its.memory its.due)
 one_outcome (Print source) files status other bytes others is its =
     print_once source files status other bytes others is.memory its.memory is.due its.due

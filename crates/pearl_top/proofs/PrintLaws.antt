@@ -1,6 +1,5 @@
 -- A source that is printed: what is due for it is determined, and comes to its end where it is spelled.
 use Rattle.std.proofs.Common.{◌≡◌, ◌≢◌, ◌<◌, ◌⊎◌, ◌+◌, ℕ, List, length, refl, ap, sym, ◌∙◌, subst, inl, inr, arith}
-use Rattle.pearl_io.specs.Outside.{Files, content}
 use Rattle.pearl_tree.specs.declared.token.Token.{Token}
 use Rattle.pearl_tree.specs.Modules.{Spells}
 use Rattle.pearl_tree.specs.Stops.{NoneBegins}
@@ -13,7 +12,8 @@ use Rattle.pearl_script.specs.declared.refusal.Refusal.TheVariants as refusal
 use Rattle.pearl_script.specs.Refusals.{refusal_line}
 use Rattle.pearl_top.specs.declared.status.Status.{Status}
 use Rattle.pearl_top.specs.declared.status.Status.TheVariants.{Done, Usage, Refused, BadObject, BadJournal, ReadFault, WriteFault, NoMemory, TooLong}
-use Rattle.pearl_top.specs.Commands.{Print, source_limit}
+use Rattle.pearl_top.specs.declared.limits.TheConstants.{SOURCE_LIMIT}
+use Rattle.pearl_top.specs.Commands.{Print}
 use Rattle.pearl_top.specs.Laws.{AreSame}
 use Rattle.pearl_top.specs.PrintDue.{HasStop, IsPrinted, IsSpelled, IsUnspelled, PrintDue}
 
@@ -48,7 +48,7 @@ unspelled_once source bytes others one two = by one.fault two.fault
 
 -- a source that is too long
 abbrev IsLong : List ℕ → List ℕ → Type 0
-IsLong source bytes = (source_limit < length source) × (bytes ≡ refusal_line (refusal.TooLong (source_limit + 1)))
+IsLong source bytes = (SOURCE_LIMIT < length source) × (bytes ≡ refusal_line (refusal.TooLong (SOURCE_LIMIT + 1)))
 
 -- the source is printed, is refused, or is too long
 abbrev Ended : List ℕ → Status → List ℕ → Type 0
@@ -72,35 +72,35 @@ spelled_or_long source bytes one two = let h = one.within in omega (arith, two.0
 unspelled_or_long : (source bytes others : List ℕ) → IsUnspelled source bytes → IsLong source others → ⊥
 unspelled_or_long source bytes others one two = let h = one.within in omega (arith, two.0)
 
-same_at : (name : List ℕ) (files : Files) (status at : Status) (bytes others : List ℕ) → status ≡ at → AreSame (Print name) files at bytes others →
+same_at : (name : List ℕ) (files : List ℕ → List ℕ) (status at : Status) (bytes others : List ℕ) → status ≡ at → AreSame (Print name) files at bytes others →
     AreSame (Print name) files status bytes others
 same_at name files status at bytes others e same = subst (λ s. AreSame (Print name) files s bytes others) (sym e) same
 
-ended_once : (name : List ℕ) (files : Files) (status other : Status) (bytes others : List ℕ) → Ended (content files name) status bytes →
-    Ended (content files name) other others → (status ≡ other) × AreSame (Print name) files status bytes others
+ended_once : (name : List ℕ) (files : List ℕ → List ℕ) (status other : Status) (bytes others : List ℕ) → Ended (files name) status bytes →
+    Ended (files name) other others → (status ≡ other) × AreSame (Print name) files status bytes others
 ended_once name files status other bytes others (inl (e, printed)) (inl (f, also)) =
-    (e ∙ sym f, same_at name files status Done bytes others e (printed_once (content files name) bytes others printed also))
+    (e ∙ sym f, same_at name files status Done bytes others e (printed_once (files name) bytes others printed also))
 ended_once name files status other bytes others (inl (e, printed)) (inr (inl (f, refused))) =
-    absurd (never_unspelled (content files name) others printed.is refused)
+    absurd (never_unspelled (files name) others printed.is refused)
 ended_once name files status other bytes others (inl (e, printed)) (inr (inr (f, long))) =
-    absurd (spelled_or_long (content files name) others printed.is long)
+    absurd (spelled_or_long (files name) others printed.is long)
 ended_once name files status other bytes others (inr (inl (e, refused))) (inl (f, printed)) =
-    absurd (never_unspelled (content files name) bytes printed.is refused)
+    absurd (never_unspelled (files name) bytes printed.is refused)
 ended_once name files status other bytes others (inr (inl (e, refused))) (inr (inl (f, also))) =
-    (e ∙ sym f, same_at name files status Refused bytes others e (unspelled_once (content files name) bytes others refused also))
+    (e ∙ sym f, same_at name files status Refused bytes others e (unspelled_once (files name) bytes others refused also))
 ended_once name files status other bytes others (inr (inl (e, refused))) (inr (inr (f, long))) =
-    absurd (unspelled_or_long (content files name) bytes others refused long)
+    absurd (unspelled_or_long (files name) bytes others refused long)
 ended_once name files status other bytes others (inr (inr (e, long))) (inl (f, printed)) =
-    absurd (spelled_or_long (content files name) bytes printed.is long)
+    absurd (spelled_or_long (files name) bytes printed.is long)
 ended_once name files status other bytes others (inr (inr (e, long))) (inr (inl (f, refused))) =
-    absurd (unspelled_or_long (content files name) others bytes refused long)
+    absurd (unspelled_or_long (files name) others bytes refused long)
 ended_once name files status other bytes others (inr (inr (e, long))) (inr (inr (f, also))) =
     (e ∙ sym f, same_at name files status TooLong bytes others e (long.1 ∙ sym also.1))
 
 -- what is due for a source is one thing, where nothing outside fails and memory is there
-pub print_once : (name : List ℕ) (files : Files) (status other : Status) (bytes others : List ℕ) → status ≢ NoMemory → other ≢ NoMemory →
-    PrintDue (content files name) ⊥ status bytes → PrintDue (content files name) ⊥ other others →
+pub print_once : (name : List ℕ) (files : List ℕ → List ℕ) (status other : Status) (bytes others : List ℕ) → status ≢ NoMemory → other ≢ NoMemory →
+    PrintDue (files name) ⊥ status bytes → PrintDue (files name) ⊥ other others →
     (status ≡ other) × AreSame (Print name) files status bytes others
 print_once name files status other bytes others known also due too =
-    ended_once name files status other bytes others (ended (content files name) status bytes known due)
-    (ended (content files name) other others also too)
+    ended_once name files status other bytes others (ended (files name) status bytes known due)
+    (ended (files name) other others also too)

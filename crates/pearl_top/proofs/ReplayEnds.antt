@@ -1,11 +1,12 @@
--- How a replay ends, from how its lines ended.
-use Rattle.std.proofs.Common.{◌≡◌, ℕ, List, [], ◌++◌, Option, refl, sym, subst, inl, inr}
+-- How a run over a journal ends, from how its lines ended.
+use Rattle.std.proofs.Common.{◌≡◌, ℕ, List, [], ◌++◌, Option, Err, refl, ap, sym, ◌∙◌, subst, append_assoc}
 use Rattle.pearl_io.specs.Outside.{Takes, TakesFront}
+use Rattle.pearl_io.proofs.Pieces.{takes_more, takes_front_more}
 use Rattle.pearl_rules.specs.declared.entry.Entry.{Entry}
-use Rattle.pearl_rules.specs.Core.{Said}
+use Rattle.pearl_rules.specs.declared.setup.Setup.{Setup}
+use Rattle.pearl_rules.specs.Core.{Said, first_events}
 use Rattle.pearl_rules.specs.Runs.{Machine, machine_after}
 use Rattle.pearl_prog.specs.declared.program.Program.{Program}
-use Rattle.pearl_code.specs.declared.object.Object.{Object}
 use Rattle.pearl_code.specs.Rows.{Stack, engine}
 use Rattle.pearl_gen.specs.Faithful.{IsFaithfulTo}
 use Rattle.pearl_run.specs.Seen.{Seen, IsAt}
@@ -13,127 +14,150 @@ use Rattle.pearl_script.specs.declared.refusal.Refusal.{Refusal}
 use Rattle.pearl_script.specs.declared.refusal.Refusal.TheVariants as refusal
 use Rattle.pearl_script.specs.Lines.{lines_of}
 use Rattle.pearl_script.specs.Refusals.{refusal_line}
-use Rattle.pearl_top.specs.declared.replay.Part.{Part}
-use Rattle.pearl_top.specs.declared.replay.Part.TheVariants.{Whole}
+use Rattle.pearl_top.specs.declared.failure.Failure.{Failure}
+use Rattle.pearl_top.specs.declared.failure.Failure.TheVariants as failure
 use Rattle.pearl_top.specs.declared.status.Status.{Status}
 use Rattle.pearl_top.specs.declared.status.Status.TheVariants as statuses
+use Rattle.pearl_top.specs.Status.{status_of}
 use Rattle.pearl_top.specs.Journal.{Ending, All, Bad, entries}
-use Rattle.pearl_top.specs.JournalDue.{opening_lines}
+use Rattle.pearl_top.specs.JournalDue.{opening_lines, IsRun, JournalDue}
 use Rattle.pearl_top.specs.Transcript.{Close, Closed, Cut, IsTranscript}
-use Rattle.pearl_top.specs.Taken.{Ends, Just}
-use Rattle.pearl_top.specs.Parts.{part_lines, part_status, part_close, PartDue}
-use Rattle.pearl_top.specs.Replay.{start_of, Ran, Advances, LinesDone, LinesBroken}
-use Rattle.pearl_top.specs.Ready.{Ready, ClosingDue}
-use Rattle.pearl_top.proofs.ReplayLaws.{append_nil}
+use Rattle.pearl_top.specs.Taken.{Finishes, Leaves, Stops}
+use Rattle.pearl_top.specs.Replay.{start_of, Ran, LinesDone, LinesBroken, IsLinesFailure}
+use Rattle.pearl_top.specs.Ready.{Ready}
+use Rattle.pearl_top.proofs.DueLaws.{Covers}
 use Rattle.pearl_top.proofs.TranscriptLaws.{machine_closing}
 use Rattle.pearl_top.proofs.Endings.{AtEnd, at_end, closes, cuts, Follows, breaks_off}
-use Rattle.pearl_top.proofs.TakenLaws.{ends_whole, ends_short, ends_after, ends_as}
+use Rattle.pearl_top.proofs.TakenLaws.{append_nil, stops_in, stops_short}
+
+-- the opening lines by the object's tables are those by the program's
+pub opening_as : (p : Program) (setup : Setup) → setup ≡ p.setup → lines_of setup (first_events 0 setup.tasks) ≡ opening_lines p
+opening_as p setup same = ap (λ s. lines_of s (first_events 0 s.tasks)) same
+
+-- a machine of the program has come to the end of these lines, and what was told so far was taken
+pub record Reached (p : Program) (lines : List (List ℕ)) (ending : Ending) (seen : Seen) (old new : Option (List ℕ)) : Type 0 where
+  pub es : List Entry
+  pub told : List (ℕ × Said)
+  pub read : entries lines ≡ record { accepted = es; ending = ending }
+  pub faithful : IsFaithfulTo p seen.object
+  pub ran : Ran seen.object es seen told
+  pub taken : Takes old new (opening_lines p ++ lines_of seen.object.setup told)
+
+pub reached : (p : Program) (lines : List (List ℕ)) (ending : Ending) (seen after : Seen) (old mid new : Option (List ℕ)) → Ready p seen →
+    Takes old mid (opening_lines p) → LinesDone seen.object.setup lines ending seen after mid new → Reached p lines ending after old new
+reached p lines ending seen after old mid new ready opened done =
+    let same : after.object ≡ seen.object = done.advances.object in record {
+      es = done.es;
+      told = done.told;
+      read = done.read;
+      faithful = subst (IsFaithfulTo p) (sym same) ready.faithful;
+      ran = subst (λ o. Ran o done.es after done.told) (sym same) (done.advances.ran seen.object [] [] ready.starts);
+      taken = subst (λ o. Takes old new (opening_lines p ++ lines_of o.setup done.told)) (sym same)
+          (takes_more old mid new (opening_lines p) (lines_of seen.object.setup done.told) opened done.taken);
+    }
+
+-- THE LINES WERE CARRIED OUT
+
+-- the line of a refusal ends the transcript
+pub leaves_cut : (p : Program) (lines : List (List ℕ)) (ending : Ending) (seen : Seen) (old new : Option (List ℕ)) (why : Refusal)
+    (due : Status → List ℕ → Type 0) → Reached p lines ending seen old new →
+    ((bytes : List ℕ) → IsRun p lines ending (Cut why) bytes → due (status_of why) bytes) →
+    Finishes old new (λ bytes. due (status_of why) (bytes ++ refusal_line why))
+leaves_cut p lines ending seen old new why due at is_due =
+    let told : List ℕ = lines_of seen.object.setup at.told in record {
+      bytes = opening_lines p ++ told;
+      is_due = is_due ((opening_lines p ++ told) ++ refusal_line why) (record {
+        es = at.es;
+        read = at.read;
+        written = subst (IsTranscript p at.es (Cut why)) (sym (append_assoc (opening_lines p) told (refusal_line why)))
+            (cuts p seen.object at.es seen at.told why at.faithful at.ran);
+      });
+      taken = at.taken;
+    }
+
+-- the whole transcript, in two parts
+closed_run : (p : Program) (lines : List (List ℕ)) (seen : Seen) (old new : Option (List ℕ)) → (at : Reached p lines All seen old new) →
+    (end : AtEnd seen.object at.es seen at.told) → IsRun p lines All Closed ((opening_lines p ++ lines_of seen.object.setup at.told)
+    ++ machine_closing seen.object.setup (machine_after (engine seen.object) (start_of seen.object at.es) end.steps))
+closed_run p lines seen old new at end = record {
+  es = at.es;
+  read = at.read;
+  written = subst (IsTranscript p at.es Closed) (sym (append_assoc (opening_lines p) (lines_of seen.object.setup at.told) _))
+      (closes p seen.object at.es seen at.told at.faithful end);
+}
 
 -- the tasks' states and the closing line were taken
-pub finish_closed : (p : Program) (o : Object) (es : List Entry) (seen : Seen) (told : List (ℕ × Said)) (part : Part) (old new : Option (List ℕ)) → part ≡ Whole →
-    IsFaithfulTo p o → Ran o es seen told → ((m : Machine Stack) → IsAt seen m → Takes old new (machine_closing o.setup m)) →
-    Ends old new (ClosingDue p o es told part) statuses.Done
-finish_closed p o es seen told part old new whole faithful ran takes =
-    let end : AtEnd o es seen told = at_end o es seen told ran in
-    subst (λ q. Ends old new (ClosingDue p o es told q) statuses.Done) (sym whole)
-    (ends_whole old new (ClosingDue p o es told Whole) statuses.Done (machine_closing o.setup (machine_after (engine o) (start_of o es) end.steps))
-    (λ e. cc) (refl, closes p o es seen told faithful end) (takes (machine_after (engine o) (start_of o es) end.steps) end.stands))
+pub leaves_closed : (p : Program) (lines : List (List ℕ)) (seen : Seen) (old mid new : Option (List ℕ)) (due : Status → List ℕ → Type 0) →
+    Reached p lines All seen old mid → ((m : Machine Stack) → IsAt seen m → Takes mid new (machine_closing seen.object.setup m)) →
+    ((bytes : List ℕ) → IsRun p lines All Closed bytes → due statuses.Done bytes) → Finishes old new (due statuses.Done)
+leaves_closed p lines seen old mid new due at takes is_due =
+    let end : AtEnd seen.object at.es seen at.told = at_end seen.object at.es seen at.told at.ran in
+    let m : Machine Stack = machine_after (engine seen.object) (start_of seen.object at.es) end.steps in
+    let told : List ℕ = opening_lines p ++ lines_of seen.object.setup at.told in record {
+      bytes = told ++ machine_closing seen.object.setup m;
+      is_due = is_due (told ++ machine_closing seen.object.setup m) (closed_run p lines seen old mid at end);
+      taken = takes_more old mid new told (machine_closing seen.object.setup m) at.taken (takes m end.stands);
+    }
 
 -- a front of them was taken
-pub finish_short : (p : Program) (o : Object) (es : List Entry) (seen : Seen) (told : List (ℕ × Said)) (part : Part) (old new : Option (List ℕ)) → part ≡ Whole →
-    IsFaithfulTo p o → Ran o es seen told → ((m : Machine Stack) → IsAt seen m → TakesFront old new (machine_closing o.setup m)) →
-    Ends old new (ClosingDue p o es told part) statuses.WriteFault
-finish_short p o es seen told part old new whole faithful ran takes =
-    let end : AtEnd o es seen told = at_end o es seen told ran in
-    let m : Machine Stack = machine_after (engine o) (start_of o es) end.steps in
-    subst (λ q. Ends old new (ClosingDue p o es told q) statuses.WriteFault) (sym whole)
-    (ends_short old new (ClosingDue p o es told Whole) statuses.Done (machine_closing o.setup m) [] (
-      refl,
-      subst (λ bytes. IsTranscript p es Closed (opening_lines p ++ (lines_of o.setup told ++ bytes))) (sym (append_nil (machine_closing o.setup m)))
-          (closes p o es seen told faithful end),
+pub leaves_unclosed : (p : Program) (lines : List (List ℕ)) (seen : Seen) (old mid new : Option (List ℕ)) (failed : Type 0) (due : Status → List ℕ → Type 0) →
+    failed → Reached p lines All seen old mid → ((m : Machine Stack) → IsAt seen m → TakesFront mid new (machine_closing seen.object.setup m)) →
+    ((bytes : List ℕ) → IsRun p lines All Closed bytes → due statuses.Done bytes) → Leaves old new failed due (Err failure.WriteFault)
+leaves_unclosed p lines seen old mid new failed due cause at takes is_due =
+    let end : AtEnd seen.object at.es seen at.told = at_end seen.object at.es seen at.told at.ran in
+    let m : Machine Stack = machine_after (engine seen.object) (start_of seen.object at.es) end.steps in
+    let told : List ℕ = opening_lines p ++ lines_of seen.object.setup at.told in
+    let closing : List ℕ = machine_closing seen.object.setup m in (
+      cause,
+      stops_in old mid new due statuses.Done told closing []
+          (subst (λ bytes. due statuses.Done (told ++ bytes)) (sym (append_nil closing)) (is_due (told ++ closing) (closed_run p lines seen old mid at end)))
+          at.taken (takes m end.stands),
     )
-    (takes m end.stands))
 
--- the line of a refusal ended it
-pub finish_cut : (p : Program) (o : Object) (es : List Entry) (seen : Seen) (told : List (ℕ × Said)) (part q : Part) (why : Refusal) (old new : Option (List ℕ)) (status : Status) →
-    part ≡ q → part_close q ≡ Cut why → IsFaithfulTo p o → Ran o es seen told →
-    Ends old new (Just (part_status q) (refusal_line why)) status → Ends old new (ClosingDue p o es told part) status
-finish_cut p o es seen told part q why old new status same close faithful ran ends =
-    subst (λ r. Ends old new (ClosingDue p o es told r) status) (sym same)
-    (ends_as old new (Just (part_status q) (refusal_line why)) (ClosingDue p o es told q) status
-    (λ s bytes due. (
-      due.0,
-      subst (λ c. IsTranscript p es c (opening_lines p ++ (lines_of o.setup told ++ bytes))) (sym close)
-          (subst (λ line. IsTranscript p es (Cut why) (opening_lines p ++ (lines_of o.setup told ++ line))) (sym due.1) (cuts p o es seen told why faithful ran)),
-    ))
-    ends)
+-- THE LINES WERE NOT CARRIED OUT
 
--- THE WHOLE REPLAY
+-- a front of the opening lines was taken
+pub leaves_unopened : (p : Program) (journal : List ℕ) (rose failed : Type 0) (old new : Option (List ℕ)) → failed → TakesFront old new (opening_lines p) →
+    Leaves old new failed (JournalDue p journal rose) (Err failure.WriteFault)
+leaves_unopened p journal rose failed old new cause front =
+    (cause, stops_short old new (JournalDue p journal rose) statuses.NoMemory (opening_lines p) (refusal_line refusal.Memory) refl front)
 
-abbrev pub Replayed : Program → Part → List ℕ → Status → List ℕ → Type 0
-Replayed p part journal status bytes = PartDue p part journal status (opening_lines p ++ bytes)
+-- there was no memory for the journal
+pub leaves_unread : (p : Program) (journal : List ℕ) (rose : Type 0) (old new : Option (List ℕ)) → Takes old new (opening_lines p) →
+    Finishes old new (λ bytes. JournalDue p journal rose statuses.NoMemory (bytes ++ refusal_line refusal.Memory))
+leaves_unread p journal rose old new opened = record { bytes = opening_lines p; is_due = refl; taken = opened }
 
--- a machine that is ready stands where its lines led it
-pub ran_done : (p : Program) (seen after : Seen) (es : List Entry) (told : List (ℕ × Said)) → Ready p seen → Advances seen after es told → Ran after.object es after told
-ran_done p seen after es told ready advances =
-    subst (λ o. Ran o es after told) (sym advances.object) (advances.ran seen.object [] [] ready.starts)
+-- some status and some bytes behind these belong to the lines
+broken_at : (p : Program) (journal : List ℕ) (rose : Type 0) (lines : List (List ℕ)) (status : Status) (last : Close) (es : List Entry) (ending : Ending)
+    (told : List ℕ) → Covers p journal rose lines status last → entries lines ≡ record { accepted = es; ending = ending } →
+    ((end : Close) → (rest : List ℕ) × IsTranscript p es end (opening_lines p ++ (told ++ rest))) →
+    (s : Status) × (rest : List ℕ) × JournalDue p journal rose s (opening_lines p ++ (told ++ rest))
+broken_at p journal rose lines status last es All told covers read follows =
+    let whole = follows last in
+    (status, whole.0, covers.all (opening_lines p ++ (told ++ whole.0)) (record { es = es; read = read; written = whole.1 }))
+broken_at p journal rose lines status last es (Bad line code) told covers read follows =
+    let whole = follows (Cut (refusal.Journal line code)) in
+    (statuses.BadJournal, whole.0, covers.bad line code (opening_lines p ++ (told ++ whole.0)) (record { es = es; read = read; written = whole.1 }))
 
--- all lines were accepted, and what closes the transcript follows their lines
-pub replay_done : (p : Program) (seen after : Seen) (part : Part) (journal : List ℕ) (old mid new : Option (List ℕ)) (status : Status) → Ready p seen →
-    (done : LinesDone seen.object.setup (part_lines part journal) All seen after old mid) →
-    Ends mid new (ClosingDue p after.object done.es done.told part) status → Ends old new (Replayed p part journal) status
-replay_done p seen after part journal old mid new status ready done ends =
-    ends_after old mid new (Replayed p part journal) (lines_of seen.object.setup done.told) status done.taken
-    (ends_as mid new (ClosingDue p after.object done.es done.told part) (λ s bytes. Replayed p part journal s (lines_of seen.object.setup done.told ++ bytes)) status
-    (λ s bytes due. inl (
-      due.0,
-      record {
-        es = done.es;
-        read = done.read;
-        written = subst (λ o. IsTranscript p done.es (part_close part) (opening_lines p ++ (lines_of o.setup done.told ++ bytes))) done.advances.object due.1;
-      },
-    ))
-    ends)
+-- the output of a line was not taken whole
+leaves_broken : (p : Program) (journal : List ℕ) (rose : Type 0) (lines : List (List ℕ)) (status : Status) (last : Close) (seen : Seen)
+    (old mid new : Option (List ℕ)) → Ready p seen → Takes old mid (opening_lines p) → Covers p journal rose lines status last →
+    LinesBroken seen.object.setup lines seen mid new → Stops old new (JournalDue p journal rose)
+leaves_broken p journal rose lines status last seen old mid new ready opened covers broken =
+    let told : List ℕ = lines_of seen.object.setup broken.told in
+    let due : (s : Status) × (rest : List ℕ) × JournalDue p journal rose s (opening_lines p ++ (told ++ rest)) =
+    broken_at p journal rose lines status last broken.es broken.ending told covers broken.read
+    (λ end. let front : Follows p broken.es end told =
+    breaks_off p seen.object broken.es broken.told end ready.faithful (broken.breaks seen.object [] [] ready.starts) in (front.rest, front.whole)) in
+    stops_in old mid new (JournalDue p journal rose) due.0 (opening_lines p) told due.1 due.2 opened broken.taken
 
--- a line was refused
-pub replay_bad : (p : Program) (seen after : Seen) (part : Part) (journal : List ℕ) (line code : ℕ) (old mid new : Option (List ℕ)) (status : Status) → Ready p seen →
-    LinesDone seen.object.setup (part_lines part journal) (Bad line code) seen after old mid →
-    Ends mid new (Just statuses.BadJournal (refusal_line (refusal.Journal line code))) status → Ends old new (Replayed p part journal) status
-replay_bad p seen after part journal line code old mid new status ready done ends =
-    ends_after old mid new (Replayed p part journal) (lines_of seen.object.setup done.told) status done.taken
-    (ends_as mid new (Just statuses.BadJournal (refusal_line (refusal.Journal line code)))
-    (λ s bytes. Replayed p part journal s (lines_of seen.object.setup done.told ++ bytes)) status
-    (λ s bytes due. inr (
-      due.0,
-      record {
-        line = line;
-        code = code;
-        run = record {
-          es = done.es;
-          read = done.read;
-          written = subst (λ end. IsTranscript p done.es (Cut (refusal.Journal line code)) (opening_lines p ++ (lines_of seen.object.setup done.told ++ end))) (sym due.1)
-              (cuts p seen.object done.es after done.told (refusal.Journal line code) ready.faithful (done.advances.ran seen.object [] [] ready.starts));
-        };
-      },
-    ))
-    ends)
-
-broken_at : (p : Program) (part : Part) (journal : List ℕ) (es : List Entry) (ending : Ending) (lines : List ℕ) →
-    entries (part_lines part journal) ≡ record { accepted = es; ending = ending } →
-    ((close : Close) → (rest : List ℕ) × IsTranscript p es close (opening_lines p ++ (lines ++ rest))) →
-    (status : Status) × (rest : List ℕ) × Replayed p part journal status (lines ++ rest)
-broken_at p part journal es All lines read told =
-    let whole = told (part_close part) in (part_status part, whole.0, inl (refl, record { es = es; read = read; written = whole.1 }))
-broken_at p part journal es (Bad line code) lines read told =
-    let whole = told (Cut (refusal.Journal line code)) in
-    (statuses.BadJournal, whole.0, inr (refl, record { line = line; code = code; run = record { es = es; read = read; written = whole.1 } }))
-
--- the output was not taken whole
-pub replay_broken : (p : Program) (seen : Seen) (part : Part) (journal : List ℕ) (old new : Option (List ℕ)) → Ready p seen →
-    LinesBroken seen.object.setup (part_lines part journal) seen old new → Ends old new (Replayed p part journal) statuses.WriteFault
-replay_broken p seen part journal old new ready broken =
-    let due : (status : Status) × (rest : List ℕ) × Replayed p part journal status (lines_of seen.object.setup broken.told ++ rest) =
-    broken_at p part journal broken.es broken.ending (lines_of seen.object.setup broken.told) broken.read
-    (λ close. let front : Follows p broken.es close (lines_of seen.object.setup broken.told) =
-    breaks_off p seen.object broken.es broken.told close ready.faithful (broken.breaks seen.object [] [] ready.starts) in (front.rest, front.whole)) in
-    ends_short old new (Replayed p part journal) due.0 (lines_of seen.object.setup broken.told) due.1 due.2 broken.taken
+-- the lines failed
+pub leaves_failed : (p : Program) (journal : List ℕ) (rose failed wider : Type 0) (lines : List (List ℕ)) (status : Status) (last : Close) (seen after : Seen)
+    (old mid new : Option (List ℕ)) (why : Failure) → (failed → wider) → Ready p seen → Takes old mid (opening_lines p) →
+    Covers p journal rose lines status last → IsLinesFailure why lines seen after mid new failed → Leaves old new wider (JournalDue p journal rose) (Err why)
+leaves_failed p journal rose failed wider lines status last seen after old mid new (failure.Refused why) widen ready opened covers fails =
+    subst (λ r. Leaves old new wider (JournalDue p journal rose) (Err (failure.Refused r))) (sym fails.2)
+    (leaves_cut p lines (Bad fails.0 fails.1) after old new (refusal.Journal fails.0 fails.1) (JournalDue p journal rose)
+    (reached p lines (Bad fails.0 fails.1) seen after old mid new ready opened fails.3) (covers.bad fails.0 fails.1))
+leaves_failed p journal rose failed wider lines status last seen after old mid new failure.WriteFault widen ready opened covers fails =
+    (widen fails.0, leaves_broken p journal rose lines status last seen old mid new ready opened covers fails.1)

@@ -5,6 +5,7 @@ use Rattle.pearl_io.specs.Outside.{TakesFront}
 use Rattle.pearl_rules.specs.declared.setup.Setup.{Setup}
 use Rattle.pearl_script.specs.Lines.{lines_of, said_line}
 use Rattle.pearl_run.specs.Told.{IsCutOff}
+use Rattle.pearl_top.proofs.TakenLaws.{append_nil}
 use Rattle.pearl_top.proofs.TranscriptLaws.{lines_of-append}
 use Rattle.pearl_rules.specs.declared.entry.Entry.{Entry}
 use Rattle.pearl_rules.specs.Core.{Said}
@@ -45,10 +46,6 @@ ran-entry o es seen after told more entry ran same goes_on = record {
       (joined o seen after told more (start_of o (es ++ entry ∷ rest)) (entry ∷ rest) rest (same ∙ ran.object) ran.object (ran.goes (entry ∷ rest))
       (λ m. goes_on m rest));
 }
-
-pub append_nil : {A : Type 0} (xs : List A) → xs ++ [] ≡ xs
-append_nil [] = refl
-append_nil (x ∷ xs) = ap (λ ys. x ∷ ys) (append_nil xs)
 
 ran_as : (o : Object) (es fs : List Entry) (seen : Seen) (told said : List (ℕ × Said)) → es ≡ fs → told ≡ said → Ran o es seen told → Ran o fs seen said
 ran_as o es fs seen told said e f ran = subst (λ t. Ran o fs seen t) f (subst (λ x. Ran o x seen told) e ran)

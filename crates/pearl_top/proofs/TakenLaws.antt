@@ -1,91 +1,170 @@
 -- Laws of what a sink took, for calls that write one part after another.
-use Rattle.std.proofs.Common.{◌≡◌, ◌≢◌, ℕ, List, [], ◌∷◌, ◌++◌, Option, length, take, drop, refl, ap, sym, ◌∙◌, subst, arith, append_assoc, length-append, length-drop}
+use Rattle.std.proofs.Common.{◌≡◌, ◌≢◌, ◌⊎◌, ℕ, List, [], ◌∷◌, ◌++◌, Option, Some, None, Result, Ok, Err, length, take, drop, refl, ap, sym, inl, inr, ◌∙◌, subst, arith, append_assoc, length-append, length-drop}
 use Rattle.std.proofs.lemmas.List.{take-append-drop}
 use Rattle.pearl_io.specs.Outside.{Takes, TakesFront}
 use Rattle.pearl_io.proofs.Pieces.{takes_more}
+use Rattle.pearl_script.specs.Refusals.{refusal_line}
+use Rattle.pearl_top.specs.declared.failure.Failure.{Failure}
+use Rattle.pearl_top.specs.declared.failure.Failure.TheVariants as failure
 use Rattle.pearl_top.specs.declared.status.Status.{Status}
 use Rattle.pearl_top.specs.declared.status.Status.TheVariants.{Done, Usage, Refused, BadObject, BadJournal, ReadFault, WriteFault, NoMemory, TooLong}
-use Rattle.pearl_top.specs.Taken.{Finishes, Stops, Ends, Just}
+use Rattle.pearl_top.specs.Failures.{IsDue}
+use Rattle.pearl_top.specs.Status.{status_of}
+use Rattle.pearl_top.specs.Taken.{Finishes, Stops, Ends, Just, Leaves, Concludes}
 
--- all that was due was taken
-pub ends_whole : (old new : Option (List ℕ)) (due : Status → List ℕ → Type 0) (status : Status) (bytes : List ℕ) → status ≢ WriteFault →
-    due status bytes → Takes old new bytes → Ends old new due status
-ends_whole old new due Done bytes free is_due taken = record { bytes = bytes; is_due = is_due; taken = taken }
-ends_whole old new due Usage bytes free is_due taken = record { bytes = bytes; is_due = is_due; taken = taken }
-ends_whole old new due Refused bytes free is_due taken = record { bytes = bytes; is_due = is_due; taken = taken }
-ends_whole old new due BadObject bytes free is_due taken = record { bytes = bytes; is_due = is_due; taken = taken }
-ends_whole old new due BadJournal bytes free is_due taken = record { bytes = bytes; is_due = is_due; taken = taken }
-ends_whole old new due ReadFault bytes free is_due taken = record { bytes = bytes; is_due = is_due; taken = taken }
-ends_whole old new due WriteFault bytes free is_due taken = absurd (free refl)
-ends_whole old new due NoMemory bytes free is_due taken = record { bytes = bytes; is_due = is_due; taken = taken }
-ends_whole old new due TooLong bytes free is_due taken = record { bytes = bytes; is_due = is_due; taken = taken }
+pub append_nil : {A : Type 0} (xs : List A) → xs ++ [] ≡ xs
+append_nil [] = refl
+append_nil (x ∷ xs) = ap (λ ys. x ∷ ys) (append_nil xs)
 
--- a front was taken of what is due with some status
-pub ends_short : (old new : Option (List ℕ)) (due : Status → List ℕ → Type 0) (status : Status) (bytes rest : List ℕ) → due status (bytes ++ rest) →
-    TakesFront old new bytes → Ends old new due WriteFault
-ends_short old new due status bytes rest is_due taken =
-    let joined : take taken.0 bytes ++ (drop taken.0 bytes ++ rest) ≡ bytes ++ rest = rw (← append_assoc) (rw take-append-drop refl) in record {
+-- nothing was taken
+pub takes_none : (old : Option (List ℕ)) → Takes old old []
+takes_none None = refl
+takes_none (Some bytes) = ap Some (sym (append_nil bytes))
+
+-- A FRONT
+
+-- some bytes were taken, then a front of some more, and not all that is due
+pub stops_in : (old mid new : Option (List ℕ)) (due : Status → List ℕ → Type 0) (status : Status) (first piece rest : List ℕ) →
+    due status (first ++ (piece ++ rest)) → Takes old mid first → TakesFront mid new piece → Stops old new due
+stops_in old mid new due status first piece rest is_due before after =
+    let joined : take after.0 piece ++ (drop after.0 piece ++ rest) ≡ piece ++ rest = rw (← append_assoc) (rw take-append-drop refl) in record {
       status = status;
-      front = take taken.0 bytes;
-      rest = drop taken.0 bytes ++ rest;
-      is_due = subst (due status) (sym joined) is_due;
-      more = λ none. absurd (omega (arith, taken.1, length-drop taken.0 bytes, simp length-append at (ap length none)));
-      taken = taken.2;
+      front = first ++ take after.0 piece;
+      rest = drop after.0 piece ++ rest;
+      is_due = subst (due status) (ap (λ bytes. first ++ bytes) (sym joined) ∙ sym (append_assoc first (take after.0 piece) (drop after.0 piece ++ rest))) is_due;
+      more = λ none. absurd (omega (arith, after.1, length-drop after.0 piece, simp length-append at (ap length none)));
+      taken = takes_more old mid new first (take after.0 piece) before after.2;
     }
 
-finishes_after : (old mid new : Option (List ℕ)) (due : List ℕ → Type 0) (first : List ℕ) → Takes old mid first →
-    Finishes mid new (λ bytes. due (first ++ bytes)) → Finishes old new due
-finishes_after old mid new due first before after =
-    record { bytes = first ++ after.bytes; is_due = after.is_due; taken = takes_more old mid new first after.bytes before after.taken }
+-- a front was taken of some bytes that are due, perhaps with more behind them
+pub stops_short : (old new : Option (List ℕ)) (due : Status → List ℕ → Type 0) (status : Status) (piece rest : List ℕ) → due status (piece ++ rest) →
+    TakesFront old new piece → Stops old new due
+stops_short old new due status piece rest is_due front = stops_in old old new due status [] piece rest is_due (takes_none old) front
 
-stops_after : (old mid new : Option (List ℕ)) (due : Status → List ℕ → Type 0) (first : List ℕ) → Takes old mid first →
-    Stops mid new (λ s bytes. due s (first ++ bytes)) → Stops old new due
-stops_after old mid new due first before after = record {
-  status = after.status;
-  front = first ++ after.front;
-  rest = after.rest;
-  is_due = subst (due after.status) (sym (append_assoc first after.front after.rest)) after.is_due;
-  more = after.more;
-  taken = takes_more old mid new first after.front before after.taken;
+-- WHAT IS DUE TOLD OTHERWISE
+
+finishes_as : (old new : Option (List ℕ)) (due told : List ℕ → Type 0) → ((bytes : List ℕ) → due bytes → told bytes) → Finishes old new due →
+    Finishes old new told
+finishes_as old new due told otherwise ends = record { bytes = ends.bytes; is_due = otherwise ends.bytes ends.is_due; taken = ends.taken }
+
+stops_as : (old new : Option (List ℕ)) (due told : Status → List ℕ → Type 0) → ((s : Status) (bytes : List ℕ) → due s bytes → told s bytes) →
+    Stops old new due → Stops old new told
+stops_as old new due told otherwise ends = record {
+  status = ends.status;
+  front = ends.front;
+  rest = ends.rest;
+  is_due = otherwise ends.status (ends.front ++ ends.rest) ends.is_due;
+  more = ends.more;
+  taken = ends.taken;
 }
 
--- something was taken before
-pub ends_after : (old mid new : Option (List ℕ)) (due : Status → List ℕ → Type 0) (first : List ℕ) (status : Status) → Takes old mid first →
-    Ends mid new (λ s bytes. due s (first ++ bytes)) status → Ends old new due status
-ends_after old mid new due first Done before after = finishes_after old mid new (due Done) first before after
-ends_after old mid new due first Usage before after = finishes_after old mid new (due Usage) first before after
-ends_after old mid new due first Refused before after = finishes_after old mid new (due Refused) first before after
-ends_after old mid new due first BadObject before after = finishes_after old mid new (due BadObject) first before after
-ends_after old mid new due first BadJournal before after = finishes_after old mid new (due BadJournal) first before after
-ends_after old mid new due first ReadFault before after = finishes_after old mid new (due ReadFault) first before after
-ends_after old mid new due first WriteFault before after = stops_after old mid new due first before after
-ends_after old mid new due first NoMemory before after = finishes_after old mid new (due NoMemory) first before after
-ends_after old mid new due first TooLong before after = finishes_after old mid new (due TooLong) first before after
+pub leaves_as : (old new : Option (List ℕ)) (failed : Type 0) (due told : Status → List ℕ → Type 0) (ended : Result (Unit {0}) Failure) →
+    ((s : Status) (bytes : List ℕ) → due s bytes → told s bytes) → Leaves old new failed due ended → Leaves old new failed told ended
+leaves_as old new failed due told (Ok done) otherwise leaves = finishes_as old new (due Done) (told Done) (otherwise Done) leaves
+leaves_as old new failed due told (Err (failure.Refused refusal)) otherwise leaves =
+    finishes_as old new (λ bytes. due (status_of refusal) (bytes ++ refusal_line refusal)) (λ bytes. told (status_of refusal) (bytes ++ refusal_line refusal))
+    (λ bytes. otherwise (status_of refusal) (bytes ++ refusal_line refusal)) leaves
+leaves_as old new failed due told (Err failure.WriteFault) otherwise leaves = (leaves.0, stops_as old new due told otherwise leaves.1)
 
--- what is due is told otherwise
+pub is_due_as : (due told : Status → List ℕ → Type 0) (why : Failure) → ((s : Status) (bytes : List ℕ) → due s bytes → told s bytes) → IsDue due why →
+    IsDue told why
+is_due_as due told (failure.Refused refusal) otherwise is_due = otherwise (status_of refusal) (refusal_line refusal) is_due
+is_due_as due told failure.WriteFault otherwise is_due = is_due
+
+-- a failure before anything was written
+pub leaves_due : (old : Option (List ℕ)) (failed : Type 0) (due : Status → List ℕ → Type 0) (why : Failure) → IsDue due why → Leaves old old failed due (Err why)
+leaves_due old failed due (failure.Refused refusal) is_due = record { bytes = []; is_due = is_due; taken = takes_none old }
+leaves_due old failed due failure.WriteFault is_due = absurd is_due
+
+-- THE END OF A CALL
+
+-- a status with which all that is due is taken
+finishes_with : (old new : Option (List ℕ)) (due : Status → List ℕ → Type 0) (status : Status) → status ≢ WriteFault → Finishes old new (due status) →
+    Ends old new due status
+finishes_with old new due Done free done = done
+finishes_with old new due Usage free done = done
+finishes_with old new due Refused free done = done
+finishes_with old new due BadObject free done = done
+finishes_with old new due BadJournal free done = done
+finishes_with old new due ReadFault free done = done
+finishes_with old new due WriteFault free done = absurd (free refl)
+finishes_with old new due NoMemory free done = done
+finishes_with old new due TooLong free done = done
+
+-- and the other way round
+pub finishes_of : (old new : Option (List ℕ)) (due : Status → List ℕ → Type 0) (status : Status) → status ≢ WriteFault → Ends old new due status →
+    Finishes old new (due status)
+finishes_of old new due Done free ends = ends
+finishes_of old new due Usage free ends = ends
+finishes_of old new due Refused free ends = ends
+finishes_of old new due BadObject free ends = ends
+finishes_of old new due BadJournal free ends = ends
+finishes_of old new due ReadFault free ends = ends
+finishes_of old new due WriteFault free ends = absurd (free refl)
+finishes_of old new due NoMemory free ends = ends
+finishes_of old new due TooLong free ends = ends
+
+is_write_fault : (status : Status) → (status ≡ WriteFault) ⊎ (status ≢ WriteFault)
+is_write_fault Done = inr (λ e. cc)
+is_write_fault Usage = inr (λ e. cc)
+is_write_fault Refused = inr (λ e. cc)
+is_write_fault BadObject = inr (λ e. cc)
+is_write_fault BadJournal = inr (λ e. cc)
+is_write_fault ReadFault = inr (λ e. cc)
+is_write_fault WriteFault = inl refl
+is_write_fault NoMemory = inr (λ e. cc)
+is_write_fault TooLong = inr (λ e. cc)
+
 pub ends_as : (old new : Option (List ℕ)) (due told : Status → List ℕ → Type 0) (status : Status) → ((s : Status) (bytes : List ℕ) → due s bytes → told s bytes) →
     Ends old new due status → Ends old new told status
-ends_as old new due told Done otherwise ends = record { bytes = ends.bytes; is_due = otherwise Done ends.bytes ends.is_due; taken = ends.taken }
-ends_as old new due told Usage otherwise ends = record { bytes = ends.bytes; is_due = otherwise Usage ends.bytes ends.is_due; taken = ends.taken }
-ends_as old new due told Refused otherwise ends = record { bytes = ends.bytes; is_due = otherwise Refused ends.bytes ends.is_due; taken = ends.taken }
-ends_as old new due told BadObject otherwise ends = record { bytes = ends.bytes; is_due = otherwise BadObject ends.bytes ends.is_due; taken = ends.taken }
-ends_as old new due told BadJournal otherwise ends = record { bytes = ends.bytes; is_due = otherwise BadJournal ends.bytes ends.is_due; taken = ends.taken }
-ends_as old new due told ReadFault otherwise ends = record { bytes = ends.bytes; is_due = otherwise ReadFault ends.bytes ends.is_due; taken = ends.taken }
-ends_as old new due told WriteFault otherwise ends = record { status = ends.status; front = ends.front; rest = ends.rest; is_due = otherwise ends.status (ends.front ++ ends.rest) ends.is_due; more = ends.more; taken = ends.taken }
-ends_as old new due told NoMemory otherwise ends = record { bytes = ends.bytes; is_due = otherwise NoMemory ends.bytes ends.is_due; taken = ends.taken }
-ends_as old new due told TooLong otherwise ends = record { bytes = ends.bytes; is_due = otherwise TooLong ends.bytes ends.is_due; taken = ends.taken }
-
--- just the one line is due, with its status
-pub ends_just : (old new : Option (List ℕ)) (due : Status → List ℕ → Type 0) (at : Status) (line : List ℕ) (status : Status) → due at line →
-    Ends old new (Just at line) status → Ends old new due status
-ends_just old new due at line status is_due ends =
-    ends_as old new (Just at line) due status (λ s bytes just. subst (λ t. due t bytes) (sym just.0) (subst (due at) (sym just.1) is_due)) ends
-
-append_none : {A : Type 0} (xs : List A) → xs ++ [] ≡ xs
-append_none [] = refl
-append_none (x ∷ xs) = ap (λ ys. x ∷ ys) (append_none xs)
+ends_as old new due told status otherwise ends = by (is_write_fault status)
+  where
+    by : (status ≡ WriteFault) ⊎ (status ≢ WriteFault) → Ends old new told status
+    by (inl e) = subst (λ s. Ends old new told s) (sym e) (stops_as old new due told otherwise (subst (λ s. Ends old new due s) e ends))
+    by (inr free) = finishes_with old new told status free
+        (finishes_as old new (due status) (told status) (otherwise status) (finishes_of old new due status free ends))
 
 -- a front was taken of the one line that is due
-pub just_short : (old new : Option (List ℕ)) (status : Status) (bytes piece : List ℕ) → piece ≡ bytes → TakesFront old new piece →
-    Ends old new (Just status bytes) WriteFault
-just_short old new status bytes piece same taken = ends_short old new (Just status bytes) status piece [] (refl, append_none piece ∙ same) taken
+pub just_short : (old new : Option (List ℕ)) (status : Status) (line piece : List ℕ) → piece ≡ line → TakesFront old new piece →
+    Ends old new (Just status line) WriteFault
+just_short old new status line piece same taken = stops_short old new (Just status line) status piece [] (refl, append_nil piece ∙ same) taken
+
+stops_after : (old mid new : Option (List ℕ)) (due : Status → List ℕ → Type 0) (first line : List ℕ) (at : Status) → Takes old mid first →
+    due at (first ++ line) → Stops mid new (Just at line) → Stops old new due
+stops_after old mid new due first line at before is_due ends = record {
+  status = at;
+  front = first ++ ends.front;
+  rest = ends.rest;
+  is_due = subst (due at) (ap (λ bytes. first ++ bytes) (sym ends.is_due.1) ∙ sym (append_assoc first ends.front ends.rest)) is_due;
+  more = ends.more;
+  taken = takes_more old mid new first ends.front before ends.taken;
+}
+
+finishes_after : (old mid new : Option (List ℕ)) (due : Status → List ℕ → Type 0) (first line : List ℕ) (at status : Status) → Takes old mid first →
+    due at (first ++ line) → Finishes mid new (Just at line status) → Finishes old new (due status)
+finishes_after old mid new due first line at status before is_due done = record {
+  bytes = first ++ done.bytes;
+  is_due = subst (λ s. due s (first ++ done.bytes)) (sym done.is_due.0) (subst (λ bytes. due at (first ++ bytes)) (sym done.is_due.1) is_due);
+  taken = takes_more old mid new first done.bytes before done.taken;
+}
+
+-- the one line was taken, or a front of it, after bytes with which it is due
+ends_after : (old mid new : Option (List ℕ)) (due : Status → List ℕ → Type 0) (first line : List ℕ) (at status : Status) → Takes old mid first →
+    due at (first ++ line) → Ends mid new (Just at line) status → Ends old new due status
+ends_after old mid new due first line at status before is_due ends = by (is_write_fault status)
+  where
+    by : (status ≡ WriteFault) ⊎ (status ≢ WriteFault) → Ends old new due status
+    by (inl e) = subst (λ s. Ends old new due s) (sym e)
+        (stops_after old mid new due first line at before is_due (subst (λ s. Ends mid new (Just at line) s) e ends))
+    by (inr free) = finishes_with old new due status free
+        (finishes_after old mid new due first line at status before is_due (finishes_of mid new (Just at line) status free ends))
+
+-- what the call took is due with its status, since what its command left was due
+pub concluded : (old mid new : Option (List ℕ)) (failed : Type 0) (due : Status → List ℕ → Type 0) (ended : Result (Unit {0}) Failure) (status : Status) →
+    Leaves old mid failed due ended → Concludes mid new ended status → Ends old new due status
+concluded old mid new failed due (Ok done) status leaves ends =
+    subst (λ s. Ends old new due s) (sym ends.0) (subst (λ n. Finishes old n (due Done)) (sym ends.1) leaves)
+concluded old mid new failed due (Err (failure.Refused refusal)) status leaves ends =
+    ends_after old mid new due leaves.bytes (refusal_line refusal) (status_of refusal) status leaves.taken leaves.is_due ends
+concluded old mid new failed due (Err failure.WriteFault) status leaves ends =
+    subst (λ s. Ends old new due s) (sym ends.0) (subst (λ n. Stops old n due) (sym ends.1) leaves.1)

@@ -1,25 +1,34 @@
--- What is due for the words, from what is due for the source and for the journal.
-use Rattle.std.proofs.Common.{◌≡◌, ◌≢◌, ◌≤◌, ℕ, List, [], Option, Some, refl, sym, subst, inl, inr, length}
+-- What is due for the words, from what is due for the files that they name.
+use Rattle.std.proofs.Common.{◌≡◌, ◌≢◌, ◌≤◌, ◌⊎◌, ℕ, List, [], ◌∷◌, Option, Some, refl, ap₂, sym, ◌∙◌, subst, inl, inr, length, map, arith}
+use Rattle.std.specs.List.{AllZip, Any}
 use Rattle.pearl_io.specs.Outside.{Files, content}
 use Rattle.pearl_rules.specs.declared.entry.Entry.{Entry}
 use Rattle.pearl_prog.specs.declared.program.Program.{Program}
 use Rattle.pearl_code.specs.declared.object.Object.{Object}
 use Rattle.pearl_first.specs.declared.fault.FrontFault.{FrontFault}
 use Rattle.pearl_first.specs.declared.fault.FrontFault.TheVariants as fault
-use Rattle.pearl_first.specs.Outcome.{Accepts, IsRefusedBy}
+use Rattle.pearl_first.specs.Outcome.{IsRefusedBy}
 use Rattle.pearl_gen.specs.Faithful.{IsFaithfulTo}
 use Rattle.pearl_run.specs.Seen.{Seen, Goes}
 use Rattle.pearl_script.specs.declared.refusal.Refusal.TheVariants as refusal
 use Rattle.pearl_script.specs.Refusals.{refusal_line}
+use Rattle.pearl_top.specs.declared.failure.Failure.TheVariants as failure
+use Rattle.pearl_top.specs.declared.limits.TheConstants.{SOURCE_LIMIT}
 use Rattle.pearl_top.specs.declared.status.Status.{Status}
 use Rattle.pearl_top.specs.declared.status.Status.TheVariants.{Done, Usage, Refused, BadObject, BadJournal, ReadFault, WriteFault, NoMemory, TooLong}
-use Rattle.pearl_top.specs.Commands.{Command, Run, source_limit}
+use Rattle.pearl_top.specs.Commands.{Command, Run, Print, NoCommand, names_of}
+use Rattle.pearl_top.specs.Failures.{IsDue, front_refusal}
 use Rattle.pearl_top.specs.JournalDue.{JournalDue}
-use Rattle.pearl_top.specs.Outcome.{Due, DueFor, MayRead, SourceDue, SourceAndJournal, fault_line}
+use Rattle.pearl_top.specs.Outcome.{Due, DueFor, IsOutcome, IsSource, RunDue, SourceDue}
+use Rattle.pearl_top.specs.PrintDue.{PrintDue}
+use Rattle.pearl_top.specs.Reading.{MayHave, UnreadDue}
 use Rattle.pearl_top.specs.Ready.{Ready}
 use Rattle.pearl_top.specs.Replay.{start_of}
-use Rattle.pearl_top.specs.Taken.{Ends, Just}
-use Rattle.pearl_top.proofs.TakenLaws.{ends_as}
+use Rattle.pearl_top.specs.Taken.{Ends, Finishes, Just}
+use Rattle.pearl_top.proofs.PrintEnds.{print_rises}
+use Rattle.pearl_top.proofs.TakenLaws.{ends_as, finishes_of}
+
+-- AT THE SOURCE
 
 -- a machine that was loaded with a faithful object is ready
 pub ready_of : (p : Program) (o : Object) (seen : Seen) → seen.object ≡ o → IsFaithfulTo p o → ((es : List Entry) → Goes (start_of o es) es seen []) → Ready p seen
@@ -28,36 +37,16 @@ ready_of p o seen same faithful start = record {
   starts = record { object = refl; goes = λ rest. subst (λ object. Goes (start_of object rest) rest seen []) (sym same) (start rest) };
 }
 
--- memory ran out before the opening lines
-pub memory_first : (p : Program) (journal : List ℕ) (rose : Type 0) (old new : Option (List ℕ)) (status : Status) →
-    Ends old new (Just NoMemory (refusal_line refusal.Memory)) status → Ends old new (JournalDue p journal rose) status
-memory_first p journal rose old new status ends =
-    ends_as old new (Just NoMemory (refusal_line refusal.Memory)) (JournalDue p journal rose) status
-    (λ s bytes due. subst (λ t. JournalDue p journal rose t bytes) (sym due.0) (inl due.1)) ends
+-- the source has no program
+pub source_refused : (source : List ℕ) (cause : FrontFault) → length source ≤ SOURCE_LIMIT → IsRefusedBy source cause →
+    IsDue (SourceDue source ⊥) (failure.Refused (front_refusal cause))
+source_refused source (fault.Syntax place) within refused =
+    record { within = within; cause = fault.Syntax place; known = λ e. cc; refused = refused; text = refl }
+source_refused source (fault.Source place rule) within refused =
+    record { within = within; cause = fault.Source place rule; known = λ e. cc; refused = refused; text = refl }
+source_refused source fault.NoMemory within refused = refl
 
--- the source was accepted
-pub due_accepted : (source journal : List ℕ) (p : Program) (source_rose journal_rose : Type 0) (old new : Option (List ℕ)) (status : Status) → length source ≤ source_limit →
-    Accepts source p → Ends old new (JournalDue p journal journal_rose) status → Ends old new (SourceAndJournal source journal source_rose journal_rose) status
-due_accepted source journal p source_rose journal_rose old new status within accepted ends =
-    ends_as old new (JournalDue p journal journal_rose) (SourceAndJournal source journal source_rose journal_rose) status
-    (λ s bytes due. inr (p, record { within = within; accepted = accepted }, due)) ends
-
--- the source was refused
-pub due_refused : (source journal : List ℕ) (cause : FrontFault) (source_rose journal_rose : Type 0) (old new : Option (List ℕ)) (status : Status) →
-    length source ≤ source_limit → cause ≢ fault.NoMemory → IsRefusedBy source cause →
-    Ends old new (Just Refused (refusal_line (fault_line cause))) status → Ends old new (SourceAndJournal source journal source_rose journal_rose) status
-due_refused source journal cause source_rose journal_rose old new status within known refused ends =
-    ends_as old new (Just Refused (refusal_line (fault_line cause))) (SourceAndJournal source journal source_rose journal_rose) status
-    (λ s bytes due. inl (subst (λ t. SourceDue source source_rose t bytes) (sym due.0)
-    (record { within = within; cause = cause; known = known; refused = refused; text = due.1 }))) ends
-
--- what ended at the source otherwise: with this status, whose line is due for it
-pub due_source : (source journal line : List ℕ) (at : Status) (source_rose journal_rose : Type 0) (old new : Option (List ℕ)) (status : Status) →
-    SourceDue source source_rose at line → Ends old new (Just at line) status → Ends old new (SourceAndJournal source journal source_rose journal_rose) status
-due_source source journal line at source_rose journal_rose old new status is_due ends =
-    ends_as old new (Just at line) (SourceAndJournal source journal source_rose journal_rose) status
-    (λ s bytes due. inl (subst (λ t. SourceDue source source_rose t bytes) (sym due.0) (subst (SourceDue source source_rose at) (sym due.1) is_due))) ends
-
+-- where the count of faults rose from earlier on
 source_rises : (source : List ℕ) (rose risen : Type 0) (status : Status) (bytes : List ℕ) → (rose → risen) → SourceDue source rose status bytes →
     SourceDue source risen status bytes
 source_rises source rose risen Done bytes on due = due
@@ -82,44 +71,201 @@ journal_rises p journal rose risen WriteFault bytes on due = due
 journal_rises p journal rose risen NoMemory bytes on due = due
 journal_rises p journal rose risen TooLong bytes on due = due
 
-both_rise : (source journal : List ℕ) (a b c d : Type 0) (status : Status) (bytes : List ℕ) → (a → c) → (b → d) → SourceAndJournal source journal a b status bytes →
-    SourceAndJournal source journal c d status bytes
-both_rise source journal a b c d status bytes on_source on_journal (inl due) = inl (source_rises source a c status bytes on_source due)
-both_rise source journal a b c d status bytes on_source on_journal (inr (p, is_source, due)) = inr (p, is_source, journal_rises p journal b d status bytes on_journal due)
+source_unread : (source : List ℕ) (rose : Type 0) (status : Status) (bytes : List ℕ) → UnreadDue source SOURCE_LIMIT rose status bytes →
+    SourceDue source rose status bytes
+source_unread source rose Done bytes due = due
+source_unread source rose Usage bytes due = due
+source_unread source rose Refused bytes due = absurd due
+source_unread source rose BadObject bytes due = due
+source_unread source rose BadJournal bytes due = due
+source_unread source rose ReadFault bytes due = due
+source_unread source rose WriteFault bytes due = due
+source_unread source rose NoMemory bytes due = due
+source_unread source rose TooLong bytes due = due
 
--- a count that rose in a part of the call rose in the call
-pub due_rises : (source journal : List ℕ) (a b c d : Type 0) (old new : Option (List ℕ)) (status : Status) → (a → c) → (b → d) →
-    Ends old new (SourceAndJournal source journal a b) status → Ends old new (SourceAndJournal source journal c d) status
-due_rises source journal a b c d old new status on_source on_journal ends =
-    ends_as old new (SourceAndJournal source journal a b) (SourceAndJournal source journal c d) status
-    (λ s bytes. both_rise source journal a b c d s bytes on_source on_journal) ends
+-- what is due where the source is not read whole
+pub run_unread : (source journal : List ℕ) (rose also : Type 0) (status : Status) (bytes : List ℕ) → UnreadDue source SOURCE_LIMIT rose status bytes →
+    RunDue source journal rose also status bytes
+run_unread source journal rose also status bytes due = inl (source_unread source rose status bytes due)
 
--- the bytes that were read are the file's
-pub due_same : (source other journal : List ℕ) (a b : Type 0) (old new : Option (List ℕ)) (status : Status) → source ≡ other →
-    Ends old new (SourceAndJournal source journal a b) status → Ends old new (SourceAndJournal other journal a b) status
-due_same source other journal a b old new status same ends = subst (λ bytes. Ends old new (SourceAndJournal bytes journal a b) status) same ends
+-- what is due where it was read
+pub run_refused : (read source journal : List ℕ) (rose also : Type 0) (status : Status) (bytes : List ℕ) → read ≡ source → SourceDue read ⊥ status bytes →
+    RunDue source journal rose also status bytes
+run_refused read source journal rose also status bytes same due =
+    inl (subst (λ file. SourceDue file rose status bytes) same (source_rises read ⊥ rose status bytes absurd due))
+
+-- what is due where it is accepted
+pub run_accepted : (read source journal : List ℕ) (rose also later : Type 0) (p : Program) (status : Status) (bytes : List ℕ) → read ≡ source → (also → later) →
+    IsSource read p → JournalDue p journal also status bytes → RunDue source journal rose later status bytes
+run_accepted read source journal rose also later p status bytes same on is_source due =
+    inr (p, subst (λ file. IsSource file p) same is_source, journal_rises p journal also later status bytes on due)
+
+-- FOR ALL WORDS
+
+-- what holds of a shelf that tells nothing new
+pub may_have_before : (held later : Option Files) (name bytes : List ℕ) → later ≡ held → MayHave later name bytes → MayHave held name bytes
+may_have_before held later name bytes same has = subst (λ h. MayHave h name bytes) same has
 
 -- the words are those of this command
-pub due_command : (words other : Command) (files : Files) (rose : List ℕ → Type 0) (old new : Option (List ℕ)) (status : Status) → words ≡ other →
-    Ends old new (Due other files rose) status → Ends old new (Due words files rose) status
-due_command words other files rose old new status same ends = subst (λ as_said. Ends old new (Due as_said files rose) status) (sym same) ends
-
--- where the shelf tells what it holds, what is due for the bytes of the files is due for the files
-pub due_told : (source_name journal_name source journal : List ℕ) (held : Option Files) (files : Files) (rose : List ℕ → Type 0) (old new : Option (List ℕ)) (status : Status) →
-    held ≡ Some files → MayRead (Run source_name journal_name) held source journal →
-    Ends old new (DueFor (Run source_name journal_name) source journal rose) status → Ends old new (Due (Run source_name journal_name) files rose) status
-due_told source_name journal_name source journal held files rose old new status told read ends =
-    let is : MayRead (Run source_name journal_name) (Some files) source journal = subst (λ h. MayRead (Run source_name journal_name) h source journal) told read in
-    subst (λ s. Ends old new (SourceAndJournal s (content files journal_name) (rose source_name) (rose journal_name)) status) is.0
-    (subst (λ j. Ends old new (SourceAndJournal source j (rose source_name) (rose journal_name)) status) is.1 ends)
-
--- the words are those of this command, whatever the shelf tells
-pub due_for : (words other : Command) (source journal : List ℕ) (held : Option Files) (rose : List ℕ → Type 0) (old new : Option (List ℕ)) (status : Status) → words ≡ other →
-    MayRead other held source journal → Ends old new (DueFor other source journal rose) status →
-    (source journal : List ℕ) × MayRead words held source journal × Ends old new (DueFor words source journal rose) status
-due_for words other source journal held rose old new status same read ends = (
-  source,
-  journal,
-  subst (λ as_said. MayRead as_said held source journal) (sym same) read,
-  subst (λ as_said. Ends old new (DueFor as_said source journal rose) status) (sym same) ends,
+pub due_as : (words other : Command) (held : Option Files) (contents : List (List ℕ)) (rose : List ℕ → Type 0)
+    (what : (Status → List ℕ → Type 0) → Type 0) → words ≡ other → AllZip (MayHave held) (names_of other) contents → what (DueFor other contents rose) →
+    (contents : List (List ℕ)) × AllZip (MayHave held) (names_of words) contents × what (DueFor words contents rose)
+due_as words other held contents rose what same has is = (
+  contents,
+  subst (λ said. AllZip (MayHave held) (names_of said) contents) (sym same) has,
+  subst (λ said. what (DueFor said contents rose)) (sym same) is,
 )
+
+-- where the shelf tells what it holds, the files have just those bytes
+told : (files : Files) (names contents : List (List ℕ)) → AllZip (MayHave (Some files)) names contents → contents ≡ map (content files) names
+told files [] [] has = refl
+told files [] (bytes ∷ contents) has = absurd has
+told files (name ∷ names) [] has = absurd has
+told files (name ∷ names) (bytes ∷ contents) has = ap₂ (λ x xs. x ∷ xs) has.0 (told files names contents has.1)
+
+pub due_told : (command : Command) (held : Option Files) (files : Files) (contents : List (List ℕ)) (rose : List ℕ → Type 0) (old new : Option (List ℕ))
+    (status : Status) → held ≡ Some files → AllZip (MayHave held) (names_of command) contents → Ends old new (DueFor command contents rose) status →
+    Ends old new (Due command (content files) rose) status
+due_told command held files contents rose old new status tells has ends =
+    subst (λ all. Ends old new (DueFor command all rose) status)
+    (told files (names_of command) contents (subst (λ h. AllZip (MayHave h) (names_of command) contents) tells has)) ends
+
+-- what comes without a fault of reading comes where no count rose
+run_unrisen : (source journal : List ℕ) (a b : Type 0) (status : Status) (bytes : List ℕ) → status ≢ ReadFault → RunDue source journal a b status bytes →
+    RunDue source journal ⊥ ⊥ status bytes
+run_unrisen source journal a b Done bytes free due = due
+run_unrisen source journal a b Usage bytes free due = due
+run_unrisen source journal a b Refused bytes free due = due
+run_unrisen source journal a b BadObject bytes free due = due
+run_unrisen source journal a b BadJournal bytes free due = due
+run_unrisen source journal a b ReadFault bytes free due = absurd (free refl)
+run_unrisen source journal a b WriteFault bytes free due = due
+run_unrisen source journal a b NoMemory bytes free due = due
+run_unrisen source journal a b TooLong bytes free due = due
+
+print_unrisen : (source : List ℕ) (a : Type 0) (status : Status) (bytes : List ℕ) → status ≢ ReadFault → PrintDue source a status bytes →
+    PrintDue source ⊥ status bytes
+print_unrisen source a Done bytes free due = due
+print_unrisen source a Usage bytes free due = due
+print_unrisen source a Refused bytes free due = due
+print_unrisen source a BadObject bytes free due = due
+print_unrisen source a BadJournal bytes free due = due
+print_unrisen source a ReadFault bytes free due = absurd (free refl)
+print_unrisen source a WriteFault bytes free due = due
+print_unrisen source a NoMemory bytes free due = due
+print_unrisen source a TooLong bytes free due = due
+
+unrisen : (command : Command) (files : List ℕ → List ℕ) (rose : List ℕ → Type 0) (status : Status) (bytes : List ℕ) → status ≢ ReadFault →
+    Due command files rose status bytes → Due command files (λ name. ⊥) status bytes
+unrisen NoCommand files rose status bytes free due = due
+unrisen (Run source journal) files rose status bytes free due = run_unrisen (files source) (files journal) (rose source) (rose journal) status bytes free due
+unrisen (Print source) files rose status bytes free due = print_unrisen (files source) (rose source) status bytes free due
+
+-- where the status is none of want of memory, a read fault and a write fault, it is an outcome
+pub settles : (command : Command) (files : List ℕ → List ℕ) (rose : List ℕ → Type 0) (old new : Option (List ℕ)) (status : Status) →
+    Ends old new (Due command files rose) status → status ≢ NoMemory → status ≢ ReadFault → status ≢ WriteFault →
+    Finishes old new (IsOutcome command files status)
+settles command files rose old new status ends no_memory no_read no_write =
+    let done = finishes_of old new (Due command files rose) status no_write ends in record {
+      bytes = done.bytes;
+      is_due = record { memory = no_memory; due = unrisen command files rose status done.bytes no_read done.is_due };
+      taken = done.taken;
+    }
+
+-- WHICH STATUS COMES WHEN
+
+-- what is due for `run` and for `print` is due for the bytes of their files
+run_files : (source journal : List ℕ) (contents : List (List ℕ)) (rose : List ℕ → Type 0) (status : Status) (bytes : List ℕ) →
+    DueFor (Run source journal) contents rose status bytes → (first second : List ℕ) × RunDue first second (rose source) (rose journal) status bytes
+run_files source journal [] rose status bytes due = absurd due
+run_files source journal (first ∷ []) rose status bytes due = absurd due
+run_files source journal (first ∷ second ∷ []) rose status bytes due = (first, second, due)
+run_files source journal (first ∷ second ∷ third ∷ more) rose status bytes due = absurd due
+
+print_file : (source : List ℕ) (contents : List (List ℕ)) (rose : List ℕ → Type 0) (status : Status) (bytes : List ℕ) →
+    DueFor (Print source) contents rose status bytes → (file : List ℕ) × PrintDue file (rose source) status bytes
+print_file source [] rose status bytes due = absurd due
+print_file source (file ∷ []) rose status bytes due = (file, due)
+print_file source (file ∷ other ∷ more) rose status bytes due = absurd due
+
+run_usage : (source journal : List ℕ) (a b : Type 0) (bytes : List ℕ) → RunDue source journal a b Usage bytes → ⊥
+run_usage source journal a b bytes (inl due) = due
+run_usage source journal a b bytes (inr (p, is_source, due)) = due
+
+run_object : (source journal : List ℕ) (a b : Type 0) (bytes : List ℕ) → RunDue source journal a b BadObject bytes → ⊥
+run_object source journal a b bytes (inl due) = due
+run_object source journal a b bytes (inr (p, is_source, due)) = due
+
+run_read : (source journal : List ℕ) (a b : Type 0) (bytes : List ℕ) → RunDue source journal a b ReadFault bytes → a ⊎ b
+run_read source journal a b bytes (inl due) = inl due.0
+run_read source journal a b bytes (inr (p, is_source, due)) = inr due.0
+
+usage_due : (command : Command) (contents : List (List ℕ)) (rose : List ℕ → Type 0) (bytes : List ℕ) → DueFor command contents rose Usage bytes →
+    command ≡ NoCommand
+usage_due NoCommand contents rose bytes due = refl
+usage_due (Run source journal) contents rose bytes due =
+    let is = run_files source journal contents rose Usage bytes due in absurd (run_usage is.0 is.1 (rose source) (rose journal) bytes is.2)
+usage_due (Print source) contents rose bytes due = absurd (let is = print_file source contents rose Usage bytes due in is.1)
+
+none_due : (contents : List (List ℕ)) (rose : List ℕ → Type 0) (status : Status) (bytes : List ℕ) → DueFor NoCommand contents rose status bytes →
+    Just Usage (refusal_line refusal.Usage) status bytes
+none_due [] rose status bytes due = due
+none_due (file ∷ more) rose status bytes due = absurd due
+
+object_due : (command : Command) (contents : List (List ℕ)) (rose : List ℕ → Type 0) (bytes : List ℕ) → DueFor command contents rose BadObject bytes → ⊥
+object_due NoCommand contents rose bytes due = let is = none_due contents rose BadObject bytes due in (let e = is.0 in cc)
+object_due (Run source journal) contents rose bytes due =
+    let is = run_files source journal contents rose BadObject bytes due in run_object is.0 is.1 (rose source) (rose journal) bytes is.2
+object_due (Print source) contents rose bytes due = let is = print_file source contents rose BadObject bytes due in is.1
+
+some_rose : (source journal : List ℕ) (rose : List ℕ → Type 0) → rose source ⊎ rose journal → Any rose (source ∷ journal ∷ [])
+some_rose source journal rose (inl first) = (0, source, omega arith, refl, first)
+some_rose source journal rose (inr second) = (1, journal, omega arith, refl, second)
+
+read_due : (command : Command) (contents : List (List ℕ)) (rose : List ℕ → Type 0) (bytes : List ℕ) → DueFor command contents rose ReadFault bytes →
+    Any rose (names_of command)
+read_due NoCommand contents rose bytes due = absurd (let is = none_due contents rose ReadFault bytes due in (let e = is.0 in cc))
+read_due (Run source journal) contents rose bytes due =
+    let is = run_files source journal contents rose ReadFault bytes due in
+    some_rose source journal rose (run_read is.0 is.1 (rose source) (rose journal) bytes is.2)
+read_due (Print source) contents rose bytes due =
+    let is = print_file source contents rose ReadFault bytes due in (0, source, omega arith, refl, is.1.0)
+
+-- `error usage` is due just where the words are no command
+pub usage_only : (command : Command) (contents : List (List ℕ)) (rose : List ℕ → Type 0) (old new : Option (List ℕ)) (status : Status) → status ≡ Usage →
+    Ends old new (DueFor command contents rose) status → command ≡ NoCommand
+usage_only command contents rose old new status is ends =
+    let done : Finishes old new (DueFor command contents rose Usage) = subst (λ s. Ends old new (DueFor command contents rose) s) is ends in
+    usage_due command contents rose done.bytes done.is_due
+
+pub only_usage : (command : Command) (contents : List (List ℕ)) (rose : List ℕ → Type 0) (old new : Option (List ℕ)) (status : Status) → command ≡ NoCommand →
+    Ends old new (DueFor command contents rose) status → Ends old new (Just Usage (refusal_line refusal.Usage)) status
+only_usage words contents rose old new status none ends =
+    ends_as old new (DueFor NoCommand contents rose) (Just Usage (refusal_line refusal.Usage)) status (none_due contents rose)
+    (subst (λ said. Ends old new (DueFor said contents rose) status) none ends)
+
+pub just_usage : (old new : Option (List ℕ)) (line : List ℕ) (status : Status) → Ends old new (Just Usage line) status →
+    (status ≡ Usage) ⊎ (status ≡ WriteFault)
+just_usage old new line Done ends = inl ends.is_due.0
+just_usage old new line Usage ends = inl refl
+just_usage old new line Refused ends = inl ends.is_due.0
+just_usage old new line BadObject ends = inl ends.is_due.0
+just_usage old new line BadJournal ends = inl ends.is_due.0
+just_usage old new line ReadFault ends = inl ends.is_due.0
+just_usage old new line WriteFault ends = inr refl
+just_usage old new line NoMemory ends = inl ends.is_due.0
+just_usage old new line TooLong ends = inl ends.is_due.0
+
+-- no object is refused
+pub no_object : (command : Command) (contents : List (List ℕ)) (rose : List ℕ → Type 0) (old new : Option (List ℕ)) (status : Status) →
+    Ends old new (DueFor command contents rose) status → status ≢ BadObject
+no_object command contents rose old new status ends is =
+    let done : Finishes old new (DueFor command contents rose BadObject) = subst (λ s. Ends old new (DueFor command contents rose) s) is ends in
+    object_due command contents rose done.bytes done.is_due
+
+-- a fault of reading has its cause
+pub read_rose : (command : Command) (contents : List (List ℕ)) (rose : List ℕ → Type 0) (old new : Option (List ℕ)) (status : Status) →
+    Ends old new (DueFor command contents rose) status → status ≡ ReadFault → Any rose (names_of command)
+read_rose command contents rose old new status ends is =
+    let done : Finishes old new (DueFor command contents rose ReadFault) = subst (λ s. Ends old new (DueFor command contents rose) s) is ends in
+    read_due command contents rose done.bytes done.is_due

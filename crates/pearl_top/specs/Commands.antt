@@ -1,4 +1,4 @@
--- Which words are a command.
+-- Which words are a command, and which files a command reads.
 use Rattle.std.specs.Prelude.{◌≡◌, ℕ, List, [], ◌∷◌, Bool, true, false, codes, bytes_eq}
 use Rattle.pearl_top.specs.declared.command.Command as code
 use Rattle.pearl_top.specs.declared.command.Command.TheVariants as borrowed
@@ -23,12 +23,14 @@ command_of (word ∷ source ∷ journal ∷ []) = run_if (bytes_eq word (codes "
 command_of (word ∷ source ∷ []) = print_if (bytes_eq word (codes "print")) source
 command_of words = NoCommand
 
+-- the names of the files that a command reads, in order
+abbrev pub names_of : Command → List (List ℕ)
+names_of (Run source journal) = source ∷ journal ∷ []
+names_of (Print source) = source ∷ []
+names_of NoCommand = []
+
 -- the code's command, which borrows the names, is this one
 abbrev pub IsCommand : code.Command → Command → Type 0
 IsCommand (borrowed.Run source journal) command = command ≡ Run source.now journal.now
 IsCommand (borrowed.Print source) command = command ≡ Print source.now
 IsCommand borrowed.None command = command ≡ NoCommand
-
--- the most bytes that a source may have
-abbrev pub source_limit : ℕ
-source_limit = 1048576

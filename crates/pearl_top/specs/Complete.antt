@@ -1,11 +1,10 @@
 -- Which words and files bring a command to its end.
 use Rattle.std.specs.Prelude.{◌≡◌, ℕ, ◌≤◌, List, length}
-use Rattle.pearl_io.specs.Outside.{Files, content}
 use Rattle.pearl_rules.specs.declared.entry.Entry.{Entry}
 use Rattle.pearl_prog.specs.declared.program.Program.{Program}
+use Rattle.pearl_top.specs.declared.limits.TheConstants.{JOURNAL_LIMIT}
 use Rattle.pearl_top.specs.Commands.{Command, Run, Print, NoCommand}
 use Rattle.pearl_top.specs.Journal.{All, entries, journal_lines}
-use Rattle.pearl_top.specs.JournalDue.{journal_limit}
 use Rattle.pearl_top.specs.Outcome.{IsSource}
 use Rattle.pearl_top.specs.PrintDue.{IsSpelled}
 
@@ -13,12 +12,12 @@ use Rattle.pearl_top.specs.PrintDue.{IsSpelled}
 pub record AreInOrder (source journal : List ℕ) : Type 0 where
   pub p : Program
   pub is_source : IsSource source p
-  pub within : length journal ≤ journal_limit
+  pub within : length journal ≤ JOURNAL_LIMIT
   pub es : List Entry
   pub read : entries (journal_lines journal) ≡ record { accepted = es; ending = All }
 
 -- the words are a command, and the files that they name are in order
-abbrev pub IsInOrder : Command → Files → Type 0
+abbrev pub IsInOrder : Command → (List ℕ → List ℕ) → Type 0
 IsInOrder NoCommand files = ⊥
-IsInOrder (Run source journal) files = AreInOrder (content files source) (content files journal)
-IsInOrder (Print source) files = IsSpelled (content files source)
+IsInOrder (Run source journal) files = AreInOrder (files source) (files journal)
+IsInOrder (Print source) files = IsSpelled (files source)

@@ -1,19 +1,16 @@
 -- What is due at and after the journal of an accepted source.
-use Rattle.std.specs.Prelude.{◌≡◌, ℕ, ◌+◌, ◌<◌, ◌≤◌, ◌⊎◌, List, ◌++◌, length, take, nat_le, Bool, true, false}
+use Rattle.std.specs.Prelude.{◌≡◌, ℕ, ◌+◌, ◌<◌, ◌≤◌, List, ◌++◌, length, take, nat_le, Bool, true, false}
 use Rattle.pearl_rules.specs.declared.entry.Entry.{Entry}
 use Rattle.pearl_rules.specs.Core.{first_events}
 use Rattle.pearl_prog.specs.declared.program.Program.{Program}
 use Rattle.pearl_script.specs.declared.refusal.Refusal.TheVariants as refusal
 use Rattle.pearl_script.specs.Lines.{lines_of}
 use Rattle.pearl_script.specs.Refusals.{refusal_line}
+use Rattle.pearl_top.specs.declared.limits.TheConstants.{JOURNAL_LIMIT}
 use Rattle.pearl_top.specs.declared.status.Status.{Status}
 use Rattle.pearl_top.specs.declared.status.Status.TheVariants.{Done, BadJournal, ReadFault, NoMemory, TooLong}
 use Rattle.pearl_top.specs.Journal.{Ending, All, Bad, entries, journal_lines, ended_lines}
 use Rattle.pearl_top.specs.Transcript.{Close, Closed, Cut, IsTranscript}
-
--- the most bytes that a journal may have
-unfoldable pub journal_limit : ℕ
-journal_limit = 67108864
 
 -- the lines with which a run opens
 abbrev pub opening_lines : Program → List ℕ
@@ -27,11 +24,11 @@ pub record IsRun (p : Program) (lines : List (List ℕ)) (ending : Ending) (clos
 
 abbrev pub handled_if : Bool → List ℕ → List (List ℕ)
 handled_if true journal = journal_lines journal
-handled_if false journal = ended_lines (take journal_limit journal)
+handled_if false journal = ended_lines (take JOURNAL_LIMIT journal)
 
 -- the lines that are handled: all, or where the journal is too long those that end within the limit
 abbrev pub handled : List ℕ → List (List ℕ)
-handled journal = handled_if (nat_le (length journal) journal_limit) journal
+handled journal = handled_if (nat_le (length journal) JOURNAL_LIMIT) journal
 
 -- a line of the journal is refused after the run over the lines before it
 pub record IsBadJournal (p : Program) (journal bytes : List ℕ) : Type 0 where
@@ -42,20 +39,16 @@ pub record IsBadJournal (p : Program) (journal bytes : List ℕ) : Type 0 where
 -- the lines that end within so many bytes were handled before the fault of reading
 pub record IsReadFault (p : Program) (journal bytes : List ℕ) : Type 0 where
   pub count : ℕ
-  pub within : count ≤ journal_limit
+  pub within : count ≤ JOURNAL_LIMIT
   pub run : IsRun p (ended_lines (take count journal)) All (Cut refusal.Read) bytes
 
--- the line of want of memory, alone or after the opening lines
-abbrev pub IsMemory : Program → List ℕ → Type 0
-IsMemory p bytes = (bytes ≡ refusal_line refusal.Memory) ⊎ (bytes ≡ opening_lines p ++ refusal_line refusal.Memory)
-
--- What ends at or after the journal of an accepted source: all its lines were accepted; one was refused; it has too many bytes;
--- a fault of reading it, where its count rose; want of memory.
+-- What is due with each way to end at or after the journal of an accepted source: all its lines were accepted; one was refused; it
+-- has too many bytes; reading it failed, where its count of faults rose; there was no memory for it.
 abbrev pub JournalDue : Program → List ℕ → Type 0 → Status → List ℕ → Type 0
-JournalDue p journal rose Done bytes = (length journal ≤ journal_limit) × IsRun p (journal_lines journal) All Closed bytes
+JournalDue p journal rose Done bytes = (length journal ≤ JOURNAL_LIMIT) × IsRun p (journal_lines journal) All Closed bytes
 JournalDue p journal rose BadJournal bytes = IsBadJournal p journal bytes
 JournalDue p journal rose TooLong bytes =
-    (journal_limit < length journal) × IsRun p (handled journal) All (Cut (refusal.TooLong (journal_limit + 1))) bytes
+    (JOURNAL_LIMIT < length journal) × IsRun p (handled journal) All (Cut (refusal.TooLong (JOURNAL_LIMIT + 1))) bytes
 JournalDue p journal rose ReadFault bytes = rose × IsReadFault p journal bytes
-JournalDue p journal rose NoMemory bytes = IsMemory p bytes
+JournalDue p journal rose NoMemory bytes = bytes ≡ opening_lines p ++ refusal_line refusal.Memory
 JournalDue p journal rose status bytes = ⊥

@@ -1,6 +1,5 @@
 -- The definitions determine the answer.
 use Rattle.std.specs.Prelude.{◌≡◌, ℕ, ◌⊎◌, List}
-use Rattle.pearl_io.specs.Outside.{Files, content}
 use Rattle.pearl_rules.specs.declared.action.Answer.{Answer}
 use Rattle.pearl_rules.specs.declared.entry.Entry.{Entry}
 use Rattle.pearl_prog.specs.declared.program.Program.{Program}
@@ -28,11 +27,11 @@ HasOneTranscript = (source : List ℕ) (p q : Program) → IsSource source p →
 
 -- The same bytes. But where `print` refuses a source that has tokens, its line may name any place up to and with which no
 -- program begins.
-abbrev pub AreSame : Command → Files → Status → List ℕ → List ℕ → Type 0
-AreSame (Print source) files Refused bytes others = (bytes ≡ others) ⊎ ((tokens : List Token) × Lexes (content files source) tokens)
+abbrev pub AreSame : Command → (List ℕ → List ℕ) → Status → List ℕ → List ℕ → Type 0
+AreSame (Print source) files Refused bytes others = (bytes ≡ others) ⊎ ((tokens : List Token) × Lexes (files source) tokens)
 AreSame _ files status bytes others = bytes ≡ others
 
--- a command and the files held have at most one status, and at most one list of bytes, apart from those lines of `print`
+-- a command and its files have at most one status, and at most one list of bytes, apart from those lines of `print`
 abbrev pub HasOneOutcome : Type 0
-HasOneOutcome = (command : Command) (files : Files) (status other : Status) (bytes others : List ℕ) →
+HasOneOutcome = (command : Command) (files : List ℕ → List ℕ) (status other : Status) (bytes others : List ℕ) →
     IsOutcome command files status bytes → IsOutcome command files other others → (status ≡ other) × AreSame command files status bytes others

@@ -1,14 +1,14 @@
 pub mod Status
 pub mod Journal
 pub mod Commands
+pub mod Failures
 pub mod Taken
 pub mod Transcript
 pub mod Replay
 pub mod JournalDue
-pub mod Parts
+pub mod Reading
 pub mod PrintDue
 pub mod Outcome
 pub mod Complete
 pub mod Laws
 pub mod Ready
-pub mod Halts

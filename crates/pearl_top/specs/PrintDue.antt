@@ -1,5 +1,5 @@
 -- What is due for a source that is printed: only its tokens and its grammar are asked.
-use Rattle.std.specs.Prelude.{◌≡◌, ℕ, ◌+◌, ◌<◌, ◌≤◌, ◌⊎◌, List, length}
+use Rattle.std.specs.Prelude.{◌≡◌, ℕ, ◌≤◌, ◌⊎◌, List, length}
 use Rattle.pearl_tree.specs.declared.token.Token.{Token}
 use Rattle.pearl_tree.specs.declared.tree.Tree.{Tree}
 use Rattle.pearl_tree.specs.Modules.{Spells}
@@ -9,13 +9,14 @@ use Rattle.pearl_print.specs.Modules.{tokens_of}
 use Rattle.pearl_print.specs.Spelled.{text_of}
 use Rattle.pearl_script.specs.declared.refusal.Refusal.TheVariants as refusal
 use Rattle.pearl_script.specs.Refusals.{refusal_line}
+use Rattle.pearl_top.specs.declared.limits.TheConstants.{SOURCE_LIMIT}
 use Rattle.pearl_top.specs.declared.status.Status.{Status}
-use Rattle.pearl_top.specs.declared.status.Status.TheVariants.{Done, Refused, ReadFault, NoMemory, TooLong}
-use Rattle.pearl_top.specs.Commands.{source_limit}
+use Rattle.pearl_top.specs.declared.status.Status.TheVariants.{Done, Refused}
+use Rattle.pearl_top.specs.Reading.{UnreadDue}
 
 -- these bytes, within the limit, have tokens that a tree spells
 pub record IsSpelled (source : List ℕ) : Type 0 where
-  pub within : length source ≤ source_limit
+  pub within : length source ≤ SOURCE_LIMIT
   pub tokens : List Token
   pub lexes : Lexes source tokens
   pub tree : Tree
@@ -35,16 +36,13 @@ pub record HasStop (source : List ℕ) (place : ℕ) : Type 0 where
 
 -- these bytes, within the limit, are refused at a place: no token begins there, or no program begins with the tokens up to and with it
 pub record IsUnspelled (source bytes : List ℕ) : Type 0 where
-  pub within : length source ≤ source_limit
+  pub within : length source ≤ SOURCE_LIMIT
   pub place : ℕ
   pub fault : IsStuck source place ⊎ HasStop source place
   pub text : bytes ≡ refusal_line (refusal.Syntax place)
 
--- What ends at a source that is printed: its text; a refusal; too many bytes; a fault of reading it, where its count rose; want of memory.
+-- what is due with each way to end at a source that is printed: its text; a refusal; what is due where it is not read whole
 abbrev pub PrintDue : List ℕ → Type 0 → Status → List ℕ → Type 0
 PrintDue source rose Done bytes = IsPrinted source bytes
 PrintDue source rose Refused bytes = IsUnspelled source bytes
-PrintDue source rose TooLong bytes = (source_limit < length source) × (bytes ≡ refusal_line (refusal.TooLong (source_limit + 1)))
-PrintDue source rose ReadFault bytes = rose × (bytes ≡ refusal_line refusal.Read)
-PrintDue source rose NoMemory bytes = bytes ≡ refusal_line refusal.Memory
-PrintDue source rose status bytes = ⊥
+PrintDue source rose status bytes = UnreadDue source SOURCE_LIMIT rose status bytes

@@ -8,7 +8,13 @@ use Rattle.pearl_rules.specs.Runs.{Machine, machine_start, machine_after}
 use Rattle.pearl_code.specs.declared.object.Object.{Object}
 use Rattle.pearl_code.specs.Rows.{Stack, engine}
 use Rattle.pearl_script.specs.Lines.{lines_of}
-use Rattle.pearl_top.specs.Journal.{Ending, Entries, entries, entries_from, meaning, more_entries}
+use Rattle.pearl_script.specs.declared.refusal.Refusal.TheVariants.{Journal}
+use Rattle.pearl_top.specs.declared.failure.Failure.{Failure}
+use Rattle.pearl_top.specs.declared.failure.Failure.TheVariants.{Refused, WriteFault}
+use Rattle.pearl_top.specs.declared.journal.Line.TheVariants.{Wrong}
+use Rattle.pearl_top.specs.declared.replay.Lines.{Lines}
+use Rattle.pearl_top.specs.declared.replay.Lines.TheVariants as lines
+use Rattle.pearl_top.specs.Journal.{Ending, Bad, Entries, entries, entries_from, ended_lines, journal_lines, meaning, more_entries}
 use Rattle.pearl_run.specs.Seen.{Seen, Goes}
 
 -- the state of an object's run before its first step
@@ -25,6 +31,11 @@ pub record Ran (o : Object) (es : List Entry) (seen : Seen) (told : List (ℕ ×
 pub record Tells (o : Object) (es : List Entry) (told : List (ℕ × Said)) : Type 0 where
   pub steps : ℕ
   pub says : (machine_after (engine o) (start_of o es) steps).core.told ≡ (start_of o es).core.told ++ told
+
+-- the lines that count
+abbrev pub lines_in : Lines → List ℕ → List (List ℕ)
+lines_in lines.All journal = journal_lines journal
+lines_in lines.Ended journal = ended_lines journal
 
 -- ONE PART AFTER ANOTHER
 
@@ -81,3 +92,17 @@ pub record Progress (setup : Setup) (lines : List (List ℕ)) (count : ℕ) (lef
   pub read : entries lines ≡ with_front es (entries_from count left)
   pub advances : Advances seen after es told
   pub taken : Takes old new (lines_of setup told)
+
+-- HOW IT FAILS
+
+-- one line failed: it is refused, and nothing was done; or its output was not taken whole
+abbrev pub IsLineFailure : Failure → ℕ → List ℕ → Seen → Seen → Option (List ℕ) → Option (List ℕ) → Type 0 → Type 0
+IsLineFailure (Refused refusal) line text seen after old new failed =
+    (code : ℕ) × (refusal ≡ Journal line code) × (meaning text ≡ Wrong code) × (after ≡ seen) × (new ≡ old)
+IsLineFailure WriteFault line text seen after old new failed = failed × LineBroken seen.object.setup line text seen old new
+
+-- some lines failed at one that is refused, or where the output was not taken whole
+abbrev pub IsLinesFailure : Failure → List (List ℕ) → Seen → Seen → Option (List ℕ) → Option (List ℕ) → Type 0 → Type 0
+IsLinesFailure (Refused refusal) lines seen after old new failed =
+    (line code : ℕ) × (refusal ≡ Journal line code) × LinesDone seen.object.setup lines (Bad line code) seen after old new
+IsLinesFailure WriteFault lines seen after old new failed = failed × LinesBroken seen.object.setup lines seen old new

@@ -1,8 +1,12 @@
 -- What a sink took in a call, measured against what was due.
-use Rattle.std.specs.Prelude.{◌≡◌, ◌≢◌, ℕ, List, [], ◌++◌, Option}
+use Rattle.std.specs.Prelude.{◌≡◌, ◌≢◌, ℕ, List, [], ◌++◌, Option, Result, Ok, Err}
 use Rattle.pearl_io.specs.Outside.{Takes}
+use Rattle.pearl_script.specs.Refusals.{refusal_line}
+use Rattle.pearl_top.specs.declared.failure.Failure.{Failure}
+use Rattle.pearl_top.specs.declared.failure.Failure.TheVariants as failure
 use Rattle.pearl_top.specs.declared.status.Status.{Status}
-use Rattle.pearl_top.specs.declared.status.Status.TheVariants.{WriteFault}
+use Rattle.pearl_top.specs.declared.status.Status.TheVariants.{Done, WriteFault}
+use Rattle.pearl_top.specs.Status.{status_of}
 
 -- the sink took all of what is due
 pub record Finishes (old new : Option (List ℕ)) (due : List ℕ → Type 0) : Type 0 where
@@ -27,3 +31,16 @@ Ends old new due status = Finishes old new (due status)
 -- what is due where just this status comes, with these bytes
 abbrev pub Just : Status → List ℕ → Status → List ℕ → Type 0
 Just status bytes s written = (s ≡ status) × (written ≡ bytes)
+
+-- What the sink took up to where a command ended: all that is due; or all but the line of a refusal, with which it is due; or,
+-- where writing failed, a front.
+abbrev pub Leaves : Option (List ℕ) → Option (List ℕ) → Type 0 → (Status → List ℕ → Type 0) → Result (Unit {0}) Failure → Type 0
+Leaves old new failed due (Ok done) = Finishes old new (due Done)
+Leaves old new failed due (Err (failure.Refused refusal)) = Finishes old new (λ bytes. due (status_of refusal) (bytes ++ refusal_line refusal))
+Leaves old new failed due (Err failure.WriteFault) = failed × Stops old new due
+
+-- what the sink took, and which status comes, after a command ended: where it was refused, the line of the refusal
+abbrev pub Concludes : Option (List ℕ) → Option (List ℕ) → Result (Unit {0}) Failure → Status → Type 0
+Concludes old new (Ok done) status = (status ≡ Done) × (new ≡ old)
+Concludes old new (Err (failure.Refused refusal)) status = Ends old new (Just (status_of refusal) (refusal_line refusal)) status
+Concludes old new (Err failure.WriteFault) status = (status ≡ WriteFault) × (new ≡ old)

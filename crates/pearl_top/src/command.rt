@@ -3,9 +3,6 @@
 ghost use Rattle.std.specs.Prelude.{◌≡◌, List, map, string_bytes};
 ghost use Rattle.pearl_top.specs.Commands.{command_of, IsCommand};
 
-/// The most bytes that a source may have.
-pub const SOURCE_LIMIT: u64 = 1_048_576;
-
 /// What the words ask for.
 pub enum Command<'a> {
     /// `run SOURCE JOURNAL`.

@@ -12,7 +12,7 @@ pub fn one_transcript()
     ensures { HasOneTranscript }
 {}
 
-/// A command and the files held have at most one status and one list of bytes, where nothing outside fails and memory is there.
+/// A command and its files have at most one status and one list of bytes, where nothing outside fails and memory is there.
 /// Only where `print` refuses a source that has tokens, its line may name any place up to and with which no program begins.
 pub fn one_outcome()
     ensures { HasOneOutcome }

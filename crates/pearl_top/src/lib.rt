@@ -2,11 +2,13 @@
 #![tactic(auto)]
 
 mod command;
-mod ending;
+mod compile;
+mod failure;
 mod journal;
 pub mod laws;
-mod machine_run;
+mod limits;
 mod print;
+mod read;
 mod refuse;
 mod replay;
 pub mod status;

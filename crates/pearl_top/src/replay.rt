@@ -1,32 +1,94 @@
-// A run over the lines of a journal.
+// A machine's run over a journal.
 
-ghost use Rattle.std.specs.Prelude.{◌≡◌, ◌+◌, ◌^◌, ◌<◌, ◌≤◌, ◌⊎◌, ℕ, length, IfErr, OnOk};
-ghost use Rattle.pearl_io.specs.Outside.{Rose};
+ghost use Rattle.std.specs.Prelude.{◌≡◌, ◌+◌, ◌^◌, ◌<◌, ◌≤◌, ℕ, List, length, IfErr, OnOk};
+ghost use Rattle.pearl_io.specs.Outside.{CountRose, WriteFailed};
+ghost use Rattle.pearl_prog.specs.declared.program.Program.{Program};
 ghost use Rattle.pearl_top.specs.Journal.{All};
-ghost use Rattle.pearl_top.specs.Replay.{LineDone, LinesDone};
-ghost use Rattle.pearl_top.specs.Parts.{part_lines};
-ghost use Rattle.pearl_top.specs.Halts.{IsLineHalt, IsLinesHalt};
+ghost use Rattle.pearl_top.specs.JournalDue.{JournalDue};
+ghost use Rattle.pearl_top.specs.Reading.{MayHave};
+ghost use Rattle.pearl_top.specs.Ready.{Ready};
+ghost use Rattle.pearl_top.specs.Replay.{IsLineFailure, IsLinesFailure, LineDone, LinesDone, lines_in};
+ghost use Rattle.pearl_top.specs.Taken.{Leaves};
 
+use crate::failure::Failure;
 use crate::journal::{Line, meaning_of, next_line};
-use pearl_io::{Sink, WriteFault};
+use crate::limits::JOURNAL_LIMIT;
+use pearl_io::{Fetched, Shelf, Sink, fetch_all};
 use pearl_run::Machine;
+use pearl_script::refusal::Refusal;
+use std::alloc::Global;
 
-/// How much of a journal was read.
+/// Which lines of some bytes count.
 #[derive(Clone, Copy, PartialEq, Eq, Debug)]
-pub enum Part {
-    /// All of it.
-    Whole,
-    /// It has more bytes than it may have, and these are the first ones.
-    TooLong,
-    /// Reading failed after these bytes.
-    Fault,
+pub enum Lines {
+    /// Also the last one, which no byte 10 ends.
+    All,
+    /// Those that a byte 10 ends.
+    Ended,
 }
 
-/// Why a journal's lines were not all carried out.
-pub enum Halt {
-    /// This line is refused with this code.
-    Bad { line: u64, code: u8 },
-    WriteFault,
+/// Runs a machine from its start over the journal, which is read after the opening lines.
+pub fn replay<S: Shelf, K: Sink>(
+    alloc: Global,
+    machine: &mut Machine,
+    journal: &str,
+    shelf: &mut S,
+    sink: &mut K,
+) -> Result<(), Failure>
+    ensures ends { let rose = CountRose (S.faults shelf.old journal.now) (S.faults shelf.new journal.now) in
+        let failed = WriteFailed (K.faults sink.old) (K.faults sink.new) (K.full sink.new) in
+        (p : Program) → Ready p machine.old → (file : List ℕ) × MayHave (S.holds shelf.old) journal.now file
+        × Leaves (K.taken sink.old) (K.taken sink.new) failed (JournalDue p file rose) result }
+    ensures held { S.holds shelf.new ≡ S.holds shelf.old }
+    ensures shelf_later { (name : List ℕ) → S.faults shelf.old name ≤ S.faults shelf.new name }
+    ensures sink_later { K.faults sink.old ≤ K.faults sink.new }
+{
+    machine.begin(sink)?;
+    match fetch_all(alloc, shelf, journal, JOURNAL_LIMIT) {
+        Fetched::Whole(bytes) => {
+            carry_out(machine, bytes.as_slice(), Lines::All, sink)?;
+            machine.close(sink)?;
+            Ok(())
+        }
+        Fetched::TooLong(bytes) => {
+            carry_out(machine, bytes.as_slice(), Lines::Ended, sink)?;
+            Err(Failure::Refused(Refusal::TooLong(JOURNAL_LIMIT + 1)))
+        }
+        Fetched::Fault(bytes) => {
+            carry_out(machine, bytes.as_slice(), Lines::Ended, sink)?;
+            Err(Failure::Refused(Refusal::Read))
+        }
+        Fetched::NoMemory => Err(Failure::Refused(Refusal::Memory)),
+    }
+}
+
+// Carries out the lines that count, one after another.
+fn carry_out<K: Sink>(
+    machine: &mut Machine,
+    journal: &[u8],
+    lines: Lines,
+    sink: &mut K,
+) -> Result<(), Failure>
+    requires { length journal.now < 2 ^ 40 }
+    ensures ok { OnOk result (LinesDone machine.old.object.setup (lines_in lines journal.now) All machine.old machine.new
+        (K.taken sink.old) (K.taken sink.new)) }
+    ensures err { let failed = WriteFailed (K.faults sink.old) (K.faults sink.new) (K.full sink.new) in
+        IfErr result (λ failure. IsLinesFailure failure (lines_in lines journal.now) machine.old machine.new
+        (K.taken sink.old) (K.taken sink.new) failed) }
+    ensures object { machine.new.object ≡ machine.old.object }
+    ensures later { K.faults sink.old ≤ K.faults sink.new }
+{
+    let mut left = journal;
+    let mut count = 0u64;
+    'lines: while let Some((text, after)) = next_line(left) {
+        carry_out_line(machine, text, count + 1, sink)?;
+        left = after;
+        count += 1;
+    }
+    match lines {
+        Lines::All => carry_out_line(machine, left, count + 1, sink),
+        Lines::Ended => Ok(()),
+    }
 }
 
 // Carries out one line, which has this number.
@@ -35,54 +97,21 @@ fn carry_out_line<K: Sink>(
     text: &[u8],
     line: u64,
     sink: &mut K,
-) -> Result<(), Halt>
+) -> Result<(), Failure>
     ensures ok { OnOk result (LineDone machine.old.object.setup line text.now machine.old machine.new
         (K.taken sink.old) (K.taken sink.new)) }
-    ensures err { IfErr result (λ halt. IsLineHalt halt line text.now machine.old machine.new (K.taken sink.old) (K.taken sink.new)
-        (Rose (K.faults sink.old) (K.faults sink.new) ⊎ K.full sink.new)) }
-    ensures later { K.faults sink.old ≤ K.faults sink.new }
+    ensures err { let failed = WriteFailed (K.faults sink.old) (K.faults sink.new) (K.full sink.new) in
+        IfErr result (λ failure. IsLineFailure failure line text.now machine.old machine.new
+        (K.taken sink.old) (K.taken sink.new) failed) }
     ensures object { machine.new.object ≡ machine.old.object }
+    ensures later { K.faults sink.old ≤ K.faults sink.new }
 {
     match meaning_of(text) {
         Line::Blank => Ok(()),
-        Line::Item(entry) => match machine.entry(&entry, sink) {
-            Ok(()) => Ok(()),
-            Err(WriteFault) => Err(Halt::WriteFault),
-        },
-        Line::Wrong(code) => Err(Halt::Bad { line, code }),
-    }
-}
-
-/// Carries out the lines of what was read of a journal: of a whole journal all, else those that are ended.
-pub fn carry_out<K: Sink>(
-    machine: &mut Machine,
-    journal: &[u8],
-    part: Part,
-    sink: &mut K,
-) -> Result<(), Halt>
-    requires { length journal.now < 2 ^ 40 }
-    ensures ok { OnOk result (LinesDone machine.old.object.setup (part_lines part journal.now) All machine.old machine.new
-        (K.taken sink.old) (K.taken sink.new)) }
-    ensures err { IfErr result (λ halt. IsLinesHalt halt (part_lines part journal.now) machine.old machine.new
-        (K.taken sink.old) (K.taken sink.new) (Rose (K.faults sink.old) (K.faults sink.new) ⊎ K.full sink.new)) }
-    ensures later { K.faults sink.old ≤ K.faults sink.new }
-    ensures object { machine.new.object ≡ machine.old.object }
-{
-    let mut left = journal;
-    let mut count = 0u64;
-    'lines: while let Some((text, after)) = next_line(left) {
-        match carry_out_line(machine, text, count + 1, sink) {
-            Ok(()) => {}
-            Err(halt) => return Err(halt),
+        Line::Item(entry) => {
+            machine.entry(&entry, sink)?;
+            Ok(())
         }
-        left = after;
-        count += 1;
-    }
-    match part {
-        Part::Whole => match carry_out_line(machine, left, count + 1, sink) {
-            Ok(()) => Ok(()),
-            Err(halt) => Err(halt),
-        },
-        Part::TooLong | Part::Fault => Ok(()),
+        Line::Wrong(code) => Err(Failure::Refused(Refusal::Journal { line, code })),
     }
 }

@@ -1,7 +1,9 @@
 // How a call ends.
 
 ghost use Rattle.std.specs.Prelude.{◌≡◌};
-ghost use Rattle.pearl_top.specs.Status.{code_of};
+ghost use Rattle.pearl_top.specs.Status.{code_of, status_of as status_of_refusal};
+
+use pearl_script::refusal::Refusal;
 
 /// How a call ends.
 #[derive(Clone, Copy, PartialEq, Eq, Debug)]
@@ -42,5 +44,19 @@ impl Status {
             Status::NoMemory => 7,
             Status::TooLong => 8,
         }
+    }
+}
+
+/// How a call ends that writes the line of this refusal.
+pub fn status_of(refusal: &Refusal) -> Status
+    ensures { result ≡ status_of_refusal refusal.now }
+{
+    match refusal {
+        Refusal::Usage => Status::Usage,
+        Refusal::Syntax(_) | Refusal::Source { .. } => Status::Refused,
+        Refusal::Journal { .. } => Status::BadJournal,
+        Refusal::Read => Status::ReadFault,
+        Refusal::Memory => Status::NoMemory,
+        Refusal::TooLong(_) => Status::TooLong,
     }
 }

@@ -22,3 +22,5 @@ pub mod OneSchedule
 pub mod OneStatement
 pub mod OneModule
 pub mod FirstStop
+pub mod FaultOrder
+pub mod OneFaultList

@@ -1,9 +1,11 @@
 -- What the grammar determines.
 use Rattle.std.specs.Prelude.{◌≡◌, ℕ, List}
 use Rattle.pearl_tree.specs.declared.expression.Expr.{Expr}
+use Rattle.pearl_tree.specs.declared.fault.RuleFault.{RuleFault}
 use Rattle.pearl_tree.specs.declared.token.Token.{Token}
 use Rattle.pearl_tree.specs.declared.tree.Tree.{Tree}
 use Rattle.pearl_tree.specs.Expressions.{SpellsTerms}
+use Rattle.pearl_tree.specs.Faults.{ListFaults}
 use Rattle.pearl_tree.specs.Following.{lengthens_expr, HasOneOf, Meet}
 use Rattle.pearl_tree.specs.Modules.{Spells}
 use Rattle.pearl_tree.specs.Stops.{NoneBegins, IsFirstStop}
@@ -33,3 +35,8 @@ HasOneStop = (tokens : List Token) (k n : ℕ) → IsFirstStop tokens k → IsFi
 -- a source whose tokens have a stop has no tree
 abbrev pub StopsHaveNoTree : Type 0
 StopsHaveNoTree = (tokens : List Token) (k : ℕ) (tree : Tree) → NoneBegins tokens k → Spells tree tokens → ⊥
+
+-- what is broken has one list in order
+abbrev pub HasOneFaultList : Type 0
+HasOneFaultList =
+    (broken faults others : List RuleFault) → ListFaults broken faults → ListFaults broken others → faults ≡ others

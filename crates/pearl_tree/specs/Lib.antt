@@ -17,3 +17,6 @@ pub mod Modules
 pub mod Tokens
 pub mod Lawfulness
 pub mod Lawful
+pub mod Faults
+pub mod Names
+pub mod Durations

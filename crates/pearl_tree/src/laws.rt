@@ -1,6 +1,6 @@
 // The grammar determines what tokens spell.
 
-ghost use Rattle.pearl_tree.specs.Laws.{HasOneTree, HasOneExpression, ExpressionsMeet, HasOneStop, StopsHaveNoTree};
+ghost use Rattle.pearl_tree.specs.Laws.{HasOneTree, HasOneExpression, ExpressionsMeet, HasOneStop, StopsHaveNoTree, HasOneFaultList};
 
 /// The tokens of a source spell at most one tree.
 pub fn one_tree()
@@ -25,4 +25,9 @@ pub fn one_stop()
 /// Tokens with which no source begins have no tree.
 pub fn stops_have_no_tree()
     ensures { StopsHaveNoTree }
+{}
+
+/// The rules that a source breaks are told in one order, each once.
+pub fn one_fault_list()
+    ensures { HasOneFaultList }
 {}

@@ -3,6 +3,7 @@
 #![tactic(auto)]
 
 pub mod declaration;
+pub mod duration;
 pub mod expression;
 pub mod fault;
 pub mod format;
@@ -10,6 +11,7 @@ pub mod laws;
 pub mod literal;
 pub mod name;
 pub mod parts;
+pub mod rule;
 pub mod statement;
 pub mod token;
 pub mod tree;

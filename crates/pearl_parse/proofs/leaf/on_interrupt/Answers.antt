@@ -2,7 +2,7 @@ use Rattle.std.proofs.Common.{◌+◌, ap, subst, arith}
 use Rattle.pearl_tree.specs.Standing.{HasSymbol}
 use Rattle.pearl_tables.specs.declared.symbol.TheConstants as s
 use Rattle.pearl_parse_expr.specs.Stops.{is_symbol, is_name}
-use Rattle.pearl_parse.proofs.Steps.{err_told, missing_is_refused, missing, ends}
+use Rattle.pearl_parse.proofs.Steps.{err_told, missing, ends}
 use Rattle.pearl_parse.proofs.LeafRests.{Spelled, interrupt_rest, interrupt_goes}
 use Rattle.pearl_parse.proofs.leaf.on_interrupt.Goals as goal
 
@@ -22,18 +22,8 @@ returns-in_err-symbol-clause-refused c =
     (λ depth. missing (Spelled depth) tokens from (is_symbol s.SEMICOLON) interrupt_rest (from + 1) from (from + 2) c.in_err-symbol.field-0.0 (interrupt_goes tokens depth from c.args.word c.requires.word)
     (λ others to h. ap (is_symbol s.SEMICOLON) (subst (λ k. HasSymbol others k s.SEMICOLON) (omega arith) h.1)) (omega arith) (omega (arith, c.in_ok-interrupt.ensures.within)) (omega (arith, c.requires.within)) c.in_err-symbol.ensures.missing)
 
-pub returns-clause-sure : goal.returns-clause-sure
-returns-clause-sure c = λ depth.
+pub returns-clause-longest : goal.returns-clause-longest
+returns-clause-longest c = λ depth.
     let tokens = c.args.tokens.now in
     let from = c.args.from in
     ends (Spelled depth) tokens from interrupt_rest (from + 1) from (from + 3) (from + 3) (interrupt_goes tokens depth from c.args.word c.requires.word) (omega arith) (λ others to h. omega (arith, h.2))
-
-pub returns-in_err-interrupt-clause-memory : goal.returns-in_err-interrupt-clause-memory
-returns-in_err-interrupt-clause-memory c =
-    err_told _ _ c.in_err-interrupt.field-0.0 c.from_residual.result c.from_residual.ensures (λ e is. is)
-    (missing_is_refused c.args.tokens.now is_name (c.args.from + 1) c.args.from c.in_err-interrupt.field-0.0 c.in_err-interrupt.ensures.missing)
-
-pub returns-in_err-symbol-clause-memory : goal.returns-in_err-symbol-clause-memory
-returns-in_err-symbol-clause-memory c =
-    err_told _ _ c.in_err-symbol.field-0.0 c.from_residual-in_err-symbol.result c.from_residual-in_err-symbol.ensures (λ e is. is)
-    (missing_is_refused c.args.tokens.now (is_symbol s.SEMICOLON) (c.args.from + 2) c.args.from c.in_err-symbol.field-0.0 c.in_err-symbol.ensures.missing)

@@ -1,4 +1,4 @@
-use Rattle.pearl_print.proofs.SureTokens.{lawful_tokens}
+use Rattle.pearl_print.proofs.LawfulParts.{lawful_tokens}
 use Rattle.pearl_print.proofs.laws.lawful_tokens.Goals as goal
 
 pub returns : goal.returns

@@ -1,57 +1,75 @@
-use Rattle.std.proofs.Common.{subst, []}
-use Rattle.pearl_io.specs.Outside.{Rose}
-use Rattle.pearl_top.specs.Commands.{Run, Print}
-use Rattle.pearl_top.specs.Complete.{IsInOrder}
-use Rattle.pearl_top.proofs.Completeness.{completes_as}
-use Rattle.pearl_top.proofs.PrintEnds.{print_told}
-use Rattle.pearl_top.proofs.Settled.{settles, settles_none}
-use Rattle.pearl_top.proofs.WordLaws.{due_command, due_told, due_for}
+use Rattle.std.proofs.Common.{List, ℕ}
+use Rattle.std.specs.Prelude.{map, string_bytes}
+use Rattle.pearl_io.specs.Outside.{CountRose, WriteFailed, content}
+use Rattle.pearl_top.specs.Commands.{command_of}
+use Rattle.pearl_top.specs.Outcome.{DueFor}
+use Rattle.pearl_top.proofs.Completeness.{completes}
+use Rattle.pearl_top.proofs.TakenLaws.{concluded}
+use Rattle.pearl_top.proofs.WordLaws.{due_told, just_usage, no_object, only_usage, read_rose, settles, usage_only}
 use Rattle.pearl_top.proofs.top.pearl.Goals as goal
 
-pub returns-in-Run-clause-due : goal.returns-in-Run-clause-due
-returns-in-Run-clause-due g c =
-    let ends = c.run.ensures.ends in
-    due_for _ (Run c.in-Run.source.now c.in-Run.journal.now) ends.0 ends.1 _ _ _ _ _ c.in-Run.ensures ends.2 ends.3
+pub returns-clause-due : goal.returns-clause-due
+returns-clause-due g c =
+    let command = command_of (map string_bytes c.args.words.now) in
+    let rose : List ℕ → Type 0 = λ name. CountRose (g.S.Shelf.faults c.args.shelf.now name) (g.S.Shelf.faults c.carry_out-ended.new.shelf name) in
+    let failed : Type 0 = WriteFailed (g.K.Sink.faults c.args.sink.now) (g.K.Sink.faults c.carry_out-ended.new.sink) (g.K.Sink.full c.carry_out-ended.new.sink) in
+    let left = c.carry_out-ended.ensures.ends in (
+      left.0,
+      left.1,
+      concluded (g.K.Sink.taken c.args.sink.now) (g.K.Sink.taken c.carry_out-ended.new.sink) (g.K.Sink.taken c.conclude.new.sink) failed
+          (DueFor command left.0 rose) c.carry_out-ended.result c.conclude.result left.2 c.conclude.ensures.ends,
+    )
 
-pub returns-in-Run-clause-ends : goal.returns-in-Run-clause-ends
-returns-in-Run-clause-ends g c files holds =
-    due_command _ (Run c.in-Run.source.now c.in-Run.journal.now) files _ _ _ _ c.in-Run.ensures (due_told c.in-Run.source.now c.in-Run.journal.now c.run.ensures.ends.0 c.run.ensures.ends.1 (g.S.Shelf.holds c.args.shelf.now) files (λ name. Rose (g.S.Shelf.faults c.args.shelf.now name) (g.S.Shelf.faults c.run.new.shelf name)) _ _ _ holds c.run.ensures.ends.2 c.run.ensures.ends.3)
+pub returns-clause-ends : goal.returns-clause-ends
+returns-clause-ends g c files holds =
+    let command = command_of (map string_bytes c.args.words.now) in
+    let rose : List ℕ → Type 0 = λ name. CountRose (g.S.Shelf.faults c.args.shelf.now name) (g.S.Shelf.faults c.carry_out-ended.new.shelf name) in
+    let due = returns-clause-due g c in
+    due_told command (g.S.Shelf.holds c.args.shelf.now) files due.0 rose (g.K.Sink.taken c.args.sink.now) (g.K.Sink.taken c.conclude.new.sink) c.conclude.result holds due.1 due.2
 
-pub returns-in-Run-clause-complete : goal.returns-in-Run-clause-complete
-returns-in-Run-clause-complete g c files holds order no_read no_write =
-    completes_as _ (Run c.in-Run.source.now c.in-Run.journal.now) files _ _ _ _ _ c.in-Run.ensures
-    (due_told c.in-Run.source.now c.in-Run.journal.now c.run.ensures.ends.0 c.run.ensures.ends.1 (g.S.Shelf.holds c.args.shelf.now) files (λ name. Rose (g.S.Shelf.faults c.args.shelf.now name) (g.S.Shelf.faults c.run.new.shelf name)) _ _ _ holds c.run.ensures.ends.2 c.run.ensures.ends.3) c.run.ensures.read c.run.ensures.write order no_read no_write
+pub returns-clause-outcome : goal.returns-clause-outcome
+returns-clause-outcome g c files holds no_memory no_read no_write =
+    let command = command_of (map string_bytes c.args.words.now) in
+    let rose : List ℕ → Type 0 = λ name. CountRose (g.S.Shelf.faults c.args.shelf.now name) (g.S.Shelf.faults c.carry_out-ended.new.shelf name) in
+    let due = returns-clause-due g c in
+    settles command (content files) rose (g.K.Sink.taken c.args.sink.now) (g.K.Sink.taken c.conclude.new.sink) c.conclude.result
+    (due_told command (g.S.Shelf.holds c.args.shelf.now) files due.0 rose (g.K.Sink.taken c.args.sink.now) (g.K.Sink.taken c.conclude.new.sink) c.conclude.result holds due.1 due.2) no_memory no_read no_write
 
-pub returns-in-None-clause-complete : goal.returns-in-None-clause-complete
-returns-in-None-clause-complete g c files holds order no_read no_write = absurd (subst (λ command. IsInOrder command files) c.in-None.ensures order)
+pub returns-clause-complete : goal.returns-clause-complete
+returns-clause-complete g c files holds order no_memory no_read no_write =
+    let command = command_of (map string_bytes c.args.words.now) in
+    let rose : List ℕ → Type 0 = λ name. CountRose (g.S.Shelf.faults c.args.shelf.now name) (g.S.Shelf.faults c.carry_out-ended.new.shelf name) in
+    let due = returns-clause-due g c in
+    completes command (content files) rose (g.K.Sink.taken c.args.sink.now) (g.K.Sink.taken c.conclude.new.sink) c.conclude.result
+    (due_told command (g.S.Shelf.holds c.args.shelf.now) files due.0 rose (g.K.Sink.taken c.args.sink.now) (g.K.Sink.taken c.conclude.new.sink) c.conclude.result holds due.1 due.2) order no_memory no_read no_write
 
-pub returns-in-Run-clause-outcome : goal.returns-in-Run-clause-outcome
-returns-in-Run-clause-outcome g c files holds no_read no_write known =
-    settles _ (Run c.in-Run.source.now c.in-Run.journal.now) files _ _ _ _ _ c.in-Run.ensures
-    (due_told c.in-Run.source.now c.in-Run.journal.now c.run.ensures.ends.0 c.run.ensures.ends.1 (g.S.Shelf.holds c.args.shelf.now) files (λ name. Rose (g.S.Shelf.faults c.args.shelf.now name) (g.S.Shelf.faults c.run.new.shelf name)) _ _ _ holds c.run.ensures.ends.2 c.run.ensures.ends.3) c.run.ensures.read c.run.ensures.write no_read no_write known
+pub returns-clause-usage : goal.returns-clause-usage
+returns-clause-usage g c is =
+    let command = command_of (map string_bytes c.args.words.now) in
+    let rose : List ℕ → Type 0 = λ name. CountRose (g.S.Shelf.faults c.args.shelf.now name) (g.S.Shelf.faults c.carry_out-ended.new.shelf name) in
+    let due = returns-clause-due g c in
+    usage_only command due.0 rose (g.K.Sink.taken c.args.sink.now) (g.K.Sink.taken c.conclude.new.sink) c.conclude.result is due.2
 
-pub returns-in-None-clause-outcome : goal.returns-in-None-clause-outcome
-returns-in-None-clause-outcome g c files holds no_read no_write known =
-    settles_none _ files _ _ _ _ c.in-None.ensures c.refuse.ensures.ends c.refuse.ensures.cause no_write known
+pub returns-clause-no_line : goal.returns-clause-no_line
+returns-clause-no_line g c none =
+    let command = command_of (map string_bytes c.args.words.now) in
+    let rose : List ℕ → Type 0 = λ name. CountRose (g.S.Shelf.faults c.args.shelf.now name) (g.S.Shelf.faults c.carry_out-ended.new.shelf name) in
+    let due = returns-clause-due g c in
+    only_usage command due.0 rose (g.K.Sink.taken c.args.sink.now) (g.K.Sink.taken c.conclude.new.sink) c.conclude.result none due.2
 
-pub returns-in-Print-clause-due : goal.returns-in-Print-clause-due
-returns-in-Print-clause-due g c =
-    let ends = c.print_source.ensures.ends in
-    due_for _ (Print c.in-Print.source.now) ends.0 [] _ _ _ _ _ c.in-Print.ensures ends.1 ends.2
+pub returns-clause-no_command : goal.returns-clause-no_command
+returns-clause-no_command g c none = just_usage (g.K.Sink.taken c.args.sink.now) (g.K.Sink.taken c.conclude.new.sink) _ c.conclude.result (returns-clause-no_line g c none)
 
-pub returns-in-Print-clause-ends : goal.returns-in-Print-clause-ends
-returns-in-Print-clause-ends g c files holds =
-    due_command _ (Print c.in-Print.source.now) files _ _ _ _ c.in-Print.ensures
-    (print_told c.in-Print.source.now c.print_source.ensures.ends.0 (g.S.Shelf.holds c.args.shelf.now) files (λ name. Rose (g.S.Shelf.faults c.args.shelf.now name) (g.S.Shelf.faults c.print_source.new.shelf name)) _ _ _ holds c.print_source.ensures.ends.1 c.print_source.ensures.ends.2)
+pub returns-clause-object : goal.returns-clause-object
+returns-clause-object g c =
+    let command = command_of (map string_bytes c.args.words.now) in
+    let rose : List ℕ → Type 0 = λ name. CountRose (g.S.Shelf.faults c.args.shelf.now name) (g.S.Shelf.faults c.carry_out-ended.new.shelf name) in
+    let due = returns-clause-due g c in
+    no_object command due.0 rose (g.K.Sink.taken c.args.sink.now) (g.K.Sink.taken c.conclude.new.sink) c.conclude.result due.2
 
-pub returns-in-Print-clause-complete : goal.returns-in-Print-clause-complete
-returns-in-Print-clause-complete g c files holds order no_read no_write =
-    completes_as _ (Print c.in-Print.source.now) files _ _ _ _ _ c.in-Print.ensures
-    (print_told c.in-Print.source.now c.print_source.ensures.ends.0 (g.S.Shelf.holds c.args.shelf.now) files (λ name. Rose (g.S.Shelf.faults c.args.shelf.now name) (g.S.Shelf.faults c.print_source.new.shelf name)) _ _ _ holds c.print_source.ensures.ends.1 c.print_source.ensures.ends.2)
-    c.print_source.ensures.read c.print_source.ensures.write order no_read no_write
-
-pub returns-in-Print-clause-outcome : goal.returns-in-Print-clause-outcome
-returns-in-Print-clause-outcome g c files holds no_read no_write known =
-    settles _ (Print c.in-Print.source.now) files _ _ _ _ _ c.in-Print.ensures
-    (print_told c.in-Print.source.now c.print_source.ensures.ends.0 (g.S.Shelf.holds c.args.shelf.now) files (λ name. Rose (g.S.Shelf.faults c.args.shelf.now name) (g.S.Shelf.faults c.print_source.new.shelf name)) _ _ _ holds c.print_source.ensures.ends.1 c.print_source.ensures.ends.2)
-    c.print_source.ensures.read c.print_source.ensures.write no_read no_write known
+pub returns-clause-read : goal.returns-clause-read
+returns-clause-read g c is =
+    let command = command_of (map string_bytes c.args.words.now) in
+    let rose : List ℕ → Type 0 = λ name. CountRose (g.S.Shelf.faults c.args.shelf.now name) (g.S.Shelf.faults c.carry_out-ended.new.shelf name) in
+    let due = returns-clause-due g c in
+    read_rose command due.0 rose (g.K.Sink.taken c.args.sink.now) (g.K.Sink.taken c.conclude.new.sink) c.conclude.result due.2 is

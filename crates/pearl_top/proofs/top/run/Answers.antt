@@ -1,56 +1,71 @@
-use Rattle.std.proofs.Common.{◌∙◌, ◌++◌, ◌∷◌, [], refl}
-use Rattle.pearl_script.specs.Refusals.{refusal_line}
-use Rattle.pearl_script.specs.declared.refusal.Refusal.TheVariants as refusal
-use Rattle.pearl_top.specs.declared.status.Status.TheVariants as statuses
-use Rattle.pearl_top.proofs.Explained.{explained, may_have, may_have_later, explains_whole, explains_long}
-use Rattle.pearl_top.proofs.RunLaws.{rose_since}
-use Rattle.pearl_top.proofs.WordLaws.{due_rises, due_same, due_source}
+use Rattle.std.proofs.Common.{[], ◌∙◌}
+use Rattle.std.proofs.lemmas.Result.{err_from_is_err_and}
+use Rattle.pearl_io.specs.Outside.{CountRose, WriteFailed}
+use Rattle.pearl_io.proofs.Counts.{rose_since}
+use Rattle.pearl_top.specs.declared.limits.TheConstants.{SOURCE_LIMIT}
+use Rattle.pearl_top.specs.JournalDue.{JournalDue}
+use Rattle.pearl_top.specs.Outcome.{RunDue, SourceDue}
+use Rattle.pearl_top.specs.Reading.{UnreadDue}
+use Rattle.pearl_top.proofs.Explained.{explained, may_have}
+use Rattle.pearl_top.proofs.TakenLaws.{is_due_as, leaves_as, leaves_due}
+use Rattle.pearl_top.proofs.WordLaws.{may_have_before, run_accepted, run_refused, run_unread}
 use Rattle.pearl_top.proofs.top.run.Goals as goal
 
-pub returns-in-Whole-clause-ends : goal.returns-in-Whole-clause-ends
-returns-in-Whole-clause-ends g c =
+pub returns-in_err-bytes-clause-ends : goal.returns-in_err-bytes-clause-ends
+returns-in_err-bytes-clause-ends g c =
     let held = g.S.Shelf.holds c.args.shelf.now in
-    let name = c.args.source.now in
-    let bytes = c.in-Whole.bytes.items in
-    let ends = c.run_source.ensures.ends in (
-      explained held name bytes,
-      ends.0,
-      (may_have held name bytes, may_have_later held _ c.args.journal.now ends.0 c.fetch_all.ensures.held ends.1),
-      due_rises (explained held name bytes) ends.0 _ _ _ _ _ _ _ absurd
-          (rose_since _ _ _ (c.fetch_all.ensures.later c.args.journal.now))
-          (due_same c.as_slice.result.now (explained held name bytes) ends.0 _ _ _ _ _
-          (c.as_slice.ensures.value ∙ explains_whole held name bytes c.in-Whole.ensures.read) ends.2),
+    let source_rose : Type 0 = CountRose (g.S.Shelf.faults c.args.shelf.now c.args.source.now) (g.S.Shelf.faults c.read_whole.new.shelf c.args.source.now) in
+    let journal_rose : Type 0 = CountRose (g.S.Shelf.faults c.args.shelf.now c.args.journal.now) (g.S.Shelf.faults c.read_whole.new.shelf c.args.journal.now) in
+    let failed : Type 0 = WriteFailed (g.K.Sink.faults c.args.sink.now) (g.K.Sink.faults c.args.sink.now) (g.K.Sink.full c.args.sink.now) in
+    let read = c.in_err-bytes.ensures.read in
+    let journal = explained held c.args.journal.now [] in
+    let why = c.in_err-bytes.field-0.0 in
+    let e = err_from_is_err_and c.from_residual.result c.from_residual.ensures.1 in (
+      read.0,
+      journal,
+      read.1,
+      may_have held c.args.journal.now [],
+      rw (e.1, e.2) (leaves_due (g.K.Sink.taken c.args.sink.now) failed (RunDue read.0 journal source_rose journal_rose) why
+          (is_due_as (UnreadDue read.0 SOURCE_LIMIT source_rose) (RunDue read.0 journal source_rose journal_rose) why
+          (run_unread read.0 journal source_rose journal_rose) read.2)),
     )
 
-pub returns-in-TooLong-clause-ends : goal.returns-in-TooLong-clause-ends
-returns-in-TooLong-clause-ends g c =
+pub returns-in_err-machine-clause-ends : goal.returns-in_err-machine-clause-ends
+returns-in_err-machine-clause-ends g c =
     let held = g.S.Shelf.holds c.args.shelf.now in
-    let name = c.args.source.now in
-    let bytes = c.in-TooLong.field-0.items in
-    let guess = bytes ++ 0 ∷ [] in
-    let long = explains_long held name bytes 1048576 c.in-TooLong.ensures.within c.in-TooLong.ensures.read in (
-      explained held name guess,
-      explained held c.args.journal.now [],
-      (may_have held name guess, may_have held c.args.journal.now []),
-      due_source (explained held name guess) _ (refusal_line (refusal.TooLong 1048577)) statuses.TooLong _ _ _ _ _ (long.0, refl) c.refuse.ensures.ends,
-    )
-
-pub returns-in-Fault-clause-ends : goal.returns-in-Fault-clause-ends
-returns-in-Fault-clause-ends g c =
-    let held = g.S.Shelf.holds c.args.shelf.now in
-    let name = c.args.source.now in (
-      explained held name [],
-      explained held c.args.journal.now [],
-      (may_have held name [], may_have held c.args.journal.now []),
-      due_source (explained held name []) _ (refusal_line refusal.Read) statuses.ReadFault _ _ _ _ _ (c.in-Fault.ensures.cause, refl) c.refuse-in-Fault.ensures.ends,
+    let source_rose : Type 0 = CountRose (g.S.Shelf.faults c.args.shelf.now c.args.source.now) (g.S.Shelf.faults c.read_whole.new.shelf c.args.source.now) in
+    let journal_rose : Type 0 = CountRose (g.S.Shelf.faults c.args.shelf.now c.args.journal.now) (g.S.Shelf.faults c.read_whole.new.shelf c.args.journal.now) in
+    let failed : Type 0 = WriteFailed (g.K.Sink.faults c.args.sink.now) (g.K.Sink.faults c.args.sink.now) (g.K.Sink.full c.args.sink.now) in
+    let read = c.in_ok-bytes.ensures.read in
+    let journal = explained held c.args.journal.now [] in
+    let why = c.in_err-machine.field-0.0 in
+    let e = err_from_is_err_and c.from_residual-in_err-machine.result c.from_residual-in_err-machine.ensures.1 in (
+      read.0,
+      journal,
+      read.1,
+      may_have held c.args.journal.now [],
+      rw (e.1, e.2) (leaves_due (g.K.Sink.taken c.args.sink.now) failed (RunDue read.0 journal source_rose journal_rose) why
+          (is_due_as (SourceDue c.as_slice.result.now ⊥) (RunDue read.0 journal source_rose journal_rose) why
+          (λ s bytes. run_refused c.as_slice.result.now read.0 journal source_rose journal_rose s bytes (c.as_slice.ensures.value ∙ read.2.0))
+          c.in_err-machine.ensures.err)),
     )
 
 pub returns-clause-ends : goal.returns-clause-ends
 returns-clause-ends g c =
     let held = g.S.Shelf.holds c.args.shelf.now in
-    let name = c.args.source.now in (
-      explained held name [],
-      explained held c.args.journal.now [],
-      (may_have held name [], may_have held c.args.journal.now []),
-      due_source (explained held name []) _ (refusal_line refusal.Memory) statuses.NoMemory _ _ _ _ _ refl c.refuse-in-NoMemory.ensures.ends,
+    let source_rose : Type 0 = CountRose (g.S.Shelf.faults c.args.shelf.now c.args.source.now) (g.S.Shelf.faults c.replay.new.shelf c.args.source.now) in
+    let also : Type 0 = CountRose (g.S.Shelf.faults c.read_whole.new.shelf c.args.journal.now) (g.S.Shelf.faults c.replay.new.shelf c.args.journal.now) in
+    let journal_rose : Type 0 = CountRose (g.S.Shelf.faults c.args.shelf.now c.args.journal.now) (g.S.Shelf.faults c.replay.new.shelf c.args.journal.now) in
+    let failed : Type 0 = WriteFailed (g.K.Sink.faults c.args.sink.now) (g.K.Sink.faults c.replay.new.sink) (g.K.Sink.full c.replay.new.sink) in
+    let read = c.in_ok-bytes.ensures.read in
+    let ready = c.in_ok-machine.ensures.ok in
+    let ends = c.replay.ensures.ends ready.0 ready.2 in (
+      read.0,
+      ends.0,
+      read.1,
+      may_have_before held _ c.args.journal.now ends.0 c.read_whole.ensures.held ends.1,
+      leaves_as (g.K.Sink.taken c.args.sink.now) (g.K.Sink.taken c.replay.new.sink) failed (JournalDue ready.0 ends.0 also)
+          (RunDue read.0 ends.0 source_rose journal_rose) c.replay.result
+          (λ s bytes. run_accepted c.as_slice.result.now read.0 ends.0 source_rose also journal_rose ready.0 s bytes (c.as_slice.ensures.value ∙ read.2.0)
+          (rose_since _ _ _ (c.read_whole.ensures.later c.args.journal.now)) ready.1) ends.2,
     )

@@ -1,0 +1,34 @@
+use Rattle.std.proofs.Common.{[], ◌∷◌, List, ℕ, refl}
+use Rattle.std.specs.Prelude.{Err}
+use Rattle.pearl_io.specs.Outside.{CountRose, WriteFailed}
+use Rattle.pearl_script.specs.declared.refusal.Refusal.TheVariants as refusal
+use Rattle.pearl_top.specs.declared.failure.Failure.TheVariants as failure
+use Rattle.pearl_top.specs.Commands.{Run, Print, NoCommand}
+use Rattle.pearl_top.specs.Taken.{Leaves}
+use Rattle.pearl_top.proofs.TakenLaws.{takes_none}
+use Rattle.pearl_top.proofs.WordLaws.{due_as}
+use Rattle.pearl_top.proofs.top.carry_out.Goals as goal
+
+pub returns-in-Run-clause-ends : goal.returns-in-Run-clause-ends
+returns-in-Run-clause-ends g c =
+    let rose : List ℕ → Type 0 = λ name. CountRose (g.S.Shelf.faults c.args.shelf.now name) (g.S.Shelf.faults c.run.new.shelf name) in
+    let failed : Type 0 = WriteFailed (g.K.Sink.faults c.args.sink.now) (g.K.Sink.faults c.run.new.sink) (g.K.Sink.full c.run.new.sink) in
+    let ends = c.run.ensures.ends in
+    due_as _ (Run c.in-Run.source.now c.in-Run.journal.now) (g.S.Shelf.holds c.args.shelf.now) (ends.0 ∷ ends.1 ∷ []) rose
+    (λ due. Leaves (g.K.Sink.taken c.args.sink.now) (g.K.Sink.taken c.run.new.sink) failed due c.run.result) c.in-Run.ensures (ends.2, (ends.3, tt)) ends.4
+
+pub returns-in-Print-clause-ends : goal.returns-in-Print-clause-ends
+returns-in-Print-clause-ends g c =
+    let rose : List ℕ → Type 0 = λ name. CountRose (g.S.Shelf.faults c.args.shelf.now name) (g.S.Shelf.faults c.print.new.shelf name) in
+    let failed : Type 0 = WriteFailed (g.K.Sink.faults c.args.sink.now) (g.K.Sink.faults c.print.new.sink) (g.K.Sink.full c.print.new.sink) in
+    let ends = c.print.ensures.ends in
+    due_as _ (Print c.in-Print.source.now) (g.S.Shelf.holds c.args.shelf.now) (ends.0 ∷ []) rose
+    (λ due. Leaves (g.K.Sink.taken c.args.sink.now) (g.K.Sink.taken c.print.new.sink) failed due c.print.result) c.in-Print.ensures (ends.1, tt) ends.2
+
+pub returns-in-None-clause-ends : goal.returns-in-None-clause-ends
+returns-in-None-clause-ends g c =
+    let rose : List ℕ → Type 0 = λ name. CountRose (g.S.Shelf.faults c.args.shelf.now name) (g.S.Shelf.faults c.args.shelf.now name) in
+    let failed : Type 0 = WriteFailed (g.K.Sink.faults c.args.sink.now) (g.K.Sink.faults c.args.sink.now) (g.K.Sink.full c.args.sink.now) in
+    let taken = g.K.Sink.taken c.args.sink.now in
+    due_as _ NoCommand (g.S.Shelf.holds c.args.shelf.now) [] rose (λ due. Leaves taken taken failed due (Err (failure.Refused refusal.Usage))) c.in-None.ensures tt
+    (record { bytes = []; is_due = (refl, refl); taken = takes_none taken })

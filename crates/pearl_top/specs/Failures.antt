@@ -1,0 +1,36 @@
+-- What is told of a fault of the calls below, and what is due where a command fails before anything was written.
+use Rattle.std.specs.Prelude.{ℕ, List}
+use Rattle.pearl_lex.specs.declared.fault.LexFault.{LexFault}
+use Rattle.pearl_lex.specs.declared.fault.LexFault.TheVariants as lex
+use Rattle.pearl_parse_expr.specs.declared.fault.ParseFault.{ParseFault}
+use Rattle.pearl_parse_expr.specs.declared.fault.ParseFault.TheVariants as parse
+use Rattle.pearl_first.specs.declared.fault.FrontFault.{FrontFault}
+use Rattle.pearl_first.specs.declared.fault.FrontFault.TheVariants as front
+use Rattle.pearl_script.specs.declared.refusal.Refusal.{Refusal}
+use Rattle.pearl_script.specs.declared.refusal.Refusal.TheVariants.{Syntax, Source, Memory}
+use Rattle.pearl_script.specs.Refusals.{refusal_line}
+use Rattle.pearl_top.specs.declared.failure.Failure.{Failure}
+use Rattle.pearl_top.specs.declared.failure.Failure.TheVariants.{Refused, WriteFault}
+use Rattle.pearl_top.specs.declared.status.Status.{Status}
+use Rattle.pearl_top.specs.Status.{status_of}
+
+-- of bytes that have no tokens
+abbrev pub lex_refusal : LexFault → Refusal
+lex_refusal (lex.Refused place) = Syntax place
+lex_refusal lex.NoMemory = Memory
+
+-- of tokens that have no tree
+abbrev pub parse_refusal : ParseFault → Refusal
+parse_refusal (parse.Refused place) = Syntax place
+parse_refusal parse.NoMemory = Memory
+
+-- of a source that has no program
+abbrev pub front_refusal : FrontFault → Refusal
+front_refusal (front.Syntax place) = Syntax place
+front_refusal (front.Source place rule) = Source place rule
+front_refusal front.NoMemory = Memory
+
+-- the failure is a refusal, whose line alone is due with its status
+abbrev pub IsDue : (Status → List ℕ → Type 0) → Failure → Type 0
+IsDue due (Refused refusal) = due (status_of refusal) (refusal_line refusal)
+IsDue due WriteFault = ⊥

@@ -1,0 +1,27 @@
+-- What is due where a file is not read whole, and what is known of a file from a shelf that may not tell what it holds.
+use Rattle.std.specs.Prelude.{◌≡◌, ℕ, ◌+◌, ◌<◌, ◌≤◌, List, length, Option, Some, None, Result, Ok, Err}
+use Rattle.std.specs.Global.{Vec}
+use Rattle.pearl_io.specs.Outside.{Files, content}
+use Rattle.pearl_script.specs.declared.refusal.Refusal.TheVariants as refusal
+use Rattle.pearl_script.specs.Refusals.{refusal_line}
+use Rattle.pearl_top.specs.declared.failure.Failure.{Failure}
+use Rattle.pearl_top.specs.declared.status.Status.{Status}
+use Rattle.pearl_top.specs.declared.status.Status.TheVariants.{ReadFault, NoMemory, TooLong}
+use Rattle.pearl_top.specs.Failures.{IsDue}
+
+-- the file has more bytes than the limit; or reading it failed, and its count of faults rose; or memory is out
+abbrev pub UnreadDue : List ℕ → ℕ → Type 0 → Status → List ℕ → Type 0
+UnreadDue file limit rose TooLong bytes = (limit < length file) × (bytes ≡ refusal_line (refusal.TooLong (limit + 1)))
+UnreadDue file limit rose ReadFault bytes = rose × (bytes ≡ refusal_line refusal.Read)
+UnreadDue file limit rose NoMemory bytes = bytes ≡ refusal_line refusal.Memory
+UnreadDue file limit rose status bytes = ⊥
+
+-- the file was read whole and is within the limit, or what is due is a line that says why not
+abbrev pub IsReadWhole : List ℕ → ℕ → Type 0 → Result (Vec ℕ) Failure → Type 0
+IsReadWhole file limit rose (Ok bytes) = (bytes.items ≡ file) × (length file ≤ limit)
+IsReadWhole file limit rose (Err failure) = IsDue (UnreadDue file limit rose) failure
+
+-- bytes that a file of this name may have: those held, where that is told
+abbrev pub MayHave : Option Files → List ℕ → List ℕ → Type 0
+MayHave None name bytes = Unit {0}
+MayHave (Some files) name bytes = bytes ≡ content files name

@@ -1,0 +1,72 @@
+// Why a command was not carried out to its end.
+
+ghost use Rattle.std.specs.Prelude.{◌≡◌};
+ghost use Rattle.pearl_top.specs.Failures.{front_refusal, lex_refusal, parse_refusal};
+ghost use Rattle.pearl_top.specs.declared.failure.Failure.TheVariants as failure;
+ghost use Rattle.pearl_script.specs.declared.refusal.Refusal.TheVariants as refusal;
+
+use pearl_first::fault::FrontFault;
+use pearl_io::WriteFault;
+use pearl_lex::fault::LexFault;
+use pearl_parse_expr::fault::ParseFault;
+use pearl_script::refusal::Refusal;
+use std::alloc::AllocError;
+
+/// Why a command was not carried out to its end.
+#[derive(Clone, Copy, PartialEq, Eq, Debug)]
+pub enum Failure {
+    /// For what this refusal tells. Its line is still to be written.
+    Refused(Refusal),
+    /// What was to be written was not taken.
+    WriteFault,
+}
+
+impl From<WriteFault> for Failure {
+    ghost from_gives = { λ _ e. e ≡ failure.WriteFault };
+
+    fn from(_fault: WriteFault) -> Failure {
+        Failure::WriteFault
+    }
+}
+
+impl From<AllocError> for Failure {
+    ghost from_gives = { λ _ e. e ≡ failure.Refused refusal.Memory };
+
+    fn from(_error: AllocError) -> Failure {
+        Failure::Refused(Refusal::Memory)
+    }
+}
+
+impl From<LexFault> for Failure {
+    ghost from_gives = { λ fault e. e ≡ failure.Refused (lex_refusal fault) };
+
+    fn from(fault: LexFault) -> Failure {
+        match fault {
+            LexFault::Refused(place) => Failure::Refused(Refusal::Syntax(place)),
+            LexFault::NoMemory => Failure::Refused(Refusal::Memory),
+        }
+    }
+}
+
+impl From<ParseFault> for Failure {
+    ghost from_gives = { λ fault e. e ≡ failure.Refused (parse_refusal fault) };
+
+    fn from(fault: ParseFault) -> Failure {
+        match fault {
+            ParseFault::Refused(place) => Failure::Refused(Refusal::Syntax(place)),
+            ParseFault::NoMemory => Failure::Refused(Refusal::Memory),
+        }
+    }
+}
+
+impl From<FrontFault> for Failure {
+    ghost from_gives = { λ fault e. e ≡ failure.Refused (front_refusal fault) };
+
+    fn from(fault: FrontFault) -> Failure {
+        match fault {
+            FrontFault::Syntax(place) => Failure::Refused(Refusal::Syntax(place)),
+            FrontFault::Source { place, rule } => Failure::Refused(Refusal::Source { place, rule }),
+            FrontFault::NoMemory => Failure::Refused(Refusal::Memory),
+        }
+    }
+}

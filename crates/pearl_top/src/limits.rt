@@ -1,0 +1,7 @@
+// How large the files of a command may be.
+
+/// The most bytes that a source may have.
+pub const SOURCE_LIMIT: u64 = 1_048_576;
+
+/// The most bytes that a journal may have.
+pub const JOURNAL_LIMIT: u64 = 67_108_864;
