@@ -1,5 +1,5 @@
 -- What begins the bytes is the longest token that they spell.
-use Rattle.std.proofs.Common.{◌≡◌, ◌≤◌, ◌+◌, inl, inr, ℕ, Bool, true, false, List, [], ◌∷◌, ◌++◌, append_assoc, length-append, length, get_or, eqb, Option, Some, None, IfSome, if◌then◌else◌, refl, sym, subst, ap, ◌∙◌, arith}
+use Rattle.std.proofs.Common.{◌≡◌, ◌≤◌, ◌+◌, inl, inr, ℕ, Bool, true, false, List, [], ◌∷◌, ◌++◌, append_assoc, length-append, length, get_or, eqb, Option, Some, None, if◌then◌else◌, refl, sym, subst, ap, ◌∙◌, arith}
 use Rattle.std.specs.Char.{is_ascii_alphabetic, is_ascii_digit}
 use Rattle.std.proofs.lemmas.Bool.{false≢true}
 use Rattle.pearl_tree.specs.declared.token.What.{What}
@@ -11,15 +11,12 @@ use Rattle.pearl_lex.specs.Front.{front}
 use Rattle.pearl_lex.specs.Spells.{AreDigits, Spells, MayFollow, BeginsToken, IsLongest, IsNoToken, doubled}
 use Rattle.pearl_lex.specs.Laws.{TakesTheLongest, TakesNone}
 use Rattle.pearl_lex.proofs.Passes.{equal}
-use Rattle.pearl_lex.proofs.Runs.{Outcome, AtLeast, Meets, meets_from, some_run, is_digit, digit_is_no_letter}
+use Rattle.pearl_lex.proofs.Runs.{Outcome, AtLeast, Meets, meets_from, some_run, is_digit, digit_is_no_letter, Sound}
 use Rattle.pearl_lex.proofs.Numerals.{numeral_outcome, count_append}
 use Rattle.pearl_lex.proofs.NumeralSizes.{number_least, decimal_least, clock_least, no_large_number, no_fine_decimal, no_time}
 use Rattle.pearl_lex.proofs.Names.{front_digit, front_quote, front_other, is_other, name_outcome, word_meets, id_meets, symbol_meets, symbol_sound, no_long_name}
 use Rattle.pearl_lex.proofs.QuotedTokens.{quoted_sound, text_answer, bits_answer}
 use Rattle.pearl_lex.proofs.OneMeaning.{Means, word_means, id_means, symbol_means, number_means, decimal_means, clock_means}
-
-abbrev Sound : List ℕ → Option Front → Type 0
-Sound bytes o = IfSome o (λ f. BeginsToken bytes f.what f.size)
 
 outcome_sound : (bytes : List ℕ) (o : Option Front) → Outcome bytes o → Sound bytes o
 outcome_sound bytes (Some f) is = is

@@ -1,28 +1,25 @@
 -- Words, names and symbols are taken as they are spelled.
-use Rattle.std.proofs.Common.{◌≡◌, ◌<◌, ◌≤◌, ◌+◌, inl, ℕ, Bool, true, false, ◌&&◌, List, [], ◌∷◌, ◌++◌, length, take, drop, get_or, eqb, nat_le, nat_lt, All, Option, Some, None, IfSome, is_some, if◌then◌else◌, refl, sym, subst, ap, ◌∙◌, arith}
+use Rattle.std.proofs.Common.{zero, suc, ◌≡◌, ◌<◌, ◌≤◌, ◌+◌, inl, ℕ, Bool, true, false, ◌&&◌, List, [], ◌∷◌, ◌++◌, length, take, drop, get_or, eqb, nat_le, nat_lt, All, Option, Some, None, IfSome, if◌then◌else◌, refl, sym, subst, ap, ◌∙◌, arith}
 use Rattle.std.specs.Char.{is_ascii_alphabetic, is_ascii_digit}
 use Rattle.std.specs.List.{prefix_len, list_all}
 use Rattle.std.specs.Str.{bytes_eq}
 use Rattle.std.proofs.lemmas.Bool.{false≢true}
-use Rattle.std.proofs.lemmas.Bool.Decides.{nat_tests, Decides-by_and}
+use Rattle.std.proofs.lemmas.Bool.Decides.{nat_tests}
 use Rattle.std.proofs.lemmas.Slice.Eq.{bytes_eq-Decides}
 use Rattle.std.proofs.lemmas.List.Folds.{length-prefix_len}
-use Rattle.pearl_tree.specs.declared.token.What.{What}
 use Rattle.pearl_tree.specs.declared.token.What.TheVariants as what
 use Rattle.pearl_tree.specs.Tokens.{IsIdByte, BeginsWithLetter}
 use Rattle.pearl_tables.specs.declared.symbol.TheConstants as s
 use Rattle.pearl_tables.specs.Symbols.{symbol_texts, symbol_text, symbol_count}
 use Rattle.pearl_tables.specs.Words.{words, meanings, IsWord}
-use Rattle.pearl_lex.specs.declared.front.Front.{Front}
 use Rattle.pearl_lex.specs.Spelling.{is_id_byte, sized, meaning, word_or_id, id_of, double_symbol, single_symbol, longer_symbol, symbol_front}
 use Rattle.pearl_lex.specs.Literals.{numeral}
 use Rattle.pearl_lex.specs.Quoted.{quoted}
 use Rattle.pearl_lex.specs.Front.{word_front, front}
-use Rattle.pearl_lex.specs.Spells.{BeginsToken}
 use Rattle.pearl_lex.proofs.Passes.{and_front, and_back, at_most, less, equal, id_byte, all_prefix, choose}
 use Rattle.pearl_lex.proofs.Lawful.{begins_name, no_meaning}
 use Rattle.pearl_lex.proofs.WordMeaning.{each_word, each_word-at, code_has_word}
-use Rattle.pearl_lex.proofs.Runs.{Outcome, AtLeast, Meets, meets_from, either, sized_least, is_letter, is_of_id, run_append, run_split, All-map}
+use Rattle.pearl_lex.proofs.Runs.{Outcome, AtLeast, Meets, meets_from, either, sized_least, is_letter, is_of_id, run_append, run_split, All-map, Sound, none_sized, each_passes}
 
 -- ---- which definition a first byte leads to
 
@@ -59,9 +56,6 @@ front_other bytes h = by (is_ascii_alphabetic (get_or bytes 0 0)) (is_ascii_digi
     by false false false h = refl
 
 -- ---- words and names
-
-pub passing : {X : Type 0} (p : X → Bool) (xs : List X) → list_all p xs ≡ true → All (λ x. p x ≡ true) xs
-passing p xs h = (Decides-by_and p (λ y. p y ≡ true) (list_all p) (λ y. (λ e. e, λ e. e)) refl (λ _ _. refl) xs).0 h
 
 -- a word is spelled as a name would be
 abbrev pub is_named : List ℕ → Bool
@@ -126,7 +120,7 @@ id_meets (b ∷ text) rest begins all = name_meets b text rest (is_letter b begi
 named_meets : (text rest : List ℕ) → is_named text ≡ true → Meets (length text) (text ++ rest) (front (text ++ rest))
 named_meets [] rest h = absurd (false≢true h)
 named_meets (b ∷ text) rest h =
-    name_meets b text rest (and_front (is_ascii_alphabetic b) _ h) (passing is_id_byte (b ∷ text) (and_front (list_all is_id_byte (b ∷ text)) _ (and_back (is_ascii_alphabetic b) _ h)))
+    name_meets b text rest (and_front (is_ascii_alphabetic b) _ h) ((each_passes is_id_byte (b ∷ text)).0 (and_front (list_all is_id_byte (b ∷ text)) _ (and_back (is_ascii_alphabetic b) _ h)))
 
 pub word_meets : (text rest : List ℕ) (code : ℕ) → IsWord text code → Meets (length text) (text ++ rest) (front (text ++ rest))
 word_meets text rest code is = named_meets text rest (word_named text code is)
@@ -137,10 +131,6 @@ no_id text long = grind (arith, nat_tests)
 long_by : (text : List ℕ) (code : Option ℕ) → 63 < length text → meaning words text ≡ code → word_or_id code text ≡ None
 long_by text None long e = no_id text long
 long_by text (Some code) long e = absurd (let few = short_word text (word_named text code (code_has_word text code e)) in omega (arith, few, long))
-
-none_sized : (w : Option What) (size : ℕ) → w ≡ None → sized w size ≡ None
-none_sized None size e = refl
-none_sized (Some w) size e = absurd (let f = e in cc f)
 
 pub no_long_name : (text rest : List ℕ) → BeginsWithLetter text → All IsIdByte text → 63 < length text → front (text ++ rest) ≡ None
 no_long_name [] rest begins all long = absurd begins
@@ -215,9 +205,6 @@ single_is a =
     (40, s.LEFT_ROUND) ∷ (41, s.RIGHT_ROUND) ∷ (91, s.LEFT_SQUARE) ∷ (93, s.RIGHT_SQUARE) ∷ (44, s.COMMA) ∷ (59, s.SEMICOLON) ∷ (58, s.COLON) ∷ (46, s.PERIOD) ∷ (61, s.EQUALS_SIGN) ∷ (60, s.LESS) ∷ (62, s.GREATER) ∷ (43, s.PLUS) ∷ (45, s.MINUS) ∷ (42, s.TIMES) ∷ []
     ) refl
 
-abbrev Sound : List ℕ → Option Front → Type 0
-Sound bytes o = IfSome o (λ f. BeginsToken bytes f.what f.size)
-
 longer_sound : (bytes text one : List ℕ) (tail rest : List ℕ) (double single : Option ℕ) → IfSome double (IsSymbolText text) → IfSome single (IsSymbolText one)
     → (IfSome double (λ _. (bytes ≡ text ++ tail) × (length text ≡ 2))) → (bytes ≡ one ++ rest) → length one ≡ 1 → Sound bytes (longer_symbol double single)
 longer_sound bytes text one tail rest (Some double) single d g two e n =
@@ -238,40 +225,61 @@ symbol_sound (a ∷ b ∷ rest) =
     two (Some d) = (refl, refl)
 
 -- each symbol is found by its bytes
-abbrev is_known : List ℕ → Bool
-is_known [] = false
-is_known (a ∷ []) = is_other a && is_some (single_symbol a)
-is_known (a ∷ b ∷ []) = is_other a && is_some (double_symbol a b)
-is_known (a ∷ b ∷ c ∷ more) = false
+abbrev pub has : Option ℕ → ℕ → Bool
+has None code = false
+has (Some found) code = eqb found code
 
-symbols_known : list_all is_known symbol_texts ≡ true
+pub has_is : (o : Option ℕ) (code : ℕ) → has o code ≡ true → o ≡ Some code
+has_is None code h = absurd (false≢true h)
+has_is (Some found) code h = ap Some (equal found code h)
+
+abbrev pub is_coded : ℕ → List ℕ → Bool
+is_coded code [] = false
+is_coded code (a ∷ []) = is_other a && has (single_symbol a) code
+is_coded code (a ∷ b ∷ []) = is_other a && has (double_symbol a b) code
+is_coded code (a ∷ b ∷ c ∷ more) = false
+
+-- each text passes the test for its number
+abbrev each_text : (ℕ → List ℕ → Bool) → List (List ℕ) → Bool
+each_text test [] = true
+each_text test (text ∷ texts) = test 0 text && each_text (λ code. test (suc code)) texts
+
+each_text-at : (test : ℕ → List ℕ → Bool) (texts : List (List ℕ)) (code : ℕ) → each_text test texts ≡ true → code < length texts → test code (get_or texts code []) ≡ true
+each_text-at test [] code e inside = absurd (omega (arith, inside))
+each_text-at test (text ∷ texts) zero e inside = and_front (test 0 text) (each_text (λ code. test (suc code)) texts) e
+each_text-at test (text ∷ texts) (suc code) e inside =
+    each_text-at (λ n. test (suc n)) texts code (and_back (test 0 text) (each_text (λ n. test (suc n)) texts) e) (omega (arith, inside))
+
+symbols_coded : each_text is_coded symbol_texts ≡ true
 unfolding symbol_texts
-symbols_known = refl
+symbols_coded = refl
 
 symbols_count : length symbol_texts ≡ symbol_count
 unfolding symbol_texts
 symbols_count = refl
 
-symbol_known : (code : ℕ) → code < symbol_count → is_known (symbol_text code) ≡ true
+pub symbol_coded : (code : ℕ) → code < symbol_count → is_coded code (symbol_text code) ≡ true
 unfolding symbol_text
-symbol_known code inside = passing is_known symbol_texts symbols_known code [] (omega (arith, inside, symbols_count))
+symbol_coded code inside = each_text-at is_coded symbol_texts code symbols_coded (omega (arith, inside, symbols_count))
 
-longer_meets : (bytes : List ℕ) (double single : Option ℕ) → is_some single ≡ true → Meets 1 bytes (longer_symbol double single)
-longer_meets bytes (Some double) single h = omega arith
-longer_meets bytes None (Some single) h = omega arith
-longer_meets bytes None None h = absurd (false≢true h)
+one_meets : (bytes : List ℕ) (double single : Option ℕ) (code : ℕ) → single ≡ Some code → Meets 1 bytes (longer_symbol double single)
+one_meets bytes (Some double) single code e = omega arith
+one_meets bytes None (Some single) code e = omega arith
+one_meets bytes None None code e = absurd (let f = e in cc f)
 
-double_meets : (bytes : List ℕ) (double single : Option ℕ) → is_some double ≡ true → Meets 2 bytes (longer_symbol double single)
-double_meets bytes (Some double) single h = omega arith
-double_meets bytes None single h = absurd (false≢true h)
+two_meet : (bytes : List ℕ) (double single : Option ℕ) (code : ℕ) → double ≡ Some code → Meets 2 bytes (longer_symbol double single)
+two_meet bytes (Some double) single code e = omega arith
+two_meet bytes None single code e = absurd (let f = e in cc f)
 
-known_meets : (text rest : List ℕ) → is_known text ≡ true → Meets (length text) (text ++ rest) (front (text ++ rest))
-known_meets [] rest h = absurd (false≢true h)
-known_meets (a ∷ []) rest h =
-    subst (Meets 1 (a ∷ rest)) (sym (front_other (a ∷ rest) (and_front (is_other a) _ h))) (longer_meets (a ∷ rest) (double_symbol a (get_or rest 0 0)) (single_symbol a) (and_back (is_other a) _ h))
-known_meets (a ∷ b ∷ []) rest h =
-    subst (Meets 2 (a ∷ b ∷ rest)) (sym (front_other (a ∷ b ∷ rest) (and_front (is_other a) _ h))) (double_meets (a ∷ b ∷ rest) (double_symbol a b) (single_symbol a) (and_back (is_other a) _ h))
-known_meets (a ∷ b ∷ c ∷ more) rest h = absurd (false≢true h)
+coded_meets : (text rest : List ℕ) (code : ℕ) → is_coded code text ≡ true → Meets (length text) (text ++ rest) (front (text ++ rest))
+coded_meets [] rest code h = absurd (false≢true h)
+coded_meets (a ∷ []) rest code h =
+    subst (Meets 1 (a ∷ rest)) (sym (front_other (a ∷ rest) (and_front (is_other a) _ h)))
+    (one_meets (a ∷ rest) (double_symbol a (get_or rest 0 0)) (single_symbol a) code (has_is (single_symbol a) code (and_back (is_other a) _ h)))
+coded_meets (a ∷ b ∷ []) rest code h =
+    subst (Meets 2 (a ∷ b ∷ rest)) (sym (front_other (a ∷ b ∷ rest) (and_front (is_other a) _ h)))
+    (two_meet (a ∷ b ∷ rest) (double_symbol a b) (single_symbol a) code (has_is (double_symbol a b) code (and_back (is_other a) _ h)))
+coded_meets (a ∷ b ∷ c ∷ more) rest code h = absurd (false≢true h)
 
 pub symbol_meets : (text rest : List ℕ) (code : ℕ) → code < symbol_count → text ≡ symbol_text code → Meets (length text) (text ++ rest) (front (text ++ rest))
-symbol_meets text rest code inside e = known_meets text rest (ap is_known e ∙ symbol_known code inside)
+symbol_meets text rest code inside e = coded_meets text rest code (ap (is_coded code) e ∙ symbol_coded code inside)

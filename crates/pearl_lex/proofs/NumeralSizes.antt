@@ -3,15 +3,13 @@ use Rattle.std.proofs.Common.{◌≡◌, ◌<◌, ◌≤◌, ◌+◌, ◌-◌, �
 use Rattle.std.specs.Option.{option_map}
 use Rattle.std.proofs.Math.Seq.{take-add, take-append_seam, drop-append_seam}
 use Rattle.std.proofs.lemmas.Bool.{true≢false}
-use Rattle.pearl_tree.specs.declared.token.What.{What}
 use Rattle.pearl_tree.specs.declared.token.What.TheVariants as what
 use Rattle.pearl_tree.specs.Tokens.{IsDigit}
 use Rattle.pearl_lex.specs.declared.front.Front.{Front}
-use Rattle.pearl_lex.specs.Spelling.{sized}
 use Rattle.pearl_lex.specs.Literals.{next_value, value_of, value_within, digit_count, digits_of, after_digits, next_part, begins_part, begins_clock, decimals_of, decimals_len, thousandths, decimal_by, milliseconds, clock_of, clock_front, decimal_front, number_front, numeral}
 use Rattle.pearl_lex.specs.Spells.{AreDigits, SpellsPart, HasFineDecimals}
 use Rattle.pearl_lex.proofs.Values.{grows}
-use Rattle.pearl_lex.proofs.Runs.{AtLeast, either, sized_least, is_digit}
+use Rattle.pearl_lex.proofs.Runs.{AtLeast, either, sized_least, is_digit, none_sized}
 use Rattle.pearl_lex.proofs.Numerals.{count_append, count_stops, after_stops, digits_stop, Judged, judged, Thousandths, thousandths_are}
 
 -- ---- sizes
@@ -111,10 +109,6 @@ clock_least hours minutes seconds part rest t h m s spells =
     (λ e. absurd (true≢false (sym is.begins ∙ e)))
 
 -- ---- none out of range
-
-none_sized : (w : Option What) (size : ℕ) → w ≡ None → sized w size ≡ None
-none_sized None size e = refl
-none_sized (Some w) size e = absurd (let f = e in cc f)
 
 none_above : (digits : List ℕ) (max : ℕ) (o : Option ℕ) → Judged digits max o → max < value_of digits → o ≡ None
 none_above digits max None j above = refl

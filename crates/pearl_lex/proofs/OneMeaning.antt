@@ -1,5 +1,5 @@
 -- The bytes that a token takes have no other meaning.
-use Rattle.std.proofs.Common.{◌≡◌, ◌<◌, ◌≤◌, ◌+◌, ◌-◌, ◌*◌, ◌^◌, inl, inr, ℕ, zero, suc, Bool, true, false, ◌&&◌, List, [], ◌∷◌, ◌++◌, length, take, drop, get_or, eqb, All, Option, Some, None, IfSome, if◌then◌else◌, refl, sym, subst, ap, ◌∙◌, arith}
+use Rattle.std.proofs.Common.{◌≡◌, ◌<◌, ◌≤◌, ◌+◌, ◌-◌, ◌*◌, ◌^◌, inl, inr, ℕ, Bool, true, false, List, [], ◌∷◌, ◌++◌, length, take, drop, get_or, All, Option, Some, None, IfSome, if◌then◌else◌, refl, sym, subst, ap, ◌∙◌, arith}
 use Rattle.std.specs.Char.{is_ascii_alphabetic}
 use Rattle.std.specs.List.{prefix_len, list_all}
 use Rattle.std.specs.Option.{option_map}
@@ -14,18 +14,18 @@ use Rattle.pearl_tree.specs.declared.token.What.{What}
 use Rattle.pearl_tree.specs.declared.token.What.TheVariants as what
 use Rattle.pearl_tree.specs.Tokens.{IsIdByte, IsId}
 use Rattle.pearl_tables.specs.Words.{words, IsWord}
-use Rattle.pearl_tables.specs.Symbols.{symbol_texts, symbol_text, symbol_count}
+use Rattle.pearl_tables.specs.Symbols.{symbol_text, symbol_count}
 use Rattle.pearl_lex.specs.declared.front.Front.{Front}
 use Rattle.pearl_lex.specs.Spelling.{is_id_byte, sized, meaning, word_or_id, id_of, double_symbol, single_symbol, longer_symbol}
 use Rattle.pearl_lex.specs.Literals.{value_of, value_within, digit_count, digits_of, after_digits, next_part, begins_part, begins_clock, decimals_of, decimals_len, thousandths, decimal_by, milliseconds, clock_of, clock_front, decimal_front, number_front, numeral}
 use Rattle.pearl_lex.specs.Front.{front}
 use Rattle.pearl_lex.specs.Spells.{AreDigits, AreDecimals, SpellsNumber, SpellsPart}
-use Rattle.pearl_lex.proofs.Passes.{and_front, and_back, equal}
+use Rattle.pearl_lex.proofs.Passes.{and_front, and_back}
 use Rattle.pearl_lex.proofs.WordMeaning.{word_has_code}
-use Rattle.pearl_lex.proofs.Runs.{either, is_letter, is_of_id, All-map}
+use Rattle.pearl_lex.proofs.Runs.{either, is_letter, is_of_id, All-map, each_passes}
 use Rattle.pearl_lex.proofs.Numerals.{count_append, count_stops, after_stops, digits_stop, Thousandths, thousandths_are}
 use Rattle.pearl_lex.proofs.NumeralSizes.{runs, no_clock, decimals_begin, decimals_length}
-use Rattle.pearl_lex.proofs.Names.{front_letter, front_other, is_other, is_named, word_named, passing}
+use Rattle.pearl_lex.proofs.Names.{front_letter, front_other, is_other, is_named, word_named, has, has_is, is_coded, symbol_coded}
 
 -- where so many bytes are taken, they mean this
 abbrev pub Means : ℕ → What → Option Front → Type 0
@@ -68,7 +68,7 @@ id_means (b ∷ text) rest is =
 named_means : (text rest : List ℕ) (code : ℕ) → is_named text ≡ true → meaning words text ≡ Some code → Means (length text) (what.Word code) (front (text ++ rest))
 named_means [] rest code h e = absurd (false≢true h)
 named_means (b ∷ text) rest code h e =
-    name_means b text rest (what.Word code) (and_front (is_ascii_alphabetic b) _ h) (passing is_id_byte (b ∷ text) (and_front (list_all is_id_byte (b ∷ text)) _ (and_back (is_ascii_alphabetic b) _ h)))
+    name_means b text rest (what.Word code) (and_front (is_ascii_alphabetic b) _ h) ((each_passes is_id_byte (b ∷ text)).0 (and_front (list_all is_id_byte (b ∷ text)) _ (and_back (is_ascii_alphabetic b) _ h)))
     (ap (λ m. word_or_id m (b ∷ text)) e)
 
 pub word_means : (text rest : List ℕ) (code : ℕ) → IsWord text code → Means (length text) (what.Word code) (front (text ++ rest))
@@ -195,43 +195,6 @@ clock_means hours minutes seconds part rest t ms h m s range spells value_is =
     (λ e. absurd (true≢false (sym is.begins ∙ e)))
 
 -- ---- symbols
-
-abbrev has : Option ℕ → ℕ → Bool
-has None code = false
-has (Some found) code = eqb found code
-
-has_is : (o : Option ℕ) (code : ℕ) → has o code ≡ true → o ≡ Some code
-has_is None code h = absurd (false≢true h)
-has_is (Some found) code h = ap Some (equal found code h)
-
-abbrev is_coded : ℕ → List ℕ → Bool
-is_coded code [] = false
-is_coded code (a ∷ []) = is_other a && has (single_symbol a) code
-is_coded code (a ∷ b ∷ []) = is_other a && has (double_symbol a b) code
-is_coded code (a ∷ b ∷ c ∷ more) = false
-
--- each text passes the test for its number
-abbrev each_text : (ℕ → List ℕ → Bool) → List (List ℕ) → Bool
-each_text test [] = true
-each_text test (text ∷ texts) = test 0 text && each_text (λ code. test (suc code)) texts
-
-each_text-at : (test : ℕ → List ℕ → Bool) (texts : List (List ℕ)) (code : ℕ) → each_text test texts ≡ true → code < length texts → test code (get_or texts code []) ≡ true
-each_text-at test [] code e inside = absurd (omega (arith, inside))
-each_text-at test (text ∷ texts) zero e inside = and_front (test 0 text) (each_text (λ code. test (suc code)) texts) e
-each_text-at test (text ∷ texts) (suc code) e inside =
-    each_text-at (λ n. test (suc n)) texts code (and_back (test 0 text) (each_text (λ n. test (suc n)) texts) e) (omega (arith, inside))
-
-symbols_coded : each_text is_coded symbol_texts ≡ true
-unfolding symbol_texts
-symbols_coded = refl
-
-symbols_count : length symbol_texts ≡ symbol_count
-unfolding symbol_texts
-symbols_count = refl
-
-symbol_coded : (code : ℕ) → code < symbol_count → is_coded code (symbol_text code) ≡ true
-unfolding symbol_text
-symbol_coded code inside = each_text-at is_coded symbol_texts code symbols_coded (omega (arith, inside, symbols_count))
 
 one_means : (double single : Option ℕ) (code : ℕ) → single ≡ Some code → Means 1 (what.Symbol code) (longer_symbol double single)
 one_means (Some double) single code e = λ two. absurd (omega (arith, two))

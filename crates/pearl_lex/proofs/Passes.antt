@@ -15,7 +15,7 @@ pub and_back : (a b : Bool) → (a && b) ≡ true → b ≡ true
 and_back true b e = e
 and_back false b e = absurd (let f = e in cc f)
 
-or_cases : (a b : Bool) → (a || b) ≡ true → (a ≡ true) ⊎ (b ≡ true)
+pub or_cases : (a b : Bool) → (a || b) ≡ true → (a ≡ true) ⊎ (b ≡ true)
 or_cases true b e = inl refl
 or_cases false b e = inr e
 

@@ -1,9 +1,9 @@
 -- Bits and texts are taken as they are spelled.
-use Rattle.std.proofs.Common.{◌≡◌, ◌<◌, ◌≤◌, ◌+◌, ◌*◌, ◌^◌, ◌⊎◌, inl, inr, ℕ, zero, suc, Bool, true, false, ◌&&◌, List, [], ◌∷◌, ◌++◌, append_assoc, length-append, length, take, drop, get_or, eqb, nat_le, nat_lt, All, Option, Some, None, IfSome, if◌then◌else◌, refl, sym, subst, ap, ◌∙◌, arith}
+use Rattle.std.proofs.Common.{◌≡◌, ◌<◌, ◌≤◌, ◌+◌, ◌*◌, ◌^◌, ◌⊎◌, inl, inr, ℕ, zero, suc, Bool, true, false, ◌&&◌, List, [], ◌∷◌, ◌++◌, append_assoc, length-append, length, take, drop, get_or, eqb, nat_le, nat_lt, All, Some, None, if◌then◌else◌, refl, sym, subst, ap, ◌∙◌, arith}
 use Rattle.std.specs.List.{list_all}
 use Rattle.std.proofs.Math.Nat.{pow-le-pow_right}
 use Rattle.std.proofs.lemmas.Bool.{true≢false}
-use Rattle.std.proofs.lemmas.Bool.Decides.{nat_tests, Decides-by_and}
+use Rattle.std.proofs.lemmas.Bool.Decides.{nat_tests}
 use Rattle.pearl_tree.specs.declared.token.What.TheVariants as what
 use Rattle.pearl_tree.specs.Tokens.{IsIdByte, IsText}
 use Rattle.pearl_lex.specs.declared.front.Front.{Front}
@@ -14,12 +14,9 @@ use Rattle.pearl_lex.specs.Spells.{SpellsWidth, BeginsWith, MakesBits, BeginsTok
 use Rattle.pearl_lex.proofs.Passes.{and_front, and_back, at_most, less, equal, range, choose}
 use Rattle.pearl_lex.proofs.Chars.{text_fits}
 use Rattle.pearl_lex.proofs.Lawful.{IsChar, chars_are, some_bits, some_width}
-use Rattle.pearl_lex.proofs.Runs.{All-map}
+use Rattle.pearl_lex.proofs.Runs.{All-map, Sound, both, each_passes}
 use Rattle.pearl_lex.proofs.Names.{front_quote}
 use Rattle.pearl_lex.proofs.Widths.{Ending, width_written, width_read, are_doubled, zero_quote, is_alone, chars_read, chars_back, quoted_is, digit_is_plain, plain_doubled}
-
-abbrev Sound : List ℕ → Option Front → Type 0
-Sound bytes o = IfSome o (λ f. BeginsToken bytes f.what f.size)
 
 -- ---- what is taken is spelled there
 
@@ -84,9 +81,6 @@ text_sound bytes here none =
           follows = (λ begins. is_alone bytes here (begins_drop bytes (suc size) begins), no_bits after none);
         }
 
-all_pass : (p : ℕ → Bool) (xs : List ℕ) → list_all p xs ≡ true → All (λ x. p x ≡ true) xs
-all_pass p xs h = (Decides-by_and p (λ y. p y ≡ true) (list_all p) (λ y. (λ e. e, λ e. e)) refl (λ _ _. refl) xs).0 h
-
 bits_sound : (bytes : List ℕ) (width : ℕ) → get_or bytes (chars_len bytes) 0 ≡ 39 → 1 ≤ width → Ending (drop (suc (chars_len bytes)) bytes) width
     → Sound (39 ∷ bytes) (sized (bits_of width (take (chars_len bytes) bytes)) (chars_len bytes + 2 + suffix_len (drop (suc (chars_len bytes)) bytes)))
 bits_sound bytes width here some ending = by _ refl
@@ -111,7 +105,7 @@ bits_sound bytes width here some ending = by _ refl
             width = width;
             written = refl;
             width_is = ending.width_is;
-            each = All-map (λ d. is_digit_of width d ≡ true) (λ d. digit_value d < 2 ^ width) xs (λ d h. less (digit_value d) (2 ^ width) h) (all_pass (is_digit_of width) xs each);
+            each = All-map (λ d. is_digit_of width d ≡ true) (λ d. digit_value d < 2 ^ width) xs (λ d h. less (digit_value d) (2 ^ width) h) ((each_passes (is_digit_of width) xs).0 each);
             some = some_bits width (length xs) some (at_most 1 (length xs) (and_front (nat_le 1 (length xs)) _ sizes));
             few = at_most (length xs * width) 64 (and_back (nat_le 1 (length xs)) _ sizes);
             len_is = refl;
@@ -164,13 +158,6 @@ no_quote : (ending rest : List ℕ) (width : ℕ) → SpellsWidth ending width �
 no_quote ending rest width (inl is) h = absurd (let f = subst (λ t. BeginsWith (λ byte. byte ≡ 39) (t ++ rest)) is.0 h in omega (arith, f))
 no_quote ending rest width (inr is) h = absurd (let f = subst (λ t. BeginsWith (λ byte. byte ≡ 39) (t ++ rest)) is.0 h in omega (arith, f))
 
-both : (a b : Bool) → a ≡ true → b ≡ true → a && b ≡ true
-both true b e f = f
-both false b e f = e
-
-pass_all : (p : ℕ → Bool) (xs : List ℕ) → All (λ x. p x ≡ true) xs → list_all p xs ≡ true
-pass_all p xs h = (Decides-by_and p (λ y. p y ≡ true) (list_all p) (λ y. (λ e. e, λ e. e)) refl (λ _ _. refl) xs).1 h
-
 is_at_most : (a b : ℕ) → a ≤ b → nat_le a b ≡ true
 is_at_most a b h = grind (arith, nat_tests)
 
@@ -187,7 +174,7 @@ bits_fit digits width each some few =
     ap (λ b. if b then Some (what.Bits (length digits * width) (bits_value width digits)) else None)
     (both (nat_le 1 (length digits) && nat_le (length digits * width) 64) (list_all (is_digit_of width) digits)
     (both (nat_le 1 (length digits)) (nat_le (length digits * width) 64) (is_at_most 1 (length digits) (some_digits digits width some)) (is_at_most (length digits * width) 64 few))
-    (pass_all (is_digit_of width) digits (All-map (λ d. digit_value d < 2 ^ width) (λ d. is_digit_of width d ≡ true) digits (λ d h. is_less (digit_value d) (2 ^ width) h) each)))
+    ((each_passes (is_digit_of width) digits).1 (All-map (λ d. digit_value d < 2 ^ width) (λ d. is_digit_of width d ≡ true) digits (λ d h. is_less (digit_value d) (2 ^ width) h) each)))
 
 not_zero : (n : ℕ) → 1 ≤ n → eqb n 0 ≡ false
 not_zero n h = grind (arith, nat_tests)

@@ -1,8 +1,8 @@
 -- Runs of bytes at the front of others, and what the choice of a token gives.
-use Rattle.std.proofs.Common.{◌≡◌, ◌≤◌, ◌+◌, ℕ, suc, Bool, true, false, List, [], ◌∷◌, ◌++◌, length, take, drop, All, Option, Some, None, IfSome, if◌then◌else◌, refl, sym, subst, ap, ◌∙◌, arith}
+use Rattle.std.proofs.Common.{◌≡◌, ◌↔◌, ◌&&◌, ◌≤◌, ◌+◌, ℕ, suc, Bool, true, false, List, [], ◌∷◌, ◌++◌, length, take, drop, All, Option, Some, None, IfSome, if◌then◌else◌, refl, sym, subst, ap, ◌∙◌, arith}
 use Rattle.std.specs.Char.{is_ascii_alphabetic, is_ascii_digit}
-use Rattle.std.specs.List.{prefix_len}
-use Rattle.std.proofs.lemmas.Bool.Decides.{nat_tests}
+use Rattle.std.specs.List.{prefix_len, list_all}
+use Rattle.std.proofs.lemmas.Bool.Decides.{nat_tests, Decides-by_and}
 use Rattle.std.proofs.lemmas.Grind.{common_steps}
 use Rattle.std.proofs.lemmas.List.{take-append-drop}
 use Rattle.std.proofs.lemmas.List.Elements.{All-head, All-tail}
@@ -74,3 +74,20 @@ run_split p bytes = sym (take-append-drop (prefix_len p bytes) bytes)
 -- a run that begins with a byte that passes has one at least
 pub some_run : (p : ℕ → Bool) (b : ℕ) (bytes : List ℕ) → p b ≡ true → 1 ≤ prefix_len p (b ∷ bytes)
 some_run p b bytes h = subst (λ t. 1 ≤ (if t then 1 + prefix_len p bytes else 0)) (sym h) (omega arith)
+
+-- what begins the bytes is spelled by them
+abbrev pub Sound : List ℕ → Option Front → Type 0
+Sound bytes o = IfSome o (λ f. BeginsToken bytes f.what f.size)
+
+pub none_sized : (w : Option What) (size : ℕ) → w ≡ None → sized w size ≡ None
+none_sized None size e = refl
+none_sized (Some w) size e = absurd (let f = e in cc f)
+
+pub both : (a b : Bool) → a ≡ true → b ≡ true → a && b ≡ true
+both true b e f = f
+both false b e f = e
+
+-- what a test of a list says of each
+pub each_passes : {X : Type 0} (p : X → Bool) (xs : List X) → (list_all p xs ≡ true) ↔ All (λ x. p x ≡ true) xs
+each_passes p xs =
+    let decides = Decides-by_and p (λ y. p y ≡ true) (list_all p) (λ y. (λ e. e, λ e. e)) refl (λ _ _. refl) xs in (decides.0, decides.1)

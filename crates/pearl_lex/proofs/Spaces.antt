@@ -7,14 +7,10 @@ use Rattle.std.proofs.lemmas.List.Folds.{length-prefix_len}
 use Rattle.pearl_lex.specs.Spelling.{is_blank, is_in_line, before_end, enclosed_len, space_len}
 use Rattle.pearl_lex.specs.Spaces.{IsBlank, IsEnclosed, EndsLine, IsLineComment, BeginsSpace}
 use Rattle.pearl_lex.specs.Laws.{PassesSpaces}
-use Rattle.pearl_lex.proofs.Passes.{and_front, and_back, at_most, equal, all_prefix}
+use Rattle.pearl_lex.proofs.Passes.{and_front, and_back, at_most, equal, all_prefix, or_cases}
 use Rattle.pearl_lex.proofs.Runs.{run_split, run_append, All-map}
 
 -- ---- what is passed over is a blank or a comment
-
-or_cases : (a b : Bool) → (a || b) ≡ true → (a ≡ true) ⊎ (b ≡ true)
-or_cases true b e = inl refl
-or_cases false b e = inr e
 
 one : (b c : ℕ) → eqb b c ≡ true → ◌≡◌ {A = List ℕ} (b ∷ []) (c ∷ [])
 one b c e = ap (λ x. x ∷ []) (equal b c e)
