@@ -6,7 +6,7 @@ use Rattle.pearl_tree.specs.Stops.{NoneBegins}
 use Rattle.pearl_tree.proofs.FirstStop.{stops_have_no_tree}
 use Rattle.pearl_lex.specs.Lexes.{Lexes, IsStuck}
 use Rattle.pearl_lex.proofs.Unique.{one_reading, one_place, never_both}
-use Rattle.pearl_print.specs.Spelled.{text_of}
+use Rattle.pearl_print.specs.Spelled.{text_of_tokens}
 use Rattle.pearl_print.proofs.ShownModules.{source_has_one_text}
 use Rattle.pearl_script.specs.declared.refusal.Refusal.TheVariants as refusal
 use Rattle.pearl_script.specs.Refusals.{refusal_line}
@@ -21,7 +21,7 @@ use Rattle.pearl_top.specs.PrintDue.{HasStop, IsPrinted, IsSpelled, IsUnspelled,
 printed_once : (source bytes others : List ℕ) → IsPrinted source bytes → IsPrinted source others → bytes ≡ others
 printed_once source bytes others one two =
     let same : two.is.tokens ≡ one.is.tokens = one_reading source two.is.tokens one.is.tokens two.is.lexes one.is.lexes in
-    one.text ∙ ap text_of (source_has_one_text one.is.tokens one.is.tree two.is.tree one.is.spells (subst (Spells two.is.tree) same two.is.spells)) ∙ sym two.text
+    one.text ∙ ap text_of_tokens (source_has_one_text one.is.tokens one.is.tree two.is.tree one.is.spells (subst (Spells two.is.tree) same two.is.spells)) ∙ sym two.text
 
 -- a source that a tree spells is not refused
 pub never_unspelled : (source bytes : List ℕ) → IsSpelled source → IsUnspelled source bytes → ⊥

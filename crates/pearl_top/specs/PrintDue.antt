@@ -6,7 +6,7 @@ use Rattle.pearl_tree.specs.Modules.{Spells}
 use Rattle.pearl_lex.specs.Lexes.{Lexes, IsStuck}
 use Rattle.pearl_parse.specs.Refusals.{IsRefusedAt}
 use Rattle.pearl_print.specs.Modules.{tokens_of}
-use Rattle.pearl_print.specs.Spelled.{text_of}
+use Rattle.pearl_print.specs.Spelled.{text_of_tokens}
 use Rattle.pearl_script.specs.declared.refusal.Refusal.TheVariants as refusal
 use Rattle.pearl_script.specs.Refusals.{refusal_line}
 use Rattle.pearl_top.specs.declared.limits.TheConstants.{SOURCE_LIMIT}
@@ -25,7 +25,7 @@ pub record IsSpelled (source : List ℕ) : Type 0 where
 -- and this is their canonical text
 pub record IsPrinted (source bytes : List ℕ) : Type 0 where
   pub is : IsSpelled source
-  pub text : bytes ≡ text_of (tokens_of is.tree)
+  pub text : bytes ≡ text_of_tokens (tokens_of is.tree)
 
 -- the bytes have tokens, and no program begins with those up to and with the one at this place; the end of the source, which has
 -- the place of its length, counts as its last token
