@@ -1,16 +1,18 @@
 #!/usr/bin/env python3
 """Checks that the documents lead to what is there.
 
-usage: tools/check_docs.py
+usage: tools/check_docs.py [--write]
 
 - docs/architecture.md has one line for each file of definitions of each crate, and none for another; where the
   crate's specs/Lib.antt has a comment above the file's name, it is that line.
 - Each crate of crates.txt has a row in docs/architecture.md.
 - Each name in backquotes that is written like one of the code's stands somewhere in crates/.
-- Each file in backquotes is there.
+- Each file in backquotes is there, and so is each file of definitions that is named behind its crate, as in
+  `CRATE` specs/FILE, FILE (`name`).
 - README.md has at most 80 lines of at most 110 columns.
 
-Prints what doesn't hold, and ends with status 1 if there is something.
+Prints what doesn't hold, and ends with status 1 if there is something. With --write the files of definitions are first
+told anew in docs/architecture.md, each by the comment above its name in specs/Lib.antt, or else by the line that it has.
 """
 
 import os
@@ -18,6 +20,9 @@ import re
 import sys
 
 TOP = os.path.dirname(os.path.dirname(os.path.abspath(__file__)))
+# Where docs/architecture.md begins to tell the files of definitions.
+LIST = "## Every file of definitions"
+
 # Names of examples.
 EXAMPLES = {"pump_2"}
 
@@ -37,7 +42,7 @@ def crates():
 def told_files(text):
     """For each crate the files that architecture.md tells, with their lines."""
     told, crate = {}, None
-    for line in text[text.index("## Every file of definitions"):].splitlines():
+    for line in text[text.index(LIST):].splitlines():
         head = re.fullmatch(r"### `(\w+)`", line)
         entry = re.fullmatch(r"- `(\w+)`: (.*)", line)
         if head:
@@ -50,25 +55,45 @@ def told_files(text):
     return told
 
 
+def modules(crate):
+    """The files of definitions that the crate's Lib.antt names, in order, each with the comment above its name."""
+    path = f"crates/{crate}/specs/Lib.antt"
+    found, comment = {}, None
+    for line in read(path).splitlines() if os.path.exists(os.path.join(TOP, path)) else []:
+        module = re.match(r"pub mod (\w+)", line)
+        if line.startswith("-- "):
+            comment = line[3:]
+        elif module:
+            found[module[1]] = comment
+            comment = None
+    return found
+
+
 def definitions():
     wrong = []
     told = told_files(read("docs/architecture.md"))
     for crate in crates():
-        folder = os.path.join(TOP, "crates", crate, "specs")
-        there = {name[:-5] for name in os.listdir(folder)} - {"Lib"} if os.path.isdir(folder) else set()
-        lines = told.get(crate, {})
-        wrong += [f"docs/architecture.md has no line for {crate} specs/{name}" for name in sorted(there - set(lines))]
-        wrong += [f"{crate} has no specs/{name}" for name in sorted(set(lines) - there)]
-        comment = None
-        for line in read(f"crates/{crate}/specs/Lib.antt").splitlines() if there else []:
-            module = re.match(r"pub mod (\w+)", line)
-            if line.startswith("-- "):
-                comment = line[3:]
-            elif module:
-                if comment and lines.get(module[1]) not in (comment, None):
-                    wrong.append(f"{crate} specs/Lib.antt says of {module[1]}: {comment}")
-                comment = None
+        there, lines = modules(crate), told.get(crate, {})
+        wrong += [f"docs/architecture.md has no line for {crate} specs/{name}" for name in there if name not in lines]
+        wrong += [f"{crate} has no specs/{name}" for name in lines if name not in there]
+        for name, comment in there.items():
+            if comment and lines.get(name, comment) != comment:
+                wrong.append(f"{crate} specs/Lib.antt says of {name}: {comment}")
     return wrong
+
+
+def write():
+    text = read("docs/architecture.md")
+    told = told_files(text)
+    head = text[:text.index(LIST)] + LIST + text[text.index(LIST) + len(LIST):].split("\n### ")[0].rstrip("\n")
+    parts = [head + "\n"]
+    for crate in crates():
+        there = modules(crate)
+        if there:
+            lines = [f"- `{name}`: {comment or told.get(crate, {}).get(name, '')}" for name, comment in there.items()]
+            parts.append("\n".join([f"\n### `{crate}`\n"] + lines) + "\n")
+    with open(os.path.join(TOP, "docs/architecture.md"), "w", encoding="utf-8") as file:
+        file.write("".join(parts))
 
 
 def rows():
@@ -105,8 +130,19 @@ def names_and_files():
             elif re.fullmatch(r"pearl_\w+/src/(\w+\.rt)?", quoted):
                 if not os.path.exists(os.path.join(TOP, "crates", quoted)):
                     wrong.append(f"{path}: there is no crates/{quoted}")
-            elif re.fullmatch(r"\w*[a-z]_\w+|[A-Z][a-z]+[A-Z]\w*'?|\w+(::\w+)+", quoted):
+            elif re.fullmatch(r"\w*[a-z]_\w+|[A-Z][a-z]\w*'?|\w+(::\w+)+", quoted):
                 wrong += [f"{path}: nothing is called {name}" for name in quoted.split("::") if name not in known]
+    return wrong
+
+
+def cited_files():
+    wrong = []
+    one = r"[A-Z]\w*(?: \([^)]*\))?"
+    for path in DOCS:
+        text = " ".join(read(path).split())
+        for crate, files in re.findall(rf"`(pearl_\w+)`(?:'s)? specs/({one}(?:, {one})*)", text):
+            names = re.findall(r"(?:^|, )([A-Z]\w*)", re.sub(r" \([^)]*\)", "", files))
+            wrong += [f"{path}: {crate} has no specs/{name}" for name in names if name not in modules(crate)]
     return wrong
 
 
@@ -117,7 +153,9 @@ def readme():
 
 
 def main():
-    wrong = definitions() + rows() + names_and_files() + readme()
+    if "--write" in sys.argv[1:]:
+        write()
+    wrong = definitions() + rows() + names_and_files() + cited_files() + readme()
     for line in wrong:
         print(line)
     sys.exit(1 if wrong else 0)
