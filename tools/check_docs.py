@@ -9,6 +9,7 @@ usage: tools/check_docs.py [--write]
 - Each name in backquotes that is written like one of the code's stands somewhere in crates/.
 - Each file in backquotes is there, and so is each file of definitions that is named behind its crate, as in
   `CRATE` specs/FILE, FILE (`name`).
+- In the column of contracts of docs/definitions.md each name stands in the file that is named before it.
 - README.md has at most 80 lines of at most 110 columns.
 
 Prints what doesn't hold, and ends with status 1 if there is something. With --write the files of definitions are first
@@ -146,6 +147,30 @@ def cited_files():
     return wrong
 
 
+def contracts():
+    wrong, homes = [], {}
+    for row in read("docs/definitions.md").splitlines():
+        cells = [cell.strip() for cell in row.strip("|").split(" | ")]
+        if not row.startswith("| ") or len(cells) != 3:
+            continue
+        crate, file = None, None
+        for quoted in re.findall(r"`([^`]+)`", cells[1]):
+            path = re.fullmatch(r"(?:(pearl_\w+)/src/)?(\w+\.rt)?", quoted)
+            if path and (path[1] or path[2]):
+                crate = path[1] or crate
+                file = path[2] and f"crates/{crate}/src/{path[2]}"
+                if file and not os.path.exists(os.path.join(TOP, file)):
+                    wrong.append(f"docs/definitions.md: there is no {file}")
+                    file = None
+                continue
+            name = quoted.split("::")[-1]
+            file = file or homes.get(name)
+            if file and not re.search(rf"\b{name}\b", read(file)):
+                wrong.append(f"docs/definitions.md: {file} has no {name}")
+            homes.setdefault(name, file)
+    return wrong
+
+
 def readme():
     lines = read("README.md").splitlines()
     wrong = [f"README.md has {len(lines)} lines"] if len(lines) > 80 else []
@@ -155,7 +180,7 @@ def readme():
 def main():
     if "--write" in sys.argv[1:]:
         write()
-    wrong = definitions() + rows() + names_and_files() + cited_files() + readme()
+    wrong = definitions() + rows() + names_and_files() + cited_files() + contracts() + readme()
     for line in wrong:
         print(line)
     sys.exit(1 if wrong else 0)

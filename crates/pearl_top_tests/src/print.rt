@@ -28,14 +28,17 @@ fn modules() -> &'static [(&'static str, &'static str)] {
             => "MODULE ;\nSYSTEM ;\ntty : TERMINAL ( 1 ) ;\nirq : INTERRUPT ( 3 ) ;\nPROBLEM ;\n\
                 MODEND ;\n";
         "/* one */ MODULE ! two\n;\tPROBLEM;\n\nMODEND/**/ ;" => "MODULE ;\nPROBLEM ;\nMODEND ;\n";
-        "MODULE m; PROBLEM; /* a valve, by hand and by time */\nDCL level FIXED(15) INIT(0), \
-            (open, shut) BIT(1);\nwatch: TASK MAIN PRIO 7;\n  \
-            IF level GE 100 AND NOT open THEN close(2); ELSE AFTER 90 SEC RESUME; FIN;\nEND; \
-            MODEND\n"
-            => "MODULE ( m ) ;\nPROBLEM ;\nDCL level FIXED ( 15 ) INIT ( 0 ) , ( open , \
-                shut ) BIT ( 1 ) ;\nwatch : TASK PRIO 7 MAIN ;\n\
+        "MODULE m; PROBLEM; /* a valve, by hand and by time */\n\
+            DCL level FIXED(15) INIT(0), (open, shut) BIT(1);\n\
+            watch: TASK MAIN PRIO 7;\n  \
+            IF level GE 100 AND NOT open THEN close(2); ELSE AFTER 90 SEC RESUME; FIN;\n\
+            END; MODEND\n"
+            => "MODULE ( m ) ;\nPROBLEM ;\n\
+                DCL level FIXED ( 15 ) INIT ( 0 ) , ( open , shut ) BIT ( 1 ) ;\n\
+                watch : TASK PRIO 7 MAIN ;\n\
                 IF level >= 100 AND NOT open THEN CALL close ( 2 ) ;\n\
-                ELSE AFTER 0 HRS 1 MIN 30.000 SEC RESUME ;\nFIN ;\nEND ;\nMODEND ;\n";
+                ELSE AFTER 0 HRS 1 MIN 30.000 SEC RESUME ;\n\
+                FIN ;\nEND ;\nMODEND ;\n";
     ]
 }
 
