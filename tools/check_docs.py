@@ -148,7 +148,7 @@ def cited_files():
                     continue
                 words = re.findall(r"`(\w+)`", names)
                 there = read(f"crates/{crate}/specs/{file}.antt") if words else ""
-                wrong += [f"{path}: {crate} specs/{file} has no {word}" for word in words if word not in there]
+                wrong += [f"{path}: {crate} specs/{file} has no {word}" for word in words if not re.search(rf"\b{word}\b", there)]
     return wrong
 
 
