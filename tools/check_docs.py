@@ -8,7 +8,7 @@ usage: tools/check_docs.py [--write]
 - Each crate of crates.txt has a row in docs/architecture.md.
 - Each name in backquotes that is written like one of the code's stands somewhere in crates/.
 - Each file in backquotes is there, and so is each file of definitions that is named behind its crate, as in
-  `CRATE` specs/FILE, FILE (`name`).
+  `CRATE` specs/FILE, FILE (`name`), with the names in brackets in that file.
 - In the column of contracts of docs/definitions.md each name stands in the file that is named before it.
 - README.md has at most 80 lines of at most 110 columns.
 
@@ -142,8 +142,13 @@ def cited_files():
     for path in DOCS:
         text = " ".join(read(path).split())
         for crate, files in re.findall(rf"`(pearl_\w+)`(?:'s)? specs/({one}(?:, {one})*)", text):
-            names = re.findall(r"(?:^|, )([A-Z]\w*)", re.sub(r" \([^)]*\)", "", files))
-            wrong += [f"{path}: {crate} has no specs/{name}" for name in names if name not in modules(crate)]
+            for file, names in re.findall(r"([A-Z]\w*)(?: \(([^)]*)\))?", re.sub(r"`\w+`(?![^(]*\))", "", files)):
+                if file not in modules(crate):
+                    wrong.append(f"{path}: {crate} has no specs/{file}")
+                    continue
+                words = re.findall(r"`(\w+)`", names)
+                there = read(f"crates/{crate}/specs/{file}.antt") if words else ""
+                wrong += [f"{path}: {crate} specs/{file} has no {word}" for word in words if not re.search(rf"\b{word}\b", there)]
     return wrong
 
 

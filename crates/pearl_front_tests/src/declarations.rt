@@ -3,11 +3,11 @@
 use crate::cases::case_of;
 use pearl_parse_decl::declaration::{declare, length_of, specify, type_of};
 use pearl_parse_decl::head::{returns, task_head};
-use pearl_parse_decl::list::{Part, list};
+use pearl_parse_decl::list::{Readable, list};
 use pearl_parse_decl::specification::device;
 use pearl_parse_expr::reading::{Halt, Reading};
 use pearl_parse_expr::standing::is_word;
-use pearl_tables::word_code::{DECLARE, LENGTH, SPECIFY, TYPE};
+use pearl_tables::word_code::{DCL, LENGTH, SPC, TYPE};
 use pearl_tree::declaration::{Declared, Item, Param, Spec};
 use pearl_tree::format::Fmt;
 use pearl_tree::literal::Const;
@@ -216,10 +216,10 @@ fn declaration(alloc: Global, tokens: &[Token]) -> (Option<usize>, usize) {
     if is_word(tokens, 0, TYPE) {
         return shown(type_of(alloc, tokens, 0));
     }
-    if is_word(tokens, 0, DECLARE) {
+    if is_word(tokens, 0, DCL) {
         return shown(declare(alloc, tokens, 0));
     }
-    if is_word(tokens, 0, SPECIFY) {
+    if is_word(tokens, 0, SPC) {
         return shown(specify(alloc, tokens, 0));
     }
     (None, 0)

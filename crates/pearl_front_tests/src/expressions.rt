@@ -3,9 +3,10 @@
 use crate::cases::{Case, case_of};
 use pearl_parse_expr::expression::expression;
 use pearl_parse_expr::fault::ParseFault;
-use pearl_tree::expression::{Dyad, Expr, Monad, Operand, Primary, Ref, Selector, Side};
+use pearl_tree::expression::{Expr, Operand, Primary, Ref, Selector, Side};
 use pearl_tree::literal::Literal;
 use pearl_tree::token::Token;
+use pearl_value::operator::{Dyad, Monad};
 use std::alloc::{AllocError, Global};
 use std::fmt;
 
@@ -65,13 +66,13 @@ fn refused() -> &'static [&'static str] {
 
 fn dyad_mark(operator: Dyad) -> u8 {
     match operator {
-        Dyad::Power => b'^',
-        Dyad::Times => b'*',
-        Dyad::Over => b'/',
+        Dyad::Pow => b'^',
+        Dyad::Mul => b'*',
+        Dyad::Div => b'/',
         Dyad::Rem => b'%',
         Dyad::Cat => b'~',
-        Dyad::Plus => b'+',
-        Dyad::Minus => b'-',
+        Dyad::Add => b'+',
+        Dyad::Sub => b'-',
         Dyad::Cshift => b'@',
         Dyad::Shift => b'$',
         Dyad::Lt => b'<',

@@ -10,29 +10,29 @@ use pearl_tree::tree::{Decl, ModuleName, Tree};
 use std::alloc::{AllocError, Global};
 use std::fmt;
 
-// Each source, with the form of its name, a mark for each device behind that of its system part, one for each
+// Each source, its MODEND marked, with the form of its name, a mark for each device behind that of its system part, one for each
 // declaration, and its last semicolon.
 fn read() -> &'static [(&'static str, &'static str)] {
     table![
-        "MODULE;PROBLEM;MODEND" => "-/";
-        "MODULE;PROBLEM;MODEND;" => "-/;";
-        "MODULE m;PROBLEM;MODEND;" => "n/;";
-        "MODULE(m);PROBLEM;MODEND;" => "(/;";
-        "MODULE;SYSTEM;PROBLEM;MODEND" => "-s/";
-        "MODULE(m); SYSTEM; tty: TERMINAL(1); irq: INTERRUPT(3); PROBLEM; MODEND;" => "(sdd/;";
-        "MODULE m; PROBLEM; LENGTH FIXED(31); LENGTH BIT(8); MODEND" => "n/LL";
-        "MODULE m; PROBLEM; TYPE t STRUCT [a FIXED, b CHAR]; DCL (a, b) t, s SEMA; MODEND" => "n/YD";
+        "MODULE;PROBLEM;^MODEND" => "-/";
+        "MODULE;PROBLEM;^MODEND;" => "-/;";
+        "MODULE m;PROBLEM;^MODEND;" => "n/;";
+        "MODULE(m);PROBLEM;^MODEND;" => "(/;";
+        "MODULE;SYSTEM;PROBLEM;^MODEND" => "-s/";
+        "MODULE(m); SYSTEM; tty: TERMINAL(1); irq: INTERRUPT(3); PROBLEM; ^MODEND;" => "(sdd/;";
+        "MODULE m; PROBLEM; LENGTH FIXED(31); LENGTH BIT(8); ^MODEND" => "n/LL";
+        "MODULE m; PROBLEM; TYPE t STRUCT [a FIXED, b CHAR]; DCL (a, b) t, s SEMA; ^MODEND" => "n/YD";
         "MODULE m; PROBLEM; SPC tty DATION INOUT ALPHIC, irq INTERRUPT; DCL a FIXED INIT(1); \
-            MODEND;" => "n/SD;";
-        "MODULE m;PROBLEM;t:TASK;END;MODEND;" => "n/T;";
+            ^MODEND;" => "n/SD;";
+        "MODULE m;PROBLEM;t:TASK;END;^MODEND;" => "n/T;";
         "MODULE m; PROBLEM; t: TASK PRIO 5 MAIN; DCL a FIXED; a := 1; END; \
-            u: TASK MAIN PRIO 2; END; v: TASK MAIN;;; END; MODEND" => "n/TTT";
+            u: TASK MAIN PRIO 2; END; v: TASK MAIN;;; END; ^MODEND" => "n/TTT";
         "MODULE m; PROBLEM; p: PROC; END; \
             q: PROC(a FIXED, (b, c) FIXED IDENT) RETURNS(FIXED); RETURN (a + b); END; \
-            MODEND;" => "n/PP;";
+            ^MODEND;" => "n/PP;";
         "MODULE(m); SYSTEM; tty: TERMINAL(1); PROBLEM; SPC tty DATION INOUT ALPHIC; DCL a FIXED; \
             t: TASK MAIN; a := a + 40 - 3; PUT a TO tty BY F(5), SKIP; END; \
-            MODEND;" => "(sd/SDT;";
+            ^MODEND;" => "(sd/SDT;";
     ]
 }
 
@@ -127,14 +127,12 @@ fn is_shown(alloc: Global, tree: &Tree, text: &[u8]) -> bool {
     }
 }
 
-fn reads(alloc: Global, source: &[u8], text: &[u8]) -> bool {
-    match tokens_of(alloc, source) {
-        Some((tokens, end)) => match parse(alloc, tokens.as_slice(), end) {
-            Ok(tree) => is_shown(alloc, &tree, text),
-            Err(_) => false,
-        },
-        None => false,
-    }
+// Whether the case is read as the module that the text shows, and MODEND where the mark stands.
+fn reads(alloc: Global, case: &[u8], text: &[u8]) -> Option<bool> {
+    let source = source_of(alloc, case).ok()?;
+    let (tokens, end) = tokens_of(alloc, source.as_slice())?;
+    let tree = parse(alloc, tokens.as_slice(), end).ok()?;
+    Some(place_of(case, STOP) == Some(tree.modend) && is_shown(alloc, &tree, text))
 }
 
 fn is_refused(alloc: Global, tokens: &[Token], end: u32, stop: u32) -> bool {
@@ -157,11 +155,9 @@ pub fn refuses(alloc: Global, case: &[u8]) -> Option<bool> {
 
 #[test]
 fn modules_are_read_from_the_first_token_to_the_last(rt: HostRuntime) -> Result<(), fmt::Error> {
-    for &(source, text) in read() {
-        assert!(rt;
-            reads(rt.alloc(), source.as_bytes(), text.as_bytes()),
-            "{source}"
-        );
+    for &(case, text) in read() {
+        let found = reads(rt.alloc(), case.as_bytes(), text.as_bytes());
+        assert!(rt; found == Some(true), "{case}");
     }
     Ok(())
 }

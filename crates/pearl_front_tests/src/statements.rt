@@ -185,7 +185,7 @@ fn body_of(tree: &Tree) -> Option<&Body> {
 
 fn has_else(statement: &Stmt) -> bool {
     match statement {
-        Stmt::If { otherwise, .. } => otherwise.is_some(),
+        Stmt::If(choice) => choice.otherwise.is_some(),
         _ => false,
     }
 }
@@ -193,7 +193,7 @@ fn has_else(statement: &Stmt) -> bool {
 // Whether the outer one of two IF has an ELSE, and whether the inner one has.
 fn elses(statement: &Stmt) -> (bool, bool) {
     match statement {
-        Stmt::If { statements, .. } => match statements.as_slice().first() {
+        Stmt::If(choice) => match choice.statements.as_slice().first() {
             Some(inner) => (has_else(statement), has_else(inner)),
             None => (has_else(statement), false),
         },

@@ -3,13 +3,14 @@
 use arrayvec::ArrayVec;
 use pearl_print::print::print;
 use pearl_tree::declaration::{Declared, Item, Prio};
-use pearl_tree::expression::{Dyad, Dyadic, Expr, Operand, Primary, Ref};
+use pearl_tree::expression::{Dyadic, Expr, Operand, Primary, Ref};
 use pearl_tree::literal::{Const, Duration, Literal, Secs};
 use pearl_tree::name::{Name, Names, Number};
 use pearl_tree::parts::Parts;
-use pearl_tree::statement::{Body, Stmt};
+use pearl_tree::statement::{Body, Call, If, Stmt};
 use pearl_tree::tree::{Decl, ModuleName, TaskHead, Tree};
 use pearl_tree::typing::{Basic, Bound, Int, Sort, Typing};
+use pearl_value::operator::Dyad;
 use std::alloc::{AllocError, Global};
 use std::test::Fail;
 
@@ -58,12 +59,13 @@ fn equation(alloc: Global) -> Result<Expr, AllocError> {
 
 // `IF a EQ 1 THEN FIN;`
 fn choice(alloc: Global) -> Result<Stmt, AllocError> {
-    Ok(Stmt::If {
+    let choice = If {
         condition: equation(alloc)?,
         statements: Parts::new(Vec::new(alloc)),
         otherwise: None,
         place: 0,
-    })
+    };
+    Ok(Stmt::If(Box::new(alloc, choice)?))
 }
 
 fn body(alloc: Global, statement: Stmt) -> Result<Body, AllocError> {
@@ -95,6 +97,7 @@ fn a_module_with_a_task(rt: HostRuntime) -> Result<(), Fail> {
         name: Some(ModuleName::Bracketed(named(b'm'))),
         system: None,
         declarations: Parts::new(Vec::from_array(alloc, [declaration])?),
+        modend: 0,
         semicolon: true,
         place: 0,
     };
@@ -138,10 +141,13 @@ fn constants(alloc: Global) -> Result<Vec<Const>, AllocError> {
     let mut text = ArrayVec::new();
     text.push(b'\'');
     let literals = [
-        constant(Literal::Duration(duration)),
+        constant(Literal::Duration(Box::new(alloc, duration)?)),
         constant(bits),
         constant(clock),
-        constant(Literal::Text { text, place: 0 }),
+        constant(Literal::Text {
+            text: Box::new(alloc, text)?,
+            place: 0,
+        }),
     ];
     Ok(Vec::from_array(alloc, literals)?)
 }
@@ -175,7 +181,7 @@ fn item(alloc: Global) -> Result<Item, AllocError> {
 #[test]
 fn literals_and_settled_choices(rt: HostRuntime) -> Result<(), Fail> {
     let alloc = rt.alloc();
-    let call = Stmt::Call {
+    let call = Call {
         call: false,
         name: named(b'p'),
         arguments: Parts::new(Vec::new(alloc)),
@@ -189,11 +195,15 @@ fn literals_and_settled_choices(rt: HostRuntime) -> Result<(), Fail> {
         declared: Parts::new(Vec::from_array(alloc, [Declared::Item(item(alloc)?)])?),
         place: 0,
     };
-    let second = task(TaskHead::MainFirst { prio }, body(alloc, call)?);
+    let second = task(
+        TaskHead::MainFirst { prio },
+        body(alloc, Stmt::Call(Box::new(alloc, call)?))?,
+    );
     let tree = Tree {
         name: Some(ModuleName::Bare(named(b'm'))),
         system: None,
         declarations: Parts::new(Vec::from_array(alloc, [declared, second])?),
+        modend: 0,
         semicolon: false,
         place: 0,
     };

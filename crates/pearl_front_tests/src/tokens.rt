@@ -3,7 +3,7 @@
 use crate::cases::{STOP, place_of, places_of, source_of, tokens_of};
 use pearl_lex::fault::LexFault;
 use pearl_lex::lexer::tokens;
-use pearl_tables::word_code::{DECLARE, MODULE};
+use pearl_tables::word_code::{DCL, MODULE};
 use pearl_tree::token::{Token, What};
 use std::alloc::{AllocError, Global};
 use std::test::Fail;
@@ -31,7 +31,7 @@ static SOURCES: [(&str, &[Want]); 24] = lexed![
     "" =>;
     " \t\x0c\r\n! to the end" =>;
     "^a/* one */^b/*/*/!\n^c" => Id("a") Id("b") Id("c");
-    "^DCL ^DECLARE ^DCLx" => Word(DECLARE) Word(DECLARE) Id("DCLx");
+    "^DCL ^DECLARE ^DCLx" => Word(DCL) Word(DCL) Id("DCLx");
     "^MODULE^(^MODULES^)" => Word(MODULE) Symbol("(") Id("MODULES") Symbol(")");
     "^9223372036854775807 ^0012^ab" => Number(9223372036854775807) Number(12) Id("ab");
     "^1.5 ^2.07 ^3.141" => Decimal(1, 500) Decimal(2, 70) Decimal(3, 141);
