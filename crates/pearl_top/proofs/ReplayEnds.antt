@@ -4,7 +4,7 @@ use Rattle.pearl_io.specs.Outside.{Takes, TakesFront}
 use Rattle.pearl_io.proofs.Pieces.{takes_more, takes_front_more}
 use Rattle.pearl_rules.specs.declared.entry.Entry.{Entry}
 use Rattle.pearl_rules.specs.declared.setup.Setup.{Setup}
-use Rattle.pearl_rules.specs.Core.{Said, first_events}
+use Rattle.pearl_rules.specs.Core.{Report, first_events}
 use Rattle.pearl_rules.specs.Runs.{Machine, machine_after}
 use Rattle.pearl_prog.specs.declared.program.Program.{Program}
 use Rattle.pearl_code.specs.Rows.{Stack, engine}
@@ -37,7 +37,7 @@ opening_as p setup same = ap (λ s. lines_of s (first_events 0 s.tasks)) same
 -- a machine of the program has come to the end of these lines, and what was told so far was taken
 pub record Reached (p : Program) (lines : List (List ℕ)) (ending : Ending) (seen : Seen) (old new : Option (List ℕ)) : Type 0 where
   pub es : List Entry
-  pub told : List (ℕ × Said)
+  pub told : List (ℕ × Report)
   pub read : entries lines ≡ record { accepted = es; ending = ending }
   pub faithful : IsFaithfulTo p seen.object
   pub ran : Ran seen.object es seen told
