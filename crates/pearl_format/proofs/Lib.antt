@@ -4,3 +4,4 @@ pub mod Steps
 pub mod Printable
 pub mod Longer
 pub mod Counts
+mod BitGroups

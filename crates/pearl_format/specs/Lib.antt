@@ -4,3 +4,4 @@ pub mod Parts
 pub mod Texts
 pub mod Longer
 pub mod Bytes
+pub mod BitDigits

@@ -3,4 +3,5 @@
 
 pub(crate) mod field;
 pub mod item;
+pub mod laws;
 pub mod put;

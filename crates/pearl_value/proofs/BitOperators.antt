@@ -54,7 +54,7 @@ fills_with_zeros bits len room =
 -- MOVED AND TURNED
 
 -- the first bits of a list, and the others
-in_two : (places : ℕ) (bits : List Bool) → number_of bits ≡ number_of (take places bits) * 2 ^ (length bits - places) + number_of (drop places bits)
+pub in_two : (places : ℕ) (bits : List Bool) → number_of bits ≡ number_of (take places bits) * 2 ^ (length bits - places) + number_of (drop places bits)
 in_two places bits =
     ap number_of (sym (take-append-drop places bits)) ∙ number-append (take places bits) (drop places bits)
     ∙ ap (λ n. number_of (take places bits) * 2 ^ n + number_of (drop places bits)) (length-drop places bits)
@@ -62,12 +62,12 @@ in_two places bits =
 behind-below : (places : ℕ) (bits : List Bool) → number_of (drop places bits) < 2 ^ (length bits - places)
 behind-below places bits = subst (λ n. number_of (drop places bits) < 2 ^ n) (length-drop places bits) (number-below (drop places bits))
 
-behind : (places : ℕ) (bits : List Bool) → number_of bits % 2 ^ (length bits - places) ≡ number_of (drop places bits)
+pub behind : (places : ℕ) (bits : List Bool) → number_of bits % 2 ^ (length bits - places) ≡ number_of (drop places bits)
 behind places bits =
     ap (λ n. n % 2 ^ (length bits - places)) (in_two places bits)
     ∙ mod-mul-add (number_of (take places bits)) (2 ^ (length bits - places)) (number_of (drop places bits)) (behind-below places bits)
 
-before : (places : ℕ) (bits : List Bool) → number_of bits / 2 ^ (length bits - places) ≡ number_of (take places bits)
+pub before : (places : ℕ) (bits : List Bool) → number_of bits / 2 ^ (length bits - places) ≡ number_of (take places bits)
 before places bits =
     ap (λ n. n / 2 ^ (length bits - places)) (in_two places bits)
     ∙ div-mul-add (number_of (take places bits)) (2 ^ (length bits - places)) (number_of (drop places bits)) (behind-below places bits)

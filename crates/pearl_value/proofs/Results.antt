@@ -205,8 +205,7 @@ order_gives test (Span a) (Span b) = told_gives (test (int_cmp a b))
 order_gives test x y = no_value (order_row (kind_of x) (kind_of y))
 
 equality_gives : (test : Ordering → Bool) (x y : Cell) → GivesRow (equality_row (kind_of x) (kind_of y)) (told test (equality_between x y))
-equality_gives test (Bits len value) (Bits more other) =
-    let room = max len more in told_gives (test (nat_cmp (widened len value room) (widened more other room)))
+equality_gives test (Bits len value) (Bits more other) = told_gives _
 equality_gives test (Bits len value) (Ref of place) = no_value (equality_row (kind.Bits len) of)
 equality_gives test (Ref of place) y = no_value (equality_row of (kind_of y))
 equality_gives test x y = order_gives test x y
