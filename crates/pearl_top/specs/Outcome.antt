@@ -14,7 +14,7 @@ use Rattle.pearl_top.specs.Failures.{front_refusal}
 use Rattle.pearl_top.specs.JournalDue.{JournalDue}
 use Rattle.pearl_top.specs.PrintDue.{PrintDue}
 use Rattle.pearl_top.specs.Reading.{UnreadDue}
-use Rattle.pearl_top.specs.Taken.{Just}
+use Rattle.pearl_top.specs.Taken.{OnlyDue}
 
 -- THE SOURCE
 
@@ -46,7 +46,7 @@ RunDue source journal source_rose journal_rose status bytes =
 -- What is due for a command, where these are the bytes of the files that it names, in order. `rose` tells of each name whether its
 -- count of faults rose.
 abbrev pub DueFor : Command → List (List ℕ) → (List ℕ → Type 0) → Status → List ℕ → Type 0
-DueFor NoCommand [] rose = Just Usage (refusal_line refusal.Usage)
+DueFor NoCommand [] rose = OnlyDue Usage (refusal_line refusal.Usage)
 DueFor (Run source_name journal_name) (source ∷ journal ∷ []) rose = RunDue source journal (rose source_name) (rose journal_name)
 DueFor (Print source_name) (source ∷ []) rose = PrintDue source (rose source_name)
 DueFor _ contents rose = λ status bytes. ⊥
