@@ -3,7 +3,7 @@ use Rattle.std.proofs.Common.{◌≡◌, ℕ, zero, suc, ◌+◌, List, [], ◌�
 use Rattle.std.proofs.Math.Seq.{take-append-add}
 use Rattle.pearl_io.specs.Outside.{TakesFront}
 use Rattle.pearl_rules.specs.declared.setup.Setup.{Setup}
-use Rattle.pearl_script.specs.Lines.{lines_of, said_line}
+use Rattle.pearl_script.specs.Lines.{lines_of, report_line}
 use Rattle.pearl_run.specs.Told.{IsCutOff}
 use Rattle.pearl_top.proofs.TakenLaws.{append_nil}
 use Rattle.pearl_top.proofs.TranscriptLaws.{lines_of-append}
