@@ -18,7 +18,7 @@ following count = min (count + 1) (2 ^ 64 - 1)
 abbrev pub CountRose : ℕ → ℕ → Type 0
 CountRose before after = (before < after) ⊎ (after ≡ 2 ^ 64 - 1)
 
--- writing failed: the sink's count rose, or the sink is full
+-- what is seen where writing failed: the sink's count rose, or the sink is full (as one is that just took all it has room for)
 abbrev pub WriteFailed : ℕ → ℕ → Type 0 → Type 0
 WriteFailed before after full = CountRose before after ⊎ full
 

@@ -1,6 +1,6 @@
 -- which lengths a kind may have
 pub mod Kinds
--- the kind of a value, and which values a kind has
+-- what kind a cell has, and which numbers a FIXED kind has
 pub mod Cells
 -- which cells are values, and which are well formed
 pub mod WellFormed
