@@ -15,7 +15,7 @@ use Rattle.pearl_top.specs.Failures.{front_refusal}
 use Rattle.pearl_top.specs.Journal.{Ending, Entries, All, Bad}
 use Rattle.pearl_top.specs.JournalDue.{IsRun, JournalDue, handled}
 use Rattle.pearl_top.specs.Laws.{AreAlike, HasOneOutcome}
-use Rattle.pearl_top.specs.Outcome.{Due, IsRefused, IsSource, RunDue, SourceDue}
+use Rattle.pearl_top.specs.Outcome.{IsRefused, IsSource, RunDue, SourceDue}
 use Rattle.pearl_top.specs.Transcript.{Close, Closed, Cut, IsTranscript}
 use Rattle.pearl_top.proofs.AlikeLaws.{one_meaning, transcript_same}
 use Rattle.pearl_top.proofs.Completeness.{not_refused}

@@ -1,7 +1,7 @@
 -- How a run over a journal ends, from how its lines ended.
-use Rattle.std.proofs.Common.{◌≡◌, ℕ, List, [], ◌++◌, Option, Err, refl, ap, sym, ◌∙◌, subst, append_assoc}
+use Rattle.std.proofs.Common.{◌≡◌, ℕ, List, [], ◌++◌, Option, Err, refl, ap, sym, subst, append_assoc}
 use Rattle.pearl_io.specs.Outside.{Takes, TakesFront}
-use Rattle.pearl_io.proofs.Pieces.{takes_more, takes_front_more}
+use Rattle.pearl_io.proofs.Pieces.{takes_more}
 use Rattle.pearl_rules.specs.declared.entry.Entry.{Entry}
 use Rattle.pearl_rules.specs.declared.setup.Setup.{Setup}
 use Rattle.pearl_rules.specs.Core.{Report, first_events}

@@ -1,5 +1,5 @@
 -- What is due for the words, from what is due for the files that they name.
-use Rattle.std.proofs.Common.{◌≡◌, ◌≢◌, ◌≤◌, ◌⊎◌, ℕ, List, [], ◌∷◌, Option, Some, refl, ap₂, sym, ◌∙◌, subst, inl, inr, length, map, arith}
+use Rattle.std.proofs.Common.{◌≡◌, ◌≢◌, ◌≤◌, ◌⊎◌, ℕ, List, [], ◌∷◌, Option, Some, refl, ap₂, sym, subst, inl, inr, length, map, arith}
 use Rattle.std.specs.List.{AllZip, Any}
 use Rattle.pearl_io.specs.Outside.{Files, content}
 use Rattle.pearl_rules.specs.declared.entry.Entry.{Entry}
@@ -25,7 +25,6 @@ use Rattle.pearl_top.specs.Reading.{MayHave, UnreadDue}
 use Rattle.pearl_top.specs.Ready.{IsReadyFor}
 use Rattle.pearl_top.specs.Replay.{start_of}
 use Rattle.pearl_top.specs.Taken.{Ends, Finishes, OnlyDue}
-use Rattle.pearl_top.proofs.PrintEnds.{print_rises}
 use Rattle.pearl_top.proofs.TakenLaws.{ends_as, finishes_of}
 
 -- AT THE SOURCE
