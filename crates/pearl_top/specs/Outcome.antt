@@ -10,7 +10,6 @@ use Rattle.pearl_top.specs.declared.limits.TheConstants.{SOURCE_LIMIT}
 use Rattle.pearl_top.specs.declared.status.Status.{Status}
 use Rattle.pearl_top.specs.declared.status.Status.TheVariants.{Usage, Refused, NoMemory}
 use Rattle.pearl_top.specs.Commands.{Command, Run, Print, NoCommand, names_of}
-use Rattle.pearl_top.specs.Failures.{front_refusal}
 use Rattle.pearl_top.specs.JournalDue.{JournalDue}
 use Rattle.pearl_top.specs.PrintDue.{PrintDue}
 use Rattle.pearl_top.specs.Reading.{UnreadDue}
@@ -18,13 +17,19 @@ use Rattle.pearl_top.specs.Taken.{OnlyDue}
 
 -- THE SOURCE
 
+-- the line of a source that is refused: the place at which it is no program, or that of a broken rule with the rule
+abbrev pub line_of_fault : FrontFault → List ℕ
+line_of_fault (fault.Syntax place) = refusal_line (refusal.Syntax place)
+line_of_fault (fault.Source place rule) = refusal_line (refusal.Source place rule)
+line_of_fault fault.NoMemory = refusal_line refusal.Memory
+
 -- these bytes, within the limit, are refused by this fault, whose line is written
 pub record IsRefused (source bytes : List ℕ) : Type 0 where
   pub within : length source ≤ SOURCE_LIMIT
   pub cause : FrontFault
   pub known : cause ≢ fault.NoMemory
   pub refused : IsRefusedBy source cause
-  pub text : bytes ≡ refusal_line (front_refusal cause)
+  pub text : bytes ≡ line_of_fault cause
 
 -- these bytes, within the limit, are an accepted source of this program
 pub record IsSource (source : List ℕ) (p : Program) : Type 0 where

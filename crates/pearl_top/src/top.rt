@@ -27,8 +27,8 @@ use std::alloc::Global;
 /// Carries out the command of the words after the program's name: reads the files that it names from the shelf, and
 /// writes what is due to the sink, each line as one piece.
 ///
-/// Memory may run out at any time but with words that are no command, and then the line `error memory` is due. What is due
-/// otherwise, and with which status, is `Due`.
+/// Memory may run out before a text is printed and before the first line of a journal is carried out, and then the line
+/// `error memory` is due. What is due otherwise, and with which status, is `Due`.
 pub fn pearl<S: Shelf, K: Sink>(
     alloc: Global,
     words: &[String],
