@@ -22,7 +22,7 @@ pub mod PrintDue
 pub mod Outcome
 -- which words and files bring a command to its end
 pub mod Complete
--- the definitions determine the answer
+-- the definitions determine the answer, and printing a printed text changes nothing
 pub mod Laws
 -- when a machine is ready to run a program from its start
 pub mod Ready
