@@ -41,11 +41,11 @@ HasOneOutcome = (command : Command) (files : List ℕ → List ℕ) (status othe
     IsOutcome command files status bytes → IsOutcome command files other others → (status ≡ other) × AreSame command files status bytes others
 
 -- no duration of the source has 2^63 hours or more, once its minutes and seconds are carried into them
-abbrev pub HasFittingHours : List ℕ → Type 0
-HasFittingHours source = (tokens : List Token) (tree : Tree) → Lexes source tokens → Spells tree tokens → FitsHours tree
+abbrev pub HoursFit : List ℕ → Type 0
+HoursFit source = (tokens : List Token) (tree : Tree) → Lexes source tokens → Spells tree tokens → FitsHours tree
 
 -- What `print` writes of a file, it writes again of a file that holds just that, where the hours of the first fit and what was written is
 -- no longer than a source may be.
-abbrev pub PrintsAgain : Type 0
-PrintsAgain = (source copy : List ℕ) (files : List ℕ → List ℕ) → HasFittingHours (files source) → length (files copy) ≤ SOURCE_LIMIT →
+abbrev pub PrintsItsText : Type 0
+PrintsItsText = (source copy : List ℕ) (files : List ℕ → List ℕ) → HoursFit (files source) → length (files copy) ≤ SOURCE_LIMIT →
     IsOutcome (Print source) files Done (files copy) → IsOutcome (Print copy) files Done (files copy)
