@@ -16,3 +16,4 @@ pub mod QuotedTokens
 pub mod OneMeaning
 pub mod LongestFront
 pub mod Spaces
+pub mod BitOrder

@@ -11,7 +11,7 @@ use Rattle.pearl_lex.specs.Quoted.{quoted}
 abbrev pub word_front : List ℕ → ℕ → Option Front
 word_front bytes size = sized (word_or_id (meaning words (take size bytes)) (take size bytes)) size
 
--- the longest token that begins the bytes
+-- the longest token that begins the bytes, if one does, unless they begin a form that is no token
 unfoldable pub front : List ℕ → Option Front
 front bytes =
     if is_ascii_alphabetic (slice_index bytes 0) then word_front bytes (prefix_len is_id_byte bytes) else

@@ -12,5 +12,5 @@ pub mod Lexes
 pub mod Spells
 -- what stands between tokens: blanks, and comments of two forms
 pub mod Spaces
--- a source has one list of tokens or one place without one, and what is taken is the longest token
+-- a source has one list of tokens or one place without one, what is taken is the longest token, and bits have their digits' order
 pub mod Laws

@@ -25,7 +25,8 @@ fn quoted_front(bytes: &[u8]) -> Option<Front>
     quoted(skip_one(bytes))
 }
 
-/// The longest token that begins the bytes, if one does.
+/// The longest token that begins the bytes, if one does, unless they begin a form that is no token: `1.2345` gives none,
+/// though `1` begins it.
 pub fn begin(bytes: &[u8]) -> Option<Front>
     requires { length bytes.now < 2 ^ 32 }
     ensures value { result ≡ spec.front bytes.now }

@@ -1,6 +1,6 @@
 // The definitions determine what a source gives, and take what the language spells.
 
-ghost use Rattle.pearl_lex.specs.Laws.{HasOneReading, HasOnePlace, IsNeverBoth, HasLawfulTokens, TakesTheLongest, TakesNone, PassesSpaces};
+ghost use Rattle.pearl_lex.specs.Laws.{HasOneReading, HasOnePlace, IsNeverBoth, HasLawfulTokens, TakesTheLongest, TakesNone, PassesSpaces, BitsAreTheirDigits, TakesBitsInOrder};
 
 /// A source has at most one list of tokens.
 pub fn one_reading()
@@ -32,4 +32,10 @@ pub fn fronts_are_longest()
 /// What is passed over between tokens is a blank or a comment.
 pub fn spaces_are_spelled()
     ensures { PassesSpaces }
+{}
+
+/// A bit literal has the truth values of its digits, the first digit's first.
+pub fn bits_are_in_order()
+    ensures digits { BitsAreTheirDigits }
+    ensures taken { TakesBitsInOrder }
 {}

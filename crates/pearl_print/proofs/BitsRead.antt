@@ -1,5 +1,5 @@
--- Bits are read back as they are written.
-use Rattle.std.proofs.Common.{◌≡◌, ◌≤◌, ◌+◌, ◌-◌, ◌*◌, ◌/◌, ◌%◌, ◌^◌, ℕ, zero, suc, Bool, true, false, ◌&&◌, ◌==◌, List, [], ◌∷◌, ◌++◌, length, take, drop, fold, slice_index, Some, refl, sym, ap, ◌∙◌, append_assoc, arith, length-append}
+-- Bits are read back as they are written, and written in their order.
+use Rattle.std.proofs.Common.{◌≡◌, ◌<◌, ◌≤◌, ◌+◌, ◌-◌, ◌*◌, ◌/◌, ◌%◌, ◌^◌, ℕ, zero, suc, Bool, true, false, ◌&&◌, ◌==◌, if◌then◌else◌, List, [], ◌∷◌, ◌++◌, length, map, take, drop, fold, slice_index, Some, refl, sym, ap, ◌∙◌, append_assoc, arith, length-append}
 use Rattle.std.proofs.lemmas.Grind.{common_steps}
 use Rattle.std.proofs.lemmas.Bool.Decides.{nat_tests}
 use Rattle.std.proofs.Math.Nat.{div-eq_of_lt, div-div-eq-div-mul}
@@ -10,7 +10,7 @@ use Rattle.pearl_lex.specs.Spelling.{sized}
 use Rattle.pearl_lex.specs.Quoted.{is_char, chars_len, digit_value, is_digit_of, bits_value, bits_of, quoted}
 use Rattle.pearl_lex.specs.Front.{front}
 use Rattle.pearl_print.specs.Spelled.{binary, spelled}
-use Rattle.pearl_print.specs.Reading.{IsReadBack}
+use Rattle.pearl_print.specs.Reading.{IsReadBack, DigitsAreTheBits}
 use Rattle.pearl_print.proofs.TextsRead.{len_plain, some_left, taken_front, index_front, drop_more}
 
 record IsBitByte (b : ℕ) : Type 0 where
@@ -91,3 +91,15 @@ bits_read_back len value is =
           ap (λ n. Some (record { what = what.Bits len value; size = n })) (sym size);
       no_space = λ rest. refl;
     }
+
+bit_of_digit : (digit : ℕ) → digit < 2 → 48 + digit ≡ (if digit == 1 then 49 else 48)
+bit_of_digit zero small = refl
+bit_of_digit (suc zero) small = refl
+bit_of_digit (suc (suc n)) small = absurd (omega (arith, small))
+
+-- the digits of bits are their truth values in order
+pub digits_are_the_bits : DigitsAreTheBits
+digits_are_the_bits zero value = refl
+digits_are_the_bits (suc n) value =
+    ap (λ digit. digit ∷ binary n value) (bit_of_digit (value / 2 ^ n % 2) (omega arith))
+    ∙ ap (λ digits. (if value / 2 ^ n % 2 == 1 then 49 else 48) ∷ digits) (digits_are_the_bits n value)

@@ -8,7 +8,8 @@ use Rattle.pearl_tree.specs.Tokens.{IsText}
 use Rattle.pearl_lex.specs.Spelling.{sized}
 use Rattle.pearl_lex.specs.Quoted.{is_char, chars_len, chars_of, text_of, quoted}
 use Rattle.pearl_lex.specs.Front.{front}
-use Rattle.pearl_print.specs.Spelled.{doubled, spelled}
+use Rattle.pearl_lex.specs.Spells.{doubled}
+use Rattle.pearl_print.specs.Spelled.{spelled}
 use Rattle.pearl_print.specs.Reading.{IsReadBack}
 
 abbrev IsChar : ℕ → Type 0

@@ -18,7 +18,7 @@ pub mod Schedules
 pub mod Statements
 -- the tokens of a module
 pub mod Modules
--- what the text of tokens is read as
+-- what the text of tokens is read as, and in which order it has bits
 pub mod Reading
 -- what a tree says without its places, with the choices that printing settles
 pub mod Plain

@@ -7,6 +7,7 @@ use Rattle.pearl_tree.specs.declared.token.What.TheVariants as what
 use Rattle.pearl_tables.specs.declared.symbol.TheConstants as s
 use Rattle.pearl_tables.specs.Symbols.{symbol_text}
 use Rattle.pearl_tables.specs.Words.{word_text}
+use Rattle.pearl_lex.specs.Spells.{doubled}
 
 -- the last digit of a number
 abbrev pub digit : ℕ → ℕ
@@ -32,10 +33,6 @@ clock_text ms =
 abbrev pub binary : ℕ → ℕ → List ℕ
 binary zero value = []
 binary (suc n) value = (48 + value / 2 ^ n % 2) ∷ binary n value
-
--- a text with each apostrophe doubled
-abbrev pub doubled : List ℕ → List ℕ
-doubled text = flat_map (λ byte. if byte == 39 then byte ∷ byte ∷ [] else byte ∷ []) text
 
 -- a token without what follows it
 unfoldable pub spelled : What → List ℕ

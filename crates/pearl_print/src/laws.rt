@@ -1,7 +1,8 @@
-// What the text of tokens is read as, which tokens a tree has, and that printing a printed text changes nothing.
+// What the text of tokens is read as, which tokens a tree has, in which order bits stand, and that printing a printed text
+// changes nothing.
 
 ghost use Rattle.pearl_print.specs.Canonical.{PrintsAgain, SourcePrintsAgain};
-ghost use Rattle.pearl_print.specs.Reading.{LawfulTextReads, LawfulTokens};
+ghost use Rattle.pearl_print.specs.Reading.{LawfulTextReads, LawfulTokens, DigitsAreTheBits};
 ghost use Rattle.pearl_print.specs.ShownText.{HasOneText, SourceHasOneText, PlainHasOneText};
 
 /// The text of lawful tokens has exactly these tokens.
@@ -12,6 +13,11 @@ pub fn text_reads()
 /// The tokens of a lawful tree are lawful, unless a duration in it has 2^63 hours or more.
 pub fn lawful_tokens()
     ensures { LawfulTokens }
+{}
+
+/// The digits of a bit literal are its truth values, the first one first.
+pub fn bits_are_written_in_order()
+    ensures { DigitsAreTheBits }
 {}
 
 /// Two trees that say the same, wherever their parts lie in memory, have the same tokens.

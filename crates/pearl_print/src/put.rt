@@ -6,7 +6,8 @@ ghost use Rattle.std.specs.Fmt.{decimal};
 ghost use Rattle.pearl_tree.specs.declared.token.What.TheVariants as what;
 ghost use Rattle.pearl_tables.specs.Symbols.{symbol_count};
 ghost use Rattle.pearl_tables.specs.Words.{code_count};
-ghost use Rattle.pearl_print.specs.Spelled.{binary, doubled, two_digits, three_digits, clock_text, fraction, text_of_tokens};
+ghost use Rattle.pearl_lex.specs.Spells.{doubled};
+ghost use Rattle.pearl_print.specs.Spelled.{binary, two_digits, three_digits, clock_text, fraction, text_of_tokens};
 ghost use Rattle.pearl_print.specs.Lists.{word, symbol, id};
 
 use arrayvec::ArrayVec;

@@ -1,5 +1,5 @@
 use Rattle.std.proofs.Common.{◌≡◌, ◌++◌, take}
-use Rattle.pearl_print.specs.Spelled.{doubled}
+use Rattle.pearl_lex.specs.Spells.{doubled}
 use Rattle.pearl_print.proofs.put.put_doubled.Given as goal
 
 abbrev pub invariant-loop-byte : goal.invariant-loop-byte
