@@ -1,5 +1,6 @@
-pub mod Adds
+pub mod Broken
 pub mod Devices
+pub mod FirstDevices
 pub mod Laws
 pub mod Rising
 pub mod Rules

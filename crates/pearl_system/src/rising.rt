@@ -1,11 +1,8 @@
 // Lists in the order of their keys, with each key once.
 
 ghost use Rattle.std.specs.Prelude.{◌≡◌, ◌⊎◌, ℕ, ◌<◌, ◌≤◌, true, false, length, take, drop, All, Any, OnOk, IfNone, IfSome};
-ghost use Rattle.pearl_tree.specs.declared.fault.RuleFault.{RuleFault};
 ghost use Rattle.pearl_system.specs.Rising.{IsLess, IsRising, Joins};
-ghost use Rattle.pearl_system.specs.Rules.{fault_key};
 
-use pearl_tree::fault::RuleFault;
 use std::alloc::AllocError as NoMemory;
 
 /// What stands in a list by a key.
@@ -14,14 +11,6 @@ pub(crate) trait Keyed {
 
     fn key(&self) -> (u32, u8)
         ensures { result ≡ key self.now };
-}
-
-impl Keyed for RuleFault {
-    ghost key = { fault_key };
-
-    fn key(&self) -> (u32, u8) {
-        (self.place, self.rule)
-    }
 }
 
 fn is_less(a: (u32, u8), b: (u32, u8)) -> bool
