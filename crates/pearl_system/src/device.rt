@@ -8,7 +8,7 @@ ghost use Rattle.pearl_system.specs.FirstDevices.{IsIndex};
 ghost use Rattle.pearl_system.specs.Rules.{word_place};
 
 use crate::first::{FirstDevices, named};
-use crate::rising::{Keyed, add};
+use crate::rising::add;
 use crate::specified::{Form, Specified};
 use arrayvec::ArrayVec;
 use pearl_tree::declaration::{Class, Device, DeviceWord, Direction};
@@ -158,25 +158,6 @@ fn meant(devices: &[Device], first: &FirstDevices, name: &Specified) -> Option<S
     match named(devices, first, &name.text) {
         Some(device) => specified_as(name, device),
         None => None,
-    }
-}
-
-fn rank(role: Role) -> u32
-    ensures { result ≡ spec.rank role }
-{
-    match role {
-        Role::Interrupt => 0,
-        Role::Terminal { .. } => 1,
-        Role::Input { .. } => 2,
-        Role::Output { .. } => 3,
-    }
-}
-
-impl Keyed for SpecifiedDevice {
-    ghost key = { spec.device_key };
-
-    fn key(&self) -> (u32, u8) {
-        (rank(self.role), self.number)
     }
 }
 
