@@ -3,7 +3,7 @@
 ghost use Rattle.pearl_system.specs.Broken.{FaultsAreBroken};
 ghost use Rattle.pearl_system.specs.Laws.{DevicesAreSpecified, HasOneDeviceList, SpecifiedMeansDevice};
 
-/// The lists of the rules S10 to S14 have exactly the faults that a module has by what each rule says.
+/// The lists of the rules S10 to S14 have exactly the faults that a module has by what each says.
 pub fn faults_are_broken_rules()
     ensures { FaultsAreBroken }
 {}

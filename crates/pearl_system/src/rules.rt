@@ -115,7 +115,8 @@ fn push_if(faults: &mut Vec<RuleFault>, broken: bool, place: u32, rule: u8) -> R
     Ok(())
 }
 
-/// Adds the faults of names that stand twice in the system part, and answers where the first device of each name stands.
+/// Adds the faults of names that stand twice in the system part, and answers where the first device
+/// of each name stands.
 pub(crate) fn add_s10(
     alloc: Global,
     faults: &mut Vec<RuleFault>,
