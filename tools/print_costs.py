@@ -23,23 +23,26 @@ HEAD, TAIL = "MODULE(m);PROBLEM;t:TASK;", "END;MODEND;"
 # The greatest ratio of times that counts as linear, for four times as much source.
 RATIO = 4.6
 
-# A form's name, its statement, and the bound of its peak at 1 MiB in MB (10^6 bytes).
+# A form's name, what begins the statements, what is repeated, what ends them, and the bound of its peak at 1 MiB in MB
+# (10^6 bytes).
 FORMS = [
-    (";", ";", 400),
-    ("x:=1;", "x:=1;", 400),
-    ("f(1);", "f(1);", 460),
-    ("a;", "a;", 460),
-    ("a(a(a(..)));, 32 deep", "a(" * 33 + "a" + ")" * 33 + ";", 460),
-    ("x:=a+a+..;, 100 operators", "x:=" + "a+" * 100 + "a;", 560),
-    ("x:=+a+ +a+..;, 100 operators", "x:=" + "+a+" * 100 + "+a;", 560),
-    ("x:=++++++++a;, 8 signs", "x:=" + "+" * 8 + "a;", 560),
+    (";", "", ";", "", 400),
+    ("x:=1;", "", "x:=1;", "", 400),
+    ("f(1);", "", "f(1);", "", 460),
+    ("a;", "", "a;", "", 460),
+    ("a(a(a(..)));, 32 deep", "", "a(" * 33 + "a" + ")" * 33 + ";", "", 460),
+    ("f(a,a,..);, one call", "f(", "a,", "a);", 460),
+    ("x:=a+a+..;, 100 operators", "", "x:=" + "a+" * 100 + "a;", "", 560),
+    ("x:=+a+ +a+..;, 100 operators", "", "x:=" + "+a+" * 100 + "+a;", "", 560),
+    ("x:=++++++++a;, 8 signs", "", "x:=" + "+" * 8 + "a;", "", 560),
+    ("f(a+a+..,a+a+..,..);, one call", "f(", "a+" * 100 + "a,", "a);", 560),
 ]
 
 
-def source(statement, size):
-    """The module with as many of the statement as go into `size` bytes, filled with blanks."""
-    count = (size - len(HEAD) - len(TAIL)) // len(statement)
-    text = HEAD + statement * count + TAIL
+def source(front, part, back, size):
+    """The module with as many of the part as go into `size` bytes, filled with line ends."""
+    count = (size - len(HEAD) - len(front) - len(back) - len(TAIL)) // len(part)
+    text = HEAD + front + part * count + back + TAIL
     return (text + "\n" * (size - len(text))).encode("ascii")
 
 
@@ -54,16 +57,16 @@ def run(program, path):
     return child.returncode, usage.ru_utime + usage.ru_stime, usage.ru_maxrss * KIB, said
 
 
-def measured(program, folder, statement, size, runs):
+def measured(program, folder, form, size, runs):
     """The least time and the greatest peak of so many runs over a source of this size."""
     path = os.path.join(folder, "source.pearl")
     with open(path, "wb") as file:
-        file.write(source(statement, size))
+        file.write(source(*form, size))
     seconds, peak = [], []
     for _ in range(runs):
         status, spent, resident, said = run(program, path)
         if status != 0:
-            sys.exit(f"{statement[:20]!r} at {size} bytes ended with status {status}: {said!r}")
+            sys.exit(f"{form[1][:20]!r} at {size} bytes ended with status {status}: {said!r}")
         seconds.append(spent)
         peak.append(resident)
     return min(seconds), max(peak)
@@ -88,11 +91,11 @@ def main():
         print(f"{'form':32}{'MB 256K':>9}{'MB 1M':>9}{'s 256K':>9}{'s 1M':>9}{'ratio':>8}")
     passed = True
     with tempfile.TemporaryDirectory() as folder:
-        for name, statement, bound in FORMS:
+        for name, *form, bound in FORMS:
             if args.only not in name:
                 continue
-            small, small_peak = measured(args.program, folder, statement, SMALL, args.runs)
-            large, large_peak = measured(args.program, folder, statement, LARGE, args.runs)
+            small, small_peak = measured(args.program, folder, form, SMALL, args.runs)
+            large, large_peak = measured(args.program, folder, form, LARGE, args.runs)
             figures = (small_peak / 1e6, large_peak / 1e6, small, large, large / small)
             fits = figures[1] < bound and figures[4] <= RATIO
             passed = passed and fits

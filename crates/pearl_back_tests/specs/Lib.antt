@@ -1,1 +1,2 @@
+-- the object that the tests run by hand
 pub mod Hand

@@ -1,7 +1,6 @@
 // Rows of the tables, by hand.
 
 use pearl_tables::family::*;
-use pearl_tables::instruction::{CodeRow, find_code};
 use pearl_tables::opcode::*;
 use pearl_tables::operator::{OPS, find_op};
 use pearl_tables::word::{WORDS, find_word, words};
@@ -67,33 +66,4 @@ fn operators_have_rows_for_their_families(rt: HostRuntime) {
     for &(code, left, right, expected) in rows() {
         assert_eq!(rt; rank_and_result(code, left, right), expected);
     }
-}
-
-#[test]
-fn an_instruction_is_found_by_its_opcode(rt: HostRuntime) {
-    let rows: [CodeRow; 3] = [
-        CodeRow {
-            opcode: 0,
-            name: b"Const",
-            operands: b"L",
-        },
-        CodeRow {
-            opcode: 4,
-            name: b"Drop",
-            operands: b"",
-        },
-        CodeRow {
-            opcode: 7,
-            name: b"LoadAt",
-            operands: b"cn",
-        },
-    ];
-    match find_code(&rows, 7) {
-        Some(row) => {
-            assert_eq!(rt; row.name, b"LoadAt".as_slice());
-            assert_eq!(rt; row.operands, b"cn".as_slice());
-        }
-        None => assert!(rt; false, "no row"),
-    }
-    assert!(rt; find_code(&rows, 5).is_none());
 }

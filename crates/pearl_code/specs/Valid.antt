@@ -19,7 +19,8 @@ use Rattle.pearl_code.specs.declared.instr.Instr.TheVariants.{Const, Conv, Read,
 use Rattle.pearl_code.specs.declared.object.Code.{Code}
 use Rattle.pearl_code.specs.declared.object.Object.{Object}
 
--- A shape is the list of the kinds of the operands, in which a reference is told from a value, the top one last. None: no instruction goes on to this place.
+-- A shape is the list of the kinds of the operands, the top one last; a reference is told from a value. None: no instruction goes on
+-- to this place.
 abbrev pub Shape : Type 0
 Shape = Option (List CellKind)
 

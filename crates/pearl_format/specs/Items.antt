@@ -11,17 +11,7 @@ use Rattle.pearl_format.specs.Fields.{width_or, digit_count}
 abbrev pub skip_count : ℕ → ℕ
 skip_count width = width_or width 1
 
--- the width that an item says; A and B without one say none
-abbrev pub width_of : ItemCode → ℕ → ℕ
-width_of X width = skip_count width
-width_of Skip width = skip_count width
-width_of code width = width
-
--- the sum of the widths that the items say
-abbrev pub width_sum : List Item → ℕ
-width_sum [] = 0
-width_sum (item ∷ items) = width_of item.code item.width + width_sum items
-
+-- how many values an item takes: X and SKIP none, each other one
 abbrev pub data_here : ItemCode → ℕ
 data_here X = 0
 data_here Skip = 0

@@ -18,13 +18,9 @@ following count = min (count + 1) (2 ^ 64 - 1)
 abbrev pub CountRose : ℕ → ℕ → Type 0
 CountRose before after = (before < after) ⊎ (after ≡ 2 ^ 64 - 1)
 
--- writing failed: the sink's count rose, or the sink is full
+-- what is seen where writing failed: the sink's count rose, or the sink is full (as one is that just took all it has room for)
 abbrev pub WriteFailed : ℕ → ℕ → Type 0 → Type 0
 WriteFailed before after full = CountRose before after ⊎ full
-
--- the name of `CountRose` until all cite that
-abbrev pub Rose : ℕ → ℕ → Type 0
-Rose before after = CountRose before after
 
 -- `count` bytes from byte `at` on stand at the front of `into`, and none do only at the end
 pub record IsPiece (bytes : List ℕ) (at count : ℕ) (into : List ℕ) : Type 0 where

@@ -186,8 +186,11 @@ pub fn named(alloc: Global, tokens: &[Token], from: usize) -> Result<Reading<Stm
             stop: value.stop.max(value.end + 1),
         });
     }
-    let called = name(tokens, from, target.stop)?;
-    let arguments = arguments(alloc, tokens, from + 1, target.stop)?;
+    let stop = target.stop;
+    // The reference holds the arguments as its selectors: it goes before they are read as a call's.
+    drop(target);
+    let called = name(tokens, from, stop)?;
+    let arguments = arguments(alloc, tokens, from + 1, stop)?;
     let call = Call {
         call: false,
         name: called,

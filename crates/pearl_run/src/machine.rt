@@ -8,7 +8,7 @@ ghost use Rattle.pearl_rules.specs.declared.entry.Entry.TheVariants.{Run};
 ghost use Rattle.pearl_rules.specs.Runs.{Machine as RunOf, machine_start, machine_offers};
 ghost use Rattle.pearl_code.specs.Rows.{Stack, engine};
 ghost use Rattle.pearl_code.specs.Valid.{IsValid};
-ghost use Rattle.pearl_io.specs.Outside.{Rose, Takes, TakesFront};
+ghost use Rattle.pearl_io.specs.Outside.{Takes, TakesFront, WriteFailed};
 ghost use Rattle.pearl_script.specs.Lines.{IsEventOf, event_line as line_of_event, close_line as line_of_close, lines_of};
 ghost use Rattle.pearl_script.specs.Words.{task_name};
 ghost use Rattle.pearl_run.specs.Seen.{Seen, IsAt, Goes, Handles, Picks, Marks, told_by};
@@ -99,7 +99,7 @@ impl Machine {
             OnOk result (Takes (K.taken sink.old) (K.taken sink.new) (lines_of setup (first_events 0 setup.tasks))) }
         ensures err { let setup = self.now.object.setup in
             OnErr result (TakesFront (K.taken sink.old) (K.taken sink.new) (lines_of setup (first_events 0 setup.tasks))) }
-        ensures cause { OnErr result (Rose (K.faults sink.old) (K.faults sink.new) ⊎ K.full sink.new) }
+        ensures cause { OnErr result (WriteFailed (K.faults sink.old) (K.faults sink.new) (K.full sink.new)) }
         ensures later { K.faults sink.old ≤ K.faults sink.new }
     {
         let Some(task) = self.object.setup.tasks.as_slice().first() else {
@@ -124,7 +124,7 @@ impl Machine {
             × Takes (K.taken sink.old) (K.taken sink.new) (lines_of self.old.object.setup told)) }
         ensures err { OnErr result ((told : List (ℕ × Report)) × (left : List Entry) × Handles self.old entry.now left self.new told
             × IsCutOff self.old.object.setup (K.taken sink.old) (K.taken sink.new) told) }
-        ensures cause { OnErr result (Rose (K.faults sink.old) (K.faults sink.new) ⊎ K.full sink.new) }
+        ensures cause { OnErr result (WriteFailed (K.faults sink.old) (K.faults sink.new) (K.full sink.new)) }
         ensures later { K.faults sink.old ≤ K.faults sink.new }
     {
         match entry {
@@ -140,7 +140,7 @@ impl Machine {
             (lines_of self.now.object.setup (states m.core (machine_offers m)) ++ line_of_close m.core.moment)) }
         ensures err { (m : RunOf Stack) → IsAt self.now m → OnErr result (TakesFront (K.taken sink.old) (K.taken sink.new)
             (lines_of self.now.object.setup (states m.core (machine_offers m)) ++ line_of_close m.core.moment)) }
-        ensures cause { OnErr result (Rose (K.faults sink.old) (K.faults sink.new) ⊎ K.full sink.new) }
+        ensures cause { OnErr result (WriteFailed (K.faults sink.old) (K.faults sink.new) (K.full sink.new)) }
         ensures later { K.faults sink.old ≤ K.faults sink.new }
     {
         let mut line = ArrayVec::new();
@@ -178,7 +178,7 @@ impl Machine {
             × Takes (K.taken sink.old) (K.taken sink.new) (lines_of self.old.object.setup told)) }
         ensures err { OnErr result ((told : List (ℕ × Report)) × (left : List Entry) × Handles self.old (Run count) left self.new told
             × IsCutOff self.old.object.setup (K.taken sink.old) (K.taken sink.new) told) }
-        ensures cause { OnErr result (Rose (K.faults sink.old) (K.faults sink.new) ⊎ K.full sink.new) }
+        ensures cause { OnErr result (WriteFailed (K.faults sink.old) (K.faults sink.new) (K.full sink.new)) }
         ensures later { K.faults sink.old ≤ K.faults sink.new }
     {
         let moment = self.moment;
@@ -207,7 +207,7 @@ impl Machine {
         requires { IfSome mark.now.event (IsEventOf self.now.object.setup) }
         ensures ok { OnOk result (Takes (K.taken sink.old) (K.taken sink.new) (lines_of self.now.object.setup (told_by moment mark.now.event))) }
         ensures err { OnErr result (TakesFront (K.taken sink.old) (K.taken sink.new) (lines_of self.now.object.setup (told_by moment mark.now.event))) }
-        ensures cause { OnErr result (Rose (K.faults sink.old) (K.faults sink.new) ⊎ K.full sink.new) }
+        ensures cause { OnErr result (WriteFailed (K.faults sink.old) (K.faults sink.new) (K.full sink.new)) }
         ensures later { K.faults sink.old ≤ K.faults sink.new }
     {
         match &mark.event {
@@ -221,7 +221,7 @@ impl Machine {
         requires { IsEventOf self.now.object.setup event.now }
         ensures ok { OnOk result (Takes (K.taken sink.old) (K.taken sink.new) (line_of_event moment event.now self.now.object.setup)) }
         ensures err { OnErr result (TakesFront (K.taken sink.old) (K.taken sink.new) (line_of_event moment event.now self.now.object.setup)) }
-        ensures cause { OnErr result (Rose (K.faults sink.old) (K.faults sink.new) ⊎ K.full sink.new) }
+        ensures cause { OnErr result (WriteFailed (K.faults sink.old) (K.faults sink.new) (K.full sink.new)) }
         ensures later { K.faults sink.old ≤ K.faults sink.new }
     {
         let mut line = ArrayVec::new();

@@ -1,13 +1,26 @@
+-- the lengths of FIXED, BIT and CHAR, and which one holds where none is written
 pub mod Lengths
+-- how many milliseconds a duration literal has
 pub mod Durations
+-- which scopes a module has, and what each declares
 pub mod Scopes
+-- what lists of statements and branches show, as those within a statement
 pub mod Listed
+-- what sort of thing each name of a scope is
 pub mod Sorts
+-- what a name means where it is seen
 pub mod Meanings
+-- which kinds, bounds and fields the types of variables have
 pub mod Shapes
+-- as which leaves a variable is laid out
 pub mod Layout
+-- constants of INIT, and the slots that they are put into
 pub mod Constants
+-- the parts of a module in which a rule on names and types may be broken
 pub mod Parts
+-- the rules S1 to S9, and the faults of a module in them
 pub mod Rules
+-- what each name of a scope stands for, with all that is asked of it where it is used
 pub mod Tables
+-- a scope stands within an earlier one
 pub mod Laws

@@ -20,16 +20,16 @@ use Rattle.pearl_prog.specs.Kinds.{slot_of}
 use Rattle.pearl_prog.specs.declared.program.Routine.{Routine}
 use Rattle.pearl_prog.specs.declared.program.Program.{Program}
 use Rattle.pearl_first.specs.declared.tree.Name.{Name}
-use Rattle.pearl_first.specs.declared.tree.Part.{Part}
+use Rattle.pearl_first.specs.declared.tree.Operand.{Operand}
 use Rattle.pearl_first.specs.declared.tree.Term.{Term}
 use Rattle.pearl_first.specs.declared.tree.Sum.{Sum}
 use Rattle.pearl_first.specs.declared.tree.Assign.{Assign}
 use Rattle.pearl_first.specs.declared.tree.Step.{Step}
 use Rattle.pearl_first.specs.declared.tree.Step.TheVariants as step
 use Rattle.pearl_first.specs.declared.tree.Tree.{Tree}
-use Rattle.pearl_first.specs.Resolved.{variable_of, part_of, operator_of, IsSumOf, IsValueOf, IsAssignOf, IsOneValue, IsPutOf, AreStatements, IsOneRoutine, Resolves}
+use Rattle.pearl_first.specs.Resolved.{variable_of, operand_of, operator_of, IsSumOf, IsExprOf, IsAssignOf, IsOneValue, IsPutOf, AreStatements, IsOneRoutine, Resolves}
 use Rattle.pearl_first.proofs.Unique.{one_program}
-use Rattle.pearl_meaning.specs.Store.{Store, Got, Value, Needs, Fails, bind, ask}
+use Rattle.pearl_meaning.specs.Store.{Store, Evaluation, Value, Needs, Fails, bind, ask}
 use Rattle.pearl_meaning.specs.Expressions.{value_or_trap, eval, eval_all}
 use Rattle.pearl_meaning.specs.Statements.{Flow, Normal, exec, exec_all, on_flow, put_text}
 use Rattle.pearl_meaning.specs.Meaning.{body_of, body_or_none, next_action, offer, source_run, store_at_start}
@@ -43,7 +43,7 @@ use Rattle.pearl_top.specs.Transcript.{Close, Closed, Cut, closing, IsLast, IsTr
 -- THE SAME STEPS DO THE SAME
 
 -- what comes after one evaluation does the same
-bind_same : {X Y : Type 0} (got : Got X) (go also : X → Store → List Answer → Got Y) →
+bind_same : {X Y : Type 0} (got : Evaluation X) (go also : X → Store → List Answer → Evaluation Y) →
     ((x : X) (store : Store) (rest : List Answer) → go x store rest ≡ also x store rest) → bind got go ≡ bind got also
 bind_same (Value x store rest) go also same = same x store rest
 bind_same (Needs action) go also same = refl
@@ -55,7 +55,7 @@ none_last terms [] last none e = let both : [] ≡ last ∷ [] = sym none ∙ e 
 none_last terms (term ∷ before) last none e = let both : [] ≡ term ∷ (before ++ last ∷ []) = sym none ∙ e in cc
 
 -- two expressions of one sum have one value
-eval_same : (variables : List Name) (first : Part) (terms : List Term) (a b : Expr) → IsSumOf variables first terms a → IsSumOf variables first terms b →
+eval_same : (variables : List Name) (first : Operand) (terms : List Term) (a b : Expr) → IsSumOf variables first terms a → IsSumOf variables first terms b →
     (store : Store) (rest : List Answer) → eval a store rest ≡ eval b store rest
 eval_same variables first terms (Number len value) (Number other also) is its store rest = ap (λ e. eval e store rest) (is.1 ∙ sym its.1)
 eval_same variables first terms (Number len value) (Read variable) is its store rest = ap (λ e. eval e store rest) (is.1 ∙ sym its.1)
@@ -68,7 +68,7 @@ eval_same variables first terms (Dyadic' op q left r right) (Read variable) is i
 eval_same variables first terms (Dyadic' op q left r right) (Dyadic' other s before t after) is its store rest =
     let split = same_from_push is.0 its.0 is.1 its.1 (sym is.2 ∙ its.2) in
     let signs : op ≡ other = is.3 ∙ ap (λ term. operator_of term.sign) split.1 ∙ sym its.3 in
-    let parts : right ≡ after = is.5 ∙ ap (λ term. part_of variables term.part) split.1 ∙ sym its.5 in
+    let parts : right ≡ after = is.5 ∙ ap (λ term. operand_of variables term.operand) split.1 ∙ sym its.5 in
     let fronts = eval_same variables first is.0 left before is.4 (subst (λ terms. IsSumOf variables first terms before) (sym split.0) its.4) store rest in
     ap (λ got. bind got (λ x store rest. bind (eval right store rest) (λ y store rest. value_or_trap (applied2 op x y) store rest))) fronts
     ∙ ap₂ (λ e o. bind (eval before store rest) (λ x store rest. bind (eval e store rest) (λ y store rest. value_or_trap (applied2 o x y) store rest))) parts signs
@@ -76,7 +76,7 @@ eval_same variables first terms (Dyadic' op q left r right) (Dyadic' other s bef
 -- the value of an assignment, and then the write
 assign_same : (setup : Setup) (variables : List Name) (assign : Assign) (target other : Variable) (value also : Expr) →
     target ≡ variable_of variables assign.target → other ≡ variable_of variables assign.target →
-    IsValueOf variables assign.value value → IsValueOf variables assign.value also → (store : Store) (rest : List Answer) →
+    IsExprOf variables assign.value value → IsExprOf variables assign.value also → (store : Store) (rest : List Answer) →
     exec setup (statement.Assign target value) store rest ≡ exec setup (statement.Assign other also) store rest
 assign_same setup variables assign target other value also is its one two store rest =
     ap (λ t. exec setup (statement.Assign t value) store rest) (is ∙ sym its)
@@ -129,7 +129,7 @@ step_same setup variables (step.Put put) number (statement.Put values device for
     (values_same variables put.value values.items others.items is.0 its.0 store rest)
     ∙ ap₂ (λ d n. bind (eval_all others.items store rest) (λ xs store rest. put_text d (text_of (format_of setup n) xs) store rest)) f g
 
-flow_same : (flow : Flow) (next also : Got Flow) → next ≡ also → on_flow flow next ≡ on_flow flow also
+flow_same : (flow : Flow) (next also : Evaluation Flow) → next ≡ also → on_flow flow next ≡ on_flow flow also
 flow_same flow next also same = ap (λ got. on_flow flow got) same
 
 exec_all_same : (setup : Setup) (variables : List Name) (steps : List Step) (number : ℕ) (xs ys : List Statement) →

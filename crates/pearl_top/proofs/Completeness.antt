@@ -1,5 +1,5 @@
 -- A call whose files are in order ends with status 0, unless memory, reading or writing failed.
-use Rattle.std.proofs.Common.{◌≡◌, ◌≢◌, ◌⊎◌, ℕ, List, Option, refl, ap, sym, ◌∙◌, subst, inl, inr, arith}
+use Rattle.std.proofs.Common.{◌≡◌, ◌≢◌, ℕ, List, Option, refl, ap, sym, ◌∙◌, inl, inr, arith}
 use Rattle.pearl_prog.specs.declared.program.Program.{Program}
 use Rattle.pearl_first.proofs.Unique.{one_outcome}
 use Rattle.pearl_top.specs.declared.status.Status.{Status}

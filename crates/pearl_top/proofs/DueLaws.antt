@@ -1,5 +1,5 @@
 -- What is due for the journal, over the lines of what was read of it.
-use Rattle.std.proofs.Common.{◌≡◌, ◌≤◌, ◌<◌, ℕ, List, ◌++◌, refl, ap, sym, ◌∙◌, subst, arith, length, take, drop, nat_le, Bool, true, false, ◌+◌}
+use Rattle.std.proofs.Common.{◌≡◌, ◌≤◌, ◌<◌, ℕ, List, refl, ap, sym, ◌∙◌, subst, arith, length, take, drop, nat_le, Bool, true, false, ◌+◌}
 use Rattle.std.proofs.lemmas.Bool.Decides.{nat_tests}
 use Rattle.std.proofs.lemmas.List.{take-append-drop, take-take}
 use Rattle.pearl_prog.specs.declared.program.Program.{Program}

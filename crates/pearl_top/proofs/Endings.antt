@@ -1,7 +1,7 @@
 -- What closes a transcript, written by a machine that has come to the end of its entries.
 use Rattle.std.proofs.Common.{◌≡◌, ℕ, List, [], ◌++◌, None, ap, ◌∙◌, subst, append_assoc}
 use Rattle.pearl_rules.specs.declared.entry.Entry.{Entry}
-use Rattle.pearl_rules.specs.Core.{Said, first_events}
+use Rattle.pearl_rules.specs.Core.{Report, first_events}
 use Rattle.pearl_rules.specs.Runs.{Machine, machine_after, machine_next, unsettled}
 use Rattle.pearl_prog.specs.declared.program.Program.{Program}
 use Rattle.pearl_code.specs.declared.object.Object.{Object}
@@ -18,14 +18,14 @@ use Rattle.pearl_top.proofs.TakenLaws.{append_nil}
 use Rattle.pearl_top.proofs.TranscriptLaws.{lines_of-append, machine_closing, closed_text, cut_text, HasRest, front_text}
 
 -- the state of the run at which the machine stands when its entries are used up
-pub record AtEnd (o : Object) (es : List Entry) (seen : Seen) (told : List (ℕ × Said)) : Type 0 where
+pub record AtEnd (o : Object) (es : List Entry) (seen : Seen) (told : List (ℕ × Report)) : Type 0 where
   pub steps : ℕ
   pub stands : IsAt seen (machine_after (engine o) (start_of o es) steps)
   pub settled : unsettled (machine_after (engine o) (start_of o es) steps) ≡ None
   pub no_mark : machine_next (machine_after (engine o) (start_of o es) steps) ≡ None
   pub says : (machine_after (engine o) (start_of o es) steps).core.told ≡ (start_of o es).core.told ++ told
 
-at_end_of : (o : Object) (es : List Entry) (seen : Seen) (told : List (ℕ × Said)) → seen.object ≡ o → Goes (start_of o es) [] seen told → AtEnd o es seen told
+at_end_of : (o : Object) (es : List Entry) (seen : Seen) (told : List (ℕ × Report)) → seen.object ≡ o → Goes (start_of o es) [] seen told → AtEnd o es seen told
 at_end_of o es seen told same goes = record {
   steps = goes.steps;
   stands = subst (λ object. IsAt seen (machine_after (engine object) (start_of o es) goes.steps)) same goes.stands;
@@ -34,11 +34,11 @@ at_end_of o es seen told same goes = record {
   says = subst (λ object. (machine_after (engine object) (start_of o es) goes.steps).core.told ≡ (start_of o es).core.told ++ told) same goes.says;
 }
 
-pub at_end : (o : Object) (es : List Entry) (seen : Seen) (told : List (ℕ × Said)) → Ran o es seen told → AtEnd o es seen told
+pub at_end : (o : Object) (es : List Entry) (seen : Seen) (told : List (ℕ × Report)) → Ran o es seen told → AtEnd o es seen told
 at_end o es seen told ran = at_end_of o es seen told ran.object (subst (λ all. Goes (start_of o all) [] seen told) (append_nil es) (ran.goes []))
 
 -- the lines of what was told so far, with the opening lines
-told_lines : (p : Program) (o : Object) (es : List Entry) (told : List (ℕ × Said)) → o.setup ≡ p.setup →
+told_lines : (p : Program) (o : Object) (es : List Entry) (told : List (ℕ × Report)) → o.setup ≡ p.setup →
     lines_of o.setup ((start_of o es).core.told ++ told) ≡ opening_lines p ++ lines_of o.setup told
 told_lines p o es told same =
     lines_of-append o.setup (first_events 0 o.setup.tasks) told
@@ -48,7 +48,7 @@ regroup : (a b c : List ℕ) (all : List ℕ) → all ≡ a ++ b → all ++ c �
 regroup a b c all e = ap (λ x. x ++ c) e ∙ append_assoc a b c
 
 -- the whole transcript, behind the opening lines
-pub closes : (p : Program) (o : Object) (es : List Entry) (seen : Seen) (told : List (ℕ × Said)) → IsFaithfulTo p o → (end : AtEnd o es seen told) →
+pub closes : (p : Program) (o : Object) (es : List Entry) (seen : Seen) (told : List (ℕ × Report)) → IsFaithfulTo p o → (end : AtEnd o es seen told) →
     IsTranscript p es Closed (opening_lines p ++ (lines_of o.setup told ++ machine_closing o.setup (machine_after (engine o) (start_of o es) end.steps)))
 closes p o es seen told faithful end =
     let m : Machine Stack = machine_after (engine o) (start_of o es) end.steps in
@@ -58,7 +58,7 @@ closes p o es seen told faithful end =
     (closed_text p o es end.steps faithful end.settled end.no_mark)
 
 -- the transcript that a refusal cuts short
-pub cuts : (p : Program) (o : Object) (es : List Entry) (seen : Seen) (told : List (ℕ × Said)) (refusal : Refusal) → IsFaithfulTo p o → Ran o es seen told →
+pub cuts : (p : Program) (o : Object) (es : List Entry) (seen : Seen) (told : List (ℕ × Report)) (refusal : Refusal) → IsFaithfulTo p o → Ran o es seen told →
     IsTranscript p es (Cut refusal) (opening_lines p ++ (lines_of o.setup told ++ refusal_line refusal))
 cuts p o es seen told refusal faithful ran =
     let end : AtEnd o es seen told = at_end o es seen told ran in
@@ -73,7 +73,7 @@ pub record Follows (p : Program) (es : List Entry) (close : Close) (bytes : List
   pub rest : List ℕ
   pub whole : IsTranscript p es close (opening_lines p ++ (bytes ++ rest))
 
-pub breaks_off : (p : Program) (o : Object) (es : List Entry) (told : List (ℕ × Said)) (close : Close) → IsFaithfulTo p o → Tells o es told →
+pub breaks_off : (p : Program) (o : Object) (es : List Entry) (told : List (ℕ × Report)) (close : Close) → IsFaithfulTo p o → Tells o es told →
     Follows p es close (lines_of o.setup told)
 breaks_off p o es told close faithful tells =
     let front : HasRest p es close (lines_of o.setup ((start_of o es).core.told ++ told)) = front_text p o es told close faithful tells in record {

@@ -2,6 +2,7 @@ pub mod JournalLaws
 pub mod TakenLaws
 pub mod PrintLaws
 pub mod PrintEnds
+pub mod PrintsItsText
 pub mod ReplayLaws
 pub mod RunEnds
 pub mod TranscriptLaws

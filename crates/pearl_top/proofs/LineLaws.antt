@@ -1,11 +1,11 @@
 -- One line of a journal after another.
 use Rattle.std.specs.Prelude.{Result, Ok, Err, OnOk, IfErr}
-use Rattle.std.proofs.Common.{◌≡◌, ℕ, ◌+◌, List, [], ◌∷◌, ◌++◌, Option, Some, None, refl, ap, sym, ◌∙◌, subst, append_assoc, ◌<◌, ◌≤◌, ◌⊎◌, inl, inr, arith, length}
+use Rattle.std.proofs.Common.{◌≡◌, ℕ, ◌+◌, List, [], ◌∷◌, ◌++◌, Option, refl, ap, sym, ◌∙◌, subst, append_assoc, ◌<◌, length}
 use Rattle.pearl_io.specs.Outside.{Takes, TakesFront}
 use Rattle.pearl_io.proofs.Pieces.{takes_more, takes_front_more}
 use Rattle.pearl_rules.specs.declared.entry.Entry.{Entry}
 use Rattle.pearl_rules.specs.declared.setup.Setup.{Setup}
-use Rattle.pearl_rules.specs.Core.{Said}
+use Rattle.pearl_rules.specs.Core.{Report}
 use Rattle.pearl_script.specs.Lines.{lines_of}
 use Rattle.pearl_run.specs.Seen.{Seen, Handles}
 use Rattle.pearl_run.specs.Told.{IsCutOff}
@@ -31,7 +31,7 @@ line_blank setup line text seen old e = record {
 }
 
 -- a line that is an entry
-pub line_item : (setup : Setup) (line : ℕ) (text : List ℕ) (entry : Entry) (seen after : Seen) (old new : Option (List ℕ)) (told : List (ℕ × Said)) →
+pub line_item : (setup : Setup) (line : ℕ) (text : List ℕ) (entry : Entry) (seen after : Seen) (old new : Option (List ℕ)) (told : List (ℕ × Report)) →
     Item entry ≡ meaning text → after.object ≡ seen.object → Handles seen entry [] after told → Takes old new (lines_of setup told) →
     LineDone setup line text seen after old new
 line_item setup line text entry seen after old new told e same handles taken = record {
@@ -44,7 +44,7 @@ line_item setup line text entry seen after old new told e same handles taken = r
 
 -- and one whose output was cut off
 pub line_broken : (setup : Setup) (line : ℕ) (text : List ℕ) (entry : Entry) (left : List Entry) (seen after : Seen) (old new : Option (List ℕ))
-    (told : List (ℕ × Said)) → Item entry ≡ meaning text → after.object ≡ seen.object → Handles seen entry left after told → IsCutOff setup old new told →
+    (told : List (ℕ × Report)) → Item entry ≡ meaning text → after.object ≡ seen.object → Handles seen entry left after told → IsCutOff setup old new told →
     LineBroken setup line text seen old new
 line_broken setup line text entry left seen after old new told e same handles cut = record {
   es = entry ∷ [];

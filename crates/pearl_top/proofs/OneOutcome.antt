@@ -11,11 +11,10 @@ use Rattle.pearl_top.specs.declared.status.Status.{Status}
 use Rattle.pearl_top.specs.declared.status.Status.TheVariants.{Done, Usage, Refused, BadObject, BadJournal, ReadFault, WriteFault, NoMemory, TooLong}
 use Rattle.pearl_top.specs.declared.limits.TheConstants.{SOURCE_LIMIT, JOURNAL_LIMIT}
 use Rattle.pearl_top.specs.Commands.{Run, Print, NoCommand}
-use Rattle.pearl_top.specs.Failures.{front_refusal}
 use Rattle.pearl_top.specs.Journal.{Ending, Entries, All, Bad}
 use Rattle.pearl_top.specs.JournalDue.{IsRun, JournalDue, handled}
 use Rattle.pearl_top.specs.Laws.{AreAlike, HasOneOutcome}
-use Rattle.pearl_top.specs.Outcome.{Due, IsRefused, IsSource, RunDue, SourceDue}
+use Rattle.pearl_top.specs.Outcome.{line_of_fault, IsRefused, IsSource, RunDue, SourceDue}
 use Rattle.pearl_top.specs.Transcript.{Close, Closed, Cut, IsTranscript}
 use Rattle.pearl_top.proofs.AlikeLaws.{one_meaning, transcript_same}
 use Rattle.pearl_top.proofs.Completeness.{not_refused}
@@ -97,7 +96,7 @@ same_fault (fault.Source place rule) (fault.Source other also) known too same = 
 refused_once : (source bytes others : List ℕ) → IsRefused source bytes → IsRefused source others → bytes ≡ others
 refused_once source bytes others one two =
     let same : one.cause ≡ two.cause = same_fault one.cause two.cause one.known two.known (one_fault source one.cause two.cause one.refused two.refused) in
-    one.text ∙ ap (λ cause. refusal_line (front_refusal cause)) same ∙ sym two.text
+    one.text ∙ ap line_of_fault same ∙ sym two.text
 
 -- a source that is too long
 abbrev IsLong : List ℕ → List ℕ → Type 0

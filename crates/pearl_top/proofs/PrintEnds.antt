@@ -1,5 +1,5 @@
 -- What is due for a source that is printed, from what was read of it and written.
-use Rattle.std.proofs.Common.{◌≡◌, ◌≢◌, ◌≤◌, ◌⊎◌, ℕ, List, [], Option, Err, length, refl, sym, subst, inl, inr}
+use Rattle.std.proofs.Common.{◌≡◌, ◌≤◌, ℕ, List, [], Option, Err, length, refl, sym, subst, inl, inr}
 use Rattle.pearl_io.specs.Outside.{TakesFront}
 use Rattle.pearl_tree.specs.declared.token.Token.{Token}
 use Rattle.pearl_lex.specs.declared.fault.LexFault.{LexFault}
@@ -9,14 +9,12 @@ use Rattle.pearl_lex.specs.Lexes as lexes
 use Rattle.pearl_parse_expr.specs.declared.fault.ParseFault.{ParseFault}
 use Rattle.pearl_parse_expr.specs.declared.fault.ParseFault.TheVariants as parse
 use Rattle.pearl_parse.specs.Refusals.{IsRefused}
-use Rattle.pearl_script.specs.declared.refusal.Refusal.TheVariants as refusal
-use Rattle.pearl_top.specs.declared.failure.Failure.{Failure}
 use Rattle.pearl_top.specs.declared.failure.Failure.TheVariants as failure
 use Rattle.pearl_top.specs.declared.limits.TheConstants.{SOURCE_LIMIT}
 use Rattle.pearl_top.specs.declared.status.Status.{Status}
 use Rattle.pearl_top.specs.declared.status.Status.TheVariants.{Done, Usage, Refused, BadObject, BadJournal, ReadFault, WriteFault, NoMemory, TooLong}
 use Rattle.pearl_top.specs.Failures.{IsDue, lex_refusal, parse_refusal}
-use Rattle.pearl_top.specs.PrintDue.{IsPrinted, IsSpelled, PrintDue}
+use Rattle.pearl_top.specs.PrintDue.{IsPrinted, PrintDue}
 use Rattle.pearl_top.specs.Reading.{UnreadDue}
 use Rattle.pearl_top.specs.Taken.{Leaves}
 use Rattle.pearl_top.proofs.TakenLaws.{append_nil, stops_short}

@@ -1,10 +1,10 @@
 -- How a run over a journal ends, from how its lines ended.
-use Rattle.std.proofs.Common.{◌≡◌, ℕ, List, [], ◌++◌, Option, Err, refl, ap, sym, ◌∙◌, subst, append_assoc}
+use Rattle.std.proofs.Common.{◌≡◌, ℕ, List, [], ◌++◌, Option, Err, refl, ap, sym, subst, append_assoc}
 use Rattle.pearl_io.specs.Outside.{Takes, TakesFront}
-use Rattle.pearl_io.proofs.Pieces.{takes_more, takes_front_more}
+use Rattle.pearl_io.proofs.Pieces.{takes_more}
 use Rattle.pearl_rules.specs.declared.entry.Entry.{Entry}
 use Rattle.pearl_rules.specs.declared.setup.Setup.{Setup}
-use Rattle.pearl_rules.specs.Core.{Said, first_events}
+use Rattle.pearl_rules.specs.Core.{Report, first_events}
 use Rattle.pearl_rules.specs.Runs.{Machine, machine_after}
 use Rattle.pearl_prog.specs.declared.program.Program.{Program}
 use Rattle.pearl_code.specs.Rows.{Stack, engine}
@@ -24,7 +24,7 @@ use Rattle.pearl_top.specs.JournalDue.{opening_lines, IsRun, JournalDue}
 use Rattle.pearl_top.specs.Transcript.{Close, Closed, Cut, IsTranscript}
 use Rattle.pearl_top.specs.Taken.{Finishes, Leaves, Stops}
 use Rattle.pearl_top.specs.Replay.{start_of, Ran, LinesDone, LinesBroken, IsLinesFailure}
-use Rattle.pearl_top.specs.Ready.{Ready}
+use Rattle.pearl_top.specs.Ready.{IsReadyFor}
 use Rattle.pearl_top.proofs.DueLaws.{Covers}
 use Rattle.pearl_top.proofs.TranscriptLaws.{machine_closing}
 use Rattle.pearl_top.proofs.Endings.{AtEnd, at_end, closes, cuts, Follows, breaks_off}
@@ -37,13 +37,13 @@ opening_as p setup same = ap (λ s. lines_of s (first_events 0 s.tasks)) same
 -- a machine of the program has come to the end of these lines, and what was told so far was taken
 pub record Reached (p : Program) (lines : List (List ℕ)) (ending : Ending) (seen : Seen) (old new : Option (List ℕ)) : Type 0 where
   pub es : List Entry
-  pub told : List (ℕ × Said)
+  pub told : List (ℕ × Report)
   pub read : entries lines ≡ record { accepted = es; ending = ending }
   pub faithful : IsFaithfulTo p seen.object
   pub ran : Ran seen.object es seen told
   pub taken : Takes old new (opening_lines p ++ lines_of seen.object.setup told)
 
-pub reached : (p : Program) (lines : List (List ℕ)) (ending : Ending) (seen after : Seen) (old mid new : Option (List ℕ)) → Ready p seen →
+pub reached : (p : Program) (lines : List (List ℕ)) (ending : Ending) (seen after : Seen) (old mid new : Option (List ℕ)) → IsReadyFor p seen →
     Takes old mid (opening_lines p) → LinesDone seen.object.setup lines ending seen after mid new → Reached p lines ending after old new
 reached p lines ending seen after old mid new ready opened done =
     let same : after.object ≡ seen.object = done.advances.object in record {
@@ -141,7 +141,7 @@ broken_at p journal rose lines status last es (Bad line code) told covers read f
 
 -- the output of a line was not taken whole
 leaves_broken : (p : Program) (journal : List ℕ) (rose : Type 0) (lines : List (List ℕ)) (status : Status) (last : Close) (seen : Seen)
-    (old mid new : Option (List ℕ)) → Ready p seen → Takes old mid (opening_lines p) → Covers p journal rose lines status last →
+    (old mid new : Option (List ℕ)) → IsReadyFor p seen → Takes old mid (opening_lines p) → Covers p journal rose lines status last →
     LinesBroken seen.object.setup lines seen mid new → Stops old new (JournalDue p journal rose)
 leaves_broken p journal rose lines status last seen old mid new ready opened covers broken =
     let told : List ℕ = lines_of seen.object.setup broken.told in
@@ -153,7 +153,7 @@ leaves_broken p journal rose lines status last seen old mid new ready opened cov
 
 -- the lines failed
 pub leaves_failed : (p : Program) (journal : List ℕ) (rose failed wider : Type 0) (lines : List (List ℕ)) (status : Status) (last : Close) (seen after : Seen)
-    (old mid new : Option (List ℕ)) (why : Failure) → (failed → wider) → Ready p seen → Takes old mid (opening_lines p) →
+    (old mid new : Option (List ℕ)) (why : Failure) → (failed → wider) → IsReadyFor p seen → Takes old mid (opening_lines p) →
     Covers p journal rose lines status last → IsLinesFailure why lines seen after mid new failed → Leaves old new wider (JournalDue p journal rose) (Err why)
 leaves_failed p journal rose failed wider lines status last seen after old mid new (failure.Refused why) widen ready opened covers fails =
     subst (λ r. Leaves old new wider (JournalDue p journal rose) (Err (failure.Refused r))) (sym fails.2)

@@ -3,12 +3,12 @@ use Rattle.std.proofs.Common.{◌≡◌, ℕ, zero, suc, ◌+◌, List, [], ◌�
 use Rattle.std.proofs.Math.Seq.{take-append-add}
 use Rattle.pearl_io.specs.Outside.{TakesFront}
 use Rattle.pearl_rules.specs.declared.setup.Setup.{Setup}
-use Rattle.pearl_script.specs.Lines.{lines_of, said_line}
+use Rattle.pearl_script.specs.Lines.{lines_of, report_line}
 use Rattle.pearl_run.specs.Told.{IsCutOff}
 use Rattle.pearl_top.proofs.TakenLaws.{append_nil}
 use Rattle.pearl_top.proofs.TranscriptLaws.{lines_of-append}
 use Rattle.pearl_rules.specs.declared.entry.Entry.{Entry}
-use Rattle.pearl_rules.specs.Core.{Said}
+use Rattle.pearl_rules.specs.Core.{Report}
 use Rattle.pearl_rules.specs.Runs.{Engine, Machine, machine_step, machine_after, unsettled}
 use Rattle.pearl_code.specs.declared.object.Object.{Object}
 use Rattle.pearl_code.specs.Rows.{Stack, engine}
@@ -20,7 +20,7 @@ pub after-after : {S : Type 0} (e : Engine S) (m : Machine S) (a b : ℕ) → ma
 after-after e m a zero = rw (add-zero a) refl
 after-after e m a (suc b) = rw (add-suc a b) (ap (machine_step e) (after-after e m a b))
 
-joined : (o : Object) (seen after : Seen) (told more : List (ℕ × Said)) (m : Machine Stack) (left rest : List Entry) → after.object ≡ o → seen.object ≡ o →
+joined : (o : Object) (seen after : Seen) (told more : List (ℕ × Report)) (m : Machine Stack) (left rest : List Entry) → after.object ≡ o → seen.object ≡ o →
     Goes m left seen told → ((at : Machine Stack) → IsAt seen at → Leads at left → Goes at rest after more) → Goes m rest after (told ++ more)
 joined o seen after told more m left rest same_after same_seen first goes_on =
     let same : seen.object ≡ after.object = same_seen ∙ sym same_after in
@@ -37,7 +37,7 @@ joined o seen after told more m left rest same_after same_seen first goes_on =
     }
 
 -- from where it stands after these entries, the machine goes on over one more
-pub ran-entry : (o : Object) (es : List Entry) (seen after : Seen) (told more : List (ℕ × Said)) (entry : Entry) → Ran o es seen told →
+pub ran-entry : (o : Object) (es : List Entry) (seen after : Seen) (told more : List (ℕ × Report)) (entry : Entry) → Ran o es seen told →
     after.object ≡ seen.object → ((m : Machine Stack) (rest : List Entry) → IsAt seen m → Leads m (entry ∷ rest) → Goes m rest after more) →
     Ran o (es ++ entry ∷ []) after (told ++ more)
 ran-entry o es seen after told more entry ran same goes_on = record {
@@ -47,10 +47,10 @@ ran-entry o es seen after told more entry ran same goes_on = record {
       (λ m. goes_on m rest));
 }
 
-ran_as : (o : Object) (es fs : List Entry) (seen : Seen) (told said : List (ℕ × Said)) → es ≡ fs → told ≡ said → Ran o es seen told → Ran o fs seen said
+ran_as : (o : Object) (es fs : List Entry) (seen : Seen) (told said : List (ℕ × Report)) → es ≡ fs → told ≡ said → Ran o es seen told → Ran o fs seen said
 ran_as o es fs seen told said e f ran = subst (λ t. Ran o fs seen t) f (subst (λ x. Ran o x seen told) e ran)
 
-tells_as : (o : Object) (es fs : List Entry) (told said : List (ℕ × Said)) → es ≡ fs → told ≡ said → Tells o es told → Tells o fs said
+tells_as : (o : Object) (es fs : List Entry) (told said : List (ℕ × Report)) → es ≡ fs → told ≡ said → Tells o es told → Tells o fs said
 tells_as o es fs told said e f tells = subst (λ t. Tells o fs t) f (subst (λ x. Tells o x told) e tells)
 
 -- nothing more, and nothing told
@@ -58,7 +58,7 @@ pub advances-none : (seen : Seen) → Advances seen seen [] []
 advances-none seen = record { object = refl; ran = λ o before said ran. ran_as o before (before ++ []) seen said (said ++ []) (sym (append_nil before)) (sym (append_nil said)) ran }
 
 -- one part after another
-pub advances-then : (seen mid after : Seen) (es fs : List Entry) (told said : List (ℕ × Said)) → Advances seen mid es told → Advances mid after fs said →
+pub advances-then : (seen mid after : Seen) (es fs : List Entry) (told said : List (ℕ × Report)) → Advances seen mid es told → Advances mid after fs said →
     Advances seen after (es ++ fs) (told ++ said)
 advances-then seen mid after es fs told said first second = record {
   object = second.object ∙ first.object;
@@ -67,24 +67,24 @@ advances-then seen mid after es fs told said first second = record {
 }
 
 -- a whole part, and then one that was cut short
-pub breaks-then : (seen mid : Seen) (es fs : List Entry) (told said : List (ℕ × Said)) → Advances seen mid es told → Breaks mid fs said → Breaks seen (es ++ fs) (told ++ said)
+pub breaks-then : (seen mid : Seen) (es fs : List Entry) (told said : List (ℕ × Report)) → Advances seen mid es told → Breaks mid fs said → Breaks seen (es ++ fs) (told ++ said)
 breaks-then seen mid es fs told said first second o before now_told ran =
     tells_as o ((before ++ es) ++ fs) (before ++ (es ++ fs)) ((now_told ++ told) ++ said) (now_told ++ (told ++ said))
     (append_assoc before es fs) (append_assoc now_told told said) (second o (before ++ es) (now_told ++ told) (first.ran o before now_told ran))
 
 -- one entry, as the machine goes over it
-pub advances-entry : (seen after : Seen) (entry : Entry) (told : List (ℕ × Said)) → after.object ≡ seen.object →
+pub advances-entry : (seen after : Seen) (entry : Entry) (told : List (ℕ × Report)) → after.object ≡ seen.object →
     ((m : Machine Stack) (rest : List Entry) → IsAt seen m → Leads m (entry ∷ rest) → Goes m rest after told) → Advances seen after (entry ∷ []) told
 advances-entry seen after entry told same goes_on = record { object = same; ran = λ o before said ran. ran-entry o before seen after said told entry ran same goes_on }
 
-tells_of_goes : (o : Object) (es rest : List Entry) (seen : Seen) (told : List (ℕ × Said)) → seen.object ≡ o → Goes (start_of o es) rest seen told → Tells o es told
+tells_of_goes : (o : Object) (es rest : List Entry) (seen : Seen) (told : List (ℕ × Report)) → seen.object ≡ o → Goes (start_of o es) rest seen told → Tells o es told
 tells_of_goes o es rest seen told same goes = record {
   steps = goes.steps;
   says = subst (λ object. (machine_after (engine object) (start_of o es) goes.steps).core.told ≡ (start_of o es).core.told ++ told) same goes.says;
 }
 
 -- one entry that was cut short
-pub breaks-entry : (seen after : Seen) (entry : Entry) (left : List Entry) (told : List (ℕ × Said)) → after.object ≡ seen.object →
+pub breaks-entry : (seen after : Seen) (entry : Entry) (left : List Entry) (told : List (ℕ × Report)) → after.object ≡ seen.object →
     ((m : Machine Stack) (rest : List Entry) → IsAt seen m → Leads m (entry ∷ rest) → Goes m (left ++ rest) after told) →
     (rest : List Entry) → Breaks seen (entry ∷ rest) told
 breaks-entry seen after entry left told same goes_on rest o before said ran =
@@ -93,12 +93,12 @@ breaks-entry seen after entry left told same goes_on rest o before said ran =
     (λ m. goes_on m rest))
 
 -- lines that were cut off are lines of which a front was taken
-pub cut_off_front : (setup : Setup) (old new : Option (List ℕ)) (told : List (ℕ × Said)) → IsCutOff setup old new told → TakesFront old new (lines_of setup told)
+pub cut_off_front : (setup : Setup) (old new : Option (List ℕ)) (told : List (ℕ × Report)) → IsCutOff setup old new told → TakesFront old new (lines_of setup told)
 cut_off_front setup old new told cut =
-    let all : lines_of setup told ≡ lines_of setup cut.before ++ said_line setup cut.last =
-    ap (lines_of setup) cut.all ∙ lines_of-append setup cut.before (cut.last ∷ []) ∙ ap (λ x. lines_of setup cut.before ++ x) (append_nil (said_line setup cut.last)) in
+    let all : lines_of setup told ≡ lines_of setup cut.before ++ report_line setup cut.last =
+    ap (lines_of setup) cut.all ∙ lines_of-append setup cut.before (cut.last ∷ []) ∙ ap (λ x. lines_of setup cut.before ++ x) (append_nil (report_line setup cut.last)) in
     subst (λ bytes. TakesFront old new bytes) (sym all) (
       length (lines_of setup cut.before) + cut.count,
-      omega (arith, cut.short, length-append (lines_of setup cut.before) (said_line setup cut.last)),
+      omega (arith, cut.short, length-append (lines_of setup cut.before) (report_line setup cut.last)),
       rw take-append-add cut.taken,
     )

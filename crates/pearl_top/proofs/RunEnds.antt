@@ -1,7 +1,7 @@
 -- Where a faithful machine is, the source's run is, or comes to.
 use Rattle.std.proofs.Common.{◌≡◌, ℕ, List, ◌++◌, None, ap, sym, ◌∙◌, subst}
 use Rattle.pearl_rules.specs.declared.entry.Entry.{Entry}
-use Rattle.pearl_rules.specs.Core.{Said}
+use Rattle.pearl_rules.specs.Core.{Report}
 use Rattle.pearl_rules.specs.Pick.{states}
 use Rattle.pearl_rules.specs.Runs.{Source, source_next, source_offers, Machine, machine_after, machine_offers, machine_next, next_mark, unsettled, marked}
 use Rattle.pearl_rules.specs.Runs as runs
@@ -45,13 +45,13 @@ ends_as_source p o es n faithful settled no_mark =
     }
 
 -- what the machine has told, the source's run has told at its end, and more behind it
-pub record EndsBehind (p : Program) (es : List Entry) (told : List (ℕ × Said)) : Type 0 where
+pub record EndsBehind (p : Program) (es : List Entry) (told : List (ℕ × Report)) : Type 0 where
   pub marks : ℕ
   pub no_mark : source_next (offer p) (source_run p es marks) ≡ None
-  pub more : List (ℕ × Said)
+  pub more : List (ℕ × Report)
   pub says : (source_run p es marks).core.told ≡ told ++ more
 
-pub ends_behind : (p : Program) (o : Object) (es : List Entry) (told : List (ℕ × Said)) → IsFaithfulTo p o → Tells o es told →
+pub ends_behind : (p : Program) (o : Object) (es : List Entry) (told : List (ℕ × Report)) → IsFaithfulTo p o → Tells o es told →
     EndsBehind p es ((start_of o es).core.told ++ told)
 ends_behind p o es told faithful tells =
     let k = marked (engine o) o.setup es tells.steps in

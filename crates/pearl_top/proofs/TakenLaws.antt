@@ -10,7 +10,7 @@ use Rattle.pearl_top.specs.declared.status.Status.{Status}
 use Rattle.pearl_top.specs.declared.status.Status.TheVariants.{Done, Usage, Refused, BadObject, BadJournal, ReadFault, WriteFault, NoMemory, TooLong}
 use Rattle.pearl_top.specs.Failures.{IsDue}
 use Rattle.pearl_top.specs.Status.{status_of}
-use Rattle.pearl_top.specs.Taken.{Finishes, Stops, Ends, Just, Leaves, Concludes}
+use Rattle.pearl_top.specs.Taken.{Finishes, Stops, Ends, OnlyDue, Leaves, Concludes}
 
 pub append_nil : {A : Type 0} (xs : List A) → xs ++ [] ≡ xs
 append_nil [] = refl
@@ -126,11 +126,11 @@ ends_as old new due told status otherwise ends = by (is_write_fault status)
 
 -- a front was taken of the one line that is due
 pub just_short : (old new : Option (List ℕ)) (status : Status) (line piece : List ℕ) → piece ≡ line → TakesFront old new piece →
-    Ends old new (Just status line) WriteFault
-just_short old new status line piece same taken = stops_short old new (Just status line) status piece [] (refl, append_nil piece ∙ same) taken
+    Ends old new (OnlyDue status line) WriteFault
+just_short old new status line piece same taken = stops_short old new (OnlyDue status line) status piece [] (refl, append_nil piece ∙ same) taken
 
 stops_after : (old mid new : Option (List ℕ)) (due : Status → List ℕ → Type 0) (first line : List ℕ) (at : Status) → Takes old mid first →
-    due at (first ++ line) → Stops mid new (Just at line) → Stops old new due
+    due at (first ++ line) → Stops mid new (OnlyDue at line) → Stops old new due
 stops_after old mid new due first line at before is_due ends = record {
   status = at;
   front = first ++ ends.front;
@@ -141,7 +141,7 @@ stops_after old mid new due first line at before is_due ends = record {
 }
 
 finishes_after : (old mid new : Option (List ℕ)) (due : Status → List ℕ → Type 0) (first line : List ℕ) (at status : Status) → Takes old mid first →
-    due at (first ++ line) → Finishes mid new (Just at line status) → Finishes old new (due status)
+    due at (first ++ line) → Finishes mid new (OnlyDue at line status) → Finishes old new (due status)
 finishes_after old mid new due first line at status before is_due done = record {
   bytes = first ++ done.bytes;
   is_due = subst (λ s. due s (first ++ done.bytes)) (sym done.is_due.0) (subst (λ bytes. due at (first ++ bytes)) (sym done.is_due.1) is_due);
@@ -150,14 +150,14 @@ finishes_after old mid new due first line at status before is_due done = record 
 
 -- the one line was taken, or a front of it, after bytes with which it is due
 ends_after : (old mid new : Option (List ℕ)) (due : Status → List ℕ → Type 0) (first line : List ℕ) (at status : Status) → Takes old mid first →
-    due at (first ++ line) → Ends mid new (Just at line) status → Ends old new due status
+    due at (first ++ line) → Ends mid new (OnlyDue at line) status → Ends old new due status
 ends_after old mid new due first line at status before is_due ends = by (is_write_fault status)
   where
     by : (status ≡ WriteFault) ⊎ (status ≢ WriteFault) → Ends old new due status
     by (inl e) = subst (λ s. Ends old new due s) (sym e)
-        (stops_after old mid new due first line at before is_due (subst (λ s. Ends mid new (Just at line) s) e ends))
+        (stops_after old mid new due first line at before is_due (subst (λ s. Ends mid new (OnlyDue at line) s) e ends))
     by (inr free) = finishes_with old new due status free
-        (finishes_after old mid new due first line at status before is_due (finishes_of mid new (Just at line) status free ends))
+        (finishes_after old mid new due first line at status before is_due (finishes_of mid new (OnlyDue at line) status free ends))
 
 -- what the call took is due with its status, since what its command left was due
 pub concluded : (old mid new : Option (List ℕ)) (failed : Type 0) (due : Status → List ℕ → Type 0) (ended : Result (Unit {0}) Failure) (status : Status) →

@@ -2,7 +2,7 @@
 use Rattle.std.proofs.Common.{◌≡◌, ℕ, List, [], ◌∷◌, ◌++◌, None, refl, ap, sym, ◌∙◌, append_assoc}
 use Rattle.pearl_rules.specs.declared.entry.Entry.{Entry}
 use Rattle.pearl_rules.specs.declared.setup.Setup.{Setup}
-use Rattle.pearl_rules.specs.Core.{Core, Said}
+use Rattle.pearl_rules.specs.Core.{Core, Report}
 use Rattle.pearl_rules.specs.Pick.{states}
 use Rattle.pearl_rules.specs.Runs.{Machine, machine_after, machine_offers, machine_next, unsettled}
 use Rattle.pearl_prog.specs.declared.program.Program.{Program}
@@ -10,7 +10,7 @@ use Rattle.pearl_meaning.specs.Meaning.{source_run}
 use Rattle.pearl_code.specs.declared.object.Object.{Object}
 use Rattle.pearl_code.specs.Rows.{Stack, engine}
 use Rattle.pearl_script.specs.declared.refusal.Refusal.{Refusal}
-use Rattle.pearl_script.specs.Lines.{lines_of, said_line, close_line}
+use Rattle.pearl_script.specs.Lines.{lines_of, report_line, close_line}
 use Rattle.pearl_script.specs.Refusals.{refusal_line}
 use Rattle.pearl_gen.specs.Faithful.{IsFaithfulTo}
 use Rattle.pearl_top.specs.Replay.{start_of, Tells}
@@ -18,22 +18,22 @@ use Rattle.pearl_top.specs.Transcript.{Close, Closed, Cut, closing, IsTranscript
 use Rattle.pearl_top.proofs.RunEnds.{EndsAs, ends_as_source, EndsBehind, ends_behind}
 
 -- the lines of two lists, one after the other
-pub lines_of-append : (setup : Setup) (a b : List (ℕ × Said)) → lines_of setup (a ++ b) ≡ lines_of setup a ++ lines_of setup b
+pub lines_of-append : (setup : Setup) (a b : List (ℕ × Report)) → lines_of setup (a ++ b) ≡ lines_of setup a ++ lines_of setup b
 lines_of-append setup [] b = refl
-lines_of-append setup (x ∷ a) b = ap (λ rest. said_line setup x ++ rest) (lines_of-append setup a b) ∙ sym (append_assoc (said_line setup x) (lines_of setup a) (lines_of setup b))
+lines_of-append setup (x ∷ a) b = ap (λ rest. report_line setup x ++ rest) (lines_of-append setup a b) ∙ sym (append_assoc (report_line setup x) (lines_of setup a) (lines_of setup b))
 
 -- what the machine writes at its end: the tasks' states and the closing line
 abbrev pub machine_closing : Setup → Machine Stack → List ℕ
 machine_closing setup m = lines_of setup (states m.core (machine_offers m)) ++ close_line m.core.moment
 
-closed_same : (s t : Setup) (a b : Core) (x y : List (ℕ × Said)) → s ≡ t → a ≡ b → x ≡ y →
+closed_same : (s t : Setup) (a b : Core) (x y : List (ℕ × Report)) → s ≡ t → a ≡ b → x ≡ y →
     lines_of s a.told ++ (lines_of s x ++ close_line a.moment) ≡ lines_of t b.told ++ (lines_of t y ++ close_line b.moment)
 closed_same s t a b x y e f g = rw (e, f, g) refl
 
 cut_same : (s t : Setup) (a b : Core) (end : List ℕ) → s ≡ t → a ≡ b → lines_of s a.told ++ end ≡ lines_of t b.told ++ end
 cut_same s t a b end e f = rw (e, f) refl
 
-front_same : (s t : Setup) (told more all : List (ℕ × Said)) (end : List ℕ) → s ≡ t → all ≡ told ++ more →
+front_same : (s t : Setup) (told more all : List (ℕ × Report)) (end : List ℕ) → s ≡ t → all ≡ told ++ more →
     lines_of s told ++ (lines_of t more ++ end) ≡ lines_of t all ++ end
 front_same s t told more all end e f = rw (e, f, lines_of-append t told more) (sym (append_assoc (lines_of t told) (lines_of t more) end))
 
@@ -65,7 +65,7 @@ pub record HasRest (p : Program) (es : List Entry) (close : Close) (bytes : List
   pub whole : IsTranscript p es close (bytes ++ rest)
 
 -- the lines of what was told are a front of the transcript
-pub front_text : (p : Program) (o : Object) (es : List Entry) (told : List (ℕ × Said)) (close : Close) → IsFaithfulTo p o → Tells o es told →
+pub front_text : (p : Program) (o : Object) (es : List Entry) (told : List (ℕ × Report)) (close : Close) → IsFaithfulTo p o → Tells o es told →
     HasRest p es close (lines_of o.setup ((start_of o es).core.told ++ told))
 front_text p o es told close faithful tells =
     let ends : EndsBehind p es ((start_of o es).core.told ++ told) = ends_behind p o es told faithful tells in

@@ -1,5 +1,5 @@
 -- What is due for the words, from what is due for the files that they name.
-use Rattle.std.proofs.Common.{◌≡◌, ◌≢◌, ◌≤◌, ◌⊎◌, ℕ, List, [], ◌∷◌, Option, Some, refl, ap₂, sym, ◌∙◌, subst, inl, inr, length, map, arith}
+use Rattle.std.proofs.Common.{◌≡◌, ◌≢◌, ◌≤◌, ◌⊎◌, ℕ, List, [], ◌∷◌, Option, Some, refl, ap₂, sym, subst, inl, inr, length, map, arith}
 use Rattle.std.specs.List.{AllZip, Any}
 use Rattle.pearl_io.specs.Outside.{Files, content}
 use Rattle.pearl_rules.specs.declared.entry.Entry.{Entry}
@@ -22,16 +22,15 @@ use Rattle.pearl_top.specs.JournalDue.{JournalDue}
 use Rattle.pearl_top.specs.Outcome.{Due, DueFor, IsOutcome, IsSource, RunDue, SourceDue}
 use Rattle.pearl_top.specs.PrintDue.{PrintDue}
 use Rattle.pearl_top.specs.Reading.{MayHave, UnreadDue}
-use Rattle.pearl_top.specs.Ready.{Ready}
+use Rattle.pearl_top.specs.Ready.{IsReadyFor}
 use Rattle.pearl_top.specs.Replay.{start_of}
-use Rattle.pearl_top.specs.Taken.{Ends, Finishes, Just}
-use Rattle.pearl_top.proofs.PrintEnds.{print_rises}
+use Rattle.pearl_top.specs.Taken.{Ends, Finishes, OnlyDue}
 use Rattle.pearl_top.proofs.TakenLaws.{ends_as, finishes_of}
 
 -- AT THE SOURCE
 
 -- a machine that was loaded with a faithful object is ready
-pub ready_of : (p : Program) (o : Object) (seen : Seen) → seen.object ≡ o → IsFaithfulTo p o → ((es : List Entry) → Goes (start_of o es) es seen []) → Ready p seen
+pub ready_of : (p : Program) (o : Object) (seen : Seen) → seen.object ≡ o → IsFaithfulTo p o → ((es : List Entry) → Goes (start_of o es) es seen []) → IsReadyFor p seen
 ready_of p o seen same faithful start = record {
   faithful = subst (IsFaithfulTo p) (sym same) faithful;
   starts = record { object = refl; goes = λ rest. subst (λ object. Goes (start_of object rest) rest seen []) (sym same) (start rest) };
@@ -208,7 +207,7 @@ usage_due (Run source journal) contents rose bytes due =
 usage_due (Print source) contents rose bytes due = absurd (let is = print_file source contents rose Usage bytes due in is.1)
 
 none_due : (contents : List (List ℕ)) (rose : List ℕ → Type 0) (status : Status) (bytes : List ℕ) → DueFor NoCommand contents rose status bytes →
-    Just Usage (refusal_line refusal.Usage) status bytes
+    OnlyDue Usage (refusal_line refusal.Usage) status bytes
 none_due [] rose status bytes due = due
 none_due (file ∷ more) rose status bytes due = absurd due
 
@@ -239,12 +238,12 @@ usage_only command contents rose old new status is ends =
     usage_due command contents rose done.bytes done.is_due
 
 pub only_usage : (command : Command) (contents : List (List ℕ)) (rose : List ℕ → Type 0) (old new : Option (List ℕ)) (status : Status) → command ≡ NoCommand →
-    Ends old new (DueFor command contents rose) status → Ends old new (Just Usage (refusal_line refusal.Usage)) status
+    Ends old new (DueFor command contents rose) status → Ends old new (OnlyDue Usage (refusal_line refusal.Usage)) status
 only_usage words contents rose old new status none ends =
-    ends_as old new (DueFor NoCommand contents rose) (Just Usage (refusal_line refusal.Usage)) status (none_due contents rose)
+    ends_as old new (DueFor NoCommand contents rose) (OnlyDue Usage (refusal_line refusal.Usage)) status (none_due contents rose)
     (subst (λ said. Ends old new (DueFor said contents rose) status) none ends)
 
-pub just_usage : (old new : Option (List ℕ)) (line : List ℕ) (status : Status) → Ends old new (Just Usage line) status →
+pub just_usage : (old new : Option (List ℕ)) (line : List ℕ) (status : Status) → Ends old new (OnlyDue Usage line) status →
     (status ≡ Usage) ⊎ (status ≡ WriteFault)
 just_usage old new line Done ends = inl ends.is_due.0
 just_usage old new line Usage ends = inl refl

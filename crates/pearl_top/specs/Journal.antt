@@ -3,6 +3,7 @@ use Rattle.std.specs.Prelude.{ℕ, ◌+◌, ◌-◌, ◌*◌, ◌^◌, List, [],
 use Rattle.std.specs.List.{starts_with}
 use Rattle.pearl_rules.specs.declared.entry.Entry.{Entry}
 use Rattle.pearl_rules.specs.declared.entry.Entry.TheVariants.{Run}
+use Rattle.pearl_top.specs.declared.limits.TheConstants.{LINE_LIMIT}
 use Rattle.pearl_top.specs.declared.journal.Line.{Line}
 use Rattle.pearl_top.specs.declared.journal.Line.TheVariants.{Blank, Item, Wrong}
 
@@ -66,10 +67,10 @@ run_of (Some n) = Item (Run n)
 abbrev pub run_line : List ℕ → Line
 run_line line = if starts_with nat_eq line (codes "run ") then run_of (number (drop 4 line)) else Wrong 1
 
--- an empty line is skipped; a line has at most 1,024 bytes; any other line has code 1
+-- an empty line is skipped; a line has no more bytes than the limit; any other line has code 1
 abbrev pub meaning : List ℕ → Line
 meaning [] = Blank
-meaning (byte ∷ line) = if nat_le (length (byte ∷ line)) 1024 then run_line (byte ∷ line) else Wrong 1
+meaning (byte ∷ line) = if nat_le (length (byte ∷ line)) LINE_LIMIT then run_line (byte ∷ line) else Wrong 1
 
 -- THE ENTRIES
 

@@ -1,13 +1,17 @@
--- The definitions determine the answer.
-use Rattle.std.specs.Prelude.{◌≡◌, ℕ, ◌⊎◌, List}
+-- The definitions determine the answer, and printing a printed text changes nothing.
+use Rattle.std.specs.Prelude.{◌≡◌, ℕ, ◌≤◌, ◌⊎◌, List, length}
 use Rattle.pearl_rules.specs.declared.action.Answer.{Answer}
 use Rattle.pearl_rules.specs.declared.entry.Entry.{Entry}
 use Rattle.pearl_prog.specs.declared.program.Program.{Program}
 use Rattle.pearl_tree.specs.declared.token.Token.{Token}
+use Rattle.pearl_tree.specs.declared.tree.Tree.{Tree}
+use Rattle.pearl_tree.specs.Modules.{Spells}
 use Rattle.pearl_lex.specs.Lexes.{Lexes}
+use Rattle.pearl_print.specs.Reading.{FitsHours}
 use Rattle.pearl_meaning.specs.Meaning.{offer}
+use Rattle.pearl_top.specs.declared.limits.TheConstants.{SOURCE_LIMIT}
 use Rattle.pearl_top.specs.declared.status.Status.{Status}
-use Rattle.pearl_top.specs.declared.status.Status.TheVariants.{Refused}
+use Rattle.pearl_top.specs.declared.status.Status.TheVariants.{Done, Refused}
 use Rattle.pearl_top.specs.Commands.{Command, Print}
 use Rattle.pearl_top.specs.Outcome.{IsSource, IsOutcome}
 use Rattle.pearl_top.specs.Transcript.{Close, IsTranscript}
@@ -35,3 +39,13 @@ AreSame _ files status bytes others = bytes ≡ others
 abbrev pub HasOneOutcome : Type 0
 HasOneOutcome = (command : Command) (files : List ℕ → List ℕ) (status other : Status) (bytes others : List ℕ) →
     IsOutcome command files status bytes → IsOutcome command files other others → (status ≡ other) × AreSame command files status bytes others
+
+-- no duration of the source has 2^63 hours or more, once its minutes and seconds are carried into them
+abbrev pub HoursFit : List ℕ → Type 0
+HoursFit source = (tokens : List Token) (tree : Tree) → Lexes source tokens → Spells tree tokens → FitsHours tree
+
+-- What `print` writes of a file, it writes again of a file that holds just that, where the hours of the first fit and what was written is
+-- no longer than a source may be.
+abbrev pub PrintsItsText : Type 0
+PrintsItsText = (source copy : List ℕ) (files : List ℕ → List ℕ) → HoursFit (files source) → length (files copy) ≤ SOURCE_LIMIT →
+    IsOutcome (Print source) files Done (files copy) → IsOutcome (Print copy) files Done (files copy)

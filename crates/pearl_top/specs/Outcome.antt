@@ -10,13 +10,18 @@ use Rattle.pearl_top.specs.declared.limits.TheConstants.{SOURCE_LIMIT}
 use Rattle.pearl_top.specs.declared.status.Status.{Status}
 use Rattle.pearl_top.specs.declared.status.Status.TheVariants.{Usage, Refused, NoMemory}
 use Rattle.pearl_top.specs.Commands.{Command, Run, Print, NoCommand, names_of}
-use Rattle.pearl_top.specs.Failures.{front_refusal}
 use Rattle.pearl_top.specs.JournalDue.{JournalDue}
 use Rattle.pearl_top.specs.PrintDue.{PrintDue}
 use Rattle.pearl_top.specs.Reading.{UnreadDue}
-use Rattle.pearl_top.specs.Taken.{Just}
+use Rattle.pearl_top.specs.Taken.{OnlyDue}
 
 -- THE SOURCE
+
+-- the line of a source that is refused: the place at which it is no program, or that of a broken rule with the rule
+abbrev pub line_of_fault : FrontFault → List ℕ
+line_of_fault (fault.Syntax place) = refusal_line (refusal.Syntax place)
+line_of_fault (fault.Source place rule) = refusal_line (refusal.Source place rule)
+line_of_fault fault.NoMemory = refusal_line refusal.Memory
 
 -- these bytes, within the limit, are refused by this fault, whose line is written
 pub record IsRefused (source bytes : List ℕ) : Type 0 where
@@ -24,7 +29,7 @@ pub record IsRefused (source bytes : List ℕ) : Type 0 where
   pub cause : FrontFault
   pub known : cause ≢ fault.NoMemory
   pub refused : IsRefusedBy source cause
-  pub text : bytes ≡ refusal_line (front_refusal cause)
+  pub text : bytes ≡ line_of_fault cause
 
 -- these bytes, within the limit, are an accepted source of this program
 pub record IsSource (source : List ℕ) (p : Program) : Type 0 where
@@ -46,7 +51,7 @@ RunDue source journal source_rose journal_rose status bytes =
 -- What is due for a command, where these are the bytes of the files that it names, in order. `rose` tells of each name whether its
 -- count of faults rose.
 abbrev pub DueFor : Command → List (List ℕ) → (List ℕ → Type 0) → Status → List ℕ → Type 0
-DueFor NoCommand [] rose = Just Usage (refusal_line refusal.Usage)
+DueFor NoCommand [] rose = OnlyDue Usage (refusal_line refusal.Usage)
 DueFor (Run source_name journal_name) (source ∷ journal ∷ []) rose = RunDue source journal (rose source_name) (rose journal_name)
 DueFor (Print source_name) (source ∷ []) rose = PrintDue source (rose source_name)
 DueFor _ contents rose = λ status bytes. ⊥

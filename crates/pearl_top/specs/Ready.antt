@@ -6,6 +6,6 @@ use Rattle.pearl_run.specs.Seen.{Seen}
 use Rattle.pearl_top.specs.Replay.{Ran}
 
 -- its object does what the program means, and it stands at the start of every run
-pub record Ready (p : Program) (seen : Seen) : Type 0 where
+pub record IsReadyFor (p : Program) (seen : Seen) : Type 0 where
   pub faithful : IsFaithfulTo p seen.object
   pub starts : Ran seen.object [] seen []

@@ -3,7 +3,7 @@ use Rattle.std.specs.Prelude.{◌≡◌, ℕ, List, ◌++◌, Option}
 use Rattle.pearl_io.specs.Outside.{Takes, TakesFront}
 use Rattle.pearl_rules.specs.declared.entry.Entry.{Entry}
 use Rattle.pearl_rules.specs.declared.setup.Setup.{Setup}
-use Rattle.pearl_rules.specs.Core.{Said}
+use Rattle.pearl_rules.specs.Core.{Report}
 use Rattle.pearl_rules.specs.Runs.{Machine, machine_start, machine_after}
 use Rattle.pearl_code.specs.declared.object.Object.{Object}
 use Rattle.pearl_code.specs.Rows.{Stack, engine}
@@ -23,12 +23,12 @@ start_of o es = machine_start (engine o) o.setup es
 
 -- over each journal that begins with these entries the run comes to where the machine that is seen stands, with the other
 -- entries left, telling this on the way
-pub record Ran (o : Object) (es : List Entry) (seen : Seen) (told : List (ℕ × Said)) : Type 0 where
+pub record Ran (o : Object) (es : List Entry) (seen : Seen) (told : List (ℕ × Report)) : Type 0 where
   pub object : seen.object ≡ o
   pub goes : (rest : List Entry) → Goes (start_of o (es ++ rest)) rest seen told
 
 -- the run over these entries comes to a state before which this was told
-pub record Tells (o : Object) (es : List Entry) (told : List (ℕ × Said)) : Type 0 where
+pub record Tells (o : Object) (es : List Entry) (told : List (ℕ × Report)) : Type 0 where
   pub steps : ℕ
   pub says : (machine_after (engine o) (start_of o es) steps).core.told ≡ (start_of o es).core.told ++ told
 
@@ -40,13 +40,13 @@ lines_in lines.Ended journal = ended_lines journal
 -- ONE PART AFTER ANOTHER
 
 -- wherever a machine that is seen so stands, it goes over these entries to where it is seen as after, telling this
-pub record Advances (seen after : Seen) (es : List Entry) (told : List (ℕ × Said)) : Type 0 where
+pub record Advances (seen after : Seen) (es : List Entry) (told : List (ℕ × Report)) : Type 0 where
   pub object : after.object ≡ seen.object
-  pub ran : (o : Object) (before : List Entry) (said : List (ℕ × Said)) → Ran o before seen said → Ran o (before ++ es) after (said ++ told)
+  pub ran : (o : Object) (before : List Entry) (said : List (ℕ × Report)) → Ran o before seen said → Ran o (before ++ es) after (said ++ told)
 
 -- wherever it stands, the run over these entries comes to a state before which this was told
-abbrev pub Breaks : Seen → List Entry → List (ℕ × Said) → Type 0
-Breaks seen es told = (o : Object) (before : List Entry) (said : List (ℕ × Said)) → Ran o before seen said → Tells o (before ++ es) (said ++ told)
+abbrev pub Breaks : Seen → List Entry → List (ℕ × Report) → Type 0
+Breaks seen es told = (o : Object) (before : List Entry) (said : List (ℕ × Report)) → Ran o before seen said → Tells o (before ++ es) (said ++ told)
 
 -- these entries before others
 abbrev pub with_front : List Entry → Entries → Entries
@@ -55,7 +55,7 @@ with_front es later = record later { accepted = es ++ later.accepted }
 -- one accepted line, after `line` - 1 others: it adds these entries, the machine went over them, and their lines were taken
 pub record LineDone (setup : Setup) (line : ℕ) (text : List ℕ) (seen after : Seen) (old new : Option (List ℕ)) : Type 0 where
   pub es : List Entry
-  pub told : List (ℕ × Said)
+  pub told : List (ℕ × Report)
   pub adds : (later : Entries) → more_entries (meaning text) line later ≡ with_front es later
   pub advances : Advances seen after es told
   pub taken : Takes old new (lines_of setup told)
@@ -63,7 +63,7 @@ pub record LineDone (setup : Setup) (line : ℕ) (text : List ℕ) (seen after :
 -- one line whose output was taken only up to a front
 pub record LineBroken (setup : Setup) (line : ℕ) (text : List ℕ) (seen : Seen) (old new : Option (List ℕ)) : Type 0 where
   pub es : List Entry
-  pub told : List (ℕ × Said)
+  pub told : List (ℕ × Report)
   pub adds : (later : Entries) → more_entries (meaning text) line later ≡ with_front es later
   pub breaks : (rest : List Entry) → Breaks seen (es ++ rest) told
   pub taken : TakesFront old new (lines_of setup told)
@@ -71,7 +71,7 @@ pub record LineBroken (setup : Setup) (line : ℕ) (text : List ℕ) (seen : See
 -- these lines ended so, the machine went over the entries before, and their lines were taken
 pub record LinesDone (setup : Setup) (lines : List (List ℕ)) (ending : Ending) (seen after : Seen) (old new : Option (List ℕ)) : Type 0 where
   pub es : List Entry
-  pub told : List (ℕ × Said)
+  pub told : List (ℕ × Report)
   pub read : entries lines ≡ record { accepted = es; ending = ending }
   pub advances : Advances seen after es told
   pub taken : Takes old new (lines_of setup told)
@@ -80,7 +80,7 @@ pub record LinesDone (setup : Setup) (lines : List (List ℕ)) (ending : Ending)
 pub record LinesBroken (setup : Setup) (lines : List (List ℕ)) (seen : Seen) (old new : Option (List ℕ)) : Type 0 where
   pub es : List Entry
   pub ending : Ending
-  pub told : List (ℕ × Said)
+  pub told : List (ℕ × Report)
   pub read : entries lines ≡ record { accepted = es; ending = ending }
   pub breaks : Breaks seen es told
   pub taken : TakesFront old new (lines_of setup told)
@@ -88,7 +88,7 @@ pub record LinesBroken (setup : Setup) (lines : List (List ℕ)) (seen : Seen) (
 -- some lines of all were done, and after so many lines these are left
 pub record Progress (setup : Setup) (lines : List (List ℕ)) (count : ℕ) (left : List (List ℕ)) (seen after : Seen) (old new : Option (List ℕ)) : Type 0 where
   pub es : List Entry
-  pub told : List (ℕ × Said)
+  pub told : List (ℕ × Report)
   pub read : entries lines ≡ with_front es (entries_from count left)
   pub advances : Advances seen after es told
   pub taken : Takes old new (lines_of setup told)

@@ -29,8 +29,8 @@ Ends old new due WriteFault = Stops old new due
 Ends old new due status = Finishes old new (due status)
 
 -- what is due where just this status comes, with these bytes
-abbrev pub Just : Status → List ℕ → Status → List ℕ → Type 0
-Just status bytes s written = (s ≡ status) × (written ≡ bytes)
+abbrev pub OnlyDue : Status → List ℕ → Status → List ℕ → Type 0
+OnlyDue status bytes s written = (s ≡ status) × (written ≡ bytes)
 
 -- What the sink took up to where a command ended: all that is due; or all but the line of a refusal, with which it is due; or,
 -- where writing failed, a front.
@@ -42,5 +42,5 @@ Leaves old new failed due (Err failure.WriteFault) = failed × Stops old new due
 -- what the sink took, and which status comes, after a command ended: where it was refused, the line of the refusal
 abbrev pub Concludes : Option (List ℕ) → Option (List ℕ) → Result (Unit {0}) Failure → Status → Type 0
 Concludes old new (Ok done) status = (status ≡ Done) × (new ≡ old)
-Concludes old new (Err (failure.Refused refusal)) status = Ends old new (Just (status_of refusal) (refusal_line refusal)) status
+Concludes old new (Err (failure.Refused refusal)) status = Ends old new (OnlyDue (status_of refusal) (refusal_line refusal)) status
 Concludes old new (Err failure.WriteFault) status = (status ≡ WriteFault) × (new ≡ old)

@@ -4,7 +4,7 @@ ghost use Rattle.std.specs.Prelude.{◌≤◌, length, IfOk, IfErr};
 ghost use Rattle.pearl_prog.specs.declared.program.Program.{Program};
 ghost use Rattle.pearl_top.specs.Failures.{IsDue};
 ghost use Rattle.pearl_top.specs.Outcome.{IsSource, SourceDue};
-ghost use Rattle.pearl_top.specs.Ready.{Ready};
+ghost use Rattle.pearl_top.specs.Ready.{IsReadyFor};
 
 use crate::failure::Failure;
 use crate::limits::SOURCE_LIMIT;
@@ -16,7 +16,7 @@ use std::alloc::Global;
 /// Compiles a source, and loads a machine with its code.
 pub fn compile(alloc: Global, source: &[u8]) -> Result<Machine, Failure>
     requires { length source.now ≤ SOURCE_LIMIT }
-    ensures ok { IfOk result (λ machine. (p : Program) × IsSource source.now p × Ready p machine) }
+    ensures ok { IfOk result (λ machine. (p : Program) × IsSource source.now p × IsReadyFor p machine) }
     ensures err { IfErr result (IsDue (SourceDue source.now ⊥)) }
 {
     let prog = program(alloc, source)?;

@@ -3,6 +3,7 @@
 ghost use Rattle.std.specs.Prelude.{◌≡◌, ◌<◌, ◌≤◌, ◌^◌, ◌∷◌, [], length, MatchOption};
 ghost use Rattle.pearl_top.specs.Journal.{ended_lines, followed, line_end, journal_lines, meaning, number};
 
+use crate::limits::LINE_LIMIT;
 use pearl_rules::entry::Entry;
 
 /// What a line of a journal means.
@@ -50,7 +51,7 @@ pub fn meaning_of(line: &[u8]) -> Line
     if line.is_empty() {
         return Line::Blank;
     }
-    if line.len() > 1024 || !line.starts_with(b"run ") {
+    if line.len() > LINE_LIMIT || !line.starts_with(b"run ") {
         return Line::Wrong(1);
     }
     match number_of(&line[4..]) {

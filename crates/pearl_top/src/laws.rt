@@ -1,6 +1,6 @@
-// The definitions determine what a call brings about.
+// The definitions determine what a call brings about, and printing a printed text changes nothing.
 
-ghost use Rattle.pearl_top.specs.Laws.{HasOneMeaning, HasOneTranscript, HasOneOutcome};
+ghost use Rattle.pearl_top.specs.Laws.{HasOneMeaning, HasOneTranscript, HasOneOutcome, PrintsItsText};
 
 /// Two programs of one source have the same tables, and their tasks do the same after the same answers.
 pub fn one_meaning()
@@ -16,4 +16,10 @@ pub fn one_transcript()
 /// Only where `print` refuses a source that has tokens, its line may name any place up to and with which no program begins.
 pub fn one_outcome()
     ensures { HasOneOutcome }
+{}
+
+/// What `print` writes of a source, it writes again of a file that holds just that, where no duration of the source has 2^63
+/// hours or more and what was written is no longer than a source may be.
+pub fn prints_its_text()
+    ensures { PrintsItsText }
 {}

@@ -4,7 +4,7 @@ ghost use Rattle.std.specs.Prelude.{◌≡◌, ◌≤◌, ◌⊎◌};
 ghost use Rattle.pearl_io.specs.Outside.{WriteFailed};
 ghost use Rattle.pearl_script.specs.Refusals.{refusal_line as line_of_refusal};
 ghost use Rattle.pearl_top.specs.Status.{status_of as status_of_refusal};
-ghost use Rattle.pearl_top.specs.Taken.{Concludes, Ends, Just};
+ghost use Rattle.pearl_top.specs.Taken.{Concludes, Ends, OnlyDue};
 
 use crate::failure::Failure;
 use crate::status::{Status, status_of};
@@ -30,7 +30,7 @@ pub fn conclude<K: Sink>(ended: Result<(), Failure>, sink: &mut K) -> Status
 // Writes the line of a refusal, and answers its status, or that of a write fault.
 fn refuse<K: Sink>(refusal: &Refusal, sink: &mut K) -> Status
     ensures ends { Ends (K.taken sink.old) (K.taken sink.new)
-        (Just (status_of_refusal refusal.now) (line_of_refusal refusal.now)) result }
+        (OnlyDue (status_of_refusal refusal.now) (line_of_refusal refusal.now)) result }
     ensures write { result ≡ Status.WriteFault → WriteFailed (K.faults sink.old) (K.faults sink.new) (K.full sink.new) }
     ensures later { K.faults sink.old ≤ K.faults sink.new }
 {

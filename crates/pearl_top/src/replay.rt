@@ -6,7 +6,7 @@ ghost use Rattle.pearl_prog.specs.declared.program.Program.{Program};
 ghost use Rattle.pearl_top.specs.Journal.{All};
 ghost use Rattle.pearl_top.specs.JournalDue.{JournalDue};
 ghost use Rattle.pearl_top.specs.Reading.{MayHave};
-ghost use Rattle.pearl_top.specs.Ready.{Ready};
+ghost use Rattle.pearl_top.specs.Ready.{IsReadyFor};
 ghost use Rattle.pearl_top.specs.Replay.{IsLineFailure, IsLinesFailure, LineDone, LinesDone, lines_in};
 ghost use Rattle.pearl_top.specs.Taken.{Leaves};
 
@@ -37,7 +37,7 @@ pub fn replay<S: Shelf, K: Sink>(
 ) -> Result<(), Failure>
     ensures ends { let rose = CountRose (S.faults shelf.old journal.now) (S.faults shelf.new journal.now) in
         let failed = WriteFailed (K.faults sink.old) (K.faults sink.new) (K.full sink.new) in
-        (p : Program) → Ready p machine.old → (file : List ℕ) × MayHave (S.holds shelf.old) journal.now file
+        (p : Program) → IsReadyFor p machine.old → (file : List ℕ) × MayHave (S.holds shelf.old) journal.now file
         × Leaves (K.taken sink.old) (K.taken sink.new) failed (JournalDue p file rose) result }
     ensures held { S.holds shelf.new ≡ S.holds shelf.old }
     ensures shelf_later { (name : List ℕ) → S.faults shelf.old name ≤ S.faults shelf.new name }

@@ -9,7 +9,7 @@ ghost use Rattle.pearl_top.specs.Complete.{IsInOrder};
 ghost use Rattle.pearl_top.specs.Outcome.{Due, DueFor, IsOutcome, RunDue};
 ghost use Rattle.pearl_top.specs.PrintDue.{PrintDue};
 ghost use Rattle.pearl_top.specs.Reading.{MayHave};
-ghost use Rattle.pearl_top.specs.Taken.{Ends, Finishes, Just, Leaves};
+ghost use Rattle.pearl_top.specs.Taken.{Ends, Finishes, OnlyDue, Leaves};
 
 use crate::command::{Command, command_of_words};
 use crate::compile::compile;
@@ -27,8 +27,8 @@ use std::alloc::Global;
 /// Carries out the command of the words after the program's name: reads the files that it names from the shelf, and
 /// writes what is due to the sink, each line as one piece.
 ///
-/// Memory may run out at any time but with words that are no command, and then the line `error memory` is due. What is due
-/// otherwise, and with which status, is `Due`.
+/// Memory may run out before a text is printed and before the first line of a journal is carried out, and then the line
+/// `error memory` is due. What is due otherwise, and with which status, is `Due`.
 pub fn pearl<S: Shelf, K: Sink>(
     alloc: Global,
     words: &[String],
@@ -64,7 +64,7 @@ pub fn pearl<S: Shelf, K: Sink>(
     ensures no_command { command_of (map string_bytes words.now) ≡ NoCommand →
         (result ≡ Status.Usage) ⊎ (result ≡ Status.WriteFault) }
     ensures no_line { command_of (map string_bytes words.now) ≡ NoCommand →
-        Ends (K.taken sink.old) (K.taken sink.new) (Just Status.Usage (refusal_line Refusal.Usage)) result }
+        Ends (K.taken sink.old) (K.taken sink.new) (OnlyDue Status.Usage (refusal_line Refusal.Usage)) result }
     ensures object { result ≢ Status.BadObject }
     ensures read { let rose = λ (name : List ℕ). CountRose (S.faults shelf.old name) (S.faults shelf.new name) in
         result ≡ Status.ReadFault → Any rose (names_of (command_of (map string_bytes words.now))) }

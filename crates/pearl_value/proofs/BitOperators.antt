@@ -1,23 +1,20 @@
 -- Why the operators on BIT do to numbers what they do to lists of truth values.
-use Rattle.std.proofs.Common.{◌≡◌, ℕ, zero, suc, ◌+◌, ◌-◌, ◌*◌, ◌/◌, ◌%◌, ◌^◌, ◌<◌, ◌≤◌, ◌⊎◌, inl, inr, min, max, ℤ, pos, negsuc, neg_ℤ, unsigned_abs, Bool, true, false, not, ◌&&◌, ◌||◌, if◌then◌else◌, IsTrue, ◌↔◌, List, [], ◌∷◌, ◌++◌, length, map, take, drop, replicate, nat_le, Result, Ok, Err, refl, sym, ap, ◌∙◌, subst, arith, length-append}
+use Rattle.std.proofs.Common.{◌≡◌, ℕ, zero, suc, ◌+◌, ◌-◌, ◌*◌, ◌/◌, ◌%◌, ◌^◌, ◌<◌, ◌≤◌, ◌⊎◌, inl, inr, max, pos, unsigned_abs, Bool, true, false, not, ◌&&◌, ◌||◌, if◌then◌else◌, IsTrue, ◌↔◌, List, [], ◌∷◌, ◌++◌, length, map, take, drop, replicate, nat_le, Ok, Err, refl, sym, ap, ◌∙◌, subst, arith, length-append}
 use Rattle.std.specs.Prelude.{bit_and, bit_or, bit_xor}
 use Rattle.std.specs.Int.{int_rem_euclid}
 use Rattle.std.specs.declared.cmp.Ordering.{Ordering}
 use Rattle.std.specs.declared.cmp.Ordering.TheVariants.{Less, Equal, Greater}
 use Rattle.std.specs.Ordering.{MatchOrdering, nat_cmp, is_eq, is_ne}
-use Rattle.std.specs.Cmp.{nat_cmp_is}
 use Rattle.std.proofs.lemmas.Cmp.{ranked}
 use Rattle.std.proofs.lemmas.Bool.{cases_lt}
 use Rattle.std.proofs.lemmas.Bool.Decides.{nat_tests}
-use Rattle.std.proofs.lemmas.Nat.{pow_pos, pow-add, div-mul-add, mod-mul-add, div_below, and_block, or_block, xor_block}
-use Rattle.std.proofs.lemmas.List.{length-replicate, length-map, length-drop, length-take, take-append-drop, append-nil, take-append-le}
-use Rattle.std.proofs.Math.Pow.{pow_mono}
-use Rattle.pearl_value.specs.declared.cell.Cell.{Cell}
+use Rattle.std.proofs.lemmas.Nat.{div-mul-add, mod-mul-add, and_block, or_block, xor_block}
+use Rattle.std.proofs.lemmas.List.{length-replicate, length-map, length-drop, length-take, take-append-drop}
 use Rattle.pearl_value.specs.declared.cell.Cell.TheVariants.{Bits}
 use Rattle.pearl_value.specs.declared.trap.Trap.TheVariants.{Range}
-use Rattle.pearl_value.specs.Strings.{turned, shifted}
+use Rattle.pearl_value.specs.Strings.{turned}
 use Rattle.pearl_value.specs.BitLists.{number_of, bits_of, bit_of, zeros_to, left_by, right_by, turned_by, zipped, bit_by_bit, differs}
-use Rattle.pearl_value.specs.BitLaws.{IsListOfBits, IsOneList, TurnsEach, Appends, MovesLeft, MovesRight, Turns, JoinsBits, TellsWhether, ComparesLists, FillsWithZeros}
+use Rattle.pearl_value.specs.BitLaws.{IsListOfBits, IsOneList, TurnsEach, Appends, MovesLeft, MovesRight, Turns, JoinsBits, ComparesLists, FillsWithZeros}
 use Rattle.pearl_value.proofs.Results.{rem_below}
 use Rattle.pearl_value.proofs.BitNumbers.{number-append, number-zeros, number-below, number-not, length-zeros_to, number-zeros_to, bits-number, length-bits, number-bits, same_bits, length-zipped, number-zipped}
 

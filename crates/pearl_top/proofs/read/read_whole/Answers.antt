@@ -1,4 +1,4 @@
-use Rattle.std.proofs.Common.{◌∷◌, ◌++◌, [], refl, sym, subst, length, ◌≤◌}
+use Rattle.std.proofs.Common.{◌∷◌, ◌++◌, [], refl, subst, length, ◌≤◌}
 use Rattle.pearl_top.proofs.Explained.{explained, may_have, explains_whole, explains_long}
 use Rattle.pearl_top.proofs.read.read_whole.Goals as goal
 

@@ -1,4 +1,4 @@
-use Rattle.std.proofs.Common.{[], ◌+◌, refl, ap, arith, ◌∙◌}
+use Rattle.std.proofs.Common.{refl, ap, arith, ◌∙◌}
 use Rattle.std.proofs.lemmas.Result.{err_from_is_err_and}
 use Rattle.pearl_io.proofs.Counts.{failed_since}
 use Rattle.pearl_top.specs.Replay.{lines_in}
