@@ -1,21 +1,26 @@
--- The faults of all parts of a module are its broken rules.
-use Rattle.std.proofs.Common.{◌≡◌, ◌⊎◌, inl, inr, ℕ, ◌<◌, min, Bool, true, List, [], length, get_or, take, Some, sym, ap, subst, ◌∙◌, arith, bytes_eq}
+-- The lists of faults have what is broken, and nothing else.
+use Rattle.std.proofs.Common.{◌≡◌, ◌⊎◌, inl, inr, ℕ, zero, suc, ◌<◌, min, Bool, true, false, ◌||◌, ◌++◌, List, [], ◌∷◌, length, get_or, map, take, Some, refl, sym, ap, subst, ◌∙◌, append_assoc, append-nil, arith, bytes_eq}
 use Rattle.std.proofs.lemmas.Bool.Decides.{Decides-eqb, Decides-and}
 use Rattle.std.proofs.lemmas.List.{length-take, get_or-take}
+use Rattle.std.proofs.lemmas.List.Elements.{Contains-append_cases, Contains-append_left, Contains-append_right}
 use Rattle.std.proofs.lemmas.List.Folds.{Any-from_list_any, list_any-from_Any}
 use Rattle.std.proofs.lemmas.Option.{slice_get-get_or, slice_get_within, get_or_from_slice_get}
 use Rattle.std.proofs.lemmas.Slice.Eq.{bytes_eq-Decides}
-use Rattle.std.specs.List.{Contains, list_any, slice_get}
+use Rattle.std.specs.List.{Contains, flat_map, list_any, slice_get}
 use Rattle.pearl_tree.specs.declared.declaration.Device.{Device}
 use Rattle.pearl_tree.specs.declared.fault.RuleFault.{RuleFault}
+use Rattle.pearl_tree.specs.declared.rule.TheConstants as rule
+use Rattle.pearl_tree.specs.Faults.{fault_if}
+use Rattle.pearl_tree.specs.Names.{is_among, text_of}
 use Rattle.pearl_tree.specs.ShownModules.{ShownTree}
 use Rattle.pearl_system.specs.declared.specified.Specified.{Specified}
-use Rattle.pearl_system.specs.Adds.{Adds, IsOfPart, IsOfNames, is_twin}
-use Rattle.pearl_system.specs.Devices.{devices_of, spelling}
-use Rattle.pearl_system.specs.Rising.{Lists}
-use Rattle.pearl_system.specs.Rules.{IsBroken, fault_key}
+use Rattle.pearl_system.specs.Broken.{BreaksS10, BreaksS11, BreaksS12, BreaksS13, BreaksS14, FaultsAreBroken, IsBroken}
+use Rattle.pearl_system.specs.Devices.{devices_of, named, spelling}
+use Rattle.pearl_system.specs.Rules.{broken, is_missed, is_no_device, is_twin, is_unsuited, missed_fault, no_device_fault, s10, s11, s12, s13, s14, unsuited_fault, word_place}
 use Rattle.pearl_system.specs.Specified.{specified}
-use Rattle.pearl_system.proofs.Adding.{adds_then}
+use Rattle.pearl_system.proofs.Lists.{contains_here, contains_later, contains_cases, some_same}
+use Rattle.pearl_system.proofs.Once.{none_in}
+use Rattle.pearl_system.proofs.Walks.{each_after, name_fault, s10_is, s12_is, twin_fault}
 
 contains_get : {X : Type 0} (xs : List X) (x : X) → Contains xs x → (k : ℕ) × (slice_get xs k ≡ Some x)
 contains_get xs x (k, below, is) = (k, slice_get-get_or xs k x below ∙ ap Some is)
@@ -43,79 +48,200 @@ before_to p xs n i x early read passes =
     let inside : i < length xs = slice_get_within xs i x read in
     list_any-from_Any p (take n xs) (i, x, omega arith, get_or-take n xs i x early ∙ get_or_from_slice_get xs i x x read, passes)
 
-twin_from : (a b : Device) → is_twin a b ≡ true → (spelling a.word ≡ spelling b.word) × (a.number.value ≡ b.number.value)
-twin_from a b h = (Decides-and _ _ (bytes_eq-Decides (spelling a.word) (spelling b.word)) (Decides-eqb a.number.value b.number.value)).0 h
+twin_from : (a b : Device) → is_twin b a ≡ true → (spelling a.word ≡ spelling b.word) × (a.number.value ≡ b.number.value)
+twin_from a b h =
+    let same = (Decides-and _ _ (bytes_eq-Decides (spelling b.word) (spelling a.word)) (Decides-eqb b.number.value a.number.value)).0 h in
+    (sym same.0, sym same.1)
 
-twin_to : (a b : Device) → spelling a.word ≡ spelling b.word → a.number.value ≡ b.number.value → is_twin a b ≡ true
-twin_to a b words numbers = (Decides-and _ _ (bytes_eq-Decides (spelling a.word) (spelling b.word)) (Decides-eqb a.number.value b.number.value)).1 (words, numbers)
+twin_to : (a b : Device) → spelling a.word ≡ spelling b.word → a.number.value ≡ b.number.value → is_twin b a ≡ true
+twin_to a b words numbers =
+    (Decides-and _ _ (bytes_eq-Decides (spelling b.word) (spelling a.word)) (Decides-eqb b.number.value a.number.value)).1 (sym words, sym numbers)
 
-part_breaks : (tree : ShownTree) (f : RuleFault) → IsOfPart (devices_of tree) (length (devices_of tree)) f → IsBroken tree f
-part_breaks tree f (at, d, below, read, inl (named, place, rule)) =
-    let first = before_from (λ (e : Device). bytes_eq e.name.text.items d.name.text.items) (devices_of tree) at named in
-    inl (rule, (first.1, d, (first.0, at, first.2, first.3, read), (bytes_eq-Decides first.1.name.text.items d.name.text.items).0 first.4, place))
-part_breaks tree f (at, d, below, read, inr (inl (no_device, place, rule))) =
-    inr (inl (rule, (d, get_contains (devices_of tree) at d read, no_device, place)))
-part_breaks tree f (at, d, below, read, inr (inr (twin, place, rule))) =
-    let first = before_from (λ (e : Device). is_twin e d) (devices_of tree) at twin in
-    let same = twin_from first.1 d first.4 in
-    inr (inr (inl (rule, (first.1, d, (first.0, at, first.2, first.3, read), same.0, same.1, place))))
+-- a list of one fault at most
+record IsAt (is_so : Bool) (place number : ℕ) (fault : RuleFault) : Type 0 where
+  is : is_so ≡ true
+  at : fault.place ≡ place
+  by : fault.rule ≡ number
 
-names_break : (tree : ShownTree) (f : RuleFault) → IsOfNames (devices_of tree) (specified tree) (length (specified tree)) f → IsBroken tree f
-names_break tree f (at, spec, below, read, inl (missed, place, rule)) =
-    inr (inr (inr (inl (rule, (spec, get_contains (specified tree) at spec read, missed, place)))))
-names_break tree f (at, spec, below, read, inr (unsuited, place, rule)) =
-    inr (inr (inr (inr (rule, (spec, get_contains (specified tree) at spec read, unsuited, place)))))
+if_in : (is_so : Bool) (place number : ℕ) (fault : RuleFault) → Contains (fault_if is_so place number) fault → IsAt is_so place number fault
+if_in true place number fault (zero, below, is) =
+    record { is = refl; at = ap (λ (f : RuleFault). f.place) (sym is); by = ap (λ (f : RuleFault). f.rule) (sym is) }
+if_in true place number fault (suc k, below, is) = absurd (omega arith)
+if_in false place number fault h = absurd (none_in fault h)
 
-broken_is : (tree : ShownTree) (f : RuleFault) → IsBroken tree f
-    → IsOfPart (devices_of tree) (length (devices_of tree)) f ⊎ IsOfNames (devices_of tree) (specified tree) (length (specified tree)) f
-broken_is tree f (inl (rule, (first, d, (i, j, early, read, there), same, place))) =
-    inl (
-      j,
-      d,
-      slice_get_within (devices_of tree) j d there,
-      there,
-      inl (
-        before_to (λ (e : Device). bytes_eq e.name.text.items d.name.text.items) (devices_of tree) j i first early read
-            ((bytes_eq-Decides first.name.text.items d.name.text.items).1 same),
-        place,
-        rule,
-      ),
-    )
-broken_is tree f (inr (inl (rule, (d, among, no_device, place)))) =
-    let at = contains_get (devices_of tree) d among in
-    inl (at.0, d, slice_get_within (devices_of tree) at.0 d at.1, at.1, inr (inl (no_device, place, rule)))
-broken_is tree f (inr (inr (inl (rule, (first, d, (i, j, early, read, there), words, numbers, place))))) =
-    inl (
-      j,
-      d,
-      slice_get_within (devices_of tree) j d there,
-      there,
-      inr (inr (
-        before_to (λ (e : Device). is_twin e d) (devices_of tree) j i first early read (twin_to first d words numbers),
-        place,
-        rule,
-      )),
-    )
-broken_is tree f (inr (inr (inr (inl (rule, (spec, among, missed, place)))))) =
-    let at = contains_get (specified tree) spec among in
-    inr (at.0, spec, slice_get_within (specified tree) at.0 spec at.1, at.1, inl (missed, place, rule))
-broken_is tree f (inr (inr (inr (inr (rule, (spec, among, unsuited, place)))))) =
-    let at = contains_get (specified tree) spec among in
-    inr (at.0, spec, slice_get_within (specified tree) at.0 spec at.1, at.1, inr (unsuited, place, rule))
+if_to : (is_so : Bool) (place number : ℕ) (fault : RuleFault) → is_so ≡ true → fault.place ≡ place → fault.rule ≡ number → Contains (fault_if is_so place number) fault
+if_to true place number fault is at by = (zero, omega arith, λ i. record { place = sym at i; rule = sym by i })
+if_to false place number fault is at by = absurd (cc)
 
-pub lists_faults : (tree : ShownTree) (devices : List Device) (names : List Specified) {b c : List RuleFault}
-    → devices ≡ devices_of tree → names ≡ specified tree
-    → Adds (IsOfPart devices (length devices)) [] b → Adds (IsOfNames devices names (length names)) b c → Lists fault_key (IsBroken tree) c
-lists_faults tree devices names {b} {c} part_is names_are first second =
-    let of_part : Adds (IsOfPart (devices_of tree) (length (devices_of tree))) [] b =
-    subst (λ d. Adds (IsOfPart d (length d)) [] b) part_is first in
-    let of_names : Adds (IsOfNames (devices_of tree) (specified tree) (length (specified tree))) b c =
-    subst (λ d. Adds (IsOfNames d (specified tree) (length (specified tree))) b c) part_is
-    (subst (λ s. Adds (IsOfNames devices s (length s)) b c) names_are second) in
-    let adds = adds_then (IsOfPart (devices_of tree) (length (devices_of tree))) (IsOfNames (devices_of tree) (specified tree) (length (specified tree))) of_part of_names in
-    record { rising = adds.rising; exact = λ f. (λ h. forth f ((adds.exact f).0 h), λ h. (adds.exact f).1 (inr (broken_is tree f h))) }
+-- the faults of each element
+flat_in : {X : Type 0} (faults : X → List RuleFault) (xs : List X) (fault : RuleFault) → Contains (flat_map faults xs) fault
+    → (x : X) × Contains xs x × Contains (faults x) fault
+flat_in faults [] fault h = absurd (none_in fault h)
+flat_in {X} faults (x ∷ xs) fault h = by (Contains-append_cases (faults x) (flat_map faults xs) fault h) (flat_in faults xs fault)
   where
-    forth : (f : RuleFault) → Contains [] f ⊎ (IsOfPart (devices_of tree) (length (devices_of tree)) f ⊎ IsOfNames (devices_of tree) (specified tree) (length (specified tree)) f) → IsBroken tree f
-    forth f (inl (k, below, is)) = absurd (omega arith)
-    forth f (inr (inl h)) = part_breaks tree f h
-    forth f (inr (inr h)) = names_break tree f h
+    by : Contains (faults x) fault ⊎ Contains (flat_map faults xs) fault
+        → (Contains (flat_map faults xs) fault → (y : X) × Contains xs y × Contains (faults y) fault)
+        → (y : X) × Contains (x ∷ xs) y × Contains (faults y) fault
+    by (inl here) behind = (x, contains_here x xs, here)
+    by (inr later) behind = let found = behind later in (found.0, contains_later x xs found.0 found.1, found.2)
+
+flat_to : {X : Type 0} (faults : X → List RuleFault) (xs : List X) (x : X) (fault : RuleFault) → Contains xs x → Contains (faults x) fault
+    → Contains (flat_map faults xs) fault
+flat_to faults [] x fault has h = absurd (none_in x has)
+flat_to {X} faults (y ∷ ys) x fault has h = by (contains_cases y ys x has) (λ among. flat_to faults ys x fault among h)
+  where
+    by : (x ≡ y) ⊎ Contains ys x → (Contains ys x → Contains (flat_map faults ys) fault) → Contains (faults y ++ flat_map faults ys) fault
+    by (inl same) behind = Contains-append_left (faults y) (flat_map faults ys) fault (subst (λ z. Contains (faults z) fault) same h)
+    by (inr among) behind = Contains-append_right (faults y) (flat_map faults ys) fault (behind among)
+
+-- the faults of each device after those before it
+each_in : (faults : List Device → Device → List RuleFault) (before devices : List Device) (fault : RuleFault) → Contains (each_after faults before devices) fault
+    → (j : ℕ) × (device : Device) × (slice_get devices j ≡ Some device) × Contains (faults (before ++ take j devices) device) fault
+each_in faults before [] fault h = absurd (none_in fault h)
+each_in faults before (first ∷ devices) fault h =
+    by (Contains-append_cases (faults before first) (each_after faults (before ++ first ∷ []) devices) fault h) (each_in faults (before ++ first ∷ []) devices fault)
+  where
+    by : Contains (faults before first) fault ⊎ Contains (each_after faults (before ++ first ∷ []) devices) fault
+        → (Contains (each_after faults (before ++ first ∷ []) devices) fault
+        → (j : ℕ) × (device : Device) × (slice_get devices j ≡ Some device) × Contains (faults ((before ++ first ∷ []) ++ take j devices) device) fault)
+        → (j : ℕ) × (device : Device) × (slice_get (first ∷ devices) j ≡ Some device) × Contains (faults (before ++ take j (first ∷ devices)) device) fault
+    by (inl here) behind = (zero, first, refl, subst (λ l. Contains (faults l first) fault) (sym (append-nil before)) here)
+    by (inr later) behind =
+        let (j, device, read, has) = behind later in
+        (suc j, device, read, subst (λ l. Contains (faults l device) fault) (append_assoc before (first ∷ []) (take j devices)) has)
+
+each_to : (faults : List Device → Device → List RuleFault) (before devices : List Device) (j : ℕ) (device : Device) (fault : RuleFault)
+    → slice_get devices j ≡ Some device → Contains (faults (before ++ take j devices) device) fault → Contains (each_after faults before devices) fault
+each_to faults before [] j device fault read has = absurd (cc)
+each_to faults before (first ∷ devices) zero device fault read has =
+    Contains-append_left (faults before first) (each_after faults (before ++ first ∷ []) devices) fault
+    (subst (λ d. Contains (faults before d) fault) (sym (some_same first device read)) (subst (λ l. Contains (faults l device) fault) (append-nil before) has))
+each_to faults before (first ∷ devices) (suc j) device fault read has =
+    Contains-append_right (faults before first) (each_after faults (before ++ first ∷ []) devices) fault
+    (each_to faults (before ++ first ∷ []) devices j device fault read
+    (subst (λ l. Contains (faults l device) fault) (sym (append_assoc before (first ∷ []) (take j devices))) has))
+
+has_name : List ℕ → Device → Bool
+has_name text device = bytes_eq device.name.text.items text
+
+among_any : (devices : List Device) (text : List ℕ) → is_among (map (λ d. d.name) devices) text ≡ list_any (has_name text) devices
+unfolding has_name
+among_any [] text = refl
+among_any (device ∷ devices) text = ap (λ b. bytes_eq device.name.text.items text || b) (among_any devices text)
+
+s10_from : (tree : ShownTree) (fault : RuleFault) → Contains (s10 (devices_of tree)) fault → (fault.rule ≡ rule.S10) × BreaksS10 tree fault.place
+unfolding has_name
+s10_from tree fault h =
+    let devices = devices_of tree in
+    let (j, later, read, has) = each_in name_fault [] devices fault (subst (λ l. Contains l fault) (s10_is devices) h) in
+    let told = if_in (is_among (map (λ d. d.name) (take j devices)) (text_of later.name)) later.name.place rule.S10 fault has in
+    let first = before_from (has_name later.name.text.items) devices j (sym (among_any (take j devices) later.name.text.items) ∙ told.is) in
+    (told.by, (first.1, later, (first.0, j, first.2, first.3, read), (bytes_eq-Decides first.1.name.text.items later.name.text.items).0 first.4, told.at))
+
+s10_to : (tree : ShownTree) (fault : RuleFault) → fault.rule ≡ rule.S10 → BreaksS10 tree fault.place → Contains (s10 (devices_of tree)) fault
+unfolding has_name
+s10_to tree fault number (first, later, (i, j, early, read, there), same, place) =
+    let devices = devices_of tree in
+    let passes = (bytes_eq-Decides first.name.text.items later.name.text.items).1 same in
+    let among = among_any (take j devices) later.name.text.items ∙ before_to (has_name later.name.text.items) devices j i first early read passes in
+    subst (λ l. Contains l fault) (sym (s10_is devices))
+    (each_to name_fault [] devices j later fault there
+    (if_to (is_among (map (λ d. d.name) (take j devices)) (text_of later.name)) later.name.place rule.S10 fault among place number))
+
+s11_from : (tree : ShownTree) (fault : RuleFault) → Contains (s11 (devices_of tree)) fault → (fault.rule ≡ rule.S11) × BreaksS11 tree fault.place
+s11_from tree fault h =
+    let (device, among, has) = flat_in no_device_fault (devices_of tree) fault h in
+    let told = if_in (is_no_device device) (word_place device.word) rule.S11 fault has in
+    (told.by, (device, among, told.is, told.at))
+
+s11_to : (tree : ShownTree) (fault : RuleFault) → fault.rule ≡ rule.S11 → BreaksS11 tree fault.place → Contains (s11 (devices_of tree)) fault
+s11_to tree fault number (device, among, is, place) =
+    flat_to no_device_fault (devices_of tree) device fault among (if_to (is_no_device device) (word_place device.word) rule.S11 fault is place number)
+
+s12_from : (tree : ShownTree) (fault : RuleFault) → Contains (s12 (devices_of tree)) fault → (fault.rule ≡ rule.S12) × BreaksS12 tree fault.place
+s12_from tree fault h =
+    let devices = devices_of tree in
+    let (j, later, read, has) = each_in twin_fault [] devices fault (subst (λ l. Contains l fault) (s12_is devices) h) in
+    let told = if_in (list_any (is_twin later) (take j devices)) later.name.place rule.S12 fault has in
+    let first = before_from (is_twin later) devices j told.is in
+    let same = twin_from first.1 later first.4 in
+    (told.by, (first.1, later, (first.0, j, first.2, first.3, read), same.0, same.1, told.at))
+
+s12_to : (tree : ShownTree) (fault : RuleFault) → fault.rule ≡ rule.S12 → BreaksS12 tree fault.place → Contains (s12 (devices_of tree)) fault
+s12_to tree fault number (first, later, (i, j, early, read, there), words, numbers, place) =
+    let devices = devices_of tree in
+    let any = before_to (is_twin later) devices j i first early read (twin_to first later words numbers) in
+    subst (λ l. Contains l fault) (sym (s12_is devices))
+    (each_to twin_fault [] devices j later fault there
+    (if_to (list_any (is_twin later) (take j devices)) later.name.place rule.S12 fault any place number))
+
+s13_from : (tree : ShownTree) (fault : RuleFault) → Contains (s13 (devices_of tree) (specified tree)) fault → (fault.rule ≡ rule.S13) × BreaksS13 tree fault.place
+s13_from tree fault h =
+    let (spec, among, has) = flat_in (missed_fault (devices_of tree)) (specified tree) fault h in
+    let told = if_in (is_missed spec.form (named (devices_of tree) spec.text.items)) spec.place rule.S13 fault has in
+    (told.by, (spec, among, told.is, told.at))
+
+s13_to : (tree : ShownTree) (fault : RuleFault) → fault.rule ≡ rule.S13 → BreaksS13 tree fault.place → Contains (s13 (devices_of tree) (specified tree)) fault
+s13_to tree fault number (spec, among, is, place) =
+    flat_to (missed_fault (devices_of tree)) (specified tree) spec fault among
+    (if_to (is_missed spec.form (named (devices_of tree) spec.text.items)) spec.place rule.S13 fault is place number)
+
+s14_from : (tree : ShownTree) (fault : RuleFault) → Contains (s14 (devices_of tree) (specified tree)) fault → (fault.rule ≡ rule.S14) × BreaksS14 tree fault.place
+s14_from tree fault h =
+    let (spec, among, has) = flat_in (unsuited_fault (devices_of tree)) (specified tree) fault h in
+    let told = if_in (is_unsuited spec.form (named (devices_of tree) spec.text.items)) spec.place rule.S14 fault has in
+    (told.by, (spec, among, told.is, told.at))
+
+s14_to : (tree : ShownTree) (fault : RuleFault) → fault.rule ≡ rule.S14 → BreaksS14 tree fault.place → Contains (s14 (devices_of tree) (specified tree)) fault
+s14_to tree fault number (spec, among, is, place) =
+    flat_to (unsuited_fault (devices_of tree)) (specified tree) spec fault among
+    (if_to (is_unsuited spec.form (named (devices_of tree) spec.text.items)) spec.place rule.S14 fault is place number)
+
+-- one of two lists has it
+of_two : {P Q : Type 0} (a b : List RuleFault) (fault : RuleFault) → (Contains a fault → P) → (Contains b fault → Q) → Contains (a ++ b) fault → P ⊎ Q
+of_two {P} {Q} a b fault left right h = by (Contains-append_cases a b fault h)
+  where
+    by : Contains a fault ⊎ Contains b fault → P ⊎ Q
+    by (inl i) = inl (left i)
+    by (inr i) = inr (right i)
+
+broken_from : (tree : ShownTree) (fault : RuleFault) → Contains (broken tree) fault → IsBroken tree fault
+broken_from tree fault h =
+    let ds = devices_of tree in
+    let names = specified tree in
+    of_two (s10 ds) (s11 ds ++ (s12 ds ++ (s13 ds names ++ s14 ds names))) fault (s10_from tree fault)
+    (of_two (s11 ds) (s12 ds ++ (s13 ds names ++ s14 ds names)) fault (s11_from tree fault)
+    (of_two (s12 ds) (s13 ds names ++ s14 ds names) fault (s12_from tree fault)
+    (of_two (s13 ds names) (s14 ds names) fault (s13_from tree fault) (s14_from tree fault)))) h
+
+broken_to : (tree : ShownTree) (fault : RuleFault) → IsBroken tree fault → Contains (broken tree) fault
+broken_to tree fault is = by is
+  where
+    ds : List Device
+    ds = devices_of tree
+
+    names : List Specified
+    names = specified tree
+
+    of_names : List RuleFault
+    of_names = s13 ds names ++ s14 ds names
+
+    past_s11 : Contains (s12 ds ++ of_names) fault → Contains (broken tree) fault
+    past_s11 h = Contains-append_right (s10 ds) (s11 ds ++ (s12 ds ++ of_names)) fault (Contains-append_right (s11 ds) (s12 ds ++ of_names) fault h)
+
+    past_s12 : Contains of_names fault → Contains (broken tree) fault
+    past_s12 h = past_s11 (Contains-append_right (s12 ds) of_names fault h)
+
+    by : IsBroken tree fault → Contains (broken tree) fault
+    by (inl (number, breaks)) = Contains-append_left (s10 ds) (s11 ds ++ (s12 ds ++ of_names)) fault (s10_to tree fault number breaks)
+    by (inr (inl (number, breaks))) =
+        Contains-append_right (s10 ds) (s11 ds ++ (s12 ds ++ of_names)) fault
+        (Contains-append_left (s11 ds) (s12 ds ++ of_names) fault (s11_to tree fault number breaks))
+    by (inr (inr (inl (number, breaks)))) = past_s11 (Contains-append_left (s12 ds) of_names fault (s12_to tree fault number breaks))
+    by (inr (inr (inr (inl (number, breaks))))) =
+        past_s12 (Contains-append_left (s13 ds names) (s14 ds names) fault (s13_to tree fault number breaks))
+    by (inr (inr (inr (inr (number, breaks))))) =
+        past_s12 (Contains-append_right (s13 ds names) (s14 ds names) fault (s14_to tree fault number breaks))
+
+pub faults_are_broken : FaultsAreBroken
+faults_are_broken tree fault = (broken_from tree fault, broken_to tree fault)

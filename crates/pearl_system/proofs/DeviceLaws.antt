@@ -3,6 +3,7 @@ use Rattle.std.proofs.Common.{◌≡◌, inl, inr, ℕ, zero, suc, Bool, true, f
 use Rattle.std.specs.List.{Contains, filter_map, find, slice_get}
 use Rattle.pearl_tree.specs.declared.declaration.Device.{Device}
 use Rattle.pearl_tree.specs.declared.fault.RuleFault.{RuleFault}
+use Rattle.pearl_tree.specs.declared.rule.TheConstants as rule
 use Rattle.pearl_tree.specs.ShownModules.{ShownTree}
 use Rattle.pearl_system.specs.declared.device.DeviceSort.{DeviceSort}
 use Rattle.pearl_system.specs.declared.device.DeviceSort.TheVariants as sort
@@ -13,11 +14,13 @@ use Rattle.pearl_system.specs.declared.specified.Specified.{Specified}
 use Rattle.pearl_system.specs.Devices.{devices_of, device_key, has_key, meant, named, rank, IsDevice}
 use Rattle.pearl_system.specs.Laws.{sort_of_role, AreSpecified, HasWordAndNumber, IsSpecifiedBy, Specifies}
 use Rattle.pearl_system.specs.Rising.{Lists}
-use Rattle.pearl_system.specs.Rules.{is_missed, is_no_device, is_unsuited, word_place, IsBroken}
+use Rattle.pearl_system.specs.Broken.{IsBroken}
+use Rattle.pearl_system.specs.Rules.{broken, is_missed, is_no_device, is_unsuited, word_place}
 use Rattle.pearl_system.specs.Specified.{specified}
-use Rattle.pearl_system.proofs.Broken.{get_contains}
+use Rattle.pearl_system.proofs.Broken.{faults_are_broken, get_contains}
 use Rattle.pearl_system.proofs.Found.{find_passes, has_key_is, has_key_of}
 use Rattle.pearl_system.proofs.Lists.{some_same}
+use Rattle.pearl_system.proofs.Once.{none_in}
 use Rattle.pearl_system.proofs.Said.{said_to, meant_part, part_meant, first_of, found_of}
 
 sort_at : ℕ → DeviceSort
@@ -127,21 +130,24 @@ find_contains {X} p (y ∷ ys) x h = by (p y) h (find_contains p ys x)
     by true h further = (zero, h)
     by false h further = let at = further h in (suc at.0, at.1)
 
-pub specified_means : (tree : ShownTree) → ((fault : RuleFault) → IsBroken tree fault → ⊥) → (n : ℕ) (spec : Specified)
+pub specified_means : (tree : ShownTree) → broken tree ≡ [] → (n : ℕ) (spec : Specified)
     → slice_get (specified tree) n ≡ Some spec → (part : Device) × Specifies tree n spec part
 specified_means tree keeps n spec stands = by (named (devices_of tree) spec.text.items) refl
   where
+    none : (fault : RuleFault) → IsBroken tree fault → ⊥
+    none fault is = none_in fault (subst (λ faults. Contains faults fault) keeps ((faults_are_broken tree fault).1 is))
+
     among : Contains (specified tree) spec
     among = get_contains (specified tree) n spec stands
 
     missed : is_missed spec.form (named (devices_of tree) spec.text.items) ≡ true → ⊥
-    missed is = keeps (record { place = spec.place; rule = 13 }) (inr (inr (inr (inl (refl, (spec, among, is, refl))))))
+    missed is = none (record { place = spec.place; rule = rule.S13 }) (inr (inr (inr (inl (refl, (spec, among, is, refl))))))
 
     unsuited : is_unsuited spec.form (named (devices_of tree) spec.text.items) ≡ true → ⊥
-    unsuited is = keeps (record { place = spec.place; rule = 14 }) (inr (inr (inr (inr (refl, (spec, among, is, refl))))))
+    unsuited is = none (record { place = spec.place; rule = rule.S14 }) (inr (inr (inr (inr (refl, (spec, among, is, refl))))))
 
     no_device : (part : Device) → Contains (devices_of tree) part → is_no_device part ≡ true → ⊥
-    no_device part has is = keeps (record { place = word_place part.word; rule = 11 }) (inr (inl (refl, (part, has, is, refl))))
+    no_device part has is = none (record { place = word_place part.word; rule = rule.S11 }) (inr (inl (refl, (part, has, is, refl))))
 
     kept : (b : Bool) → (b ≡ true → ⊥) → b ≡ false
     kept true refused = absurd (refused refl)

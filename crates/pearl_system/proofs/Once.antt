@@ -5,7 +5,7 @@ use Rattle.std.specs.List.{All, Contains}
 use Rattle.pearl_system.specs.Rising.{IsLess, IsRising, Lists}
 use Rattle.pearl_system.proofs.Lists.{pairs_head, pairs_tail, contains_here, contains_later, contains_cases, less_apart, less_trans}
 
-none_in : {X : Type 0} (x : X) → Contains [] x → ⊥
+pub none_in : {X : Type 0} (x : X) → Contains [] x → ⊥
 none_in x (k, below, is) = absurd (omega arith)
 
 -- each of two first elements stands in the other's list

@@ -1,9 +1,8 @@
--- What the definitions of faults and devices determine, and which devices a module has by its rules.
-use Rattle.std.specs.Prelude.{◌≡◌, ℕ, ◌<◌, false, List, Contains, Some, slice_get}
+-- What the definition of devices determines, and which devices a module has by its rules.
+use Rattle.std.specs.Prelude.{◌≡◌, ℕ, ◌<◌, false, List, [], Contains, Some, slice_get}
 use Rattle.pearl_tree.specs.declared.declaration.Class.TheVariants.{Alphic, Basic}
 use Rattle.pearl_tree.specs.declared.declaration.Device.{Device}
 use Rattle.pearl_tree.specs.declared.declaration.Direction.TheVariants.{In, Out}
-use Rattle.pearl_tree.specs.declared.fault.RuleFault.{RuleFault}
 use Rattle.pearl_tree.specs.ShownModules.{ShownTree}
 use Rattle.pearl_system.specs.declared.device.DeviceSort.{DeviceSort}
 use Rattle.pearl_system.specs.declared.device.DeviceSort.TheVariants as sort
@@ -15,14 +14,8 @@ use Rattle.pearl_system.specs.declared.specified.Form.TheVariants as form
 use Rattle.pearl_system.specs.declared.specified.Specified.{Specified}
 use Rattle.pearl_system.specs.Devices.{devices_of, device_key, named, sort_of, spelling, IsDevice}
 use Rattle.pearl_system.specs.Rising.{Lists}
-use Rattle.pearl_system.specs.Rules.{fault_key, is_missed, is_no_device, is_unsuited, IsBroken}
+use Rattle.pearl_system.specs.Rules.{broken, is_missed, is_no_device, is_unsuited}
 use Rattle.pearl_system.specs.Specified.{specified}
-
--- a module has one list of broken rules
-abbrev pub HasOneFaultList : Type 0
-HasOneFaultList =
-    (tree : ShownTree) (faults others : List RuleFault) → Lists fault_key (IsBroken tree) faults → Lists fault_key (IsBroken tree) others
-    → faults ≡ others
 
 -- a module has one list of devices
 abbrev pub HasOneDeviceList : Type 0
@@ -78,5 +71,5 @@ DevicesAreSpecified = (tree : ShownTree) (devices : List SpecifiedDevice) → Li
 -- where no rule is broken, each specified name means a device of the module
 abbrev pub SpecifiedMeansDevice : Type 0
 SpecifiedMeansDevice =
-    (tree : ShownTree) → ((fault : RuleFault) → IsBroken tree fault → ⊥) → (n : ℕ) (spec : Specified)
+    (tree : ShownTree) → broken tree ≡ [] → (n : ℕ) (spec : Specified)
     → slice_get (specified tree) n ≡ Some spec → (part : Device) × Specifies tree n spec part

@@ -2,12 +2,13 @@
 
 ghost use Rattle.std.specs.Prelude.{◌≡◌, IfOk, OnOk};
 ghost use Rattle.std.specs.List.{filter_map};
-ghost use Rattle.std.specs.Option.{option_copied};
 ghost use Rattle.pearl_system.specs.Rising.{IsRising, JoinsSome, Lists};
 ghost use Rattle.pearl_system.specs.Devices as spec;
+ghost use Rattle.pearl_system.specs.FirstDevices.{IsIndex};
 ghost use Rattle.pearl_system.specs.Rules.{word_place};
 
-use crate::rising::{Keyed, add};
+use crate::first::{FirstDevices, named};
+use crate::rising::add;
 use crate::specified::{Form, Specified};
 use arrayvec::ArrayVec;
 use pearl_tree::declaration::{Class, Device, DeviceWord, Direction};
@@ -149,54 +150,29 @@ fn specified_as(name: &Specified, device: &Device) -> Option<SpecifiedDevice>
     })
 }
 
-/// What a name means in the system part: of several devices of this name, the first.
-pub(crate) fn named<'a>(devices: &'a [Device], text: &[u8]) -> Option<&'a Device>
-    ensures { option_copied result ≡ spec.named devices.now text.now }
-{
-    devices
-        .iter()
-        .find(|device| text == device.name.text.as_slice())
-}
-
 /// The device that a specified name means, where no rule refuses it.
-fn meant(devices: &[Device], name: &Specified) -> Option<SpecifiedDevice>
+fn meant(devices: &[Device], first: &FirstDevices, name: &Specified) -> Option<SpecifiedDevice>
+    requires { IsIndex devices.now first.now.entries }
     ensures { result ≡ spec.meant devices.now name.now }
 {
-    match named(devices, name.text.as_slice()) {
+    match named(devices, first, &name.text) {
         Some(device) => specified_as(name, device),
         None => None,
-    }
-}
-
-fn rank(role: Role) -> u32
-    ensures { result ≡ spec.rank role }
-{
-    match role {
-        Role::Interrupt => 0,
-        Role::Terminal { .. } => 1,
-        Role::Input { .. } => 2,
-        Role::Output { .. } => 3,
-    }
-}
-
-impl Keyed for SpecifiedDevice {
-    ghost key = { spec.device_key };
-
-    fn key(&self) -> (u32, u8) {
-        (rank(self.role), self.number)
     }
 }
 
 fn add_meant(
     found: &mut Vec<SpecifiedDevice>,
     devices: &[Device],
+    first: &FirstDevices,
     name: &Specified,
 ) -> Result<(), NoMemory>
-    requires { IsRising spec.device_key found.old.items }
+    requires index { IsIndex devices.now first.now.entries }
+    requires rising { IsRising spec.device_key found.old.items }
     ensures rising { OnOk result (IsRising spec.device_key found.new.items) }
     ensures joins { OnOk result (JoinsSome spec.device_key (spec.meant devices.now name.now) found.old.items found.new.items) }
 {
-    match meant(devices, name) {
+    match meant(devices, first, name) {
         Some(device) => add(found, device),
         None => Ok(()),
     }
@@ -206,13 +182,15 @@ fn add_meant(
 pub(crate) fn found_devices(
     alloc: Global,
     devices: &[Device],
+    first: &FirstDevices,
     names: &[Specified],
 ) -> Result<Devices, NoMemory>
+    requires { IsIndex devices.now first.now.entries }
     ensures { IfOk result (λ found. Lists spec.device_key (spec.IsFirstIn (filter_map (spec.meant devices.now) names.now)) found) }
 {
     let mut found = Vec::new(alloc);
     for at in 0..names.len() {
-        add_meant(&mut found, devices, &names[at])?;
+        add_meant(&mut found, devices, first, &names[at])?;
     }
     Ok(Listing::new(found))
 }

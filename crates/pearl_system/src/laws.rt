@@ -1,10 +1,11 @@
-// The definitions of faults and devices determine their lists, and a module's devices are those that it specifies.
+// The lists of faults have what is broken, and a module's devices are those that it specifies.
 
-ghost use Rattle.pearl_system.specs.Laws.{DevicesAreSpecified, HasOneDeviceList, HasOneFaultList, SpecifiedMeansDevice};
+ghost use Rattle.pearl_system.specs.Broken.{FaultsAreBroken};
+ghost use Rattle.pearl_system.specs.Laws.{DevicesAreSpecified, HasOneDeviceList, SpecifiedMeansDevice};
 
-/// A module has one list of broken rules S10 to S14.
-pub fn one_fault_list()
-    ensures { HasOneFaultList }
+/// The lists of the rules S10 to S14 have exactly the faults that a module has by what each says.
+pub fn faults_are_broken_rules()
+    ensures { FaultsAreBroken }
 {}
 
 /// A module has one list of devices.

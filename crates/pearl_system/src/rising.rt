@@ -1,27 +1,28 @@
-// Lists in the order of their keys, with each key once.
+// Lists of devices in the order of their sorts and numbers, with each sort and number once.
 
-ghost use Rattle.std.specs.Prelude.{◌≡◌, ◌⊎◌, ℕ, ◌<◌, ◌≤◌, true, false, length, take, drop, All, Any, OnOk, IfNone, IfSome};
-ghost use Rattle.pearl_tree.specs.declared.fault.RuleFault.{RuleFault};
+ghost use Rattle.std.specs.Prelude.{◌≡◌, ◌⊎◌, ◌<◌, ◌≤◌, true, false, length, take, drop, All, Any, OnOk, IfNone, IfSome};
+ghost use Rattle.pearl_system.specs.Devices as spec;
+ghost use Rattle.pearl_system.specs.Devices.{device_key};
 ghost use Rattle.pearl_system.specs.Rising.{IsLess, IsRising, Joins};
-ghost use Rattle.pearl_system.specs.Rules.{fault_key};
 
-use pearl_tree::fault::RuleFault;
+use crate::device::{Role, SpecifiedDevice};
 use std::alloc::AllocError as NoMemory;
 
-/// What stands in a list by a key.
-pub(crate) trait Keyed {
-    ghost key: { Self → ℕ × ℕ };
-
-    fn key(&self) -> (u32, u8)
-        ensures { result ≡ key self.now };
+fn rank(role: Role) -> u32
+    ensures { result ≡ spec.rank role }
+{
+    match role {
+        Role::Interrupt => 0,
+        Role::Terminal { .. } => 1,
+        Role::Input { .. } => 2,
+        Role::Output { .. } => 3,
+    }
 }
 
-impl Keyed for RuleFault {
-    ghost key = { fault_key };
-
-    fn key(&self) -> (u32, u8) {
-        (self.place, self.rule)
-    }
+fn key_of(device: &SpecifiedDevice) -> (u32, u8)
+    ensures { result ≡ device_key device.now }
+{
+    (rank(device.role), device.number)
 }
 
 fn is_less(a: (u32, u8), b: (u32, u8)) -> bool
@@ -32,36 +33,38 @@ fn is_less(a: (u32, u8), b: (u32, u8)) -> bool
 }
 
 /// Where a key is to stand, or None where it stands already.
-fn spot_of<T: Keyed>(items: &[T], key: (u32, u8)) -> Option<usize>
-    requires { IsRising T.key items.now }
+fn spot_of(items: &[SpecifiedDevice], key: (u32, u8)) -> Option<usize>
+    requires { IsRising device_key items.now }
     ensures within { IfSome result (λ at. at ≤ length items.now) }
-    ensures above { IfSome result (λ at. All (λ x. IsLess key (T.key x)) (drop at items.now)) }
-    ensures below { IfSome result (λ at. All (λ x. IsLess (T.key x) key) (take at items.now)) }
-    ensures taken { IfNone result (Any (λ x. T.key x ≡ key) items.now) }
+    ensures above { IfSome result (λ at. All (λ x. IsLess key (device_key x)) (drop at items.now)) }
+    ensures below { IfSome result (λ at. All (λ x. IsLess (device_key x) key) (take at items.now)) }
+    ensures taken { IfNone result (Any (λ x. device_key x ≡ key) items.now) }
 {
-    let mut at = items.len();
-    while at > 0 {
-        let standing = items[at - 1].key();
+    let mut low = 0;
+    let mut high = items.len();
+    while low < high {
+        let middle = low + (high - low) / 2;
+        let standing = key_of(&items[middle]);
         if is_less(standing, key) {
-            return Some(at);
-        }
-        if !is_less(key, standing) {
+            low = middle + 1;
+        } else if is_less(key, standing) {
+            high = middle;
+        } else {
             return None;
         }
-        at -= 1;
     }
-    Some(0)
+    Some(low)
 }
 
-/// Adds an item at its place, unless its key stands already.
-pub(crate) fn add<T: Keyed + Drop>(items: &mut Vec<T>, item: T) -> Result<(), NoMemory>
-    requires { IsRising T.key items.old.items }
-    ensures rising { OnOk result (IsRising T.key items.new.items) }
-    ensures joins { OnOk result (Joins T.key item items.old.items items.new.items) }
+/// Adds a device at its place, unless its sort and number stand already.
+pub(crate) fn add(items: &mut Vec<SpecifiedDevice>, device: SpecifiedDevice) -> Result<(), NoMemory>
+    requires { IsRising device_key items.old.items }
+    ensures rising { OnOk result (IsRising device_key items.new.items) }
+    ensures joins { OnOk result (Joins device_key device items.old.items items.new.items) }
 {
-    match spot_of(items.as_slice(), item.key()) {
+    match spot_of(items.as_slice(), key_of(&device)) {
         Some(at) => {
-            items.insert(at, item)?;
+            items.insert(at, device)?;
             Ok(())
         }
         None => Ok(()),

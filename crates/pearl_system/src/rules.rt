@@ -1,19 +1,19 @@
 // The static rules on devices.
 
-ghost use Rattle.std.specs.Prelude.{◌≡◌, length, OnOk};
+ghost use Rattle.std.specs.Prelude.{◌≡◌, ◌++◌, IfOk, OnOk};
 ghost use Rattle.std.specs.Option.{option_copied};
-ghost use Rattle.pearl_system.specs.Adds as adds;
-ghost use Rattle.pearl_system.specs.Adds.{Adds};
-ghost use Rattle.pearl_system.specs.Rising.{IsRising};
+ghost use Rattle.pearl_tree.specs.Faults.{fault_if};
+ghost use Rattle.pearl_system.specs.FirstDevices.{IsIndex};
 ghost use Rattle.pearl_system.specs.Rules as spec;
 
-use crate::device::{DeviceSort, is_number, named, sort_of, spelling, word_place};
-use crate::rising::add;
+use crate::device::{DeviceSort, is_number, sort_of, spelling, word_place};
+use crate::first::{FirstDevices, add_twin, named, note};
 use crate::specified::{Form, Specified};
+use indexmap::{IndexMap, IndexSet};
 use pearl_tree::declaration::{Class, Device, Direction};
 use pearl_tree::fault::RuleFault;
-use pearl_tree::rule::{S10, S11, S12, S13, S14};
-use std::alloc::AllocError as NoMemory;
+use pearl_tree::rule;
+use std::alloc::{AllocError as NoMemory, Global};
 
 fn is_alphic(class: Class) -> bool
     ensures { result ≡ spec.is_alphic class }
@@ -106,92 +106,91 @@ fn is_unsuited(form: Form, device: Option<&Device>) -> bool
     }
 }
 
-fn has_name(before: &[Device], text: &[u8]) -> bool
-    ensures { result ≡ adds.has_name before.now text.now }
-{
-    before
-        .iter()
-        .any(|device| device.name.text.as_slice() == text)
-}
-
-fn is_twin(a: &Device, b: &Device) -> bool
-    ensures { result ≡ adds.is_twin a.now b.now }
-{
-    spelling(&a.word) == spelling(&b.word) && a.number.value == b.number.value
-}
-
-fn has_twin(before: &[Device], later: &Device) -> bool
-    ensures { result ≡ adds.has_twin before.now later.now }
-{
-    before.iter().any(|device| is_twin(device, later))
-}
-
-fn add_if(faults: &mut Vec<RuleFault>, broken: bool, place: u32, rule: u8) -> Result<(), NoMemory>
-    requires { IsRising spec.fault_key faults.old.items }
-    ensures { OnOk result (Adds (adds.IsAt broken place rule) faults.old.items faults.new.items) }
+fn push_if(faults: &mut Vec<RuleFault>, broken: bool, place: u32, rule: u8) -> Result<(), NoMemory>
+    ensures { OnOk result (faults.new.items ≡ faults.old.items ++ fault_if broken place rule) }
 {
     if broken {
-        add(faults, RuleFault { place, rule })
-    } else {
-        Ok(())
+        faults.push(RuleFault { place, rule })?;
     }
-}
-
-fn add_of_device(
-    faults: &mut Vec<RuleFault>,
-    before: &[Device],
-    device: &Device,
-) -> Result<(), NoMemory>
-    requires { IsRising spec.fault_key faults.old.items }
-    ensures { OnOk result (Adds (adds.IsOfDevice before.now device.now) faults.old.items faults.new.items) }
-{
-    let named_before = has_name(before, device.name.text.as_slice());
-    let no_device = is_no_device(device);
-    let twin_before = has_twin(before, device);
-    add_if(faults, named_before, device.name.place, S10)?;
-    add_if(faults, no_device, word_place(&device.word), S11)?;
-    add_if(faults, twin_before, device.name.place, S12)?;
     Ok(())
 }
 
-/// Adds the faults of the system part.
-pub(crate) fn add_of_part(faults: &mut Vec<RuleFault>, devices: &[Device]) -> Result<(), NoMemory>
-    requires { IsRising spec.fault_key faults.old.items }
-    ensures { OnOk result (Adds (adds.IsOfPart devices.now (length devices.now)) faults.old.items faults.new.items) }
+/// Adds the faults of names that stand twice in the system part, and answers where the first device
+/// of each name stands.
+pub(crate) fn add_s10(
+    alloc: Global,
+    faults: &mut Vec<RuleFault>,
+    devices: &[Device],
+) -> Result<FirstDevices, NoMemory>
+    ensures faults { OnOk result (faults.new.items ≡ faults.old.items ++ spec.s10 devices.now) }
+    ensures first { IfOk result (λ first. IsIndex devices.now first.entries) }
 {
+    let mut first = IndexMap::new(alloc);
     for at in 0..devices.len() {
-        add_of_device(faults, &devices[..at], &devices[at])?;
+        let name = &devices[at].name;
+        let twice = note(&mut first, &name.text, at)?;
+        push_if(faults, twice, name.place, rule::S10)?;
+    }
+    Ok(first)
+}
+
+/// Adds the faults of what is no device.
+pub(crate) fn add_s11(faults: &mut Vec<RuleFault>, devices: &[Device]) -> Result<(), NoMemory>
+    ensures { OnOk result (faults.new.items ≡ faults.old.items ++ spec.s11 devices.now) }
+{
+    for device in devices {
+        let broken = is_no_device(device);
+        push_if(faults, broken, word_place(&device.word), rule::S11)?;
     }
     Ok(())
 }
 
-fn add_of_name(
+/// Adds the faults of devices that stand twice in the system part.
+pub(crate) fn add_s12(
+    alloc: Global,
     faults: &mut Vec<RuleFault>,
     devices: &[Device],
-    name: &Specified,
 ) -> Result<(), NoMemory>
-    requires { IsRising spec.fault_key faults.old.items }
-    ensures { OnOk result (Adds (adds.IsOfName devices.now name.now) faults.old.items faults.new.items) }
+    ensures { OnOk result (faults.new.items ≡ faults.old.items ++ spec.s12 devices.now) }
 {
-    let device = named(devices, name.text.as_slice());
-    let missed = is_missed(name.form, device);
-    let unsuited = is_unsuited(name.form, device);
-    add_if(faults, missed, name.place, S13)?;
-    add_if(faults, unsuited, name.place, S14)?;
+    let mut twins = IndexSet::new(alloc);
+    for device in devices {
+        let twice = add_twin(&mut twins, device)?;
+        push_if(faults, twice, device.name.place, rule::S12)?;
+    }
     Ok(())
 }
 
-/// Adds the faults of the specified names.
-pub(crate) fn add_of_names(
+/// Adds the faults of specified names that mean no such device.
+pub(crate) fn add_s13(
     faults: &mut Vec<RuleFault>,
     devices: &[Device],
+    first: &FirstDevices,
     names: &[Specified],
 ) -> Result<(), NoMemory>
-    requires { IsRising spec.fault_key faults.old.items }
-    ensures { OnOk result (Adds (adds.IsOfNames devices.now names.now (length names.now)) faults.old.items faults.new.items) }
+    requires { IsIndex devices.now first.now.entries }
+    ensures { OnOk result (faults.new.items ≡ faults.old.items ++ spec.s13 devices.now names.now) }
 {
-    for at in 0..names.len() {
-        add_of_name(faults, devices, &names[at])?;
+    for name in names {
+        let broken = is_missed(name.form, named(devices, first, &name.text));
+        push_if(faults, broken, name.place, rule::S13)?;
+    }
+    Ok(())
+}
+
+/// Adds the faults of devices that are specified as what they can't be.
+pub(crate) fn add_s14(
+    faults: &mut Vec<RuleFault>,
+    devices: &[Device],
+    first: &FirstDevices,
+    names: &[Specified],
+) -> Result<(), NoMemory>
+    requires { IsIndex devices.now first.now.entries }
+    ensures { OnOk result (faults.new.items ≡ faults.old.items ++ spec.s14 devices.now names.now) }
+{
+    for name in names {
+        let broken = is_unsuited(name.form, named(devices, first, &name.text));
+        push_if(faults, broken, name.place, rule::S14)?;
     }
     Ok(())
 }

@@ -1,18 +1,35 @@
-use Rattle.std.proofs.Common.{◌≡◌, ◌+◌, ◌-◌, ◌<◌, ◌≤◌, length, take, All, refl, subst, arith}
+use Rattle.std.proofs.Common.{◌+◌, ◌-◌, ◌/◌, ◌<◌, ◌≤◌, length, refl, subst, arith}
+use Rattle.pearl_system.specs.Devices.{device_key}
 use Rattle.pearl_system.specs.Rising.{IsLess}
-use Rattle.pearl_system.proofs.Lists.{below_all}
+use Rattle.pearl_system.proofs.Lists.{above_all, below_all}
 use Rattle.pearl_system.proofs.rising.spot_of.Goals as goal
 
-pub returns-then-is_less-clause-below : goal.returns-then-is_less-clause-below
-returns-then-is_less-clause-below g c =
+pub loop-low-preserved-then-is_less : goal.loop-low-preserved-then-is_less
+loop-low-preserved-then-is_less c =
     let items = c.args.items.now in
-    let at = c.loop-at.at in
-    let key = g.T.Keyed.key in
-    let standing = c.index-items-at.result in
-    let within : at ≤ length items = c.loop-at.invariant.0 in
-    let positive : 0 < at = omega arith in
-    let inside : at - 1 < length items = omega arith in
-    let less : IsLess (key standing) c.args.key = subst (λ k. IsLess k c.args.key) c.key-standing.ensures (c.if-is_less.ensures.yes refl) in
-    let all : All (λ x. IsLess (key x) c.args.key) (take ((at - 1) + 1) items) = below_all key items (at - 1) c.args.key standing c.requires inside c.index-items-at.is less in
-    let next : (at - 1) + 1 ≡ at = omega arith in
-    subst (λ n. All (λ x. IsLess (key x) c.args.key) (take n items)) next all
+    let low = c.loop-low.low in
+    let high = c.loop-low.high in
+    let middle = low + (high - low) / 2 in
+    let apart : low < high = c.loop-low-test.true in
+    let within : high ≤ length items = c.loop-low.invariant.1 in
+    let next : middle + 1 ≤ high = omega (arith, apart) in
+    let inside : middle < length items = omega (arith, next, within) in
+    let less = subst (λ k. IsLess k c.args.key) c.key_of-standing.ensures (c.if-is_less.ensures.yes refl) in
+    (next, within, below_all device_key items middle c.args.key c.index-items-middle.result c.requires inside c.index-items-middle.is less, c.loop-low.invariant.3)
+
+pub loop-low-preserved : goal.loop-low-preserved
+loop-low-preserved c =
+    let items = c.args.items.now in
+    let low = c.loop-low.low in
+    let high = c.loop-low.high in
+    let middle = low + (high - low) / 2 in
+    let apart : low < high = c.loop-low-test.true in
+    let within : high ≤ length items = c.loop-low.invariant.1 in
+    let under : middle < high = omega (arith, apart) in
+    let inside : middle < length items = omega (arith, under, within) in
+    let more = subst (λ k. IsLess c.args.key k) c.key_of-standing.ensures (c.if-is_less-2.ensures.yes refl) in (
+      omega (arith, apart),
+      omega (arith, inside),
+      c.loop-low.invariant.2,
+      above_all device_key items middle c.args.key c.index-items-middle.result c.requires inside c.index-items-middle.is more,
+    )
