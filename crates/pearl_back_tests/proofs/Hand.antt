@@ -3,8 +3,9 @@ use Rattle.std.proofs.Common.{ℕ, ◌<◌, ◌≤◌, List, [], ◌∷◌, Some
 use Rattle.std.specs.Prelude.{pos}
 use Rattle.std.specs.List.{AllByRecursion}
 use Rattle.pearl_value.specs.Cells.{kind_of}
-use Rattle.pearl_value.specs.WellFormed.{IsWellFormed}
+use Rattle.pearl_value.specs.WellFormed.{IsValue}
 use Rattle.pearl_value.specs.declared.kind.Kind.TheVariants as kind
+use Rattle.pearl_value.specs.declared.kind.CellKind.TheVariants.{Plain}
 use Rattle.pearl_value.specs.declared.cell.Cell.TheVariants.{Fixed}
 use Rattle.pearl_code.specs.declared.instr.Instr.{Instr}
 use Rattle.pearl_code.specs.declared.instr.Instr.TheVariants.{Const, Conv, Read, Write, Dyadic, Put, End}
@@ -24,24 +25,24 @@ setup_is = record {
   devices = ((lit< tt, lit≤ tt), tt);
   rising = tt;
   formats = (
-    record { items = ((lit< tt, lit≤ tt), (tt, tt)); few = lit≤ tt; short = lit≤ tt },
-    (record { items = ((lit< tt, lit≤ tt), tt); few = lit≤ tt; short = lit≤ tt }, tt),
+    ((lit< tt, lit≤ tt), ((tt, lit≤ tt), tt)),
+    (((lit< tt, lit≤ tt), tt), (((tt, lit≤ tt), ((tt, lit≤ tt), ((tt, lit≤ tt), ((tt, lit≤ tt), ((tt, lit≤ tt), tt))))), tt)),
   );
   few_tasks = lit≤ tt;
   few_slots = lit≤ tt;
   few_devices = lit≤ tt;
 }
 
-seventeen_is : IsWellFormed (Fixed 31 (pos 17))
+seventeen_is : IsValue (Fixed 31 (pos 17))
 seventeen_is = ((lit< tt, lit≤ tt), record { low = search rules; high = search rules })
 
 -- the literal is pushed above one value
-literal_runs : (instr : Instr) (rest : List Instr) → IsSeventeen instr → RunsFrom hand_setup 2 (Some (kind.Fixed 31 ∷ kind.Fixed 31 ∷ [])) rest →
-    RunsFrom hand_setup 2 (Some (kind.Fixed 31 ∷ [])) (instr ∷ rest)
+literal_runs : (instr : Instr) (rest : List Instr) → IsSeventeen instr → RunsFrom hand_setup 2 (Some (Plain (kind.Fixed 31) ∷ Plain (kind.Fixed 31) ∷ [])) rest →
+    RunsFrom hand_setup 2 (Some (Plain (kind.Fixed 31) ∷ [])) (instr ∷ rest)
 literal_runs (Const x) rest is runs = (
-  subst (λ v. IsWellFormed v) (sym is) seventeen_is,
+  subst (λ v. IsValue v) (sym is) seventeen_is,
   lit< tt,
-  subst (λ v. RunsFrom hand_setup 2 (Some (kind.Fixed 31 ∷ kind_of v ∷ [])) rest) (sym is) runs,
+  subst (λ v. RunsFrom hand_setup 2 (Some (Plain (kind.Fixed 31) ∷ Plain (kind_of v) ∷ [])) rest) (sym is) runs,
 )
 literal_runs (Conv to) rest is runs = absurd is
 literal_runs (Read slot) rest is runs = absurd is

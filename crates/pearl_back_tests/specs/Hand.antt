@@ -3,7 +3,8 @@ use Rattle.std.specs.Prelude.{◌≡◌, ℕ, pos, List, [], ◌∷◌, true, co
 use Rattle.pearl_value.specs.declared.cell.Cell.TheVariants.{Fixed}
 use Rattle.pearl_value.specs.declared.kind.Kind.TheVariants as kind
 use Rattle.pearl_value.specs.declared.operator.Dyad.TheVariants.{Add}
-use Rattle.pearl_format.specs.declared.item.ItemCode.TheVariants.{F, Skip}
+use Rattle.pearl_format.specs.declared.item.ItemCode.TheVariants.{F, X, Skip}
+use Rattle.pearl_format.specs.declared.item.Item.{Item}
 use Rattle.pearl_rules.specs.declared.setup.Device.TheVariants.{Terminal}
 use Rattle.pearl_rules.specs.declared.setup.Direction.TheVariants.{Out}
 use Rattle.pearl_rules.specs.declared.setup.Setup.{Setup}
@@ -11,13 +12,16 @@ use Rattle.pearl_code.specs.declared.object.Object.{Object}
 use Rattle.pearl_code.specs.declared.instr.Instr.{Instr}
 use Rattle.pearl_code.specs.declared.instr.Instr.TheVariants.{Const, Conv, Read, Write, Dyadic, Put, End}
 
--- the sum and the number, and the formats F(5),SKIP and F(1)
+abbrev gap : Item
+gap = record { code = X; width = 255 }
+
+-- the sum and the number, and the formats F(5),SKIP and F(1), and one of five X(255), which is lawful although no PUT could use it
 abbrev pub hand_setup : Setup
 hand_setup = record {
   tasks = record { name = record { items = codes "main" }; priority = 255; main = true } ∷ [];
   slots = Fixed 31 (pos 0) ∷ Fixed 4 (pos 3) ∷ [];
   devices = Terminal 1 Out ∷ [];
-  formats = (record { code = F; width = 5 } ∷ record { code = Skip; width = 0 } ∷ []) ∷ (record { code = F; width = 1 } ∷ []) ∷ [];
+  formats = (record { code = F; width = 5 } ∷ record { code = Skip; width = 0 } ∷ []) ∷ (record { code = F; width = 1 } ∷ []) ∷ (gap ∷ gap ∷ gap ∷ gap ∷ gap ∷ []) ∷ [];
 }
 
 abbrev pub IsSeventeen : Instr → Type 0

@@ -18,7 +18,7 @@ use pearl_value::operator::Dyad;
 use std::alloc::{AllocError, Global};
 use std::test::Fail;
 
-// F(5) with a line end, and F(1), which 20 doesn't fit.
+// F(5) with a line end; F(1), which 20 doesn't fit; and five X(255), which no PUT could use.
 fn formats(alloc: Global) -> Result<Listing<Listing<Item>>, AllocError>
     ensures { IfOk result (λ formats. formats ≡ hand_setup.formats) }
 {
@@ -34,9 +34,14 @@ fn formats(alloc: Global) -> Result<Listing<Listing<Item>>, AllocError>
         code: ItemCode::F,
         width: 1,
     };
+    let gap = Item {
+        code: ItemCode::X,
+        width: 255,
+    };
     let fitting = Listing::new(vec![in alloc; wide, line_end]?);
     let failing = Listing::new(vec![in alloc; narrow]?);
-    Ok(Listing::new(vec![in alloc; fitting, failing]?))
+    let unused = Listing::new(vec![in alloc; gap, gap, gap, gap, gap]?);
+    Ok(Listing::new(vec![in alloc; fitting, failing, unused]?))
 }
 
 // A sum of 31 binary digits, which is 0, and a number of 4, which is 3.

@@ -1,64 +1,72 @@
 // Texts by hand.
 
-ghost use Rattle.pearl_value.specs.WellFormed.{IsWellFormed};
+ghost use Rattle.pearl_value.specs.WellFormed.{IsValue};
 
+use crate::operands::{Given, value_of};
 use arrayvec::ArrayVec;
 use pearl_format::item::{Item, ItemCode};
 use pearl_format::put::put_text;
 use pearl_value::apply::apply2;
 use pearl_value::cell::Cell;
-use pearl_value::conversion::{convert, kind};
-use pearl_value::kind::Kind;
+use pearl_value::conversion::kind;
 use pearl_value::operator::{Dyad, result2};
 use pearl_value::trap::Trap;
-use std::process::Abort;
 
-const END: Item = Item {
-    code: ItemCode::Skip,
-    width: 0,
-};
-
-/// A value of a row of a table.
+/// What a row wants: a text, or a trap.
 #[derive(Clone, Copy, Debug)]
-enum Given {
-    Fixed(i64),
-    Bits(u8, u64),
-    Chars(&'static [u8]),
-    Clock(u32),
-    Span(i64),
+enum Wanted {
+    Text(&'static [u8]),
+    Trap(Trap),
 }
 
-fn cell_of(given: Given) -> Cell {
-    match given {
-        Given::Fixed(value) => Cell::Fixed { len: 63, value },
-        Given::Bits(len, value) => Cell::Bits { len, value },
-        Given::Chars(text) => {
-            let mut letters = ArrayVec::new();
-            for letter in text {
-                let _full = letters.try_push(*letter).is_err();
-            }
-            Cell::Chars(letters)
+/// Rows of a value, an item and its width.
+macro_rules! by_items {
+    ($($given:ident $a:tt by $code:ident($width:literal) => $wanted:ident $b:tt;)+) => {
+        [$((Given::$given $a, item!($code($width)), Wanted::$wanted $b)),+]
+    };
+}
+
+/// Rows of an operator and its operands, and an item for the result.
+macro_rules! results_by_items {
+    ($($left:ident $a:tt $operator:ident $right:ident $b:tt by $code:ident($width:literal) => $wanted:ident $c:tt;)+) => {
+        [$((Given::$left $a, Dyad::$operator, Given::$right $b, item!($code($width)), Wanted::$wanted $c)),+]
+    };
+}
+
+/// Items with their widths.
+macro_rules! item {
+    ($code:ident($width:literal)) => {
+        Item {
+            code: ItemCode::$code,
+            width: $width,
         }
-        Given::Clock(time) => Cell::Clock(time),
-        Given::Span(time) => Cell::Span(time),
+    };
+}
+
+/// A text that was put, or the trap in its place.
+type Put = Result<ArrayVec<u8, 1024>, Trap>;
+
+fn is_wanted(found: Option<Put>, wanted: Wanted) -> bool {
+    match (found, wanted) {
+        (Some(Ok(text)), Wanted::Text(bytes)) => text.as_slice() == bytes,
+        (Some(Err(trap)), Wanted::Trap(cause)) => trap == cause,
+        _ => false,
     }
 }
 
 /// What the item makes of the value, after some other text; none where it doesn't suit.
-fn put_one(
-    code: ItemCode,
-    width: u8,
-    cell: Cell,
-) -> Option<(Result<(), Trap>, ArrayVec<u8, 1024>)> {
-    let suits = match (code, &cell) {
+fn put_one(item: Item, cell: Cell) -> Option<Put>
+    requires { IsValue cell }
+{
+    let suits = match (item.code, &cell) {
         (ItemCode::A, Cell::Chars(_)) => true,
         (ItemCode::B1, Cell::Bits { .. }) => true,
         (ItemCode::B2, Cell::Bits { .. }) => true,
         (ItemCode::B3, Cell::Bits { .. }) => true,
         (ItemCode::B4, Cell::Bits { .. }) => true,
-        (ItemCode::F, Cell::Fixed { .. }) => width > 0,
-        (ItemCode::T, Cell::Clock(_)) => width >= 8,
-        (ItemCode::D, Cell::Span(_)) => width > 0,
+        (ItemCode::F, Cell::Fixed { .. }) => item.width > 0,
+        (ItemCode::T, Cell::Clock(_)) => item.width >= 8,
+        (ItemCode::D, Cell::Span(_)) => item.width > 0,
         _ => false,
     };
     if !suits {
@@ -66,188 +74,100 @@ fn put_one(
     }
     let mut text = ArrayVec::new();
     text.push(b'x');
-    let told = put_text(&[Item { code, width }], &[cell], &mut text);
-    Some((told, text))
+    match put_text(&[item], &[cell], &mut text) {
+        Ok(()) => Some(Ok(text)),
+        Err(trap) => Some(Err(trap)),
+    }
 }
 
 #[test]
 fn one_item(rt: HostRuntime) {
-    let format = Err(Trap::Format);
-    let rows: [(ItemCode, u8, Given, Result<(), Trap>, &[u8]); 38] = [
-        (ItemCode::A, 0, Given::Chars(b"abc"), Ok(()), b"abc"),
-        (ItemCode::A, 2, Given::Chars(b"abc"), Ok(()), b"ab"),
-        (ItemCode::A, 5, Given::Chars(b"abc"), Ok(()), b"abc  "),
-        (ItemCode::B1, 0, Given::Bits(5, 0b10111), Ok(()), b"10111"),
-        (ItemCode::B1, 7, Given::Bits(5, 0b10111), Ok(()), b"10111  "),
-        (ItemCode::B1, 4, Given::Bits(5, 0b10111), format, b""),
-        (ItemCode::B2, 0, Given::Bits(5, 0b10111), Ok(()), b"232"),
-        (ItemCode::B3, 0, Given::Bits(5, 0b10111), Ok(()), b"56"),
-        (ItemCode::B4, 0, Given::Bits(5, 0b10111), Ok(()), b"B8"),
-        (ItemCode::B4, 2, Given::Bits(5, 0b10111), Ok(()), b"B8"),
-        (ItemCode::B4, 1, Given::Bits(5, 0b10111), format, b""),
-        (ItemCode::B4, 3, Given::Bits(8, 0xAF), Ok(()), b"AF "),
-        (
-            ItemCode::B3,
-            0,
-            Given::Bits(64, u64::MAX),
-            Ok(()),
-            b"7777777777777777777774",
-        ),
-        (
-            ItemCode::B4,
-            0,
-            Given::Bits(64, u64::MAX),
-            Ok(()),
-            b"FFFFFFFFFFFFFFFF",
-        ),
-        (ItemCode::B1, 0, Given::Bits(1, 0), Ok(()), b"0"),
-        (ItemCode::F, 5, Given::Fixed(17), Ok(()), b"   17"),
-        (ItemCode::F, 3, Given::Fixed(-17), Ok(()), b"-17"),
-        (ItemCode::F, 3, Given::Fixed(1000), format, b""),
-        (ItemCode::F, 4, Given::Fixed(1000), Ok(()), b"1000"),
-        (ItemCode::F, 1, Given::Fixed(-1), format, b""),
-        (ItemCode::F, 1, Given::Fixed(0), Ok(()), b"0"),
-        (
-            ItemCode::F,
-            19,
-            Given::Fixed(i64::MAX),
-            Ok(()),
-            b"9223372036854775807",
-        ),
-        (
-            ItemCode::F,
-            20,
-            Given::Fixed(i64::MIN),
-            Ok(()),
-            b"-9223372036854775808",
-        ),
-        (ItemCode::F, 19, Given::Fixed(i64::MIN), format, b""),
-        (ItemCode::T, 8, Given::Clock(0), Ok(()), b"00:00:00"),
-        (
-            ItemCode::T,
-            8,
-            Given::Clock(86_399_999),
-            Ok(()),
-            b"23:59:59",
-        ),
-        (
-            ItemCode::T,
-            11,
-            Given::Clock(86_399_999),
-            Ok(()),
-            b"   23:59:59",
-        ),
-        (
-            ItemCode::T,
-            12,
-            Given::Clock(86_399_999),
-            Ok(()),
-            b"23:59:59.999",
-        ),
-        (
-            ItemCode::T,
-            13,
-            Given::Clock(52_503_500),
-            Ok(()),
-            b" 14:35:03.500",
-        ),
-        (
-            ItemCode::D,
-            23,
-            Given::Span(0),
-            Ok(()),
-            b"0 HRS 00 MIN 00.000 SEC",
-        ),
-        (
-            ItemCode::D,
-            24,
-            Given::Span(-1),
-            Ok(()),
-            b"-0 HRS 00 MIN 00.001 SEC",
-        ),
-        (ItemCode::D, 23, Given::Span(-1), format, b""),
-        (
-            ItemCode::D,
-            24,
-            Given::Span(-3_600_000),
-            Ok(()),
-            b"-1 HRS 00 MIN 00.000 SEC",
-        ),
-        (
-            ItemCode::D,
-            25,
-            Given::Span(360_000_000),
-            Ok(()),
-            b"100 HRS 00 MIN 00.000 SEC",
-        ),
-        (
-            ItemCode::D,
-            26,
-            Given::Span(3_723_004),
-            Ok(()),
-            b"   1 HRS 02 MIN 03.004 SEC",
-        ),
-        (
-            ItemCode::D,
-            28,
-            Given::Span(1_099_511_627_776),
-            Ok(()),
-            b"305419 HRS 53 MIN 47.776 SEC",
-        ),
-        (
-            ItemCode::D,
-            29,
-            Given::Span(-1_099_511_627_776),
-            Ok(()),
-            b"-305419 HRS 53 MIN 47.776 SEC",
-        ),
-        (
-            ItemCode::D,
-            28,
-            Given::Span(-1_099_511_627_776),
-            format,
-            b"",
-        ),
-    ];
-    for (code, width, given, told, want) in rows {
-        match put_one(code, width, cell_of(given)) {
-            Some((got, text)) => {
-                assert_eq!(rt; got, told, "{given:?} by {code:?}({width})");
-                assert_eq!(rt; text.as_slice(), want, "{given:?} by {code:?}({width})");
-            }
-            None => assert!(rt; false, "{given:?} doesn't suit {code:?}({width})"),
-        }
+    let high = i64::MAX;
+    let low = i64::MIN;
+    let most = 1_099_511_627_776;
+    let rows = by_items! {
+        Chars(b"abc") by A(0) => Text(b"abc");
+        Chars(b"abc") by A(2) => Text(b"ab");
+        Chars(b"abc") by A(5) => Text(b"abc  ");
+        Bits(5, 0b10111) by B1(0) => Text(b"10111");
+        Bits(5, 0b10111) by B1(7) => Text(b"10111  ");
+        Bits(5, 0b10111) by B1(4) => Trap(Trap::Format);
+        Bits(5, 0b10111) by B2(0) => Text(b"232");
+        Bits(5, 0b10111) by B3(0) => Text(b"56");
+        Bits(5, 0b10111) by B4(0) => Text(b"B8");
+        Bits(5, 0b10111) by B4(2) => Text(b"B8");
+        Bits(5, 0b10111) by B4(1) => Trap(Trap::Format);
+        Bits(8, 0xAF) by B4(3) => Text(b"AF ");
+        Bits(63, 0x7FFF_FFFF_FFFF_FFFF) by B3(0) => Text(b"777777777777777777777");
+        Bits(63, 0x7FFF_FFFF_FFFF_FFFF) by B4(0) => Text(b"FFFFFFFFFFFFFFFE");
+        Bits(1, 0) by B1(0) => Text(b"0");
+        Fixed(31, 17) by F(5) => Text(b"   17");
+        Fixed(31, -17) by F(3) => Text(b"-17");
+        Fixed(31, 1000) by F(3) => Trap(Trap::Format);
+        Fixed(31, 1000) by F(4) => Text(b"1000");
+        Fixed(31, -1) by F(1) => Trap(Trap::Format);
+        Fixed(31, 0) by F(1) => Text(b"0");
+        Fixed(63, high) by F(19) => Text(b"9223372036854775807");
+        Fixed(63, low) by F(20) => Text(b"-9223372036854775808");
+        Fixed(63, low) by F(19) => Trap(Trap::Format);
+        Clock(0) by T(8) => Text(b"00:00:00");
+        Clock(86_399_999) by T(8) => Text(b"23:59:59");
+        Clock(86_399_999) by T(11) => Text(b"   23:59:59");
+        Clock(86_399_999) by T(12) => Text(b"23:59:59.999");
+        Clock(52_503_500) by T(13) => Text(b" 14:35:03.500");
+        Span(0) by D(23) => Text(b"0 HRS 00 MIN 00.000 SEC");
+        Span(-1) by D(24) => Text(b"-0 HRS 00 MIN 00.001 SEC");
+        Span(-1) by D(23) => Trap(Trap::Format);
+        Span(-3_600_000) by D(24) => Text(b"-1 HRS 00 MIN 00.000 SEC");
+        Span(360_000_000) by D(25) => Text(b"100 HRS 00 MIN 00.000 SEC");
+        Span(3_723_004) by D(26) => Text(b"   1 HRS 02 MIN 03.004 SEC");
+        Span(most) by D(28) => Text(b"305419 HRS 53 MIN 47.776 SEC");
+        Span(-most) by D(29) => Text(b"-305419 HRS 53 MIN 47.776 SEC");
+        Span(-most) by D(28) => Trap(Trap::Format);
+    };
+    for (given, item, wanted) in rows {
+        let cell = value_of(&rt, given);
+        assert!(rt;
+            is_wanted(put_one(item, cell), wanted),
+            "{given:?} by {item:?}"
+        );
     }
+}
+
+#[test]
+fn all_bits(rt: HostRuntime) {
+    let longest = Cell::Bits {
+        len: 64,
+        value: u64::MAX,
+    };
+    assert!(rt;
+        is_wanted(
+            put_one(item!(B4(0)), longest),
+            Wanted::Text(b"FFFFFFFFFFFFFFFF")
+        )
+    );
+    let again = Cell::Bits {
+        len: 64,
+        value: u64::MAX,
+    };
+    assert!(rt;
+        is_wanted(
+            put_one(item!(B3(0)), again),
+            Wanted::Text(b"7777777777777777777774")
+        )
+    );
 }
 
 #[test]
 fn items_in_a_row(rt: HostRuntime) {
     let items = [
-        Item {
-            code: ItemCode::T,
-            width: 8,
-        },
-        Item {
-            code: ItemCode::X,
-            width: 0,
-        },
-        Item {
-            code: ItemCode::F,
-            width: 4,
-        },
-        Item {
-            code: ItemCode::Skip,
-            width: 2,
-        },
-        Item {
-            code: ItemCode::X,
-            width: 3,
-        },
-        Item {
-            code: ItemCode::F,
-            width: 2,
-        },
-        END,
+        item!(T(8)),
+        item!(X(0)),
+        item!(F(4)),
+        item!(Skip(2)),
+        item!(X(3)),
+        item!(F(2)),
+        item!(Skip(0)),
     ];
     let values = [
         Cell::Clock(43_201_000),
@@ -261,16 +181,7 @@ fn items_in_a_row(rt: HostRuntime) {
 
 #[test]
 fn nothing_is_left_after_a_trap(rt: HostRuntime) {
-    let items = [
-        Item {
-            code: ItemCode::F,
-            width: 3,
-        },
-        Item {
-            code: ItemCode::F,
-            width: 3,
-        },
-    ];
+    let items = [item!(F(3)), item!(F(3))];
     let values = [
         Cell::Fixed { len: 31, value: 1 },
         Cell::Fixed {
@@ -283,50 +194,15 @@ fn nothing_is_left_after_a_trap(rt: HostRuntime) {
     assert!(rt; text.is_empty());
 }
 
-/// A FIXED or BIT of this length, a CLOCK or a DURATION, as far as it is one.
-fn operand_of(rt: &impl Abort, len: u8, given: Given) -> Cell
-    ensures { IsWellFormed result }
-{
-    match given {
-        Given::Fixed(value) => {
-            assert!(rt; 1 <= len && len <= 63);
-            match convert(&Cell::Fixed { len: 63, value }, Kind::Fixed(len)) {
-                Ok(cell) => cell,
-                Err(_) => panic!(rt; "no number of this length"),
-            }
-        }
-        Given::Bits(len, value) => {
-            assert!(rt; 1 <= len && len <= 63);
-            assert!(rt; value < 1u64 << len);
-            Cell::Bits { len, value }
-        }
-        Given::Clock(time) => {
-            assert!(rt; time < 86_400_000);
-            Cell::Clock(time)
-        }
-        Given::Span(time) => {
-            assert!(rt; -1_099_511_627_776 <= time && time <= 1_099_511_627_776);
-            Cell::Span(time)
-        }
-        Given::Chars(_) => panic!(rt; "no operand of the table"),
-    }
-}
-
 /// What the item makes of what the operator makes of the values; none where there is no row or it doesn't suit.
-fn put_result(
-    op: Dyad,
-    x: &Cell,
-    y: &Cell,
-    code: ItemCode,
-    width: u8,
-) -> Option<(Result<(), Trap>, ArrayVec<u8, 1024>)>
-    requires left { IsWellFormed x.now }
-    requires right { IsWellFormed y.now }
+fn put_result(operator: Dyad, x: &Cell, y: &Cell, item: Item) -> Option<Put>
+    requires left { IsValue x.now }
+    requires right { IsValue y.now }
 {
-    match result2(op, kind(x), kind(y)) {
-        Some(_) => match apply2(op, x, y) {
-            Ok(cell) => put_one(code, width, cell),
-            Err(trap) => Some((Err(trap), ArrayVec::new())),
+    match result2(operator, kind(x), kind(y)) {
+        Some(_) => match apply2(operator, x, y) {
+            Ok(cell) => put_one(item, cell),
+            Err(trap) => Some(Err(trap)),
         },
         None => None,
     }
@@ -334,148 +210,28 @@ fn put_result(
 
 #[test]
 fn operators_and_their_texts(rt: HostRuntime) {
-    let overflow = Err(Trap::Overflow);
-    let format = Err(Trap::Format);
-    let rows: [(
-        u8,
-        Given,
-        Dyad,
-        Given,
-        ItemCode,
-        u8,
-        Result<(), Trap>,
-        &[u8],
-    ); 12] = [
-        (
-            3,
-            Given::Fixed(2),
-            Dyad::Pow,
-            Given::Fixed(3),
-            ItemCode::F,
-            2,
-            overflow,
-            b"",
-        ),
-        (
-            3,
-            Given::Fixed(-2),
-            Dyad::Pow,
-            Given::Fixed(3),
-            ItemCode::F,
-            2,
-            Ok(()),
-            b"-8",
-        ),
-        (
-            63,
-            Given::Fixed(i64::MIN),
-            Dyad::Div,
-            Given::Fixed(-1),
-            ItemCode::F,
-            20,
-            overflow,
-            b"",
-        ),
-        (
-            31,
-            Given::Bits(4, 0b1011),
-            Dyad::Cshift,
-            Given::Fixed(-1),
-            ItemCode::B1,
-            0,
-            Ok(()),
-            b"1101",
-        ),
-        (
-            31,
-            Given::Bits(4, 0b1011),
-            Dyad::Shift,
-            Given::Fixed(-2),
-            ItemCode::B1,
-            0,
-            Ok(()),
-            b"0010",
-        ),
-        (
-            0,
-            Given::Clock(86_399_000),
-            Dyad::Add,
-            Given::Span(2_000),
-            ItemCode::T,
-            8,
-            Ok(()),
-            b"00:00:01",
-        ),
-        (
-            0,
-            Given::Clock(45_000_000),
-            Dyad::Add,
-            Given::Span(7_503_500),
-            ItemCode::T,
-            12,
-            Ok(()),
-            b"14:35:03.500",
-        ),
-        (
-            0,
-            Given::Clock(3_600_000),
-            Dyad::Sub,
-            Given::Clock(7_200_000),
-            ItemCode::D,
-            24,
-            Ok(()),
-            b"-1 HRS 00 MIN 00.000 SEC",
-        ),
-        (
-            0,
-            Given::Span(0),
-            Dyad::Sub,
-            Given::Span(1),
-            ItemCode::D,
-            24,
-            Ok(()),
-            b"-0 HRS 00 MIN 00.001 SEC",
-        ),
-        (
-            0,
-            Given::Span(0),
-            Dyad::Sub,
-            Given::Span(1),
-            ItemCode::D,
-            23,
-            format,
-            b"",
-        ),
-        (
-            31,
-            Given::Bits(5, 0b10111),
-            Dyad::And,
-            Given::Bits(5, 0b11111),
-            ItemCode::B4,
-            0,
-            Ok(()),
-            b"B8",
-        ),
-        (
-            31,
-            Given::Bits(5, 0b10111),
-            Dyad::And,
-            Given::Bits(5, 0b11111),
-            ItemCode::B4,
-            1,
-            format,
-            b"",
-        ),
-    ];
-    for (len, left, op, right, code, width, told, want) in rows {
-        let x = operand_of(&rt, len, left);
-        let y = operand_of(&rt, len, right);
-        match put_result(op, &x, &y, code, width) {
-            Some((got, text)) => {
-                assert_eq!(rt; got, told, "{left:?} {op:?} {right:?}");
-                assert_eq!(rt; text.as_slice(), want, "{left:?} {op:?} {right:?}");
-            }
-            None => assert!(rt; false, "{left:?} {op:?} {right:?} has no row"),
-        }
+    let low = i64::MIN;
+    let rows = results_by_items! {
+        Fixed(3, 2) Pow Fixed(3, 3) by F(2) => Trap(Trap::Overflow);
+        Fixed(3, -2) Pow Fixed(3, 3) by F(2) => Text(b"-8");
+        Fixed(63, low) Div Fixed(63, -1) by F(20) => Trap(Trap::Overflow);
+        Bits(4, 0b1011) Cshift Fixed(31, -1) by B1(0) => Text(b"1101");
+        Bits(4, 0b1011) Shift Fixed(31, -2) by B1(0) => Text(b"0010");
+        Clock(86_399_000) Add Span(2_000) by T(8) => Text(b"00:00:01");
+        Clock(45_000_000) Add Span(7_503_500) by T(12) => Text(b"14:35:03.500");
+        Clock(3_600_000) Sub Clock(7_200_000) by D(24) => Text(b"-1 HRS 00 MIN 00.000 SEC");
+        Span(0) Sub Span(1) by D(24) => Text(b"-0 HRS 00 MIN 00.001 SEC");
+        Span(0) Sub Span(1) by D(23) => Trap(Trap::Format);
+        Bits(5, 0b10111) And Bits(5, 0b11111) by B4(0) => Text(b"B8");
+        Bits(5, 0b10111) And Bits(5, 0b11111) by B4(1) => Trap(Trap::Format);
+    };
+    for (left, operator, right, item, wanted) in rows {
+        let x = value_of(&rt, left);
+        let y = value_of(&rt, right);
+        let found = put_result(operator, &x, &y, item);
+        assert!(rt;
+            is_wanted(found, wanted),
+            "{left:?} {operator:?} {right:?} by {item:?}"
+        );
     }
 }

@@ -6,6 +6,8 @@ mod formats;
 #[cfg(test)]
 mod lists;
 #[cfg(test)]
+mod operands;
+#[cfg(test)]
 mod outside;
 #[cfg(test)]
 mod tables;

@@ -1,74 +1,92 @@
 // The table of operators, by hand.
 
-ghost use Rattle.pearl_value.specs.Kinds.{IsKind};
-ghost use Rattle.pearl_value.specs.WellFormed.{IsWellFormed};
+ghost use Rattle.pearl_value.specs.WellFormed.{IsValue};
 
-use arrayvec::ArrayVec;
+use crate::operands::{Given, value_of};
 use pearl_value::apply::{apply1, apply2};
-use pearl_value::cell::Cell;
-use pearl_value::conversion::{blank, convert, kind, suits};
-use pearl_value::kind::Kind;
+use pearl_value::cell::{Cell, Place};
+use pearl_value::conversion::{blank, cell_kind, convert, kind, suits};
+use pearl_value::kind::{CellKind, Kind};
 use pearl_value::operator::{Dyad, Monad, result1, result2};
 use pearl_value::trap::Trap;
-use std::process::Abort;
 
-/// An operand of a row of a table.
-#[derive(Clone, Copy)]
-enum Given {
-    Fixed(u8, i64),
-    Bits(u8, u64),
-    Letter(u8),
-    Letters(u8, u8),
-    Clock(u32),
-    Span(i64),
-}
-
-/// What a row of a table wants.
-#[derive(Clone, Copy, Debug, PartialEq, Eq)]
+/// What a row wants.
+#[derive(Clone, Copy, Debug)]
 enum Wanted {
     Fixed(u8, i64),
     Bits(u8, u64),
-    Chars(u8),
+    Chars(&'static [u8]),
     Clock(u32),
     Span(i64),
     Trap(Trap),
-    NoRow,
 }
 
-fn seen(outcome: Result<Cell, Trap>) -> Wanted {
-    match outcome {
-        Ok(Cell::Fixed { len, value }) => Wanted::Fixed(len, value),
-        Ok(Cell::Bits { len, value }) => Wanted::Bits(len, value),
-        Ok(Cell::Chars(text)) => Wanted::Chars(text.len() as u8),
-        Ok(Cell::Clock(time)) => Wanted::Clock(time),
-        Ok(Cell::Span(time)) => Wanted::Span(time),
-        Ok(Cell::Ref { .. }) => Wanted::NoRow,
-        Err(trap) => Wanted::Trap(trap),
+/// Rows of the operators with two operands.
+macro_rules! two_operands {
+    ($($left:ident $a:tt $operator:ident $right:ident $b:tt => $wanted:ident $c:tt;)+) => {
+        [$((Given::$left $a, Dyad::$operator, Given::$right $b, Wanted::$wanted $c)),+]
+    };
+}
+
+/// Rows of the operators with one operand.
+macro_rules! one_operand {
+    ($($operator:ident $operand:ident $a:tt => $wanted:ident $b:tt;)+) => {
+        [$((Monad::$operator, Given::$operand $a, Wanted::$wanted $b)),+]
+    };
+}
+
+/// Rows of conversions.
+macro_rules! conversions {
+    ($($from:ident $a:tt, $to:expr => $wanted:ident $b:tt;)+) => {
+        [$((Given::$from $a, $to, Wanted::$wanted $b)),+]
+    };
+}
+
+/// Operators with two operands between values whose kinds have no row.
+macro_rules! without_a_row {
+    ($($left:ident $a:tt $operator:ident $right:ident $b:tt;)+) => {
+        [$((Given::$left $a, Dyad::$operator, Given::$right $b)),+]
+    };
+}
+
+fn is_wanted(found: &Result<Cell, Trap>, wanted: Wanted) -> bool {
+    match (found, wanted) {
+        (Ok(Cell::Fixed { len, value }), Wanted::Fixed(length, number)) => *len == length
+            && *value == number,
+        (Ok(Cell::Bits { len, value }), Wanted::Bits(length, number)) => *len == length
+            && *value == number,
+        (Ok(Cell::Chars(text)), Wanted::Chars(bytes)) => text.as_slice() == bytes,
+        (Ok(Cell::Clock(time)), Wanted::Clock(number)) => *time == number,
+        (Ok(Cell::Span(time)), Wanted::Span(number)) => *time == number,
+        (Err(trap), Wanted::Trap(cause)) => *trap == cause,
+        _ => false,
     }
 }
 
-fn of_one(op: Monad, x: &Cell) -> Wanted
-    requires { IsWellFormed x.now }
+/// What the operator makes of the value; none where there is no row.
+fn of_one(operator: Monad, x: &Cell) -> Option<Result<Cell, Trap>>
+    requires { IsValue x.now }
 {
-    match result1(op, kind(x)) {
-        Some(_) => seen(apply1(op, x)),
-        None => Wanted::NoRow,
+    match result1(operator, kind(x)) {
+        Some(_) => Some(apply1(operator, x)),
+        None => None,
     }
 }
 
-fn of_two(op: Dyad, x: &Cell, y: &Cell) -> Wanted
-    requires left { IsWellFormed x.now }
-    requires right { IsWellFormed y.now }
+/// What the operator makes of the values; none where there is no row.
+fn of_two(operator: Dyad, x: &Cell, y: &Cell) -> Option<Result<Cell, Trap>>
+    requires left { IsValue x.now }
+    requires right { IsValue y.now }
 {
-    match result2(op, kind(x), kind(y)) {
-        Some(_) => seen(apply2(op, x, y)),
-        None => Wanted::NoRow,
+    match result2(operator, kind(x), kind(y)) {
+        Some(_) => Some(apply2(operator, x, y)),
+        None => None,
     }
 }
 
-/// The value in a kind, which is none where the length is none.
-fn in_kind(x: &Cell, to: Kind) -> Wanted
-    requires { IsWellFormed x.now }
+/// The value in a kind; none where the length is none, or the value doesn't suit.
+fn in_kind(x: &Cell, to: Kind) -> Option<Result<Cell, Trap>>
+    requires { IsValue x.now }
 {
     let known = match to {
         Kind::Fixed(len) => 1 <= len && len <= 63,
@@ -77,69 +95,16 @@ fn in_kind(x: &Cell, to: Kind) -> Wanted
         Kind::Clock | Kind::Span => true,
     };
     if known && suits(kind(x), to) {
-        seen(convert(x, to))
+        Some(convert(x, to))
     } else {
-        Wanted::NoRow
+        None
     }
 }
 
-fn text_in(x: &Cell, to: Kind) -> ArrayVec<u8, 255>
-    requires value { IsWellFormed x.now }
-    requires kind { IsKind to }
-{
-    if suits(kind(x), to) {
-        match convert(x, to) {
-            Ok(Cell::Chars(text)) => text,
-            _ => ArrayVec::new(),
-        }
-    } else {
-        ArrayVec::new()
-    }
-}
-
-/// A FIXED number, as far as it is one.
-fn number(rt: &impl Abort, len: u8, value: i64) -> Cell
-    ensures { IsWellFormed result }
-{
-    assert!(rt; 1 <= len && len <= 63);
-    match convert(&Cell::Fixed { len: 63, value }, Kind::Fixed(len)) {
-        Ok(cell) => cell,
-        Err(_) => panic!(rt; "no number of this length"),
-    }
-}
-
-fn operand_of(rt: &impl Abort, operand: Given) -> Cell
-    ensures { IsWellFormed result }
-{
-    match operand {
-        Given::Fixed(len, value) => number(rt, len, value),
-        Given::Bits(len, value) => {
-            assert!(rt; 1 <= len && len <= 63);
-            assert!(rt; value < 1u64 << len);
-            Cell::Bits { len, value }
-        }
-        Given::Letter(first) => {
-            assert!(rt; 32 <= first && first <= 126);
-            let mut text = ArrayVec::new();
-            text.push(first);
-            Cell::Chars(text)
-        }
-        Given::Letters(first, second) => {
-            assert!(rt; 32 <= first && first <= 126);
-            assert!(rt; 32 <= second && second <= 126);
-            let mut text = ArrayVec::new();
-            text.push(first);
-            text.push(second);
-            Cell::Chars(text)
-        }
-        Given::Clock(time) => {
-            assert!(rt; time < 86_400_000);
-            Cell::Clock(time)
-        }
-        Given::Span(time) => {
-            assert!(rt; -1_099_511_627_776 <= time && time <= 1_099_511_627_776);
-            Cell::Span(time)
-        }
+fn is_found(found: Option<Result<Cell, Trap>>, wanted: Wanted) -> bool {
+    match found {
+        Some(result) => is_wanted(&result, wanted),
+        None => false,
     }
 }
 
@@ -147,305 +112,190 @@ fn operand_of(rt: &impl Abort, operand: Given) -> Cell
 fn numbers(rt: HostRuntime) {
     let low = i64::MIN;
     let high = i64::MAX;
-    let rows = [
-        (
-            Dyad::Add,
-            31,
-            2147483647,
-            31,
-            1,
-            Wanted::Trap(Trap::Overflow),
-        ),
-        (
-            Dyad::Add,
-            31,
-            2147483647,
-            32,
-            1,
-            Wanted::Fixed(32, 2147483648),
-        ),
-        (Dyad::Add, 63, high, 63, 1, Wanted::Trap(Trap::Overflow)),
-        (Dyad::Add, 63, low, 63, -1, Wanted::Trap(Trap::Overflow)),
-        (Dyad::Add, 63, low, 63, high, Wanted::Fixed(63, -1)),
-        (Dyad::Sub, 63, -1, 63, high, Wanted::Fixed(63, low)),
-        (Dyad::Sub, 63, 0, 63, low, Wanted::Trap(Trap::Overflow)),
-        (Dyad::Sub, 1, 1, 1, -2, Wanted::Trap(Trap::Overflow)),
-        (Dyad::Mul, 7, -128, 7, -1, Wanted::Trap(Trap::Overflow)),
-        (Dyad::Mul, 7, -128, 8, -1, Wanted::Fixed(8, 128)),
-        (Dyad::Mul, 63, low, 63, low, Wanted::Trap(Trap::Overflow)),
-        (Dyad::Div, 63, low, 63, -1, Wanted::Trap(Trap::Overflow)),
-        (Dyad::Div, 31, -7, 31, 2, Wanted::Fixed(31, -3)),
-        (Dyad::Div, 31, 7, 31, -2, Wanted::Fixed(31, -3)),
-        (Dyad::Div, 31, 7, 31, 0, Wanted::Trap(Trap::ZeroDivide)),
-        (Dyad::Rem, 31, -7, 31, 2, Wanted::Fixed(31, -1)),
-        (Dyad::Rem, 31, 7, 31, -2, Wanted::Fixed(31, 1)),
-        (Dyad::Rem, 63, low, 63, -1, Wanted::Fixed(63, 0)),
-        (Dyad::Rem, 31, 0, 31, 0, Wanted::Trap(Trap::ZeroDivide)),
-        (Dyad::Pow, 31, 0, 31, 0, Wanted::Fixed(31, 1)),
-        (Dyad::Pow, 31, 2, 31, 31, Wanted::Trap(Trap::Overflow)),
-        (Dyad::Pow, 63, -2, 31, 63, Wanted::Fixed(63, low)),
-        (Dyad::Pow, 63, 2, 31, 63, Wanted::Trap(Trap::Overflow)),
-        (Dyad::Pow, 31, -1, 63, high, Wanted::Fixed(31, -1)),
-        (Dyad::Pow, 31, 0, 63, high, Wanted::Fixed(31, 0)),
-        (Dyad::Pow, 31, 1, 31, -1, Wanted::Trap(Trap::Range)),
-        (Dyad::Lt, 31, -1, 63, 0, Wanted::Bits(1, 1)),
-        (Dyad::Lt, 31, 0, 31, 0, Wanted::Bits(1, 0)),
-        (Dyad::Ge, 31, 0, 31, 0, Wanted::Bits(1, 1)),
-        (Dyad::Gt, 31, 0, 31, 0, Wanted::Bits(1, 0)),
-        (Dyad::Le, 31, 1, 31, 0, Wanted::Bits(1, 0)),
-        (Dyad::Eq, 31, 5, 63, 5, Wanted::Bits(1, 1)),
-        (Dyad::Ne, 31, 5, 63, 5, Wanted::Bits(1, 0)),
-        (Dyad::And, 31, 1, 31, 1, Wanted::NoRow),
-    ];
-    for (op, len, a, other, b, want) in rows {
-        let x = number(&rt, len, a);
-        let y = number(&rt, other, b);
-        let found = of_two(op, &x, &y);
-        assert_eq!(rt; found, want);
+    let rows = two_operands! {
+        Fixed(31, 2147483647) Add Fixed(31, 1) => Trap(Trap::Overflow);
+        Fixed(31, 2147483647) Add Fixed(32, 1) => Fixed(32, 2147483648);
+        Fixed(63, high) Add Fixed(63, 1) => Trap(Trap::Overflow);
+        Fixed(63, low) Add Fixed(63, -1) => Trap(Trap::Overflow);
+        Fixed(63, low) Add Fixed(63, high) => Fixed(63, -1);
+        Fixed(63, -1) Sub Fixed(63, high) => Fixed(63, low);
+        Fixed(63, 0) Sub Fixed(63, low) => Trap(Trap::Overflow);
+        Fixed(1, 1) Sub Fixed(1, -2) => Trap(Trap::Overflow);
+        Fixed(7, -128) Mul Fixed(7, -1) => Trap(Trap::Overflow);
+        Fixed(7, -128) Mul Fixed(8, -1) => Fixed(8, 128);
+        Fixed(63, low) Mul Fixed(63, low) => Trap(Trap::Overflow);
+        Fixed(63, low) Div Fixed(63, -1) => Trap(Trap::Overflow);
+        Fixed(31, -7) Div Fixed(31, 2) => Fixed(31, -3);
+        Fixed(31, 7) Div Fixed(31, -2) => Fixed(31, -3);
+        Fixed(31, 7) Div Fixed(31, 0) => Trap(Trap::ZeroDivide);
+        Fixed(31, -7) Rem Fixed(31, 2) => Fixed(31, -1);
+        Fixed(31, 7) Rem Fixed(31, -2) => Fixed(31, 1);
+        Fixed(63, low) Rem Fixed(63, -1) => Fixed(63, 0);
+        Fixed(31, 0) Rem Fixed(31, 0) => Trap(Trap::ZeroDivide);
+        Fixed(3, 2) Pow Fixed(3, 3) => Trap(Trap::Overflow);
+        Fixed(3, -2) Pow Fixed(3, 3) => Fixed(3, -8);
+        Fixed(31, 0) Pow Fixed(31, 0) => Fixed(31, 1);
+        Fixed(31, 2) Pow Fixed(31, 31) => Trap(Trap::Overflow);
+        Fixed(63, -2) Pow Fixed(31, 63) => Fixed(63, low);
+        Fixed(63, 2) Pow Fixed(31, 63) => Trap(Trap::Overflow);
+        Fixed(31, -1) Pow Fixed(63, high) => Fixed(31, -1);
+        Fixed(31, 0) Pow Fixed(63, high) => Fixed(31, 0);
+        Fixed(31, 1) Pow Fixed(63, high) => Fixed(31, 1);
+        Fixed(31, 0) Pow Fixed(31, -1) => Trap(Trap::Range);
+        Fixed(31, 1) Pow Fixed(31, -1) => Trap(Trap::Range);
+        Fixed(31, -1) Pow Fixed(31, -1) => Trap(Trap::Range);
+        Fixed(31, 2) Pow Fixed(63, low) => Trap(Trap::Range);
+        Fixed(31, -1) Lt Fixed(63, 0) => Bits(1, 1);
+        Fixed(31, 0) Lt Fixed(31, 0) => Bits(1, 0);
+        Fixed(31, 0) Ge Fixed(31, 0) => Bits(1, 1);
+        Fixed(31, 0) Gt Fixed(31, 0) => Bits(1, 0);
+        Fixed(31, 1) Le Fixed(31, 0) => Bits(1, 0);
+        Fixed(31, 5) Eq Fixed(63, 5) => Bits(1, 1);
+        Fixed(31, 5) Ne Fixed(63, 5) => Bits(1, 0);
+    };
+    for (left, operator, right, wanted) in rows {
+        let x = value_of(&rt, left);
+        let y = value_of(&rt, right);
+        assert!(rt;
+            is_found(of_two(operator, &x, &y), wanted),
+            "{left:?} {operator:?} {right:?}"
+        );
     }
 }
 
 #[test]
-fn strings_and_times(rt: HostRuntime) {
-    let most = Given::Span(1_099_511_627_776);
-    let least = Given::Span(-1_099_511_627_776);
-    let one = Given::Span(1);
-    let late = Given::Clock(86_399_999);
-    let early = Given::Clock(0);
-    let day = Given::Span(86_400_000);
-    let rows = [
-        (
-            Dyad::Cat,
-            Given::Bits(2, 2),
-            Given::Bits(4, 5),
-            Wanted::Bits(6, 37),
-        ),
-        (
-            Dyad::Cat,
-            Given::Bits(33, 0),
-            Given::Bits(32, 0),
-            Wanted::NoRow,
-        ),
-        (
-            Dyad::Cat,
-            Given::Letter(b'A'),
-            Given::Letters(b'A', b'B'),
-            Wanted::Chars(3),
-        ),
-        // '10'B is filled to '1000'B.
-        (
-            Dyad::And,
-            Given::Bits(2, 2),
-            Given::Bits(4, 5),
-            Wanted::Bits(4, 0),
-        ),
-        (
-            Dyad::Or,
-            Given::Bits(2, 2),
-            Given::Bits(4, 5),
-            Wanted::Bits(4, 13),
-        ),
-        (
-            Dyad::Exor,
-            Given::Bits(4, 5),
-            Given::Bits(2, 1),
-            Wanted::Bits(4, 1),
-        ),
-        (
-            Dyad::Eq,
-            Given::Bits(2, 2),
-            Given::Bits(4, 8),
-            Wanted::Bits(1, 1),
-        ),
-        (
-            Dyad::Ne,
-            Given::Bits(2, 2),
-            Given::Bits(4, 2),
-            Wanted::Bits(1, 1),
-        ),
-        (
-            Dyad::Lt,
-            Given::Bits(2, 2),
-            Given::Bits(4, 5),
-            Wanted::NoRow,
-        ),
-        (
-            Dyad::Cshift,
-            Given::Bits(4, 6),
-            Given::Fixed(31, 1),
-            Wanted::Bits(4, 12),
-        ),
-        (
-            Dyad::Cshift,
-            Given::Bits(4, 6),
-            Given::Fixed(31, -1),
-            Wanted::Bits(4, 3),
-        ),
-        (
-            Dyad::Cshift,
-            Given::Bits(4, 6),
-            Given::Fixed(31, 4),
-            Wanted::Bits(4, 6),
-        ),
-        (
-            Dyad::Cshift,
-            Given::Bits(4, 6),
-            Given::Fixed(31, -9),
-            Wanted::Bits(4, 3),
-        ),
-        (
-            Dyad::Shift,
-            Given::Bits(4, 6),
-            Given::Fixed(31, 2),
-            Wanted::Bits(4, 8),
-        ),
-        (
-            Dyad::Shift,
-            Given::Bits(4, 6),
-            Given::Fixed(31, -1),
-            Wanted::Bits(4, 3),
-        ),
-        (
-            Dyad::Shift,
-            Given::Bits(4, 6),
-            Given::Fixed(31, 4),
-            Wanted::Bits(4, 0),
-        ),
-        (
-            Dyad::Shift,
-            Given::Bits(4, 6),
-            Given::Fixed(63, i64::MIN),
-            Wanted::Bits(4, 0),
-        ),
-        (
-            Dyad::Eq,
-            Given::Letter(b'A'),
-            Given::Letters(b'A', b' '),
-            Wanted::Bits(1, 1),
-        ),
-        (
-            Dyad::Lt,
-            Given::Letter(b'A'),
-            Given::Letters(b'A', b'B'),
-            Wanted::Bits(1, 1),
-        ),
-        (
-            Dyad::Gt,
-            Given::Letter(b'B'),
-            Given::Letters(b'A', b'B'),
-            Wanted::Bits(1, 1),
-        ),
-        (Dyad::Add, late, one, Wanted::Clock(0)),
-        (Dyad::Add, one, late, Wanted::Clock(0)),
-        (Dyad::Sub, early, one, Wanted::Clock(86_399_999)),
-        (Dyad::Sub, early, late, Wanted::Span(-86_399_999)),
-        (Dyad::Sub, one, late, Wanted::NoRow),
-        (Dyad::Add, most, one, Wanted::Trap(Trap::Overflow)),
-        (Dyad::Sub, least, one, Wanted::Trap(Trap::Overflow)),
-        (
-            Dyad::Mul,
-            Given::Fixed(31, 2),
-            most,
-            Wanted::Trap(Trap::Overflow),
-        ),
-        (
-            Dyad::Mul,
-            day,
-            Given::Fixed(31, 2),
-            Wanted::Span(172_800_000),
-        ),
-        (
-            Dyad::Div,
-            day,
-            Given::Fixed(31, 2),
-            Wanted::Span(43_200_000),
-        ),
-        (Dyad::Div, most, day, Wanted::Fixed(63, 12725)),
-    ];
-    for (op, left, right, want) in rows {
-        let x = operand_of(&rt, left);
-        let y = operand_of(&rt, right);
-        let found = of_two(op, &x, &y);
-        assert_eq!(rt; found, want);
+fn strings(rt: HostRuntime) {
+    let rows = two_operands! {
+        Bits(2, 0b10) Cat Bits(4, 0b0101) => Bits(6, 0b100101);
+        Bits(2, 0b10) And Bits(4, 0b0101) => Bits(4, 0b0000);
+        Bits(2, 0b11) And Bits(4, 0b0101) => Bits(4, 0b0100);
+        Bits(2, 0b10) Or Bits(4, 0b0101) => Bits(4, 0b1101);
+        Bits(4, 0b0101) Exor Bits(2, 0b01) => Bits(4, 0b0001);
+        Bits(2, 0b10) Eq Bits(4, 0b1000) => Bits(1, 1);
+        Bits(2, 0b10) Eq Bits(4, 0b0010) => Bits(1, 0);
+        Bits(2, 0b10) Ne Bits(4, 0b0010) => Bits(1, 1);
+        Bits(4, 0b0110) Cshift Fixed(31, 1) => Bits(4, 0b1100);
+        Bits(4, 0b0110) Cshift Fixed(31, -1) => Bits(4, 0b0011);
+        Bits(4, 0b1011) Cshift Fixed(31, -1) => Bits(4, 0b1101);
+        Bits(4, 0b0110) Cshift Fixed(31, 4) => Bits(4, 0b0110);
+        Bits(4, 0b0110) Cshift Fixed(31, -9) => Bits(4, 0b0011);
+        Bits(4, 0b0110) Shift Fixed(31, 2) => Bits(4, 0b1000);
+        Bits(4, 0b0110) Shift Fixed(31, -1) => Bits(4, 0b0011);
+        Bits(4, 0b1011) Shift Fixed(31, -2) => Bits(4, 0b0010);
+        Bits(4, 0b0110) Shift Fixed(31, 4) => Bits(4, 0b0000);
+        Bits(4, 0b0110) Shift Fixed(63, i64::MIN) => Bits(4, 0b0000);
+        Chars(b"A") Cat Chars(b"AB") => Chars(b"AAB");
+        Chars(b"A") Eq Chars(b"A ") => Bits(1, 1);
+        Chars(b"A") Lt Chars(b"AB") => Bits(1, 1);
+        Chars(b"B") Gt Chars(b"AB") => Bits(1, 1);
+    };
+    for (left, operator, right, wanted) in rows {
+        let x = value_of(&rt, left);
+        let y = value_of(&rt, right);
+        assert!(rt;
+            is_found(of_two(operator, &x, &y), wanted),
+            "{left:?} {operator:?} {right:?}"
+        );
     }
 }
 
 #[test]
-fn one_operand(rt: HostRuntime) {
-    let rows = [
-        (Monad::Plus, Given::Fixed(7, -128), Wanted::Fixed(7, -128)),
-        (
-            Monad::Minus,
-            Given::Fixed(7, -128),
-            Wanted::Trap(Trap::Overflow),
-        ),
-        (
-            Monad::Abs,
-            Given::Fixed(7, -128),
-            Wanted::Trap(Trap::Overflow),
-        ),
-        (
-            Monad::Minus,
-            Given::Span(-1_099_511_627_776),
-            Wanted::Span(1_099_511_627_776),
-        ),
-        (
-            Monad::Sign,
-            Given::Span(-1_099_511_627_776),
-            Wanted::Fixed(31, -1),
-        ),
-        (Monad::Not, Given::Bits(4, 5), Wanted::Bits(4, 10)),
-        (Monad::Plus, Given::Clock(0), Wanted::NoRow),
-    ];
-    for (op, operand, want) in rows {
-        let x = operand_of(&rt, operand);
-        let found = of_one(op, &x);
-        assert_eq!(rt; found, want);
+fn times(rt: HostRuntime) {
+    let most = 1_099_511_627_776;
+    let rows = two_operands! {
+        Clock(86_399_000) Add Span(2_000) => Clock(1_000);
+        Clock(86_399_999) Add Span(1) => Clock(0);
+        Span(1) Add Clock(86_399_999) => Clock(0);
+        Clock(0) Sub Span(1) => Clock(86_399_999);
+        Clock(0) Sub Clock(86_399_999) => Span(-86_399_999);
+        Span(most) Add Span(1) => Trap(Trap::Overflow);
+        Span(-most) Sub Span(1) => Trap(Trap::Overflow);
+        Fixed(31, 2) Mul Span(most) => Trap(Trap::Overflow);
+        Span(86_400_000) Mul Fixed(31, 2) => Span(172_800_000);
+        Span(86_400_000) Div Fixed(31, 2) => Span(43_200_000);
+        Span(most) Div Span(86_400_000) => Fixed(63, 12725);
+    };
+    for (left, operator, right, wanted) in rows {
+        let x = value_of(&rt, left);
+        let y = value_of(&rt, right);
+        assert!(rt;
+            is_found(of_two(operator, &x, &y), wanted),
+            "{left:?} {operator:?} {right:?}"
+        );
     }
 }
 
 #[test]
-fn conversions(rt: HostRuntime) {
-    let rows = [
-        (
-            Given::Fixed(31, -128),
-            Kind::Fixed(7),
-            Wanted::Fixed(7, -128),
-        ),
-        (
-            Given::Fixed(31, 128),
-            Kind::Fixed(7),
-            Wanted::Trap(Trap::Overflow),
-        ),
-        (
-            Given::Bits(2, 2),
-            Kind::Bits(64),
-            Wanted::Bits(64, 9223372036854775808),
-        ),
-        (Given::Bits(2, 2), Kind::Bits(1), Wanted::NoRow),
-        (Given::Letter(b'A'), Kind::Chars(3), Wanted::Chars(3)),
-        (Given::Clock(1), Kind::Clock, Wanted::Clock(1)),
-        (Given::Clock(1), Kind::Span, Wanted::NoRow),
-    ];
-    for (operand, to, want) in rows {
-        let x = operand_of(&rt, operand);
-        let found = in_kind(&x, to);
-        assert_eq!(rt; found, want);
+fn kinds_without_a_row(rt: HostRuntime) {
+    let rows = without_a_row! {
+        Fixed(31, 1) And Fixed(31, 1);
+        Bits(33, 0) Cat Bits(32, 0);
+        Bits(2, 0b10) Lt Bits(4, 0b0101);
+        Span(1) Sub Clock(1);
+    };
+    for (left, operator, right) in rows {
+        let x = value_of(&rt, left);
+        let y = value_of(&rt, right);
+        assert!(rt;
+            of_two(operator, &x, &y).is_none(),
+            "{left:?} {operator:?} {right:?}"
+        );
+    }
+    assert!(rt; of_one(Monad::Plus, &Cell::Clock(0)).is_none());
+    assert!(rt; in_kind(&Cell::Clock(1), Kind::Span).is_none());
+    assert!(rt; in_kind(&Cell::Bits { len: 2, value: 2 }, Kind::Bits(1)).is_none());
+}
+
+#[test]
+fn single_operands(rt: HostRuntime) {
+    let most = 1_099_511_627_776;
+    let rows = one_operand! {
+        Plus Fixed(7, -128) => Fixed(7, -128);
+        Minus Fixed(7, -128) => Trap(Trap::Overflow);
+        Abs Fixed(7, -128) => Trap(Trap::Overflow);
+        Minus Span(-most) => Span(most);
+        Sign Span(-most) => Fixed(31, -1);
+        Not Bits(4, 0b0101) => Bits(4, 0b1010);
+    };
+    for (operator, operand, wanted) in rows {
+        let x = value_of(&rt, operand);
+        assert!(rt;
+            is_found(of_one(operator, &x), wanted),
+            "{operator:?} {operand:?}"
+        );
     }
 }
 
 #[test]
-fn texts_are_filled_on_the_right(rt: HostRuntime) {
-    let x = operand_of(&rt, Given::Letter(b'A'));
-    assert_eq!(rt; text_in(&x, Kind::Chars(3)).as_slice(), &b"A  "[..]);
-    assert_eq!(rt;
-        text_in(&blank(Kind::Chars(2)), Kind::Chars(2)).as_slice(),
-        &b"  "[..]
-    );
+fn values_in_other_kinds(rt: HostRuntime) {
+    let rows = conversions! {
+        Fixed(31, -128), Kind::Fixed(7) => Fixed(7, -128);
+        Fixed(31, 128), Kind::Fixed(7) => Trap(Trap::Overflow);
+        Bits(2, 0b11), Kind::Bits(4) => Bits(4, 0b1100);
+        Bits(2, 0b10), Kind::Bits(64) => Bits(64, 9223372036854775808);
+        Chars(b"ab"), Kind::Chars(3) => Chars(b"ab ");
+        Clock(1), Kind::Clock => Clock(1);
+        Span(-1), Kind::Span => Span(-1);
+    };
+    for (from, to, wanted) in rows {
+        let x = value_of(&rt, from);
+        assert!(rt; is_found(in_kind(&x, to), wanted), "{from:?} to {to:?}");
+    }
 }
 
 #[test]
-fn what_is_there_by_default(rt: HostRuntime) {
+fn unset_values(rt: HostRuntime) {
+    assert!(rt; is_wanted(&Ok(blank(Kind::Chars(2))), Wanted::Chars(b"  ")));
+    assert!(rt; is_wanted(&Ok(Cell::default()), Wanted::Fixed(31, 0)));
     assert_eq!(rt; Kind::default(), Kind::Fixed(31));
-    assert_eq!(rt; seen(Ok(Cell::default())), Wanted::Fixed(31, 0));
+}
+
+#[test]
+fn a_reference_has_a_kind_of_its_own(rt: HostRuntime) {
+    let reference = Cell::Ref {
+        kind: Kind::Clock,
+        place: Place::Slot(0),
+    };
+    assert_eq!(rt; cell_kind(&reference), CellKind::RefTo(Kind::Clock));
+    assert_eq!(rt; cell_kind(&Cell::Clock(0)), CellKind::Plain(Kind::Clock));
 }

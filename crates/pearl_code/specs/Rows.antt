@@ -52,23 +52,23 @@ pushes stack left (Ok x) = Silent (next_with stack (left ++ x ∷ []))
 pushes stack left (Err trap) = Offers (action.Trap trap)
 
 -- one row for each instruction; where there is none the task ends
-abbrev pub row : Object → Option Instr → Stack → Stepped Stack
-row o None stack = Offers action.End
-row o (Some (Const x)) stack = pushes stack stack.operands (Ok x.value)
-row o (Some (Conv kind)) stack = pushes stack (below 1 stack.operands) (converted (last stack.operands) kind)
-row o (Some (Read slot)) stack = Offers (action.Read slot)
-row o (Some (Write slot)) stack = Offers (action.Write slot (last stack.operands))
-row o (Some (Dyadic op)) stack = pushes stack (below 2 stack.operands) (applied2 op (second stack.operands) (last stack.operands))
-row o (Some (Put device format)) stack =
+abbrev pub executed : Object → Option Instr → Stack → Stepped Stack
+executed o None stack = Offers action.End
+executed o (Some (Const x)) stack = pushes stack stack.operands (Ok x.value)
+executed o (Some (Conv kind)) stack = pushes stack (below 1 stack.operands) (converted (last stack.operands) kind)
+executed o (Some (Read slot)) stack = Offers (action.Read slot)
+executed o (Some (Write slot)) stack = Offers (action.Write slot (last stack.operands))
+executed o (Some (Dyadic op)) stack = pushes stack (below 2 stack.operands) (applied2 op (second stack.operands) (last stack.operands))
+executed o (Some (Put device format)) stack =
     let items = format_of o.setup format in Offers (put_action device (text_of items (top (data_count items) stack.operands)))
-row o (Some End) stack = Offers action.End
+executed o (Some End) stack = Offers action.End
 
 -- the stack with which the task goes on after its action's answer
-abbrev pub row_after : Object → Option Instr → Stack → Answer → Stack
-row_after o (Some (Read slot)) stack answer = next_with stack (stack.operands ++ heard_value answer ∷ [])
-row_after o (Some (Write slot)) stack answer = next_with stack (below 1 stack.operands)
-row_after o (Some (Put device format)) stack answer = next_with stack (below (data_count (format_of o.setup format)) stack.operands)
-row_after o instr stack answer = stack
+abbrev pub continued : Object → Option Instr → Stack → Answer → Stack
+continued o (Some (Read slot)) stack answer = next_with stack (stack.operands ++ heard_value answer ∷ [])
+continued o (Some (Write slot)) stack answer = next_with stack (below 1 stack.operands)
+continued o (Some (Put device format)) stack answer = next_with stack (below (data_count (format_of o.setup format)) stack.operands)
+continued o instr stack answer = stack
 
 abbrev pub instructions_or_none : Option Code → List Instr
 instructions_or_none None = []
@@ -85,6 +85,6 @@ fetched o t stack = slice_get (code_of o t) stack.place
 abbrev pub engine : Object → Engine Stack
 engine o = record {
   begin = λ t. record { place = 0; operands = [] };
-  step = λ t stack. row o (fetched o t stack) stack;
-  answer = λ t stack answer. row_after o (fetched o t stack) stack answer;
+  step = λ t stack. executed o (fetched o t stack) stack;
+  answer = λ t stack answer. continued o (fetched o t stack) stack answer;
 }

@@ -1,11 +1,13 @@
 -- Which objects are valid: no operand is missing or of another kind, no number names nothing, the stated depth isn't passed.
-use Rattle.std.specs.Prelude.{◌≡◌, ℕ, ◌<◌, ◌≤◌, List, [], ◌∷◌, ◌++◌, Option, Some, None, length}
+use Rattle.std.specs.Prelude.{◌≡◌, ℕ, ◌<◌, ◌≤◌, List, [], ◌∷◌, ◌++◌, Option, Some, None, length, map}
 use Rattle.std.specs.List.{AllByRecursion}
 use Rattle.pearl_value.specs.declared.kind.Kind.{Kind}
+use Rattle.pearl_value.specs.declared.kind.CellKind.{CellKind}
+use Rattle.pearl_value.specs.declared.kind.CellKind.TheVariants.{Plain}
 use Rattle.pearl_value.specs.declared.operator.Dyad.{Dyad}
 use Rattle.pearl_value.specs.Kinds.{IsKind}
 use Rattle.pearl_value.specs.Cells.{kind_of}
-use Rattle.pearl_value.specs.WellFormed.{IsWellFormed}
+use Rattle.pearl_value.specs.WellFormed.{IsValue}
 use Rattle.pearl_value.specs.Conversions.{SuitsKind}
 use Rattle.pearl_value.specs.Rows.{row2}
 use Rattle.pearl_format.specs.Items.{Suits, text_width}
@@ -17,45 +19,46 @@ use Rattle.pearl_code.specs.declared.instr.Instr.TheVariants.{Const, Conv, Read,
 use Rattle.pearl_code.specs.declared.object.Code.{Code}
 use Rattle.pearl_code.specs.declared.object.Object.{Object}
 
--- A shape is the list of the kinds of the operands, the top one last. None: no instruction goes on to this place.
+-- A shape is the list of the kinds of the operands, in which a reference is told from a value, the top one last. None: no instruction goes on to this place.
 abbrev pub Shape : Type 0
-Shape = Option (List Kind)
+Shape = Option (List CellKind)
 
 -- the shape before an instruction; it is empty where nothing goes on to it
-abbrev pub kinds_of : Shape → List Kind
+abbrev pub kinds_of : Shape → List CellKind
 kinds_of None = []
 kinds_of (Some kinds) = kinds
 
--- CONV has on top of those in `left` a kind that suits the one that it converts to
-pub record FitsConv (to : Kind) (kinds left : List Kind) : Type 0 where
+-- CONV has on top of those in `left` a value whose kind suits the one that it converts to
+pub record FitsConv (to : Kind) (kinds left : List CellKind) : Type 0 where
   pub from : Kind
-  pub stacked : kinds ≡ left ++ from ∷ []
+  pub stacked : kinds ≡ left ++ Plain from ∷ []
   pub suits : SuitsKind from to
   pub kind : IsKind to
 
 -- READ names a slot, and there is room for its value
-pub record FitsRead (setup : Setup) (depth slot : ℕ) (kinds : List Kind) : Type 0 where
+pub record FitsRead (setup : Setup) (depth slot : ℕ) (kinds : List CellKind) : Type 0 where
   pub named : slot < length setup.slots
   pub room : length kinds < depth
 
--- WRITE names a slot, whose kind is on top of those in `left`
-pub record FitsWrite (setup : Setup) (slot : ℕ) (kinds left : List Kind) : Type 0 where
+-- WRITE names a slot, a value of whose kind is on top of those in `left`
+pub record FitsWrite (setup : Setup) (slot : ℕ) (kinds left : List CellKind) : Type 0 where
   pub named : slot < length setup.slots
-  pub stacked : kinds ≡ left ++ slot_kind setup slot ∷ []
+  pub stacked : kinds ≡ left ++ Plain (slot_kind setup slot) ∷ []
 
--- an operator has a row for the two kinds on top of those in `left`, and this kind
-pub record FitsDyadic (op : Dyad) (kinds left : List Kind) (result : Kind) : Type 0 where
+-- an operator has a row for the kinds of the two values on top of those in `left`, and this kind
+pub record FitsDyadic (op : Dyad) (kinds left : List CellKind) (result : Kind) : Type 0 where
   pub x : Kind
   pub y : Kind
-  pub stacked : kinds ≡ left ++ x ∷ y ∷ []
+  pub stacked : kinds ≡ left ++ Plain x ∷ Plain y ∷ []
   pub row : row2 op x y ≡ Some result
 
--- PUT names a terminal that takes texts and a format whose items suit the kinds on top of those in `left`
-pub record FitsPut (setup : Setup) (device format : ℕ) (kinds left : List Kind) : Type 0 where
+-- PUT names a terminal that takes texts and a format whose items suit the at most 64 values on top of those in `left`; their widths
+-- are at most 1,024 together
+pub record FitsPut (setup : Setup) (device format : ℕ) (kinds left : List CellKind) : Type 0 where
   pub takes : TakesTexts setup device
   pub named : format < length setup.formats
   pub values : List Kind
-  pub stacked : kinds ≡ left ++ values
+  pub stacked : kinds ≡ left ++ map Plain values
   pub suits : Suits (format_of setup format) values
   pub few : length values ≤ 64
   pub short : text_width (format_of setup format) values ≤ 1024
@@ -65,17 +68,17 @@ pub record FitsPut (setup : Setup) (device format : ℕ) (kinds left : List Kind
 abbrev pub RunsFrom : Setup → ℕ → Shape → List Instr → Type 0
 RunsFrom setup depth shape [] = shape ≡ None
 RunsFrom setup depth shape (Const x ∷ rest) =
-    IsWellFormed x.value × (length (kinds_of shape) < depth) × RunsFrom setup depth (Some (kinds_of shape ++ kind_of x.value ∷ [])) rest
+    IsValue x.value × (length (kinds_of shape) < depth) × RunsFrom setup depth (Some (kinds_of shape ++ Plain (kind_of x.value) ∷ [])) rest
 RunsFrom setup depth shape (Conv to ∷ rest) =
-    (left : List Kind) × FitsConv to (kinds_of shape) left × RunsFrom setup depth (Some (left ++ to ∷ [])) rest
+    (left : List CellKind) × FitsConv to (kinds_of shape) left × RunsFrom setup depth (Some (left ++ Plain to ∷ [])) rest
 RunsFrom setup depth shape (Read slot ∷ rest) =
-    FitsRead setup depth slot (kinds_of shape) × RunsFrom setup depth (Some (kinds_of shape ++ slot_kind setup slot ∷ [])) rest
+    FitsRead setup depth slot (kinds_of shape) × RunsFrom setup depth (Some (kinds_of shape ++ Plain (slot_kind setup slot) ∷ [])) rest
 RunsFrom setup depth shape (Write slot ∷ rest) =
-    (left : List Kind) × FitsWrite setup slot (kinds_of shape) left × RunsFrom setup depth (Some left) rest
+    (left : List CellKind) × FitsWrite setup slot (kinds_of shape) left × RunsFrom setup depth (Some left) rest
 RunsFrom setup depth shape (Dyadic op ∷ rest) =
-    (left : List Kind) × (result : Kind) × FitsDyadic op (kinds_of shape) left result × RunsFrom setup depth (Some (left ++ result ∷ [])) rest
+    (left : List CellKind) × (result : Kind) × FitsDyadic op (kinds_of shape) left result × RunsFrom setup depth (Some (left ++ Plain result ∷ [])) rest
 RunsFrom setup depth shape (Put device format ∷ rest) =
-    (left : List Kind) × FitsPut setup device format (kinds_of shape) left × RunsFrom setup depth (Some left) rest
+    (left : List CellKind) × FitsPut setup device format (kinds_of shape) left × RunsFrom setup depth (Some left) rest
 RunsFrom setup depth shape (End ∷ rest) = (kinds_of shape ≡ []) × RunsFrom setup depth None rest
 
 -- a routine starts with an empty stack, and states a depth of at most 4,096

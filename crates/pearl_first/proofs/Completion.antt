@@ -8,7 +8,7 @@ use Rattle.pearl_first.specs.declared.token.What.{What}
 use Rattle.pearl_first.specs.declared.form.Form.TheVariants.{AnyName, AnyNumber}
 use Rattle.pearl_first.specs.declared.form.TheConstants.{HEAD, DECLARATION, TASK_HEAD, TARGET}
 use Rattle.pearl_first.specs.declared.tree.Name.{Name}
-use Rattle.pearl_first.specs.declared.tree.Part.TheVariants as part
+use Rattle.pearl_first.specs.declared.tree.Operand.TheVariants as operand
 use Rattle.pearl_first.specs.declared.tree.Sign.{Sign}
 use Rattle.pearl_first.specs.declared.tree.Term.{Term}
 use Rattle.pearl_first.specs.declared.tree.Sum.{Sum}
@@ -17,7 +17,7 @@ use Rattle.pearl_first.specs.declared.tree.Put.{Put}
 use Rattle.pearl_first.specs.declared.tree.Step.{Step}
 use Rattle.pearl_first.specs.declared.tree.Tree.{Tree}
 use Rattle.pearl_first.specs.Forms.{Fits, FitFront}
-use Rattle.pearl_first.specs.Grammar.{Mark, MarkAt, bare, word, sign, id, number, what_at, Stand, head, name_mark, declaration_marks, declarations_marks, task_marks, symbol_of, part_mark, terms_marks, sum_marks, step_end, assign_marks, target_marks, put_marks, step_marks, steps_marks, closing, tree_marks, HasFewSigns, IsWithinLimits, SomeBegins}
+use Rattle.pearl_first.specs.Grammar.{Mark, MarkAt, bare, word, sign, id, number, what_at, Stand, head, name_mark, declaration_marks, declarations_marks, task_marks, symbol_of, operand_mark, terms_marks, sum_marks, step_end, assign_marks, target_marks, put_marks, step_marks, steps_marks, closing, tree_marks, HasFewSigns, IsWithinLimits, SomeBegins}
 use Rattle.pearl_first.specs.Stops.{Begun, EndBegun, IsOpened}
 use Rattle.pearl_first.proofs.Marks.{both, extend, either, join_begun, then_begun, cons_begun, none_begun, one_begun, fit_begun, tokens_of, made, made_length, made_said}
 
@@ -30,7 +30,7 @@ begins tokens tree k limits begun = (
   record { marks = made (tree_marks tree); whole = made_length (tree_marks tree); limits = limits },
 )
 
--- a name and a part, if any is wanted
+-- a name and an operand, if any is wanted
 abbrev pub some_name : Name
 some_name = record { text = record { items = codes "x" }; place = 0 }
 
@@ -38,7 +38,7 @@ some_name = record { text = record { items = codes "x" }; place = 0 }
 
 pub more_terms : (terms : List Term) (term : Term) → terms_marks (terms ++ term ∷ []) ≡ terms_marks terms ++ terms_marks (term ∷ [])
 more_terms [] term = refl
-more_terms (t ∷ terms) term = ap (λ marks. bare (sign (symbol_of t.sign)) ∷ part_mark t.part ∷ marks) (more_terms terms term)
+more_terms (t ∷ terms) term = ap (λ marks. bare (sign (symbol_of t.sign)) ∷ operand_mark t.operand ∷ marks) (more_terms terms term)
 
 pub more_steps : (steps : List Step) (one : Step) → steps_marks (steps ++ one ∷ []) ≡ steps_marks steps ++ step_marks one
 more_steps [] one = append-nil (step_marks one)
@@ -59,10 +59,10 @@ abbrev pub longer : Sum → Term → Sum
 longer sum term = record { first = sum.first; rest = sum.rest ++ term ∷ [] }
 
 pub longer_marks : (sum : Sum) (term : Term) → sum_marks (longer sum term) ≡ sum_marks sum ++ terms_marks (term ∷ [])
-longer_marks sum term = ap (λ marks. part_mark sum.first ∷ marks) (more_terms sum.rest term)
+longer_marks sum term = ap (λ marks. operand_mark sum.first ∷ marks) (more_terms sum.rest term)
 
 pub sum_stands : (tokens : List Token) (from at : ℕ) (sum : Sum) (term : Term) → Stand tokens from 0 (sum_marks sum) → at ≡ from + length (sum_marks sum)
-    → MarkAt tokens at (bare (sign (symbol_of term.sign))) → MarkAt tokens (at + 1) (part_mark term.part) → Stand tokens from 0 (sum_marks (longer sum term))
+    → MarkAt tokens at (bare (sign (symbol_of term.sign))) → MarkAt tokens (at + 1) (operand_mark term.operand) → Stand tokens from 0 (sum_marks (longer sum term))
 sum_stands tokens from at sum term stand at_is signed here =
     let e : from + length (sum_marks sum) ≡ at = omega (arith, at_is) in
     let zeroth : at ≡ at + 0 = omega arith in
@@ -72,12 +72,12 @@ sum_stands tokens from at sum term stand at_is signed here =
 
 -- after a sign there may be a number
 pub sum_begun : (tokens : List Token) (from at : ℕ) (sum : Sum) (found : Sign) → Stand tokens from 0 (sum_marks sum) → at ≡ from + length (sum_marks sum)
-    → what_at tokens at ≡ Some (sign (symbol_of found)) → Begun tokens from (at + 1) (sum_marks (longer sum (record { sign = found; part = part.Number 0 })))
+    → what_at tokens at ≡ Some (sign (symbol_of found)) → Begun tokens from (at + 1) (sum_marks (longer sum (record { sign = found; operand = operand.Number 0 })))
 sum_begun tokens from at sum found stand at_is here =
-    let term : Term = record { sign = found; part = part.Number 0 } in
+    let term : Term = record { sign = found; operand = operand.Number 0 } in
     subst (λ marks. Begun tokens from (at + 1) marks) (sym (longer_marks sum term))
     (then_begun tokens from (at + 1) (sum_marks sum) (terms_marks (term ∷ [])) stand
-    (subst (λ n. Begun tokens n (at + 1) (terms_marks (term ∷ []))) at_is (one_begun tokens at (bare (sign (symbol_of found))) (part_mark term.part ∷ []) here)))
+    (subst (λ n. Begun tokens n (at + 1) (terms_marks (term ∷ []))) at_is (one_begun tokens at (bare (sign (symbol_of found))) (operand_mark term.operand ∷ []) here)))
 
 -- the sum stands, and nothing more is asked
 pub sum_whole : (tokens : List Token) (from at : ℕ) (sum : Sum) (more : List Mark) → Stand tokens from 0 (sum_marks sum) → at ≡ from + length (sum_marks sum) → Begun tokens from at (sum_marks sum ++ more)

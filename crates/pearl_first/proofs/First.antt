@@ -9,7 +9,7 @@ use Rattle.pearl_first.specs.declared.tree.Name.{Name}
 use Rattle.pearl_first.specs.declared.tree.Term.{Term}
 use Rattle.pearl_first.specs.declared.tree.Step.{Step}
 use Rattle.pearl_first.specs.declared.tree.Tree.{Tree}
-use Rattle.pearl_first.specs.Rules.{IsEarlier, IsFirstOf, first_of, declarations, variable_of, text_of, is_among, s1, s1_of_variables, part_faults, terms_faults, step_faults, steps_faults}
+use Rattle.pearl_first.specs.Rules.{IsEarlier, IsFirstOf, first_of, declarations, variable_of, name_bytes, is_among, s1, s1_of_variables, operand_faults, terms_faults, step_faults, steps_faults}
 
 earlier_yet : (a b c : Fault) → IsEarlier a b → IsEarlier b c → IsEarlier a c
 earlier_yet a b c (inl h) (inl k) = inl (omega arith)
@@ -36,52 +36,52 @@ one_more before tree steps i d inside =
 
 terms_append : (tree : Tree) (xs ys : List Term) → terms_faults tree (xs ++ ys) ≡ terms_faults tree xs ++ terms_faults tree ys
 terms_append tree [] ys = refl
-terms_append tree (x ∷ xs) ys = ap (λ zs. part_faults tree x.part ++ zs) (terms_append tree xs ys) ∙ sym (append_assoc (part_faults tree x.part) (terms_faults tree xs) (terms_faults tree ys))
+terms_append tree (x ∷ xs) ys = ap (λ zs. operand_faults tree x.operand ++ zs) (terms_append tree xs ys) ∙ sym (append_assoc (operand_faults tree x.operand) (terms_faults tree xs) (terms_faults tree ys))
 
 -- likewise of one more term
 pub one_more_term : (before : List Fault) (tree : Tree) (terms : List Term) (i : ℕ) (d : Term) → i < length terms
-    → (before ++ terms_faults tree (take i terms)) ++ part_faults tree (get_or terms i d).part ≡ before ++ terms_faults tree (take (i + 1) terms)
+    → (before ++ terms_faults tree (take i terms)) ++ operand_faults tree (get_or terms i d).operand ≡ before ++ terms_faults tree (take (i + 1) terms)
 one_more_term before tree terms i d inside =
     let term = get_or terms i d in
-    let all : terms_faults tree (take (i + 1) terms) ≡ terms_faults tree (take i terms) ++ part_faults tree term.part =
-    ap (terms_faults tree) (take_more terms i d inside) ∙ terms_append tree (take i terms) (term ∷ []) ∙ ap (λ zs. terms_faults tree (take i terms) ++ zs) (append-nil (part_faults tree term.part)) in
-    append_assoc before (terms_faults tree (take i terms)) (part_faults tree term.part) ∙ ap (λ zs. before ++ zs) (sym all)
+    let all : terms_faults tree (take (i + 1) terms) ≡ terms_faults tree (take i terms) ++ operand_faults tree term.operand =
+    ap (terms_faults tree) (take_more terms i d inside) ∙ terms_append tree (take i terms) (term ∷ []) ∙ ap (λ zs. terms_faults tree (take i terms) ++ zs) (append-nil (operand_faults tree term.operand)) in
+    append_assoc before (terms_faults tree (take i terms)) (operand_faults tree term.operand) ∙ ap (λ zs. before ++ zs) (sym all)
 
 -- and of one more variable
-names_append : (before : List (List ℕ)) (xs : List Name) (name : Name) → s1_of_variables before (xs ++ name ∷ []) ≡ s1_of_variables before xs ++ s1 (before ++ map text_of xs) name
+names_append : (before : List (List ℕ)) (xs : List Name) (name : Name) → s1_of_variables before (xs ++ name ∷ []) ≡ s1_of_variables before xs ++ s1 (before ++ map name_bytes xs) name
 names_append before [] name = append-nil (s1 before name) ∙ ap (λ texts. s1 texts name) (sym (append-nil before))
 names_append before (x ∷ xs) name =
     let front = before ++ x.text.items ∷ [] in
-    ap (λ zs. s1 before x ++ zs) (names_append front xs name ∙ ap (λ texts. s1_of_variables front xs ++ s1 texts name) (append_assoc before (x.text.items ∷ []) (map text_of xs)))
-    ∙ sym (append_assoc (s1 before x) (s1_of_variables front xs) (s1 (before ++ map text_of (x ∷ xs)) name))
+    ap (λ zs. s1 before x ++ zs) (names_append front xs name ∙ ap (λ texts. s1_of_variables front xs ++ s1 texts name) (append_assoc before (x.text.items ∷ []) (map name_bytes xs)))
+    ∙ sym (append_assoc (s1 before x) (s1_of_variables front xs) (s1 (before ++ map name_bytes (x ∷ xs)) name))
 
 pub one_more_name : (before : List (List ℕ)) (names : List Name) (i : ℕ) (d : Name) → i < length names
-    → s1_of_variables before (take i names) ++ s1 (before ++ map text_of (take i names)) (get_or names i d) ≡ s1_of_variables before (take (i + 1) names)
+    → s1_of_variables before (take i names) ++ s1 (before ++ map name_bytes (take i names)) (get_or names i d) ≡ s1_of_variables before (take (i + 1) names)
 one_more_name before names i d inside =
     sym (ap (s1_of_variables before) (take_more names i d inside) ∙ names_append before (take i names) (get_or names i d))
 
 -- a name among the variables means a variable, where nothing before has it
-pub among_variables : (variables : List Name) (rest : List (List ℕ × Sort)) (name : List ℕ) → is_among (map text_of variables) name ≡ true → first_of (map variable_of variables ++ rest) name ≡ Some Variable
+pub among_variables : (variables : List Name) (rest : List (List ℕ × Sort)) (name : List ℕ) → is_among (map name_bytes variables) name ≡ true → first_of (map variable_of variables ++ rest) name ≡ Some Variable
 among_variables [] rest name e = absurd (true≢false (sym e))
 among_variables (v ∷ variables) rest name e = by (bytes_eq v.text.items name) refl (among_variables variables rest name)
   where
-    by : (b : Bool) → bytes_eq v.text.items name ≡ b → (is_among (map text_of variables) name ≡ true → first_of (map variable_of variables ++ rest) name ≡ Some Variable)
+    by : (b : Bool) → bytes_eq v.text.items name ≡ b → (is_among (map name_bytes variables) name ≡ true → first_of (map variable_of variables ++ rest) name ≡ Some Variable)
         → first_of (map variable_of (v ∷ variables) ++ rest) name ≡ Some Variable
     by true f further = ap (λ c. cond c (Some Variable) (first_of (map variable_of variables ++ rest) name)) f
     by false f further =
         ap (λ c. cond c (Some Variable) (first_of (map variable_of variables ++ rest) name)) f
-        ∙ further (sym (ap (λ c. c || is_among (map text_of variables) name) f) ∙ e)
+        ∙ further (sym (ap (λ c. c || is_among (map name_bytes variables) name) f) ∙ e)
 
-pub past_variables : (variables : List Name) (rest : List (List ℕ × Sort)) (name : List ℕ) → is_among (map text_of variables) name ≡ false → first_of (map variable_of variables ++ rest) name ≡ first_of rest name
+pub past_variables : (variables : List Name) (rest : List (List ℕ × Sort)) (name : List ℕ) → is_among (map name_bytes variables) name ≡ false → first_of (map variable_of variables ++ rest) name ≡ first_of rest name
 past_variables [] rest name e = refl
 past_variables (v ∷ variables) rest name e = by (bytes_eq v.text.items name) refl (past_variables variables rest name)
   where
-    by : (b : Bool) → bytes_eq v.text.items name ≡ b → (is_among (map text_of variables) name ≡ false → first_of (map variable_of variables ++ rest) name ≡ first_of rest name)
+    by : (b : Bool) → bytes_eq v.text.items name ≡ b → (is_among (map name_bytes variables) name ≡ false → first_of (map variable_of variables ++ rest) name ≡ first_of rest name)
         → first_of (map variable_of (v ∷ variables) ++ rest) name ≡ first_of rest name
-    by true f further = absurd (true≢false (sym (ap (λ c. c || is_among (map text_of variables) name) f) ∙ e))
+    by true f further = absurd (true≢false (sym (ap (λ c. c || is_among (map name_bytes variables) name) f) ∙ e))
     by false f further =
         ap (λ c. cond c (Some Variable) (first_of (map variable_of variables ++ rest) name)) f
-        ∙ further (sym (ap (λ c. c || is_among (map text_of variables) name) f) ∙ e)
+        ∙ further (sym (ap (λ c. c || is_among (map name_bytes variables) name) f) ∙ e)
 
 pub past_specified : (tree : Tree) (name : List ℕ) → bytes_eq (codes "tty") name ≡ false → bytes_eq (codes "irq") name ≡ false
     → first_of (declarations tree) name ≡ first_of (map variable_of tree.variables ++ (tree.task.text.items, Task) ∷ []) name

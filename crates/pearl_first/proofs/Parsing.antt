@@ -18,7 +18,7 @@ use Rattle.pearl_first.specs.declared.tree.Put.{Put}
 use Rattle.pearl_first.specs.declared.tree.Step.{Step}
 use Rattle.pearl_first.specs.declared.tree.Step.TheVariants as step
 use Rattle.pearl_first.specs.declared.tree.Tree.{Tree}
-use Rattle.pearl_first.specs.Forms.{Fits, FitsAt, IsPart, IsSign, StartsStep}
+use Rattle.pearl_first.specs.Forms.{Fits, FitsAt, IsOperand, IsSign, StartsStep}
 use Rattle.pearl_first.specs.Grammar.{Mark, bare, word, sign, what_at, Stand, head, declaration_marks, declarations_marks, task_marks, symbol_of, terms_marks, sum_marks, step_end, assign_marks, target_marks, put_marks, step_marks, steps_marks, closing, HasFewSigns, Spells, Agree, NoneBegins}
 use Rattle.pearl_first.specs.Stops.{NoEnd, NoClosing, FollowsSum, NoSum, NoStep, IsOpened}
 use Rattle.pearl_first.proofs.Marks.{shift, left, right, at_zero}
@@ -102,7 +102,7 @@ sum_same tokens others k agree from sum theirs at end stand at_is within stops a
     by [] more e = omega (arith, e)
     by (t ∷ terms) more e = absurd (stops (t.sign, agree at within ∙ at_zero others at more.0.0))
 
-pub no_sum : (tokens : List Token) (from : ℕ) → (IsPart (what_at tokens from) → ⊥) → NoSum tokens from from
+pub no_sum : (tokens : List Token) (from : ℕ) → (IsOperand (what_at tokens from) → ⊥) → NoSum tokens from from
 no_sum tokens from never others sum agree stand few follows = never (sum.first, agree from (omega arith) ∙ at_zero others from stand.0.0)
 
 -- after 100 signs comes no other
@@ -118,10 +118,10 @@ no_sign tokens from sum at stand at_is full found others theirs agree alike few 
         follows_stops (what_at others at) (subst (λ n. FollowsSum (what_at others n)) same follows) (found.0, sym (agree at (omega arith)) ∙ found.1)
     by (t ∷ more) e many = omega (arith, many)
 
--- after a sign comes a part
-pub no_part : (tokens : List Token) (from : ℕ) (sum : Sum) (at : ℕ) → Stand tokens from 0 (sum_marks sum) → at ≡ from + length (sum_marks sum)
-    → IsSign (what_at tokens at) → (IsPart (what_at tokens (at + 1)) → ⊥) → NoSum tokens from (at + 1)
-no_part tokens from sum at stand at_is found never others theirs agree alike few follows =
+-- after a sign comes an operand
+pub no_operand : (tokens : List Token) (from : ℕ) (sum : Sum) (at : ℕ) → Stand tokens from 0 (sum_marks sum) → at ≡ from + length (sum_marks sum)
+    → IsSign (what_at tokens at) → (IsOperand (what_at tokens (at + 1)) → ⊥) → NoSum tokens from (at + 1)
+no_operand tokens from sum at stand at_is found never others theirs agree alike few follows =
     let ahead = sum_ahead tokens others (at + 1) agree from sum theirs at (from + length (sum_marks theirs)) stand at_is (omega arith) alike refl follows in
     by ahead.0 ahead.1 ahead.2
   where
@@ -129,7 +129,7 @@ no_part tokens from sum at stand at_is found never others theirs agree alike few
     by [] stands e =
         let same : from + length (sum_marks theirs) ≡ at = omega (arith, e) in
         follows_stops (what_at others at) (subst (λ n. FollowsSum (what_at others n)) same follows) (found.0, sym (agree at (omega arith)) ∙ found.1)
-    by (t ∷ more) stands e = never (t.part, agree (at + 1) (omega arith) ∙ stands.1.0.0)
+    by (t ∷ more) stands e = never (t.operand, agree (at + 1) (omega arith) ∙ stands.1.0.0)
 
 -- ---- statements
 

@@ -11,17 +11,17 @@ use Rattle.pearl_first.specs.declared.token.What.TheVariants as what
 use Rattle.pearl_first.specs.declared.token.Symbol.{Symbol}
 use Rattle.pearl_first.specs.declared.token.Token.{Token}
 use Rattle.pearl_first.specs.declared.token.Front.{Front}
-use Rattle.pearl_first.specs.declared.tree.Part.{Part}
-use Rattle.pearl_first.specs.declared.tree.Part.TheVariants as part
+use Rattle.pearl_first.specs.declared.tree.Operand.{Operand}
+use Rattle.pearl_first.specs.declared.tree.Operand.TheVariants as operand
 use Rattle.pearl_first.specs.declared.tree.Term.{Term}
 use Rattle.pearl_first.specs.declared.tree.Sum.{Sum}
 use Rattle.pearl_first.specs.declared.tree.Step.{Step}
 use Rattle.pearl_first.specs.declared.tree.Step.TheVariants as step
 use Rattle.pearl_first.specs.declared.tree.Tree.{Tree}
 use Rattle.pearl_first.specs.Words.{words}
-use Rattle.pearl_first.specs.Spelling.{meaning, id_of, word_or_id, value_of, number_of, clock_of, milliseconds, double_symbol, single_symbol, longer_symbol, symbol_front, sized, digit_count, begins_part, numeral, word_front, front}
+use Rattle.pearl_first.specs.Spelling.{meaning, id_of, word_or_id, value_of, number_of, clock_of, milliseconds, double_symbol, single_symbol, longer_symbol, symbol_front, sized, digit_count, begins_operand, numeral, word_front, front}
 use Rattle.pearl_first.specs.Lexes.{IsToken, AreTokens, Lexes}
-use Rattle.pearl_first.specs.Grammar.{what_at, MarkAt, Stand, head, declarations_marks, task_marks, part_mark, terms_marks, sum_marks, step_marks, steps_marks, closing, Spells}
+use Rattle.pearl_first.specs.Grammar.{what_at, MarkAt, Stand, head, declarations_marks, task_marks, operand_mark, terms_marks, sum_marks, step_marks, steps_marks, closing, Spells}
 use Rattle.pearl_first.specs.Lawful.{IsSmall, HasSmallPart, HasSmallParts, IsLawfulStep, IsLawful}
 use Rattle.pearl_first.proofs.Marks.{left, right}
 use Rattle.pearl_first.proofs.Parsing.{assign_sum, put_sum}
@@ -81,7 +81,7 @@ numeral_range bytes =
     let minutes = digit_count (drop 1 after_hours) in
     let after_minutes = drop minutes (drop 1 after_hours) in
     let seconds = digit_count (drop 1 after_minutes) in
-    either (begins_part after_hours && begins_part after_minutes)
+    either (begins_operand after_hours && begins_operand after_minutes)
     (sized (clock_of (take hours bytes) (take minutes (drop 1 after_hours)) (take seconds (drop 1 after_minutes))) (hours + minutes + seconds + 2))
     (sized (number_of (take hours bytes)) hours)
     (sized_range _ _ (milliseconds_range _ _ _)) (sized_range _ _ (number_range (take hours bytes)))
@@ -131,17 +131,17 @@ tokens_range bytes from [] to are k w e = absurd (cc e)
 tokens_range bytes from (token ∷ tokens) to are zero w e = subst IfRange e (token_range bytes from token are.0 are.1)
 tokens_range bytes from (token ∷ tokens) to are (suc k) w e = tokens_range bytes are.0 tokens to are.2 k w e
 
-part_small : (tokens : List Token) (at : ℕ) (p : Part) → ((k : ℕ) (w : What) → what_at tokens k ≡ Some w → IsInRange w) → MarkAt tokens at (part_mark p) → IsSmall p
-part_small tokens at (part.Number value) range here = range at (what.Number value) here.0
-part_small tokens at (part.Name name) range here = tt
+operand_small : (tokens : List Token) (at : ℕ) (p : Operand) → ((k : ℕ) (w : What) → what_at tokens k ≡ Some w → IsInRange w) → MarkAt tokens at (operand_mark p) → IsSmall p
+operand_small tokens at (operand.Number value) range here = range at (what.Number value) here.0
+operand_small tokens at (operand.Name name) range here = tt
 
 terms_small : (tokens : List Token) (from k : ℕ) (terms : List Term) → ((k : ℕ) (w : What) → what_at tokens k ≡ Some w → IsInRange w) → Stand tokens from k (terms_marks terms) → All HasSmallPart terms
 terms_small tokens from k [] range stand i d below = absurd (omega arith)
-terms_small tokens from k (t ∷ terms) range stand zero d below = part_small tokens (from + suc k) t.part range stand.1.0
+terms_small tokens from k (t ∷ terms) range stand zero d below = operand_small tokens (from + suc k) t.operand range stand.1.0
 terms_small tokens from k (t ∷ terms) range stand (suc i) d below = terms_small tokens from (suc (suc k)) terms range stand.1.1 i d (omega arith)
 
 sum_small : (tokens : List Token) (from : ℕ) (sum : Sum) → ((k : ℕ) (w : What) → what_at tokens k ≡ Some w → IsInRange w) → Stand tokens from 0 (sum_marks sum) → HasSmallParts sum
-sum_small tokens from sum range stand = record { first = part_small tokens (from + 0) sum.first range stand.0; rest = terms_small tokens from 1 sum.rest range stand.1 }
+sum_small tokens from sum range stand = record { first = operand_small tokens (from + 0) sum.first range stand.0; rest = terms_small tokens from 1 sum.rest range stand.1 }
 
 step_small : (tokens : List Token) (from : ℕ) (one : Step) → ((k : ℕ) (w : What) → what_at tokens k ≡ Some w → IsInRange w) → Stand tokens from 0 (step_marks one) → IsLawfulStep one
 step_small tokens from (step.Assign a) range stand = sum_small tokens (from + 2) a.value range (assign_sum tokens from a stand)

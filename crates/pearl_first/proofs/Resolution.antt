@@ -6,7 +6,7 @@ use Rattle.pearl_value.specs.declared.kind.Kind.TheVariants as kind
 use Rattle.pearl_value.specs.declared.cell.Cell.{Cell}
 use Rattle.pearl_value.specs.Cells.{FitsFixed, kind_of}
 use Rattle.pearl_value.specs.Conversions.{SuitsKind}
-use Rattle.pearl_value.specs.WellFormed.{IsWellFormed}
+use Rattle.pearl_value.specs.WellFormed.{IsValue}
 use Rattle.pearl_value.specs.Rows.{row2}
 use Rattle.pearl_format.specs.declared.item.ItemCode.TheVariants.{F}
 use Rattle.pearl_format.specs.Items.{Suits}
@@ -30,8 +30,8 @@ use Rattle.pearl_first.specs.declared.rules.Sort.TheVariants as sort
 use Rattle.pearl_first.specs.declared.tree.Name.{Name}
 use Rattle.pearl_first.specs.declared.tree.Sign.{Sign}
 use Rattle.pearl_first.specs.declared.tree.Sign.TheVariants.{Plus, Minus}
-use Rattle.pearl_first.specs.declared.tree.Part.{Part}
-use Rattle.pearl_first.specs.declared.tree.Part.TheVariants as part
+use Rattle.pearl_first.specs.declared.tree.Operand.{Operand}
+use Rattle.pearl_first.specs.declared.tree.Operand.TheVariants as operand
 use Rattle.pearl_first.specs.declared.tree.Term.{Term}
 use Rattle.pearl_first.specs.declared.tree.Sum.{Sum}
 use Rattle.pearl_first.specs.declared.tree.Assign.{Assign}
@@ -40,9 +40,9 @@ use Rattle.pearl_first.specs.declared.tree.Step.{Step}
 use Rattle.pearl_first.specs.declared.tree.Step.TheVariants as step
 use Rattle.pearl_first.specs.declared.tree.Tree.{Tree}
 use Rattle.pearl_first.specs.Rules as rule
-use Rattle.pearl_first.specs.Rules.{fault_if, first_of, declarations, is_none, is_same, is_other, s2, s16, use_faults, part_faults, terms_faults, sum_faults, s33_width, s33_sum, skip_width, step_faults, steps_faults, s1_of_variables, s1_of_task, specified, faults}
+use Rattle.pearl_first.specs.Rules.{fault_if, first_of, declarations, is_none, is_same, is_other, s2, s16, use_faults, operand_faults, terms_faults, sum_faults, s33_width, s33_sum, skip_width, step_faults, steps_faults, s1_of_variables, s1_of_task, specified, faults}
 use Rattle.pearl_first.specs.Lawful.{IsSmall, HasSmallPart, HasSmallParts, IsLawfulStep, IsLawful}
-use Rattle.pearl_first.specs.Resolved.{task_of, devices, skip_items, format_of, formats_of, HasWidth, first_value, variable_number, literal_of, part_of, operator_of, IsSumOf, IsDyadic, IsValueOf, IsAssignOf, IsOneValue, IsPutOf, IsStatementOf, AreStatements, IsOneRoutine, Resolves}
+use Rattle.pearl_first.specs.Resolved.{task_of, devices, skip_items, format_of, formats_of, HasWidth, first_value, variable_number, literal_of, operand_of, operator_of, IsSumOf, IsDyadic, IsExprOf, IsAssignOf, IsOneValue, IsPutOf, IsStatementOf, AreStatements, IsOneRoutine, Resolves}
 
 -- ---- what is built up, one at a time
 
@@ -68,12 +68,12 @@ statements_more variables (step.Put p ∷ steps) number (t ∷ statements) one s
     let e : number + suc (length (formats_of steps)) ≡ (number + 1) + length (formats_of steps) = omega arith in
     (before.0, statements_more variables steps (number + 1) statements one s before.1 (subst (λ n. IsStatementOf variables one n s) e here))
 
-pub sum_first : (variables : List Name) (first : Part) → IsSumOf variables first [] (part_of variables first)
-sum_first variables (part.Number value) = (refl, refl)
-sum_first variables (part.Name name) = (refl, refl)
+pub sum_first : (variables : List Name) (first : Operand) → IsSumOf variables first [] (operand_of variables first)
+sum_first variables (operand.Number value) = (refl, refl)
+sum_first variables (operand.Name name) = (refl, refl)
 
-pub sum_more : (variables : List Name) (first : Part) (terms : List Term) (term : Term) (left right e : Expr) → IsDyadic (operator_of term.sign) left right e
-    → IsSumOf variables first terms left → right ≡ part_of variables term.part → IsSumOf variables first (terms ++ term ∷ []) e
+pub sum_more : (variables : List Name) (first : Operand) (terms : List Term) (term : Term) (left right e : Expr) → IsDyadic (operator_of term.sign) left right e
+    → IsSumOf variables first terms left → right ≡ operand_of variables term.operand → IsSumOf variables first (terms ++ term ∷ []) e
 sum_more variables first terms term left right (Number len value) is sum right_is = absurd is
 sum_more variables first terms term left right (Read variable) is sum right_is = absurd is
 sum_more variables first terms term left right (Dyadic' op _ l _ r) is sum right_is =
@@ -150,34 +150,34 @@ used tree name e =
     let clean = use_clean tree sort.Variable name e in
     declared tree name.text.items (is_variable (first_of (declarations tree) name.text.items) clean.0 clean.1)
 
--- a part names a variable that is there, or a number that fits
-abbrev FitsPart : List Name → Part → Type 0
-FitsPart variables (part.Number value) = value < 2 ^ 63
-FitsPart variables (part.Name name) = variable_number variables name.text.items < length variables
+-- an operand names a variable that is there, or a number that fits
+abbrev FitsOperand : List Name → Operand → Type 0
+FitsOperand variables (operand.Number value) = value < 2 ^ 63
+FitsOperand variables (operand.Name name) = variable_number variables name.text.items < length variables
 
 abbrev FitTerms : List Name → List Term → Type 0
 FitTerms variables [] = Unit {0}
-FitTerms variables (t ∷ terms) = FitsPart variables t.part × FitTerms variables terms
+FitTerms variables (t ∷ terms) = FitsOperand variables t.operand × FitTerms variables terms
 
-part_fits : (tree : Tree) (p : Part) → part_faults tree p ≡ [] → IsSmall p → FitsPart tree.variables p
-part_fits tree (part.Number value) e small = small
-part_fits tree (part.Name name) e small = used tree name e
+operand_fits : (tree : Tree) (p : Operand) → operand_faults tree p ≡ [] → IsSmall p → FitsOperand tree.variables p
+operand_fits tree (operand.Number value) e small = small
+operand_fits tree (operand.Name name) e small = used tree name e
 
 terms_fit : (tree : Tree) (terms : List Term) → terms_faults tree terms ≡ [] → All HasSmallPart terms → FitTerms tree.variables terms
 terms_fit tree [] e small = tt
 terms_fit tree (t ∷ terms) e small = (
-  part_fits tree t.part (left_empty (part_faults tree t.part) (terms_faults tree terms) e) (small 0 t (omega arith)),
-  terms_fit tree terms (right_empty (part_faults tree t.part) (terms_faults tree terms) e) (λ k d below. small (suc k) d (omega arith)),
+  operand_fits tree t.operand (left_empty (operand_faults tree t.operand) (terms_faults tree terms) e) (small 0 t (omega arith)),
+  terms_fit tree terms (right_empty (operand_faults tree t.operand) (terms_faults tree terms) e) (λ k d below. small (suc k) d (omega arith)),
 )
 
 record FitsSum (variables : List Name) (sum : Sum) : Type 0 where
-  first : FitsPart variables sum.first
+  first : FitsOperand variables sum.first
   rest : FitTerms variables sum.rest
 
 sum_fits : (tree : Tree) (sum : Sum) → sum_faults tree sum ≡ [] → HasSmallParts sum → FitsSum tree.variables sum
 sum_fits tree sum e small = record {
-  first = part_fits tree sum.first (left_empty (part_faults tree sum.first) (terms_faults tree sum.rest) e) small.first;
-  rest = terms_fit tree sum.rest (right_empty (part_faults tree sum.first) (terms_faults tree sum.rest) e) small.rest;
+  first = operand_fits tree sum.first (left_empty (operand_faults tree sum.first) (terms_faults tree sum.rest) e) small.first;
+  rest = terms_fit tree sum.rest (right_empty (operand_faults tree sum.first) (terms_faults tree sum.rest) e) small.rest;
 }
 
 put_fit : (tree : Tree) (put : Put) → step_faults tree (step.Put put) ≡ [] → IsFit put
@@ -273,20 +273,20 @@ slot_there setup variables slots slot below =
     let many : length setup.slots ≡ length variables = ap (λ (cells : List Cell). length cells) slots ∙ many_slots variables in
     omega (arith, many)
 
-part_sound : (setup : Setup) (variables : List Name) → HasSlots variables setup → (p : Part) → FitsPart variables p → IsFixedExpr setup (part_of variables p)
-part_sound setup variables slots (part.Number value) fit = literal_sound setup value fit
-part_sound setup variables slots (part.Name name) fit = record {
+operand_sound : (setup : Setup) (variables : List Name) → HasSlots variables setup → (p : Operand) → FitsOperand variables p → IsFixedExpr setup (operand_of variables p)
+operand_sound setup variables slots (operand.Number value) fit = literal_sound setup value fit
+operand_sound setup variables slots (operand.Name name) fit = record {
   expr = slot_there setup variables slots (variable_number variables name.text.items) fit;
   len = 31;
   kind_is = slot_is setup variables slots (variable_number variables name.text.items);
   few = lit≤ tt;
 }
 
-part_held : (variables : List Name) (p : Part) → held (part_of variables p) ≡ 1
-part_held variables (part.Number value) = refl
-part_held variables (part.Name name) = refl
+operand_held : (variables : List Name) (p : Operand) → held (operand_of variables p) ≡ 1
+operand_held variables (operand.Number value) = refl
+operand_held variables (operand.Name name) = refl
 
-fits_before : (variables : List Name) (before : List Term) (last : Term) → FitTerms variables (before ++ last ∷ []) → FitTerms variables before × FitsPart variables last.part
+fits_before : (variables : List Name) (before : List Term) (last : Term) → FitTerms variables (before ++ last ∷ []) → FitTerms variables before × FitsOperand variables last.operand
 fits_before variables [] last fit = (tt, fit.0)
 fits_before variables (t ∷ before) last fit = let rest = fits_before variables before last fit.1 in ((fit.0, rest.0), rest.1)
 
@@ -295,15 +295,15 @@ sum_row : (s : Sign) (a b : ℕ) → row2 (operator_of s) (kind.Fixed a) (kind.F
 sum_row Plus a b = refl
 sum_row Minus a b = refl
 
-sum_sound : (setup : Setup) (variables : List Name) → HasSlots variables setup → (first : Part) → FitsPart variables first → (terms : List Term) → FitTerms variables terms → (e : Expr) → IsSumOf variables first terms e → IsFixedExpr setup e
-sum_sound setup variables slots first fit terms fits (Number len value) is = subst (λ e. IsFixedExpr setup e) (sym is.1) (part_sound setup variables slots first fit)
-sum_sound setup variables slots first fit terms fits (Read variable) is = subst (λ e. IsFixedExpr setup e) (sym is.1) (part_sound setup variables slots first fit)
+sum_sound : (setup : Setup) (variables : List Name) → HasSlots variables setup → (first : Operand) → FitsOperand variables first → (terms : List Term) → FitTerms variables terms → (e : Expr) → IsSumOf variables first terms e → IsFixedExpr setup e
+sum_sound setup variables slots first fit terms fits (Number len value) is = subst (λ e. IsFixedExpr setup e) (sym is.1) (operand_sound setup variables slots first fit)
+sum_sound setup variables slots first fit terms fits (Read variable) is = subst (λ e. IsFixedExpr setup e) (sym is.1) (operand_sound setup variables slots first fit)
 sum_sound setup variables slots first fit terms fits (Dyadic' op _ left _ right) is =
     let last = is.1 in
     let split = fits_before variables is.0 last (subst (λ ts. FitTerms variables ts) is.2 fits) in
     let l : IsFixedExpr setup left = sum_sound setup variables slots first fit is.0 split.0 left is.4 in
-    let r : IsFixedExpr setup right = subst (λ e. IsFixedExpr setup e) (sym is.5) (part_sound setup variables slots last.part split.1) in
-    let one : held right ≡ 1 = ap held is.5 ∙ part_held variables last.part in
+    let r : IsFixedExpr setup right = subst (λ e. IsFixedExpr setup e) (sym is.5) (operand_sound setup variables slots last.operand split.1) in
+    let one : held right ≡ 1 = ap held is.5 ∙ operand_held variables last.operand in
     let row : row2 op (kind_of_expr setup left) (kind_of_expr setup right) ≡ Some (kind.Fixed (max l.len r.len)) =
     ap (λ o. row2 o (kind_of_expr setup left) (kind_of_expr setup right)) is.3 ∙ ap (λ k. row2 (operator_of last.sign) k (kind_of_expr setup right)) l.kind_is
     ∙ ap (λ k. row2 (operator_of last.sign) (kind.Fixed l.len) k) r.kind_is ∙ sum_row last.sign l.len r.len in
@@ -315,7 +315,7 @@ sum_sound setup variables slots first fit terms fits (Dyadic' op _ left _ right)
       few = omega (arith, few, one);
     }
 
-value_sound : (setup : Setup) (variables : List Name) → HasSlots variables setup → (sum : Sum) → FitsSum variables sum → (e : Expr) → IsValueOf variables sum e → IsFixedExpr setup e
+value_sound : (setup : Setup) (variables : List Name) → HasSlots variables setup → (sum : Sum) → FitsSum variables sum → (e : Expr) → IsExprOf variables sum e → IsFixedExpr setup e
 value_sound setup variables slots sum fit e is = sum_sound setup variables slots sum.first fit.first sum.rest fit.rest e is
 
 assign_sound : (setup : Setup) (variables : List Name) → HasSlots variables setup → (a : Assign) → FitsStep variables (step.Assign a) → (s : Statement) → IsAssignOf variables a s → IsStatement setup s
@@ -383,18 +383,18 @@ devices_sound : AllByRecursion IsDevice devices
 devices_sound = ((lit< tt, lit≤ tt), ((lit< tt, lit≤ tt), tt))
 
 format_lawful : (put : Put) → IsFit put → IsFormat (format_of put)
-format_lawful put fit = by put.skip fit.sum
+format_lawful put fit = by put.skip
   where
-    by : (skip : Bool) → put.width + skip_width skip ≤ 1024 → IsFormat (record { code = F; width = put.width } ∷ skip_items skip)
-    by true sum = record { items = ((fit.low, fit.high), (tt, tt)); few = lit≤ tt; short = omega (arith, sum) }
-    by false sum = record { items = ((fit.low, fit.high), tt); few = lit≤ tt; short = omega (arith, sum) }
+    by : (skip : Bool) → IsFormat (record { code = F; width = put.width } ∷ skip_items skip)
+    by true = ((fit.low, fit.high), ((tt, lit≤ tt), tt))
+    by false = ((fit.low, fit.high), tt)
 
 formats_lawful : (variables : List Name) (steps : List Step) → FitSteps variables steps → AllByRecursion IsFormat (formats_of steps)
 formats_lawful variables [] fit = tt
 formats_lawful variables (step.Assign a ∷ steps) fit = formats_lawful variables steps fit.1
 formats_lawful variables (step.Put p ∷ steps) fit = (format_lawful p fit.0.0, formats_lawful variables steps fit.1)
 
-slots_lawful : (variables : List Name) → AllByRecursion IsWellFormed (map first_value variables)
+slots_lawful : (variables : List Name) → AllByRecursion IsValue (map first_value variables)
 slots_lawful [] = tt
 slots_lawful (v ∷ variables) = (((lit< tt, lit≤ tt), fits_fixed 31 0 (omega arith)), slots_lawful variables)
 
@@ -411,7 +411,7 @@ resolved_sound tree p faultless lawful resolves =
     record {
       setup = record {
         tasks = subst (λ ts. AllByRecursion IsTaskEntry ts) (sym resolves.tasks) (tasks_sound tree.task.text.items lawful.named);
-        slots = subst (λ cells. AllByRecursion IsWellFormed cells) (sym resolves.slots) (slots_lawful tree.variables);
+        slots = subst (λ cells. AllByRecursion IsValue cells) (sym resolves.slots) (slots_lawful tree.variables);
         devices = subst (λ ds. AllByRecursion IsDevice ds) (sym resolves.devices) devices_sound;
         rising = subst (λ ds. AreRising ds) (sym resolves.devices) (inl (lit< tt), tt);
         formats = subst (λ fs. AllByRecursion IsFormat fs) (sym resolves.formats) (formats_lawful tree.variables tree.steps fit);

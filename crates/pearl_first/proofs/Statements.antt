@@ -9,7 +9,7 @@ use Rattle.pearl_first.specs.declared.parser.ParseFault.{ParseFault}
 use Rattle.pearl_first.specs.declared.parser.ParseFault.TheVariants.{Stuck, NoMemory}
 use Rattle.pearl_first.specs.declared.tree.Name.{Name}
 use Rattle.pearl_first.specs.declared.tree.Sum.{Sum}
-use Rattle.pearl_first.specs.declared.tree.Part.TheVariants as part
+use Rattle.pearl_first.specs.declared.tree.Operand.TheVariants as operand
 use Rattle.pearl_first.specs.declared.tree.Put.{Put}
 use Rattle.pearl_first.specs.declared.tree.Step.{Step}
 use Rattle.pearl_first.specs.declared.tree.Step.TheVariants as step
@@ -24,7 +24,7 @@ abbrev semicolon : List Mark
 semicolon = bare (sign Semicolon) ∷ []
 
 abbrev zero_sum : Sum
-zero_sum = record { first = part.Number 0; rest = [] }
+zero_sum = record { first = operand.Number 0; rest = [] }
 
 pub sum_full : (tokens : List Token) (from at : ℕ) (sum : Sum) → Stand tokens from 0 (sum_marks sum) → at ≡ from + length (sum_marks sum) → Begun tokens from at (sum_marks sum)
 sum_full tokens from at sum stand at_is = subst (λ k. Begun tokens from k (sum_marks sum)) (sym at_is) (stand_begun tokens from (sum_marks sum) stand)

@@ -7,8 +7,8 @@ use Rattle.pearl_first.specs.declared.token.Front.{Front}
 use Rattle.pearl_first.specs.declared.rules.Fault.{Fault}
 use Rattle.pearl_first.specs.declared.token.What.{What}
 use Rattle.pearl_first.specs.declared.tree.Name.{Name}
-use Rattle.pearl_first.specs.declared.tree.Part.{Part}
-use Rattle.pearl_first.specs.declared.tree.Part.TheVariants as part
+use Rattle.pearl_first.specs.declared.tree.Operand.{Operand}
+use Rattle.pearl_first.specs.declared.tree.Operand.TheVariants as operand
 use Rattle.pearl_first.specs.declared.tree.Sign.{Sign}
 use Rattle.pearl_first.specs.declared.tree.Sign.TheVariants.{Plus, Minus}
 use Rattle.pearl_first.specs.declared.tree.Term.{Term}
@@ -19,7 +19,7 @@ use Rattle.pearl_first.specs.declared.tree.Tree.{Tree}
 use Rattle.pearl_first.specs.Spelling.{front}
 use Rattle.pearl_first.specs.Lexes.{past_blanks, AreTokens, Lexes, IsStuck}
 use Rattle.pearl_first.specs.Forms.{IsSign}
-use Rattle.pearl_first.specs.Grammar.{Mark, MarkAt, what_at, Stand, sign, head, name_mark, declarations_marks, task_marks, part_mark, symbol_of, terms_marks, sum_marks, step_end, target_marks, step_marks, steps_marks, closing, Spells, NoneBegins, SomeBegins}
+use Rattle.pearl_first.specs.Grammar.{Mark, MarkAt, what_at, Stand, sign, head, name_mark, declarations_marks, task_marks, operand_mark, symbol_of, terms_marks, sum_marks, step_end, target_marks, step_marks, steps_marks, closing, Spells, NoneBegins, SomeBegins}
 use Rattle.pearl_first.specs.Stops.{FollowsSum}
 use Rattle.pearl_first.specs.Rules.{IsEarlier, IsFirstOf, faults}
 use Rattle.pearl_first.specs.Resolved.{Resolves}
@@ -94,11 +94,11 @@ same_name tokens at a b x y =
     let place : a.place ≡ b.place = let e = sym x.1 ∙ y.1 in cc e in
     λ i. record { text = text i; place = place i }
 
-same_part : (tokens : List Token) (at : ℕ) (a b : Part) → MarkAt tokens at (part_mark a) → MarkAt tokens at (part_mark b) → a ≡ b
-same_part tokens at (part.Number a) (part.Number b) x y = let value : a ≡ b = let e = sym x.0 ∙ y.0 in cc e in ap part.Number value
-same_part tokens at (part.Name a) (part.Name b) x y = ap part.Name (same_name tokens at a b x y)
-same_part tokens at (part.Number a) (part.Name b) x y = let e = sym x.0 ∙ y.0 in cc e
-same_part tokens at (part.Name a) (part.Number b) x y = let e = sym x.0 ∙ y.0 in cc e
+same_operand : (tokens : List Token) (at : ℕ) (a b : Operand) → MarkAt tokens at (operand_mark a) → MarkAt tokens at (operand_mark b) → a ≡ b
+same_operand tokens at (operand.Number a) (operand.Number b) x y = let value : a ≡ b = let e = sym x.0 ∙ y.0 in cc e in ap operand.Number value
+same_operand tokens at (operand.Name a) (operand.Name b) x y = ap operand.Name (same_name tokens at a b x y)
+same_operand tokens at (operand.Number a) (operand.Name b) x y = let e = sym x.0 ∙ y.0 in cc e
+same_operand tokens at (operand.Name a) (operand.Number b) x y = let e = sym x.0 ∙ y.0 in cc e
 
 same_sign : (here : Option What) (a b : Sign) → here ≡ Some (sign (symbol_of a)) → here ≡ Some (sign (symbol_of b)) → a ≡ b
 same_sign here Plus Plus x y = refl
@@ -113,18 +113,18 @@ same_terms tokens from [] (y ∷ ys) stand stops alike halts = absurd (stops (y.
 same_terms tokens from (x ∷ xs) [] stand stops alike halts = absurd (halts (x.sign, stand.0.0))
 same_terms tokens from (x ∷ xs) (y ∷ ys) stand stops alike halts =
     let signs : x.sign ≡ y.sign = same_sign (what_at tokens (from + 0)) x.sign y.sign stand.0.0 alike.0.0 in
-    let parts : x.part ≡ y.part = same_part tokens (from + 1) x.part y.part stand.1.0 alike.1.0 in
+    let parts : x.operand ≡ y.operand = same_operand tokens (from + 1) x.operand y.operand stand.1.0 alike.1.0 in
     let here : (from + 2) + length (terms_marks xs) ≡ from + length (terms_marks (x ∷ xs)) = omega arith in
     let there : (from + 2) + length (terms_marks ys) ≡ from + length (terms_marks (y ∷ ys)) = omega arith in
     let rest : xs ≡ ys = same_terms tokens (from + 2) xs ys
     (shift tokens from 2 0 2 (terms_marks xs) refl stand.1.1) (λ found. stops (subst (λ n. IsSign (what_at tokens n)) here found))
     (shift tokens from 2 0 2 (terms_marks ys) refl alike.1.1) (λ found. halts (subst (λ n. IsSign (what_at tokens n)) there found)) in
-    λ i. record { sign = signs i; part = parts i } ∷ rest i
+    λ i. record { sign = signs i; operand = parts i } ∷ rest i
 
 same_sum : (tokens : List Token) (from : ℕ) (a b : Sum) → Stand tokens from 0 (sum_marks a) → FollowsSum (what_at tokens (from + length (sum_marks a)))
     → Stand tokens from 0 (sum_marks b) → FollowsSum (what_at tokens (from + length (sum_marks b))) → a ≡ b
 same_sum tokens from a b stand follows alike also =
-    let first : a.first ≡ b.first = same_part tokens (from + 0) a.first b.first stand.0 alike.0 in
+    let first : a.first ≡ b.first = same_operand tokens (from + 0) a.first b.first stand.0 alike.0 in
     let here : (from + 1) + length (terms_marks a.rest) ≡ from + length (sum_marks a) = omega arith in
     let there : (from + 1) + length (terms_marks b.rest) ≡ from + length (sum_marks b) = omega arith in
     let rest : a.rest ≡ b.rest = same_terms tokens (from + 1) a.rest b.rest

@@ -5,10 +5,10 @@ use Rattle.pearl_first.specs.declared.form.Form.TheVariants as form
 use Rattle.pearl_first.specs.declared.token.Token.{Token}
 use Rattle.pearl_first.specs.declared.token.What.{What}
 use Rattle.pearl_first.specs.Spelled.{spelled}
-use Rattle.pearl_first.specs.declared.tree.Part.{Part}
+use Rattle.pearl_first.specs.declared.tree.Operand.{Operand}
 use Rattle.pearl_first.specs.declared.tree.Sign.{Sign}
 use Rattle.pearl_first.specs.declared.word.Word.TheVariants.{Put}
-use Rattle.pearl_first.specs.Grammar.{what_at, word, sign, id, number, symbol_of, part_mark}
+use Rattle.pearl_first.specs.Grammar.{what_at, word, sign, id, number, symbol_of, operand_mark}
 
 abbrev pub Fits : Form → Option What → Type 0
 Fits (form.Word w) here = here ≡ Some (word w)
@@ -27,9 +27,9 @@ FitsAt (form ∷ forms) (suc k) here = FitsAt forms k here
 abbrev pub FitFront : List Form → List Token → ℕ → ℕ → Type 0
 FitFront forms tokens from count = (k : ℕ) → k < count → FitsAt forms k (what_at tokens (from + k))
 
--- a part of a sum stands here
-abbrev pub IsPart : Option What → Type 0
-IsPart here = (part : Part) × (here ≡ Some (part_mark part).0)
+-- an operand of a sum stands here
+abbrev pub IsOperand : Option What → Type 0
+IsOperand here = (operand : Operand) × (here ≡ Some (operand_mark operand).0)
 
 -- a sign of a sum stands here
 abbrev pub IsSign : Option What → Type 0

@@ -14,8 +14,8 @@ use Rattle.pearl_first.specs.declared.token.Token.{Token}
 use Rattle.pearl_first.specs.declared.tree.Name.{Name}
 use Rattle.pearl_first.specs.declared.tree.Sign.{Sign}
 use Rattle.pearl_first.specs.declared.tree.Sign.TheVariants.{Plus, Minus}
-use Rattle.pearl_first.specs.declared.tree.Part.{Part}
-use Rattle.pearl_first.specs.declared.tree.Part.TheVariants as part
+use Rattle.pearl_first.specs.declared.tree.Operand.{Operand}
+use Rattle.pearl_first.specs.declared.tree.Operand.TheVariants as operand
 use Rattle.pearl_first.specs.declared.tree.Term.{Term}
 use Rattle.pearl_first.specs.declared.tree.Sum.{Sum}
 use Rattle.pearl_first.specs.declared.tree.Assign.{Assign}
@@ -89,21 +89,21 @@ abbrev pub task_marks : Name → List Mark
 task_marks name = name_mark name ∷ map bare (sign Colon ∷ word said.Task ∷ word said.Main ∷ sign Semicolon ∷ [])
 
 -- a number or a name
-abbrev pub part_mark : Part → Mark
-part_mark (part.Number value) = bare (number value)
-part_mark (part.Name name) = name_mark name
+abbrev pub operand_mark : Operand → Mark
+operand_mark (operand.Number value) = bare (number value)
+operand_mark (operand.Name name) = name_mark name
 
 abbrev pub symbol_of : Sign → Symbol
 symbol_of Plus = symbol.Plus
 symbol_of Minus = symbol.Minus
 
--- a part, and then any number of signs each with a part
+-- an operand, and then any number of signs each with an operand
 abbrev pub terms_marks : List Term → List Mark
 terms_marks [] = []
-terms_marks (term ∷ terms) = bare (sign (symbol_of term.sign)) ∷ part_mark term.part ∷ terms_marks terms
+terms_marks (term ∷ terms) = bare (sign (symbol_of term.sign)) ∷ operand_mark term.operand ∷ terms_marks terms
 
 abbrev pub sum_marks : Sum → List Mark
-sum_marks sum = part_mark sum.first ∷ terms_marks sum.rest
+sum_marks sum = operand_mark sum.first ∷ terms_marks sum.rest
 
 abbrev pub step_end : Bool → List Mark
 step_end true = map bare (sign Comma ∷ id (codes "SKIP") ∷ sign Semicolon ∷ [])

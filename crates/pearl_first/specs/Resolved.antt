@@ -21,8 +21,8 @@ use Rattle.pearl_prog.specs.declared.program.Program.{Program}
 use Rattle.pearl_first.specs.declared.tree.Name.{Name}
 use Rattle.pearl_first.specs.declared.tree.Sign.{Sign}
 use Rattle.pearl_first.specs.declared.tree.Sign.TheVariants.{Plus, Minus}
-use Rattle.pearl_first.specs.declared.tree.Part.{Part}
-use Rattle.pearl_first.specs.declared.tree.Part.TheVariants as part
+use Rattle.pearl_first.specs.declared.tree.Operand.{Operand}
+use Rattle.pearl_first.specs.declared.tree.Operand.TheVariants as operand
 use Rattle.pearl_first.specs.declared.tree.Term.{Term}
 use Rattle.pearl_first.specs.declared.tree.Sum.{Sum}
 use Rattle.pearl_first.specs.declared.tree.Assign.{Assign}
@@ -73,37 +73,37 @@ variable_of variables name = record { target = Leaf (variable_number variables n
 abbrev pub literal_of : ℕ → Expr
 literal_of value = Number (if nat_le value (2 ^ 31 - 1) then 31 else 63) (pos value)
 
-abbrev pub part_of : List Name → Part → Expr
-part_of variables (part.Number value) = literal_of value
-part_of variables (part.Name name) = Read (variable_of variables name)
+abbrev pub operand_of : List Name → Operand → Expr
+operand_of variables (operand.Number value) = literal_of value
+operand_of variables (operand.Name name) = Read (variable_of variables name)
 
 abbrev pub operator_of : Sign → Dyad
 operator_of Plus = Add
 operator_of Minus = Sub
 
--- signs group from the left: the last sign stands between all that comes before it and the last part
-abbrev pub IsSumOf : List Name → Part → List Term → Expr → Type 0
-IsSumOf variables first terms (Number len value) = (terms ≡ []) × (Number len value ≡ part_of variables first)
-IsSumOf variables first terms (Read variable) = (terms ≡ []) × (Read variable ≡ part_of variables first)
+-- signs group from the left: the last sign stands between all that comes before it and the last operand
+abbrev pub IsSumOf : List Name → Operand → List Term → Expr → Type 0
+IsSumOf variables first terms (Number len value) = (terms ≡ []) × (Number len value ≡ operand_of variables first)
+IsSumOf variables first terms (Read variable) = (terms ≡ []) × (Read variable ≡ operand_of variables first)
 IsSumOf variables first terms (Dyadic' op _ left _ right) =
     (before : List Term) × (last : Term) × (terms ≡ before ++ last ∷ []) × (op ≡ operator_of last.sign)
-    × IsSumOf variables first before left × (right ≡ part_of variables last.part)
+    × IsSumOf variables first before left × (right ≡ operand_of variables last.operand)
 
 -- the operator stands between these two
 abbrev pub IsDyadic : Dyad → Expr → Expr → Expr → Type 0
 IsDyadic op left right (Dyadic' o _ l _ r) = (o ≡ op) × (l ≡ left) × (r ≡ right)
 IsDyadic op left right e = ⊥
 
-abbrev pub IsValueOf : List Name → Sum → Expr → Type 0
-IsValueOf variables sum value = IsSumOf variables sum.first sum.rest value
+abbrev pub IsExprOf : List Name → Sum → Expr → Type 0
+IsExprOf variables sum value = IsSumOf variables sum.first sum.rest value
 
 abbrev pub IsAssignOf : List Name → Assign → Statement → Type 0
-IsAssignOf variables assign (statement.Assign target value) = (target ≡ variable_of variables assign.target) × IsValueOf variables assign.value value
+IsAssignOf variables assign (statement.Assign target value) = (target ≡ variable_of variables assign.target) × IsExprOf variables assign.value value
 IsAssignOf variables assign (statement.Put values device format) = ⊥
 
 abbrev pub IsOneValue : List Name → Sum → List Expr → Type 0
 IsOneValue variables sum [] = ⊥
-IsOneValue variables sum (value ∷ []) = IsValueOf variables sum value
+IsOneValue variables sum (value ∷ []) = IsExprOf variables sum value
 IsOneValue variables sum (value ∷ other ∷ others) = ⊥
 
 -- PUT writes its one value to the terminal, by the format of its own number

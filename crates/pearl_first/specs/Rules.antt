@@ -5,8 +5,8 @@ use Rattle.pearl_first.specs.declared.rules.Fault.{Fault}
 use Rattle.pearl_first.specs.declared.rules.Sort.{Sort}
 use Rattle.pearl_first.specs.declared.rules.Sort.TheVariants.{Dation, Interrupt, Variable, Task}
 use Rattle.pearl_first.specs.declared.tree.Name.{Name}
-use Rattle.pearl_first.specs.declared.tree.Part.{Part}
-use Rattle.pearl_first.specs.declared.tree.Part.TheVariants as part
+use Rattle.pearl_first.specs.declared.tree.Operand.{Operand}
+use Rattle.pearl_first.specs.declared.tree.Operand.TheVariants as operand
 use Rattle.pearl_first.specs.declared.tree.Term.{Term}
 use Rattle.pearl_first.specs.declared.tree.Sum.{Sum}
 use Rattle.pearl_first.specs.declared.tree.Put.{Put}
@@ -35,8 +35,8 @@ declarations tree =
 abbrev pub specified : List (List ℕ)
 specified = codes "tty" ∷ codes "irq" ∷ []
 
-abbrev pub text_of : Name → List ℕ
-text_of name = name.text.items
+abbrev pub name_bytes : Name → List ℕ
+name_bytes name = name.text.items
 
 abbrev pub is_among : List (List ℕ) → List ℕ → Bool
 is_among [] name = false
@@ -51,7 +51,7 @@ s1_of_variables before [] = []
 s1_of_variables before (name ∷ names) = s1 before name ++ s1_of_variables (before ++ name.text.items ∷ []) names
 
 abbrev pub s1_of_task : Tree → List Fault
-s1_of_task tree = s1 (specified ++ map text_of tree.variables) tree.task
+s1_of_task tree = s1 (specified ++ map name_bytes tree.variables) tree.task
 
 abbrev pub is_none : Option Sort → Bool
 is_none None = true
@@ -80,16 +80,16 @@ abbrev pub use_faults : Tree → Sort → Name → List Fault
 use_faults tree needed name = s2 tree name ++ s16 tree needed name
 
 -- a name in a sum is that of a variable
-abbrev pub part_faults : Tree → Part → List Fault
-part_faults tree (part.Number value) = []
-part_faults tree (part.Name name) = use_faults tree Variable name
+abbrev pub operand_faults : Tree → Operand → List Fault
+operand_faults tree (operand.Number value) = []
+operand_faults tree (operand.Name name) = use_faults tree Variable name
 
 abbrev pub terms_faults : Tree → List Term → List Fault
 terms_faults tree [] = []
-terms_faults tree (term ∷ terms) = part_faults tree term.part ++ terms_faults tree terms
+terms_faults tree (term ∷ terms) = operand_faults tree term.operand ++ terms_faults tree terms
 
 abbrev pub sum_faults : Tree → Sum → List Fault
-sum_faults tree sum = part_faults tree sum.first ++ terms_faults tree sum.rest
+sum_faults tree sum = operand_faults tree sum.first ++ terms_faults tree sum.rest
 
 -- how much SKIP counts in the sum of widths
 abbrev pub skip_width : Bool → ℕ

@@ -87,8 +87,8 @@ abbrev pub digit_count : List ℕ → ℕ
 digit_count bytes = prefix_len is_ascii_digit bytes
 
 -- a colon and a digit
-abbrev pub begins_part : List ℕ → Bool
-begins_part bytes = slice_index bytes 0 == 58 && is_ascii_digit (slice_index bytes 1)
+abbrev pub begins_operand : List ℕ → Bool
+begins_operand bytes = slice_index bytes 0 == 58 && is_ascii_digit (slice_index bytes 1)
 
 -- digits: a clock where two more runs of digits follow, each after a colon, and else a number
 abbrev pub numeral : List ℕ → Option Front
@@ -98,7 +98,7 @@ numeral bytes =
     let minutes = digit_count (drop 1 after_hours) in
     let after_minutes = drop minutes (drop 1 after_hours) in
     let seconds = digit_count (drop 1 after_minutes) in
-    if begins_part after_hours && begins_part after_minutes
+    if begins_operand after_hours && begins_operand after_minutes
     then sized (clock_of (take hours bytes) (take minutes (drop 1 after_hours)) (take seconds (drop 1 after_minutes))) (hours + minutes + seconds + 2)
     else sized (number_of (take hours bytes)) hours
 

@@ -2,13 +2,13 @@
 
 ghost use Rattle.std.specs.Prelude.{◌≡◌, ◌≢◌, ℕ, ◌+◌, ◌-◌, ◌<◌, ◌≤◌, ◌↔◌, ◌^◌, length, IfOk, IfErr, IfSome, OnOk, IsTrue, Some, None, List, [], ◌∷◌, ◌++◌};
 ghost use Rattle.std.specs.List.{AllByRecursion};
-ghost use Rattle.pearl_first.specs.Forms.{Fits, FitsAt, FitFront, IsPart, IsSign, StartsStep};
-ghost use Rattle.pearl_first.specs.Grammar.{what_at, place_at, word, sign, id, number, symbol_of, part_mark, MarkAt, Stand, closing, step_end, declarations_marks, steps_marks, HasFewSigns, Spells};
+ghost use Rattle.pearl_first.specs.Forms.{Fits, FitsAt, FitFront, IsOperand, IsSign, StartsStep};
+ghost use Rattle.pearl_first.specs.Grammar.{what_at, place_at, word, sign, id, number, symbol_of, operand_mark, MarkAt, Stand, closing, step_end, declarations_marks, steps_marks, HasFewSigns, Spells};
 ghost use Rattle.pearl_first.specs.Stops.{Begun, EndBegun, NoEnd, NoClosing, IsSumAt, IsSumFault, IsStepAt, IsStepFault, IsOpened, IsParseFault};
 
 use crate::form::{CLOSING, DECLARATION, Form, HEAD, SKIP_END, TARGET, TASK_HEAD, spelling};
 use crate::token::{Symbol, Token, What};
-use crate::tree::{Assign, Name, Part, Put, Sign, Step, Sum, Term, Tree};
+use crate::tree::{Assign, Name, Operand, Put, Sign, Step, Sum, Term, Tree};
 use crate::word::Word;
 use pearl_value::listing::Listing;
 use std::alloc::Global;
@@ -217,16 +217,16 @@ fn end_at(tokens: &[Token], at: usize) -> Result<bool, usize>
     Err(at)
 }
 
-fn part_at(tokens: &[Token], at: usize) -> Option<Part>
-    ensures part { IfSome result (λ part. MarkAt tokens.now at (part_mark part)) }
-    ensures within { IfSome result (λ part. at < length tokens.now) }
-    ensures none { result ≡ None → IsPart (what_at tokens.now at) → ⊥ }
+fn operand_at(tokens: &[Token], at: usize) -> Option<Operand>
+    ensures operand { IfSome result (λ operand. MarkAt tokens.now at (operand_mark operand)) }
+    ensures within { IfSome result (λ operand. at < length tokens.now) }
+    ensures none { result ≡ None → IsOperand (what_at tokens.now at) → ⊥ }
 {
     if has_any_number(tokens, at) {
-        return Some(Part::Number(number_at(tokens, at)));
+        return Some(Operand::Number(number_at(tokens, at)));
     }
     if has_any_name(tokens, at) {
-        return Some(Part::Name(name_at(tokens, at)));
+        return Some(Operand::Name(name_at(tokens, at)));
     }
     None
 }
@@ -261,8 +261,8 @@ fn sum_at(alloc: Global, tokens: &[Token], from: usize) -> Result<FoundSum, Pars
     ensures inside { IfOk result (λ found. found.end ≤ length tokens.now) }
     ensures refused { IfErr result (λ fault. IsSumFault tokens.now from fault) }
 {
-    let first = match part_at(tokens, from) {
-        Some(part) => part,
+    let first = match operand_at(tokens, from) {
+        Some(operand) => operand,
         None => return Err(ParseFault::Stuck(from)),
     };
     let mut rest = Vec::new(alloc);
@@ -271,10 +271,10 @@ fn sum_at(alloc: Global, tokens: &[Token], from: usize) -> Result<FoundSum, Pars
         if rest.len() == SIGNS_MAX {
             return Err(ParseFault::Stuck(end));
         }
-        match part_at(tokens, end + 1) {
-            Some(part) => {
+        match operand_at(tokens, end + 1) {
+            Some(operand) => {
                 end += 2;
-                append_term(&mut rest, Term { sign, part })?;
+                append_term(&mut rest, Term { sign, operand })?;
             }
             None => return Err(ParseFault::Stuck(end + 1)),
         }

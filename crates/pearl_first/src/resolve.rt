@@ -5,7 +5,7 @@ ghost use Rattle.pearl_first.specs.Lawful.{IsLawful, IsSmall, HasSmallParts, IsL
 ghost use Rattle.pearl_first.specs.Resolved as spec;
 ghost use Rattle.pearl_first.specs.Rules.{faults};
 
-use crate::tree::{Assign, Name, Part, Put, Sign, Step, Sum, Tree};
+use crate::tree::{Assign, Name, Operand, Put, Sign, Step, Sum, Tree};
 use arrayvec::ArrayVec;
 use pearl_format::item::{Item, ItemCode};
 use pearl_prog::prog::Prog;
@@ -55,14 +55,14 @@ fn variable_of(variables: &[Name], name: &Name) -> Variable
     }
 }
 
-fn part_of(variables: &[Name], part: &Part) -> Expr
+fn operand_of(variables: &[Name], operand: &Operand) -> Expr
     requires few { length variables.now < 2 ^ 32 }
-    requires small { IsSmall part.now }
-    ensures { result ≡ spec.part_of variables.now part.now }
+    requires small { IsSmall operand.now }
+    ensures { result ≡ spec.operand_of variables.now operand.now }
 {
-    match part {
-        Part::Number(value) => literal_of(*value),
-        Part::Name(name) => Expr::Read(variable_of(variables, name)),
+    match operand {
+        Operand::Number(value) => literal_of(*value),
+        Operand::Name(name) => Expr::Read(variable_of(variables, name)),
     }
 }
 
@@ -86,11 +86,11 @@ fn dyadic(alloc: Global, op: Dyad, left: Expr, right: Expr) -> Result<Expr, Allo
 fn sum_of(alloc: Global, variables: &[Name], sum: &Sum) -> Result<Expr, AllocError>
     requires few { length variables.now < 2 ^ 32 }
     requires small { HasSmallParts sum.now }
-    ensures { IfOk result (λ value. spec.IsValueOf variables.now sum.now value) }
+    ensures { IfOk result (λ value. spec.IsExprOf variables.now sum.now value) }
 {
-    let mut value = part_of(variables, &sum.first);
+    let mut value = operand_of(variables, &sum.first);
     for term in sum.rest.as_slice() {
-        let right = part_of(variables, &term.part);
+        let right = operand_of(variables, &term.operand);
         value = dyadic(alloc, operator_of(term.sign), value, right)?;
     }
     Ok(value)

@@ -5,7 +5,7 @@ ghost use Rattle.pearl_first.specs.declared.rules.Fault.{Fault};
 ghost use Rattle.pearl_first.specs.Rules as spec;
 
 use crate::form::{Spelled, spelling};
-use crate::tree::{Assign, Name, Part, Put, Step, Sum, Tree};
+use crate::tree::{Assign, Name, Operand, Put, Step, Sum, Tree};
 
 /// A static rule that is broken, and where.
 #[derive(Clone, Copy, PartialEq, Eq, Debug)]
@@ -28,7 +28,7 @@ const WIDTH_MAX: u64 = 255;
 const SUM_MAX: u64 = 1024;
 
 fn is_among(mut names: &[Name], name: &[u8]) -> bool
-    ensures { result ≡ spec.is_among (map spec.text_of names.entry.now) name.now }
+    ensures { result ≡ spec.is_among (map spec.name_bytes names.entry.now) name.now }
 {
     while let [declared, rest @ ..] = names {
         if declared.text.as_slice() == name {
@@ -40,7 +40,7 @@ fn is_among(mut names: &[Name], name: &[u8]) -> bool
 }
 
 fn is_declared(names: &[Name], name: &[u8]) -> bool
-    ensures { result ≡ spec.is_among (spec.specified ++ map spec.text_of names.now) name.now }
+    ensures { result ≡ spec.is_among (spec.specified ++ map spec.name_bytes names.now) name.now }
 {
     spelling(Spelled::Tty) == name || spelling(Spelled::Irq) == name || is_among(names, name)
 }
@@ -158,21 +158,21 @@ fn use_fault(tree: &Tree, needed: Sort, name: &Name) -> Option<Fault>
     earlier(undeclared, other_sort)
 }
 
-fn part_fault(tree: &Tree, part: &Part) -> Option<Fault>
-    ensures { spec.IsFirstOf (spec.part_faults tree.now part.now) result }
+fn operand_fault(tree: &Tree, operand: &Operand) -> Option<Fault>
+    ensures { spec.IsFirstOf (spec.operand_faults tree.now operand.now) result }
 {
-    match part {
-        Part::Number(_) => None,
-        Part::Name(name) => use_fault(tree, Sort::Variable, name),
+    match operand {
+        Operand::Number(_) => None,
+        Operand::Name(name) => use_fault(tree, Sort::Variable, name),
     }
 }
 
 fn sum_fault(tree: &Tree, sum: &Sum) -> Option<Fault>
     ensures { spec.IsFirstOf (spec.sum_faults tree.now sum.now) result }
 {
-    let mut first = part_fault(tree, &sum.first);
+    let mut first = operand_fault(tree, &sum.first);
     for term in sum.rest.as_slice() {
-        let next = part_fault(tree, &term.part);
+        let next = operand_fault(tree, &term.operand);
         first = earlier(first, next);
     }
     first

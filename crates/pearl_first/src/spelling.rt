@@ -240,8 +240,8 @@ fn clock_of(hours: &[u8], minutes: &[u8], seconds: &[u8]) -> Option<What>
     }
 }
 
-fn begins_part(bytes: &[u8]) -> bool
-    ensures value { result ≡ spec.begins_part bytes.now }
+fn begins_operand(bytes: &[u8]) -> bool
+    ensures value { result ≡ spec.begins_operand bytes.now }
     ensures within { result ≡ true → 2 ≤ length bytes.now }
 {
     byte_at(bytes, 0) == b':' && byte_at(bytes, 1).is_ascii_digit()
@@ -265,7 +265,7 @@ fn numeral(bytes: &[u8]) -> Option<Front>
     let after_minutes = rest_of(minutes_on, minutes);
     let seconds_on = skip_one(after_minutes);
     let seconds = digit_count(seconds_on);
-    if begins_part(after_hours) && begins_part(after_minutes) {
+    if begins_operand(after_hours) && begins_operand(after_minutes) {
         let clock = clock_of(
             front_of(bytes, hours),
             front_of(minutes_on, minutes),

@@ -10,31 +10,31 @@ pub struct Name {
     pub place: u32,
 }
 
-/// A sign between two parts of a sum.
+/// A sign between two operands of a sum.
 #[derive(Clone, Copy, PartialEq, Eq, Debug)]
 pub enum Sign {
     Plus,
     Minus,
 }
 
-/// A part of a sum.
+/// An operand of a sum.
 #[derive(Drop)]
-pub enum Part {
+pub enum Operand {
     Number(u64),
     Name(Name),
 }
 
-/// A sign and the part after it.
+/// A sign and the operand after it.
 #[derive(Drop)]
 pub struct Term {
     pub sign: Sign,
-    pub part: Part,
+    pub operand: Operand,
 }
 
-/// A sum of one or more parts.
+/// A sum of one or more operands.
 #[derive(Drop)]
 pub struct Sum {
-    pub first: Part,
+    pub first: Operand,
     pub rest: Listing<Term>,
 }
 

@@ -20,8 +20,8 @@ use Rattle.pearl_format.proofs.Texts.{from_empty}
 abbrev pub IsText : List ℕ → Type 0
 IsText text = All IsTextByte text
 
-both : (a b : List ℕ) → IsText a → IsText b → IsText (a ++ b)
-both a b p q = All-append IsTextByte a b p q
+text-append : (a b : List ℕ) → IsText a → IsText b → IsText (a ++ b)
+text-append a b p q = All-append IsTextByte a b p q
 
 blanks : (count : ℕ) → IsText (replicate count 32)
 blanks count = All-replicate IsTextByte count 32 (inr (omega arith, omega arith))
@@ -37,7 +37,7 @@ glyph_text d small = by (nat_lt d 10)
 digits_onto_text : (k n : ℕ) (acc : List ℕ) → IsText acc → IsText (digits_onto k 10 false n acc)
 digits_onto_text zero n acc h = h
 digits_onto_text (suc k) n acc h =
-    let more = both (digit_glyph false (n % 10) ∷ []) acc (All-replicate IsTextByte 1 _ (glyph_text (n % 10) (omega arith))) h in
+    let more = text-append (digit_glyph false (n % 10) ∷ []) acc (All-replicate IsTextByte 1 _ (glyph_text (n % 10) (omega arith))) h in
     either (nat_eq (n / 10) 0) _ _ more (digits_onto_text k (n / 10) _ more)
   where
     either : (b : Bool) (xs ys : List ℕ) → IsText xs → IsText ys → IsText (cond b xs ys)
@@ -53,13 +53,13 @@ minus = All-from_recursion IsTextByte (codes "-") (inr (omega arith, omega arith
 
 signed_decimal_text : (value : ℤ) → IsText (signed_decimal value)
 signed_decimal_text (pos n) = decimal_text n
-signed_decimal_text (negsuc n) = both (codes "-") (decimal (suc n)) minus (decimal_text (suc n))
+signed_decimal_text (negsuc n) = text-append (codes "-") (decimal (suc n)) minus (decimal_text (suc n))
 
 two_text : (n : ℕ) → n < 100 → IsText (two_digits n)
 two_text n small = All-from_recursion IsTextByte (two_digits n) (inr (omega arith, omega arith), (inr (omega arith, omega arith), tt))
 
 three_text : (n : ℕ) → n < 1000 → IsText (three_digits n)
-three_text n small = both ((48 + n / 100) ∷ []) (two_digits (n % 100)) (All-from_recursion IsTextByte ((48 + n / 100) ∷ []) (inr (omega arith, omega arith), tt)) (two_text (n % 100) (omega arith))
+three_text n small = text-append ((48 + n / 100) ∷ []) (two_digits (n % 100)) (All-from_recursion IsTextByte ((48 + n / 100) ∷ []) (inr (omega arith, omega arith), tt)) (two_text (n % 100) (omega arith))
 
 colon : IsText (codes ":")
 colon = All-from_recursion IsTextByte (codes ":") (inr (omega arith, omega arith), tt)
@@ -83,16 +83,16 @@ seconds_printable : (time : ℕ) → time < 86400000 → IsText (seconds_text ti
 seconds_printable time small =
     let hours = two_digits (time / 3600000) in
     let minutes = two_digits (time / 60000 % 60) in
-    let a = both hours (codes ":") (two_text (time / 3600000) (omega arith)) colon in
-    let b = both (hours ++ codes ":") minutes a (two_text (time / 60000 % 60) (omega arith)) in
-    let c = both (hours ++ codes ":" ++ minutes) (codes ":") b colon in
-    both (hours ++ codes ":" ++ minutes ++ codes ":") (two_digits (time / 1000 % 60)) c (two_text (time / 1000 % 60) (omega arith))
+    let a = text-append hours (codes ":") (two_text (time / 3600000) (omega arith)) colon in
+    let b = text-append (hours ++ codes ":") minutes a (two_text (time / 60000 % 60) (omega arith)) in
+    let c = text-append (hours ++ codes ":" ++ minutes) (codes ":") b colon in
+    text-append (hours ++ codes ":" ++ minutes ++ codes ":") (two_digits (time / 1000 % 60)) c (two_text (time / 1000 % 60) (omega arith))
 
 clock_printable : (width time : ℕ) → time < 86400000 → IsText (clock_text width time)
 clock_printable width time small = by (nat_le 12 width)
   where
     by : (b : Bool) → IsText (cond b (seconds_text time ++ codes "." ++ three_digits (time % 1000)) (seconds_text time))
-    by true = both (seconds_text time ++ codes ".") (three_digits (time % 1000)) (both (seconds_text time) (codes ".") (seconds_printable time small) point) (three_text (time % 1000) (omega arith))
+    by true = text-append (seconds_text time ++ codes ".") (three_digits (time % 1000)) (text-append (seconds_text time) (codes ".") (seconds_printable time small) point) (three_text (time % 1000) (omega arith))
     by false = seconds_printable time small
 
 hours_printable : (n : ℕ) → IsText (hours_text n)
@@ -101,15 +101,15 @@ hours_printable n =
     let minutes = hours ++ two_digits (n / 60000 % 60) in
     let seconds = minutes ++ codes " MIN " ++ two_digits (n / 1000 % 60) in
     let millis = seconds ++ codes "." ++ three_digits (n % 1000) in
-    let a : IsText minutes = both hours (two_digits (n / 60000 % 60)) (both (decimal (n / 3600000)) (codes " HRS ") (decimal_text (n / 3600000)) hrs)
+    let a : IsText minutes = text-append hours (two_digits (n / 60000 % 60)) (text-append (decimal (n / 3600000)) (codes " HRS ") (decimal_text (n / 3600000)) hrs)
     (two_text (n / 60000 % 60) (omega arith)) in
-    let b : IsText seconds = both (minutes ++ codes " MIN ") (two_digits (n / 1000 % 60)) (both minutes (codes " MIN ") a min_word) (two_text (n / 1000 % 60) (omega arith)) in
-    let c : IsText millis = both (seconds ++ codes ".") (three_digits (n % 1000)) (both seconds (codes ".") b point) (three_text (n % 1000) (omega arith)) in
-    both millis (codes " SEC") c sec
+    let b : IsText seconds = text-append (minutes ++ codes " MIN ") (two_digits (n / 1000 % 60)) (text-append minutes (codes " MIN ") a min_word) (two_text (n / 1000 % 60) (omega arith)) in
+    let c : IsText millis = text-append (seconds ++ codes ".") (three_digits (n % 1000)) (text-append seconds (codes ".") b point) (three_text (n % 1000) (omega arith)) in
+    text-append millis (codes " SEC") c sec
 
 span_printable : (time : ℤ) → IsText (span_text time)
 span_printable (pos n) = hours_printable n
-span_printable (negsuc n) = both (codes "-") (hours_text (suc n)) minus (hours_printable (suc n))
+span_printable (negsuc n) = text-append (codes "-") (hours_text (suc n)) minus (hours_printable (suc n))
 
 -- digits of at most four bits
 bit_glyph_text : (d : ℕ) → d < 16 → IsTextByte (digit_glyph true d)
@@ -130,21 +130,21 @@ bit_digit (suc (suc (suc (suc (suc group))))) value few = absurd (omega (arith, 
 digits_printable : (group count value : ℕ) → group ≤ 4 → IsText (last_digits group count value)
 digits_printable group zero value few = All-nil IsTextByte
 digits_printable group (suc count) value few =
-    both (digit_glyph true (value / 2 ^ (group * count) % 2 ^ group) ∷ []) (last_digits group count value)
+    text-append (digit_glyph true (value / 2 ^ (group * count) % 2 ^ group) ∷ []) (last_digits group count value)
     (All-replicate IsTextByte 1 _ (bit_glyph_text _ (bit_digit group (value / 2 ^ (group * count)) few))) (digits_printable group count value few)
 
 right-printable : (width : ℕ) (text : List ℕ) → IsText text → IfSome (right_field width text) IsText
 right-printable width text h = by (nat_le (length text) width)
   where
     by : (b : Bool) → IfSome (cond b (Some (replicate (width - length text) 32 ++ text)) None) IsText
-    by true = both (replicate (width - length text) 32) text (blanks (width - length text)) h
+    by true = text-append (replicate (width - length text) 32) text (blanks (width - length text)) h
     by false = tt
 
 left-printable : (width : ℕ) (text : List ℕ) → IsText text → IfSome (left_field width text) IsText
 left-printable width text h = by (nat_le (length text) width)
   where
     by : (b : Bool) → IfSome (cond b (Some (text ++ replicate (width - length text) 32)) None) IsText
-    by true = both text (replicate (width - length text) 32) h (blanks (width - length text))
+    by true = text-append text (replicate (width - length text) 32) h (blanks (width - length text))
     by false = tt
 
 letters-printable : (width : ℕ) (values : List Cell) → AllByRecursion IsValue values → IfSome (letters_item width values) IsText
@@ -154,7 +154,7 @@ letters-printable width (Bits len value ∷ values) are = tt
 letters-printable width (Chars text ∷ values) are =
     let own = width_or width (length text.items) in
     let plain : IsText text.items = All-weaker IsLetter IsTextByte (λ byte letter. inr letter) text.items are.0.1 in
-    both (take own text.items) (replicate (own - length text.items) 32) (All-take IsTextByte own text.items plain) (blanks (own - length text.items))
+    text-append (take own text.items) (replicate (own - length text.items) 32) (All-take IsTextByte own text.items plain) (blanks (own - length text.items))
 letters-printable width (Clock time ∷ values) are = tt
 letters-printable width (Span time ∷ values) are = tt
 letters-printable width (Ref of place ∷ values) are = tt
@@ -211,7 +211,7 @@ own_text-printable Skip width values are = All-replicate IsTextByte (skip_count 
 joined-printable : (a b : Option (List ℕ)) → IfSome a IsText → IfSome b IsText → IfSome (joined_text a b) IsText
 joined-printable None b p q = tt
 joined-printable (Some a) None p q = tt
-joined-printable (Some a) (Some b) p q = both a b p q
+joined-printable (Some a) (Some b) p q = text-append a b p q
 
 left_values : (n : ℕ) (values : List Cell) → AllByRecursion IsValue values → AllByRecursion IsValue (drop n values)
 left_values zero values are = are

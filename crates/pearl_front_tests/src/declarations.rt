@@ -1,6 +1,6 @@
-// Parts that were worked out by hand: the number of the token behind each, and the number of its stop.
+// Parts that were worked out by hand, each with the place behind it and the token that ends it.
 
-use pearl_lex::lexer::tokens;
+use crate::cases::case_of;
 use pearl_parse_decl::declaration::{declare, length_of, specify, type_of};
 use pearl_parse_decl::head::{returns, task_head};
 use pearl_parse_decl::list::{Part, list};
@@ -17,152 +17,186 @@ use pearl_tree::typing::Bound;
 use std::alloc::{AllocError, Global};
 use std::fmt;
 
-// Each source with the number of the token after what is read, and of its stop. Where the first is missing, nothing is.
-type Case = (&'static [u8], Option<usize>, usize);
+// Each case is read up to `|`, or not at all. It is read no further because of the token at `^`, where that isn't
+// the one at `|`.
 
-fn formats() -> &'static [Case] {
+fn formats() -> &'static [&'static str] {
     &[
-        (b"F(5)", Some(4), 4),
-        (b"A", Some(1), 1),
-        (b"A 5", Some(1), 1),
-        (b"B4(2),", Some(4), 4),
-        (b"SKIP(x)", Some(1), 2),
-        (b"F", None, 1),
-        (b"T 8", None, 1),
-        (b"D()", None, 2),
-        (b"F(5", None, 3),
-        (b"Q", None, 0),
-        (b"5", None, 0),
+        "F(5)|",
+        "A|",
+        "A| 5",
+        "B4(2)|,",
+        "X|;",
+        "SKIP|(^x)",
+        "SKIP|(2^",
+        "T(8)|",
+        "D(26)|",
+        "F^",
+        "T ^8",
+        "D(^)",
+        "F(5^",
+        "^B5",
+        "^Q",
+        "^5",
     ]
 }
 
-fn bounds() -> &'static [Case] {
+fn bounds() -> &'static [&'static str] {
     &[
-        (b"1:5", Some(3), 3),
-        (b"-1 : -2 x", Some(5), 5),
-        (b"5", Some(1), 1),
-        (b"1:", Some(1), 2),
-        (b"1:-", Some(1), 3),
-        (b"-", None, 1),
-        (b"x", None, 0),
+        "1:5|",
+        "-1 : -2| x",
+        "5|",
+        "- 5|:^",
+        "1|:^",
+        "1|:-^",
+        "1|:- ^-",
+        "-^",
+        "^+ 1",
+        "^x",
     ]
 }
 
-fn constants() -> &'static [Case] {
+fn constants() -> &'static [&'static str] {
     &[
-        (b"- 5 SEC", Some(3), 3),
-        (b"+ 2 HRS 3 x", Some(3), 4),
-        (b"'ab'", Some(1), 1),
-        (b"- -", None, 1),
-        (b"1.5", None, 1),
-        (b"a", None, 0),
+        "- 5 SEC|",
+        "+ 2 HRS| 3 ^x",
+        "'ab'|",
+        "- '1'B|",
+        "1:2:3|",
+        "- ^-",
+        "+^",
+        "1.5^",
+        "^a",
     ]
 }
 
-fn items() -> &'static [Case] {
+fn items() -> &'static [&'static str] {
     &[
-        (b"a FIXED", Some(2), 2),
-        (
-            b"a(1:3, -2:5) INV STRUCT [ x FIXED(15), (y, z) CHAR ] INIT(1, -2)",
-            Some(34),
-            34,
-        ),
-        (b"(a, b) t", Some(6), 6),
-        (b"a FIXED(31", Some(2), 4),
-        (b"a FIXED INIT 5", Some(2), 3),
-        (b"a DUR INIT(1 MIN, )", Some(2), 7),
-        (b"(a b) FIXED", None, 2),
-        (b"a SEMA", None, 1),
-        (b"a(1", None, 3),
-        (b"a STRUCT [ ]", None, 3),
-        (b"a STRUCT x", None, 2),
-        (b"a INV INV BIT", None, 2),
+        "a FIXED|",
+        "a(1:3, -2:5) INV STRUCT [ x FIXED(15), (y, z) CHAR ] INIT(1, -2)|",
+        "(a, b) t|",
+        "a FIXED|(31^",
+        "a FIXED| INIT ^5",
+        "a DUR| INIT(1 MIN, ^)",
+        "a DUR| INIT(^)",
+        "(a ^b) FIXED",
+        "(^) FIXED",
+        "(a, ^) FIXED",
+        "a ^SEMA",
+        "a(1^",
+        "a(1, ^)",
+        "a STRUCT [ ^]",
+        "a STRUCT [ x FIXED ^; ]",
+        "a STRUCT ^x",
+        "a INV ^INV BIT",
+        "a^",
     ]
 }
 
-fn declared() -> &'static [Case] {
+fn declared() -> &'static [&'static str] {
     &[
-        (b"s SEMA PRESET(1, 2)", Some(8), 8),
-        (b"(s, t) SEMA", Some(6), 6),
-        (b"s SEMA PRESET(x)", Some(2), 4),
-        (b"a CLOCK", Some(2), 2),
-        (b"a ;", None, 1),
-        (b"SEMA", None, 0),
+        "s SEMA PRESET(1, 2)|",
+        "(s, t) SEMA|",
+        "s SEMA| PRESET(^x)",
+        "s SEMA| PRESET(1^",
+        "a CLOCK|",
+        "a ^;",
+        "^SEMA",
     ]
 }
 
-fn specified() -> &'static [Case] {
+fn specified() -> &'static [&'static str] {
     &[
-        (b"i INTERRUPT", Some(2), 2),
-        (b"d DATION INOUT ALPHIC CONTROL(ALL)", Some(8), 8),
-        (b"d DATION OUT BASIC CHAR(3)", Some(8), 8),
-        (b"d DATION IN ALPHIC CONTROL(x", Some(4), 6),
-        (b"d DATION IN ALPHIC CONTROLS", Some(4), 4),
-        (b"d DATION ALPHIC", None, 2),
-        (b"d DATION IN", None, 3),
-        (b"d FIXED", None, 1),
+        "i INTERRUPT|",
+        "(i, j) IRPT|",
+        "d DATION INOUT ALPHIC CONTROL(ALL)|",
+        "d DATION OUT BASIC CHAR(3)|",
+        "d DATION IN ALPHIC| CONTROL(^x",
+        "d DATION IN ALPHIC| CONTROLS",
+        "d DATION OUT BASIC CHAR|(^x)",
+        "d DATION ^ALPHIC",
+        "d DATION IN^",
+        "d DATION IN BASIC ^t",
+        "d ^FIXED",
     ]
 }
 
-fn params() -> &'static [Case] {
+fn params() -> &'static [&'static str] {
     &[
-        (b"a FIXED IDENT", Some(3), 3),
-        (b"(a, b) BIT(8)", Some(9), 9),
-        (b"a STRUCT", None, 1),
+        "a FIXED IDENT|",
+        "a DUR IDENTICAL|",
+        "(a, b) BIT(8)|",
+        "a ^STRUCT",
+        "a ^t",
+        "^5",
     ]
 }
 
-fn heads() -> &'static [Case] {
+fn heads() -> &'static [&'static str] {
     &[
-        (b"PRIO 5 MAIN", Some(3), 3),
-        (b"MAIN PRIO 5", Some(3), 3),
-        (b"MAIN PRIO", Some(1), 2),
-        (b"PRIO 5", Some(2), 2),
-        (b"PRIO MAIN", Some(0), 1),
-        (b"MAIN", Some(1), 1),
-        (b"", Some(0), 0),
+        "PRIO 5 MAIN|",
+        "MAIN PRIO 5|",
+        "PRIO 5 MAIN| PRIO 5",
+        "MAIN| PRIO^",
+        "MAIN| PRIO ^x",
+        "PRIO 5|",
+        "|PRIO ^MAIN",
+        "MAIN|",
+        "|",
     ]
 }
 
-fn results() -> &'static [Case] {
+fn results() -> &'static [&'static str] {
     &[
-        (b"RETURNS(FIXED(15))", Some(7), 7),
-        (b"RETURNS(FIXED(15)", Some(0), 6),
-        (b"; RETURNS", Some(0), 0),
+        "RETURNS(FIXED(15))|",
+        "|RETURNS(FIXED(15)^",
+        "|RETURNS ^FIXED",
+        "|RETURNS(^t)",
+        "|; RETURNS",
     ]
 }
 
-fn devices() -> &'static [Case] {
+fn devices() -> &'static [&'static str] {
     &[
-        (b"t : TERMINAL(1);", Some(7), 7),
-        (b"i : INTERRUPT(2);", Some(7), 7),
-        (b"t : 5", None, 2),
-        (b"t : OUTPUT(1) t", None, 6),
+        "t : TERMINAL(1);|",
+        "i : INTERRUPT(2);|",
+        "t ^TERMINAL(1);",
+        "t : ^5",
+        "t : OUTPUT ^1",
+        "t : OUTPUT(^x)",
+        "t : OUTPUT(1^;",
+        "t : OUTPUT(1) ^t",
+        "^INTERRUPT",
     ]
 }
 
-fn declarations() -> &'static [Case] {
+fn declarations() -> &'static [&'static str] {
     &[
-        (b"LENGTH CHAR(15);", Some(6), 6),
-        (b"LENGTH CLOCK(15);", None, 1),
-        (b"LENGTH FIXED;", None, 2),
-        (b"TYPE t STRUCT [ a FIXED ];", Some(8), 8),
-        (b"TYPE FIXED;", None, 1),
-        (b"DCL a FIXED, s SEMA;", Some(7), 7),
-        (b"DCL a FIXED, b;", None, 5),
-        (b"DCL a FIXED(x;", None, 4),
-        (b"SPC i IRPT, d DATION IN ALPHIC;", Some(9), 9),
-        (b"SPC i IRPT d", None, 3),
-        (b"MODEND", None, 0),
+        "LENGTH CHAR(15);|",
+        "LENGTH ^CLOCK(15);",
+        "LENGTH FIXED^;",
+        "LENGTH BIT(8)^",
+        "TYPE t STRUCT [ a FIXED ];|",
+        "TYPE t u;|",
+        "TYPE ^FIXED;",
+        "TYPE t^;",
+        "DCL a FIXED, s SEMA;|",
+        "DCL a FIXED, b^;",
+        "DCL a FIXED(^x;",
+        "DCL ^;",
+        "SPC i IRPT, d DATION IN ALPHIC;|",
+        "SPC i IRPT ^d",
+        "SPC i IRPT, ^;",
+        "^MODEND",
     ]
 }
 
-fn names() -> &'static [Case] {
-    &[(b"a, b, 5", Some(3), 4), (b"5", None, 0)]
+fn names() -> &'static [&'static str] {
+    &["a, b|, ^5", "a| b", "^5"]
 }
 
-fn numbers() -> &'static [Case] {
-    &[(b"1, 2", Some(3), 3)]
+fn numbers() -> &'static [&'static str] {
+    &["1, 2|", "1|, ^x"]
 }
 
 fn shown<T: Drop>(found: Result<Reading<T>, Halt>) -> (Option<usize>, usize) {
@@ -251,7 +285,7 @@ fn readers() -> &'static [Reader] {
     ]
 }
 
-fn cases_of(reader: Reader) -> &'static [Case] {
+fn cases_of(reader: Reader) -> &'static [&'static str] {
     match reader {
         Reader::Format => formats(),
         Reader::Bound => bounds(),
@@ -269,55 +303,44 @@ fn cases_of(reader: Reader) -> &'static [Case] {
     }
 }
 
-fn is_read(alloc: Global, reader: Reader, source: &[u8], end: Option<usize>, stop: usize) -> bool {
-    if source.len() > 1000 {
-        return false;
-    }
-    match tokens(alloc, source) {
-        Ok(tokens) => {
-            let found = read(alloc, tokens.as_slice(), reader);
-            found.0 == end && found.1 == stop
-        }
-        Err(_) => false,
+// Whether the case is read up to its marks.
+fn is_read(alloc: Global, reader: Reader, case: &[u8]) -> bool {
+    match case_of(alloc, case) {
+        Some(case) => read(alloc, case.tokens.as_slice(), reader) == (case.end, case.stop),
+        None => false,
     }
 }
 
 #[test]
 fn parts_end_where_the_grammar_says(rt: HostRuntime) -> Result<(), fmt::Error> {
     for &reader in readers() {
-        for &(source, end, stop) in cases_of(reader) {
-            assert!(rt;
-                is_read(rt.alloc(), reader, source, end, stop),
-                "{source:?}"
-            );
+        for &case in cases_of(reader) {
+            assert!(rt; is_read(rt.alloc(), reader, case.as_bytes()), "{case}");
         }
     }
     Ok(())
 }
 
-fn add(into: &mut Vec<u8>, part: &[u8], times: usize) -> Result<(), AllocError> {
-    for _ in 0..times {
-        into.extend_from_slice(part)?;
+// A variable whose type has 7 STRUCTs around this type.
+fn nested(alloc: Global, typing: &str) -> Result<Vec<u8>, AllocError> {
+    let mut case = Vec::from_slice(alloc, b"a ")?;
+    for _ in 0..7 {
+        case.extend_from_slice(b"STRUCT [ b ")?;
     }
-    Ok(())
-}
-
-// A variable whose type has STRUCTs within one another.
-fn nested(alloc: Global, times: usize) -> Result<Vec<u8>, AllocError> {
-    let mut source = Vec::new(alloc);
-    add(&mut source, b"a ", 1)?;
-    add(&mut source, b"STRUCT [ b ", times)?;
-    add(&mut source, b"FIXED", 1)?;
-    add(&mut source, b" ]", times)?;
-    Ok(source)
+    case.extend_from_slice(typing.as_bytes())?;
+    for _ in 0..7 {
+        case.extend_from_slice(b" ]")?;
+    }
+    Ok(case)
 }
 
 #[test]
 fn structs_nest_8_deep(rt: HostRuntime) -> Result<(), AllocError> {
     let alloc = rt.alloc();
-    let source = nested(alloc, 8)?;
-    assert!(rt; is_read(alloc, Reader::Item, source.as_slice(), Some(34), 34));
-    let source = nested(alloc, 9)?;
-    assert!(rt; is_read(alloc, Reader::Item, source.as_slice(), None, 25));
+    let mut case = nested(alloc, "STRUCT [ b FIXED ]")?;
+    case.push(b'|')?;
+    assert!(rt; is_read(alloc, Reader::Item, case.as_slice()));
+    let case = nested(alloc, "STRUCT [ b ^STRUCT [ b FIXED ] ]")?;
+    assert!(rt; is_read(alloc, Reader::Item, case.as_slice()));
     Ok(())
 }

@@ -1,6 +1,6 @@
 // Devices and the rules S10 to S14 of small modules, worked out by hand.
 
-use crate::modules::tokens_of;
+use crate::cases::{STOP, places_of, source_of, tokens_of};
 use pearl_parse::parse::parse;
 use pearl_system::device::{Role, SpecifiedDevice};
 use pearl_system::system;
@@ -9,86 +9,39 @@ use pearl_tree::typing::{Basic, Sort};
 use std::alloc::{AllocError, Global};
 use std::test::Fail;
 
-// Each module with its faults and devices as `shown` writes them.
-fn modules() -> &'static [(&'static [u8], &'static str)] {
-    &[
-        (b"MODULE;PROBLEM;MODEND", ""),
-        (b"MODULE;SYSTEM;a:FOO(1);PROBLEM;MODEND", "16:11 "),
-        (b"MODULE;SYSTEM;a:INPUT(0);PROBLEM;MODEND", "16:11 "),
-        (b"MODULE;SYSTEM;a:OUTPUT(100);PROBLEM;MODEND", "16:11 "),
-        (b"MODULE;SYSTEM;a:IRPT(1);b:OUTPUT(99);PROBLEM;MODEND", ""),
-        (
-            b"MODULE;SYSTEM;a:INPUT(1);a:INPUT(2);PROBLEM;MODEND",
-            "25:10 ",
-        ),
-        (
-            b"MODULE;SYSTEM;a:INPUT(1);b:INPUT(1);PROBLEM;MODEND",
-            "25:12 ",
-        ),
-        (
-            b"MODULE;SYSTEM;a:FOO(1);a:FOO(1);PROBLEM;MODEND",
-            "16:11 23:10 23:12 25:11 ",
-        ),
-        (
-            b"MODULE;SYSTEM;a:INTERRUPT(7);b:IRPT(7);PROBLEM;MODEND",
-            "29:12 ",
-        ),
-        (b"MODULE;SYSTEM;a:INPUT(1);b:OUTPUT(1);PROBLEM;MODEND", ""),
-        (b"MODULE;PROBLEM;SPC a INTERRUPT;MODEND", "19:13 "),
-        (
-            b"MODULE;SYSTEM;a:INPUT(1);PROBLEM;SPC a IRPT;MODEND",
-            "37:13 ",
-        ),
-        (
-            b"MODULE;SYSTEM;a:FOO(1);PROBLEM;SPC a IRPT;MODEND",
-            "16:11 35:13 ",
-        ),
-        (
-            b"MODULE;SYSTEM;a:FOO(1);PROBLEM;SPC a DATION IN ALPHIC;MODEND",
-            "16:11 ",
-        ),
-        (
-            b"MODULE;SYSTEM;a:IRPT(1);PROBLEM;SPC a DATION IN ALPHIC;MODEND",
-            "36:13 ",
-        ),
-        (
-            b"MODULE;SYSTEM;a:TERMINAL(1);PROBLEM;SPC a DATION IN BASIC BIT;MODEND",
-            "40:14 ",
-        ),
-        (
-            b"MODULE;SYSTEM;a:INPUT(1);PROBLEM;SPC a DATION OUT BASIC BIT;MODEND",
-            "37:14 ",
-        ),
-        (
-            b"MODULE;SYSTEM;a:INPUT(1);PROBLEM;SPC a DATION IN ALPHIC;MODEND",
-            "37:14 ",
-        ),
-        (
-            b"MODULE;SYSTEM;a:OUTPUT(1);PROBLEM;SPC a DATION INOUT BASIC BIT;MODEND",
-            "38:14 ",
-        ),
-        (
-            b"MODULE;SYSTEM;a:IRPT(3);PROBLEM;SPC a IRPT;MODEND",
-            "a=I3 ",
-        ),
-        (
-            b"MODULE;SYSTEM;b:OUTPUT(2);a:OUTPUT(1);t:TERMINAL(9);i:INPUT(5);q:IRPT(8);PROBLEM;SPC (b,a) DATION OUT BASIC FIXED(15),t DATION INOUT ALPHIC;SPC i DATION IN BASIC CLOCK,q INTERRUPT;MODEND",
-            "q=I8 t=T9+ i=R5clock a=W1fixed15 b=W2fixed15 ",
-        ),
-        // Of one word and number, the first specified name.
-        (
-            b"MODULE;SYSTEM;a:IRPT(3);b:IRPT(3);PROBLEM;SPC (b,a) IRPT;MODEND",
-            "24:12 b=I3 ",
-        ),
-        // A name means its first device.
-        (
-            b"MODULE;SYSTEM;a:IRPT(3);a:TERMINAL(4);PROBLEM;SPC a IRPT;MODEND",
-            "24:10 a=I3 ",
-        ),
-        (
-            b"MODULE;SYSTEM;t:TERMINAL(1);PROBLEM;SPC (t,u) DATION OUT ALPHIC,v IRPT;MODEND",
-            "43:13 64:13 t=T1> ",
-        ),
+// Each module with the rules that are broken at its marks, and its devices, as `shown` writes them.
+fn modules() -> &'static [(&'static str, &'static str)] {
+    table![
+        "MODULE;PROBLEM;MODEND" => "";
+        "MODULE;SYSTEM;a:^FOO(1);PROBLEM;MODEND" => "S11 ";
+        "MODULE;SYSTEM;a:^INPUT(0);PROBLEM;MODEND" => "S11 ";
+        "MODULE;SYSTEM;a:^OUTPUT(100);PROBLEM;MODEND" => "S11 ";
+        "MODULE;SYSTEM;a:IRPT(1);b:OUTPUT(99);PROBLEM;MODEND" => "";
+        "MODULE;SYSTEM;a:INPUT(1);^a:INPUT(2);PROBLEM;MODEND" => "S10 ";
+        "MODULE;SYSTEM;a:INPUT(1);^b:INPUT(1);PROBLEM;MODEND" => "S12 ";
+        "MODULE;SYSTEM;a:INPUT(1);^b:INPUT(01);PROBLEM;MODEND" => "S12 ";
+        "MODULE;SYSTEM;a:^FOO(1);^^a:^FOO(1);PROBLEM;MODEND" => "S11 S10 S12 S11 ";
+        "MODULE;SYSTEM;a:INTERRUPT(7);^b:IRPT(7);PROBLEM;MODEND" => "S12 ";
+        "MODULE;SYSTEM;a:INPUT(1);b:OUTPUT(1);PROBLEM;MODEND" => "";
+        "MODULE;PROBLEM;SPC ^a INTERRUPT;MODEND" => "S13 ";
+        "MODULE;SYSTEM;a:INPUT(1);PROBLEM;SPC ^a IRPT;MODEND" => "S13 ";
+        "MODULE;SYSTEM;a:^FOO(1);PROBLEM;SPC ^a IRPT;MODEND" => "S11 S13 ";
+        "MODULE;SYSTEM;a:^FOO(1);PROBLEM;SPC a DATION IN ALPHIC;MODEND" => "S11 ";
+        "MODULE;SYSTEM;a:IRPT(1);PROBLEM;SPC ^a DATION IN ALPHIC;MODEND" => "S13 ";
+        "MODULE;SYSTEM;a:TERMINAL(1);PROBLEM;SPC ^a DATION IN BASIC BIT;MODEND" => "S14 ";
+        "MODULE;SYSTEM;a:INPUT(1);PROBLEM;SPC ^a DATION OUT BASIC BIT;MODEND" => "S14 ";
+        "MODULE;SYSTEM;a:INPUT(1);PROBLEM;SPC ^a DATION IN ALPHIC;MODEND" => "S14 ";
+        "MODULE;SYSTEM;a:OUTPUT(1);PROBLEM;SPC ^a DATION INOUT BASIC BIT;MODEND" => "S14 ";
+        "MODULE;SYSTEM;a:OUTPUT(1);PROBLEM;SPC ^a DATION OUT ALPHIC;MODEND" => "S14 ";
+        "MODULE;SYSTEM;a:IRPT(3);PROBLEM;SPC a IRPT;MODEND" => "a=I3 ";
+        "MODULE;SYSTEM;b:OUTPUT(2);a:OUTPUT(1);t:TERMINAL(9);i:INPUT(5);q:IRPT(8);PROBLEM;\
+            SPC (b,a) DATION OUT BASIC FIXED(15),t DATION INOUT ALPHIC;\
+            SPC i DATION IN BASIC CLOCK,q INTERRUPT;MODEND"
+            => "q=I8 t=T9+ i=R5clock a=W1fixed15 b=W2fixed15 ";
+        "MODULE;SYSTEM;a:IRPT(3);^b:IRPT(3);PROBLEM;SPC (b,a) IRPT;MODEND" => "S12 b=I3 ";
+        "MODULE;SYSTEM;a:IRPT(3);^a:TERMINAL(4);PROBLEM;SPC a IRPT;MODEND" => "S10 a=I3 ";
+        "MODULE;SYSTEM;t:TERMINAL(1);PROBLEM;SPC (t,^u) DATION OUT ALPHIC,^v IRPT;MODEND"
+            => "S13 S13 t=T1> ";
     ]
 }
 
@@ -138,10 +91,13 @@ fn show_device(into: &mut String, device: &SpecifiedDevice) -> Result<(), AllocE
     into.push_str(" ")
 }
 
-// The faults of a module and its devices, each with a blank behind it, or what it has in place of them.
-fn shown(alloc: Global, source: &[u8]) -> Result<String, AllocError> {
+// The broken rules of a module and its devices, each with a blank behind it, or what it has in place of them. A rule that
+// isn't told at its mark has its place in front.
+fn shown(alloc: Global, case: &[u8]) -> Result<String, AllocError> {
     let mut text = String::new(alloc);
-    let Some((tokens, end)) = tokens_of(alloc, source) else {
+    let source = source_of(alloc, case)?;
+    let places = places_of(alloc, case, STOP)?;
+    let Some((tokens, end)) = tokens_of(alloc, source.as_slice()) else {
         text.push_str("no tokens")?;
         return Ok(text);
     };
@@ -153,8 +109,15 @@ fn shown(alloc: Global, source: &[u8]) -> Result<String, AllocError> {
         text.push_str("no memory")?;
         return Ok(text);
     };
+    let mut marks = places.as_slice().iter();
     for fault in faults.as_slice() {
-        write!(text, "{}:{} ", fault.place, fault.rule)?;
+        if marks.next() != Some(&fault.place) {
+            write!(text, "{}:", fault.place)?;
+        }
+        write!(text, "S{} ", fault.rule)?;
+    }
+    if marks.next().is_some() {
+        text.push_str("a mark too many ")?;
     }
     for device in devices.as_slice() {
         show_device(&mut text, device)?;
@@ -164,9 +127,9 @@ fn shown(alloc: Global, source: &[u8]) -> Result<String, AllocError> {
 
 #[test]
 fn modules_have_their_devices_and_faults(rt: HostRuntime) -> Result<(), Fail> {
-    for &(source, expected) in modules() {
-        let found = shown(rt.alloc(), source)?;
-        assert_eq!(rt; found.as_str(), expected);
+    for &(case, expected) in modules() {
+        let found = shown(rt.alloc(), case.as_bytes())?;
+        assert_eq!(rt; found.as_str(), expected, "{case}");
     }
     Ok(())
 }

@@ -1,6 +1,6 @@
 // Expressions that were worked out by hand, each written back with a bracket round each dyadic operator.
 
-use pearl_lex::lexer::tokens;
+use crate::cases::{Case, case_of};
 use pearl_parse_expr::expression::expression;
 use pearl_parse_expr::fault::ParseFault;
 use pearl_tree::expression::{Dyad, Expr, Monad, Operand, Primary, Ref, Selector, Side};
@@ -9,65 +9,57 @@ use pearl_tree::token::Token;
 use std::alloc::{AllocError, Global};
 use std::fmt;
 
-const END: u32 = u32::MAX;
+// The place that is told where the tokens run out.
+const NO_PLACE: u32 = u32::MAX;
 
-// Each source with the number of the token after its longest expression, the place of the stop, and what is read.
-fn read() -> &'static [(&'static [u8], usize, u32, &'static [u8])] {
-    &[
-        (b"a - b - c ** d", 7, END, b"((a-b)-(c^d))"),
-        (b"a ** b ** c", 5, END, b"((a^b)^c)"),
-        (
-            b"a OR b AND c EQ d LT e + f * g ** h",
-            15,
-            END,
-            b"(a|(b&(c=(d<(e+(f*(g^h)))))))",
-        ),
-        (
-            b"a ** b * c + d > e /= f AND g EXOR h",
-            15,
-            END,
-            b"(((((((a^b)*c)+d)>e)#f)&g)?h)",
-        ),
-        (b"a // b REM c >< d", 7, END, b"(((a/b)%c)~d)"),
-        (b"a <> b SHIFT c", 5, END, b"((a@b)$c)"),
-        (b"a <= b >= c", 5, END, b"((a{b)}c)"),
-        (b"(a - (b - c)) * d", 11, END, b"([(a-[(b-c)])]*d)"),
-        (b"- a ** b", 4, END, b"(-a^b)"),
-        (b"NOT ABS SIGN + a", 5, END, b"!AS+a"),
-        (b"a.b(1, c + d)(e).f", 15, END, b"a.b(n,(c+d))(e).f"),
-        (b"f(a)(b", 4, END, b"f(a)"),
-        (b"f(a, )", 1, 5, b"f"),
-        (b"f(a b)", 1, 4, b"f"),
-        (b"f() + 1", 1, 2, b"f"),
-        (b"a.5", 1, 2, b"a"),
-        (b"1 HRS 2 MIN 3.5 SEC - 4 HRS 5 SEC", 11, END, b"(d-d)"),
-        (b"6 MIN 7 SEC + 8.9 SEC", 7, END, b"(d+d)"),
-        (b"1 HRS 2 x", 2, 8, b"d"),
-        (b"1 MIN 2.5", 2, END, b"d"),
-        (b"2 UPB a(1) - LWB b.c", 11, END, b"(nUa(n)-Lb.c)"),
-        (b"1 LWB 5", 1, 6, b"n"),
-        (b"NOW - TRY s", 4, END, b"(N-Ts)"),
-        (b"'1'B >< 'ab' CAT 1:2:3", 5, END, b"((b~t)~c)"),
-        (b"a b", 1, 2, b"a"),
-        (b"a + ;", 1, 4, b"a"),
-        (b"x := y", 1, 2, b"x"),
+// Each source with a bracket round each dyadic operator that is read, up to `|`. It is read no further because of the
+// token at `^`, where that isn't the one at `|`.
+fn read() -> &'static [(&'static str, &'static str)] {
+    table![
+        "a - b - c ** d|" => "((a-b)-(c^d))";
+        "a ** b ** c|" => "((a^b)^c)";
+        "a OR b AND c EQ d LT e + f * g ** h|" => "(a|(b&(c=(d<(e+(f*(g^h)))))))";
+        "a ** b * c + d > e /= f AND g EXOR h|" => "(((((((a^b)*c)+d)>e)#f)&g)?h)";
+        "a // b REM c >< d|" => "(((a/b)%c)~d)";
+        "a <> b SHIFT c|" => "((a@b)$c)";
+        "a <= b >= c|" => "((a{b)}c)";
+        "(a - (b - c)) * d|" => "([(a-[(b-c)])]*d)";
+        "- a ** b|" => "(-a^b)";
+        "NOT ABS SIGN + a|" => "!AS+a";
+        "a.b(1, c + d)(e).f|" => "a.b(n,(c+d))(e).f";
+        "f(a)|(b^" => "f(a)";
+        "f|(a, ^)" => "f";
+        "f|(a ^b)" => "f";
+        "f|(^) + 1" => "f";
+        "f|(a^" => "f";
+        "a|.^5" => "a";
+        "a|.^" => "a";
+        "a.b|.^1" => "a.b";
+        "1 HRS 2 MIN 3.5 SEC - 4 HRS 5 SEC|" => "(d-d)";
+        "6 MIN 7 SEC + 8.9 SEC|" => "(d+d)";
+        "1 HRS| 2 ^x" => "d";
+        "1 HRS| 2.5 ^MIN" => "d";
+        "1 MIN| 2.5^" => "d";
+        "1 SEC| 2 SEC" => "d";
+        "2 UPB a(1) - LWB b.c|" => "(nUa(n)-Lb.c)";
+        "1| LWB ^5" => "n";
+        "1 + 2| UPB^" => "(n+n)";
+        "NOW - TRY s|" => "(N-Ts)";
+        "'1'B >< 'ab' CAT 1:2:3|" => "((b~t)~c)";
+        "a| b" => "a";
+        "a| + ^;" => "a";
+        "a + b| * ^" => "(a+b)";
+        "a| + NOT ^)" => "a";
+        "a| + (b^" => "a";
+        "x| := y" => "x";
     ]
 }
 
-// Each source with which no expression begins, with the place of its stop.
-fn refused() -> &'static [(&'static [u8], u32)] {
+// Sources with which no expression begins.
+fn refused() -> &'static [&'static str] {
     &[
-        (b"", END),
-        (b")", 0),
-        (b"* a", 0),
-        (b"(a", END),
-        (b"(a, b)", 2),
-        (b"()", 1),
-        (b"1.5 x", 4),
-        (b"TRY 1", 4),
-        (b"UPB 5", 4),
-        (b"- +", END),
-        (b"IF a", 0),
+        "^", "^)", "^* a", "(a^", "(a^, b)", "(^)", "((a)^", "(a + ^)", "1.5 ^x", "TRY ^1", "TRY^",
+        "UPB ^5", "- +^", "NOT ^;", "^IF a",
     ]
 }
 
@@ -216,20 +208,27 @@ fn is_shown(alloc: Global, expr: &Expr, text: &[u8]) -> bool {
     }
 }
 
-fn is_read(alloc: Global, tokens: &[Token], end: usize, stop: u32, text: &[u8]) -> bool {
-    match expression(alloc, tokens, 0) {
-        Ok(found) => found.1 == end && found.2 == stop && is_shown(alloc, &found.0, text),
+// The place of a token, or that of no token.
+fn place_or_none(tokens: &[Token], number: usize) -> u32 {
+    match tokens.get(number) {
+        Some(token) => token.place,
+        None => NO_PLACE,
+    }
+}
+
+fn is_read(alloc: Global, case: &Case, text: &[u8]) -> bool {
+    match expression(alloc, case.tokens.as_slice(), 0) {
+        Ok((expr, end, stop)) => case.end == Some(end)
+            && stop == place_or_none(case.tokens.as_slice(), case.stop)
+            && is_shown(alloc, &expr, text),
         Err(_) => false,
     }
 }
 
-fn reads(alloc: Global, source: &[u8], end: usize, stop: u32, text: &[u8]) -> bool {
-    if source.len() > 1000 {
-        return false;
-    }
-    match tokens(alloc, source) {
-        Ok(tokens) => is_read(alloc, tokens.as_slice(), end, stop, text),
-        Err(_) => false,
+fn reads(alloc: Global, case: &[u8], text: &[u8]) -> bool {
+    match case_of(alloc, case) {
+        Some(case) => is_read(alloc, &case, text),
+        None => false,
     }
 }
 
@@ -243,45 +242,37 @@ fn is_refused(alloc: Global, tokens: &[Token], stop: u32) -> bool {
     }
 }
 
-fn refuses(alloc: Global, source: &[u8], stop: u32) -> bool {
-    if source.len() > 1000 {
-        return false;
-    }
-    match tokens(alloc, source) {
-        Ok(tokens) => is_refused(alloc, tokens.as_slice(), stop),
-        Err(_) => false,
+fn refuses(alloc: Global, case: &[u8]) -> bool {
+    match case_of(alloc, case) {
+        Some(case) => {
+            let stop = place_or_none(case.tokens.as_slice(), case.stop);
+            case.end.is_none() && is_refused(alloc, case.tokens.as_slice(), stop)
+        }
+        None => false,
     }
 }
 
-fn add(into: &mut Vec<u8>, part: &[u8], times: usize) -> Result<(), AllocError> {
-    for _ in 0..times {
-        into.extend_from_slice(part)?;
-    }
-    Ok(())
-}
-
-// A part some times, then another once, then a third some times.
-fn repeated(
-    alloc: Global,
-    first: &[u8],
-    times: usize,
-    middle: &[u8],
-    last: &[u8],
-) -> Result<Vec<u8>, AllocError> {
+// These parts, each so many times.
+fn repeated(alloc: Global, parts: &[(&str, usize)]) -> Result<Vec<u8>, AllocError> {
     let mut source = Vec::new(alloc);
-    add(&mut source, first, times)?;
-    add(&mut source, middle, 1)?;
-    add(&mut source, last, times)?;
+    for &(part, times) in parts {
+        for _ in 0..times {
+            source.extend_from_slice(part.as_bytes())?;
+        }
+    }
     Ok(source)
 }
 
 #[test]
 fn expressions_are_read_to_their_end(rt: HostRuntime) -> Result<(), fmt::Error> {
-    for &(source, end, stop, text) in read() {
-        assert!(rt; reads(rt.alloc(), source, end, stop, text), "{source:?}");
+    for &(case, text) in read() {
+        assert!(rt;
+            reads(rt.alloc(), case.as_bytes(), text.as_bytes()),
+            "{case}"
+        );
     }
-    for &(source, stop) in refused() {
-        assert!(rt; refuses(rt.alloc(), source, stop), "{source:?}");
+    for &case in refused() {
+        assert!(rt; refuses(rt.alloc(), case.as_bytes()), "{case}");
     }
     Ok(())
 }
@@ -291,7 +282,7 @@ fn a_token_after_the_last_begins_none(rt: HostRuntime) -> Result<(), fmt::Error>
     match expression(rt.alloc(), &[], 7) {
         Ok(_) => assert!(rt; false),
         Err(fault) => match fault {
-            ParseFault::Refused(place) => assert!(rt; place == END),
+            ParseFault::Refused(place) => assert!(rt; place == NO_PLACE),
             ParseFault::NoMemory => assert!(rt; false),
         },
     }
@@ -301,38 +292,37 @@ fn a_token_after_the_last_begins_none(rt: HostRuntime) -> Result<(), fmt::Error>
 #[test]
 fn brackets_nest_32_deep(rt: HostRuntime) -> Result<(), AllocError> {
     let alloc = rt.alloc();
-    let shown = repeated(alloc, b"[", 32, b"a", b"]")?;
-    let source = repeated(alloc, b"(", 32, b"a", b")")?;
-    assert!(rt; reads(alloc, source.as_slice(), 65, END, shown.as_slice()));
-    let source = repeated(alloc, b"(", 33, b"a", b")")?;
-    assert!(rt; refuses(alloc, source.as_slice(), 32));
-    let source = repeated(alloc, b"f(", 32, b"a", b")")?;
-    assert!(rt; reads(alloc, source.as_slice(), 97, END, source.as_slice()));
-    let source = repeated(alloc, b"f(", 33, b"a", b")")?;
-    assert!(rt; reads(alloc, source.as_slice(), 1, 65, b"f"));
+    let shown = repeated(alloc, &[("[", 32), ("a", 1), ("]", 32)])?;
+    let case = repeated(alloc, &[("(", 32), ("a", 1), (")", 32), ("|", 1)])?;
+    assert!(rt; reads(alloc, case.as_slice(), shown.as_slice()));
+    let case = repeated(alloc, &[("(", 32), ("^(a)", 1), (")", 32)])?;
+    assert!(rt; refuses(alloc, case.as_slice()));
+    let shown = repeated(alloc, &[("f(", 32), ("a", 1), (")", 32)])?;
+    let case = repeated(alloc, &[("f(", 32), ("a", 1), (")", 32), ("|", 1)])?;
+    assert!(rt; reads(alloc, case.as_slice(), shown.as_slice()));
+    let case = repeated(alloc, &[("f|", 1), ("(f", 32), ("^(a)", 1), (")", 32)])?;
+    assert!(rt; reads(alloc, case.as_slice(), b"f"));
     Ok(())
 }
 
 #[test]
 fn a_level_has_100_dyadic_operators(rt: HostRuntime) -> Result<(), AllocError> {
     let alloc = rt.alloc();
-    let mut shown = Vec::new(alloc);
-    add(&mut shown, b"(", 100)?;
-    add(&mut shown, b"a", 1)?;
-    add(&mut shown, b"+a)", 100)?;
-    let source = repeated(alloc, b"a+", 100, b"a", b"")?;
-    assert!(rt; reads(alloc, source.as_slice(), 201, END, shown.as_slice()));
-    let source = repeated(alloc, b"a+", 101, b"a", b"")?;
-    assert!(rt; reads(alloc, source.as_slice(), 201, 201, shown.as_slice()));
+    let shown = repeated(alloc, &[("(", 100), ("a", 1), ("+a)", 100)])?;
+    let case = repeated(alloc, &[("a", 1), ("+a", 100), ("|", 1)])?;
+    assert!(rt; reads(alloc, case.as_slice(), shown.as_slice()));
+    let case = repeated(alloc, &[("a", 1), ("+a", 100), ("|+a", 1)])?;
+    assert!(rt; reads(alloc, case.as_slice(), shown.as_slice()));
     Ok(())
 }
 
 #[test]
 fn a_primary_has_8_monadic_operators(rt: HostRuntime) -> Result<(), AllocError> {
     let alloc = rt.alloc();
-    let source = repeated(alloc, b"-", 8, b"a", b"")?;
-    assert!(rt; reads(alloc, source.as_slice(), 9, END, source.as_slice()));
-    let source = repeated(alloc, b"-", 9, b"a", b"")?;
-    assert!(rt; refuses(alloc, source.as_slice(), 8));
+    let shown = repeated(alloc, &[("-", 8), ("a", 1)])?;
+    let case = repeated(alloc, &[("-", 8), ("a|", 1)])?;
+    assert!(rt; reads(alloc, case.as_slice(), shown.as_slice()));
+    let case = repeated(alloc, &[("-", 8), ("^-a", 1)])?;
+    assert!(rt; refuses(alloc, case.as_slice()));
     Ok(())
 }

@@ -1,6 +1,13 @@
 // Tests of the front: tokens, trees, and the text of a tree.
 #![tactic(auto)]
 
+// A table with a case in each line: a source with its marks, and what is expected.
+macro_rules! table {
+    ($($source:literal => $wanted:literal;)*) => { &[$(($source, $wanted)),*] };
+}
+
+#[cfg(test)]
+mod cases;
 #[cfg(test)]
 mod declarations;
 #[cfg(test)]

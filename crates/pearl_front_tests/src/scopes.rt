@@ -1,6 +1,6 @@
 // What the names of a module mean, scope by scope, and its default lengths.
 
-use crate::modules::tokens_of;
+use crate::cases::{STOP, places_of, source_of, tokens_of};
 use pearl_parse::parse::parse;
 use pearl_scope::collect::names_of_module;
 use pearl_scope::duration::is_too_long;
@@ -15,7 +15,8 @@ use pearl_value::kind::Kind;
 use std::alloc::Global;
 use std::test::Fail;
 
-const SOURCE: &[u8] = b"MODULE(m);PROBLEM;LENGTH FIXED(15);LENGTH BIT(65);TYPE u BIT;\
+// A module, with marks before, at and behind the place from which FIXED has another length.
+const MODULE: &[u8] = b"MODULE(m);^PROBLEM;^LENGTH FIXED(15);LENGTH BIT(65);^TYPE u BIT;\
     DCL (a,b) FIXED,s SEMA;p:PROC(x FIXED);FOR i WHILE i<1 REPEAT DCL a u;END;END;MODEND;";
 
 // Of each scope the one around it, and how many names it has.
@@ -38,14 +39,15 @@ fn meanings() -> &'static [(View, &'static [u8], Option<NameSort>)] {
     ]
 }
 
-fn tree_of(alloc: Global, source: &[u8]) -> Option<Tree> {
-    let (tokens, end) = tokens_of(alloc, source)?;
+fn tree_of(alloc: Global, case: &[u8]) -> Option<Tree> {
+    let source = source_of(alloc, case).ok()?;
+    let (tokens, end) = tokens_of(alloc, source.as_slice())?;
     parse(alloc, tokens.as_slice(), end).ok()
 }
 
 #[test]
 fn names_mean_their_innermost_declaration(rt: HostRuntime) -> Result<(), Fail> {
-    let Some(tree) = tree_of(rt.alloc(), SOURCE) else {
+    let Some(tree) = tree_of(rt.alloc(), MODULE) else {
         assert!(rt; false, "no tree");
         return Ok(());
     };
@@ -62,20 +64,26 @@ fn names_mean_their_innermost_declaration(rt: HostRuntime) -> Result<(), Fail> {
 
 #[test]
 fn lengths_hold_from_their_place_on(rt: HostRuntime) -> Result<(), Fail> {
-    let Some(tree) = tree_of(rt.alloc(), SOURCE) else {
+    let Some(tree) = tree_of(rt.alloc(), MODULE) else {
         assert!(rt; false, "no tree");
         return Ok(());
     };
     let lengths = lengths_set(rt.alloc(), &tree)?;
     assert_eq!(rt; lengths.len(), 1);
     let lengths = lengths.as_slice();
-    assert_eq!(rt; length_at(lengths, Sort::Fixed, 17), 31);
-    assert_eq!(rt; length_at(lengths, Sort::Fixed, 70), 15);
-    assert_eq!(rt; length_at(lengths, Sort::Bit, 70), 1);
+    let places = places_of(rt.alloc(), MODULE, STOP)?;
+    let &[before, at, behind] = places.as_slice() else {
+        assert!(rt; false, "three marks");
+        return Ok(());
+    };
+    assert_eq!(rt; length_at(lengths, Sort::Fixed, before), 31);
+    assert_eq!(rt; length_at(lengths, Sort::Fixed, at), 15);
+    assert_eq!(rt; length_at(lengths, Sort::Fixed, behind), 15);
+    assert_eq!(rt; length_at(lengths, Sort::Bit, behind), 1);
     let basic = Basic::Sized {
         sort: Sort::Fixed,
         number: None,
-        place: 70,
+        place: behind,
     };
     assert_eq!(rt; kind_of_basic(lengths, &basic), Some(Kind::Fixed(15)));
     assert!(rt; is_length(Sort::Char, 255));

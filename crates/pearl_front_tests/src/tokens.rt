@@ -1,265 +1,209 @@
 // Sources whose tokens were worked out by hand.
 
+use crate::cases::{STOP, place_of, places_of, source_of, tokens_of};
 use pearl_lex::fault::LexFault;
 use pearl_lex::lexer::tokens;
+use pearl_tables::word_code::{DECLARE, MODULE};
 use pearl_tree::token::{Token, What};
 use std::alloc::{AllocError, Global};
-use std::fmt;
 use std::test::Fail;
 
 #[derive(Clone, Copy)]
 enum Want {
     Word(u8),
-    Id(&'static [u8]),
+    Id(&'static str),
     Number(u64),
     Decimal(u64, u16),
     Clock(u32),
     Bits(u8, u64),
-    Text(&'static [u8]),
-    Symbol(u8),
+    Text(&'static str),
+    Symbol(&'static str),
 }
 
-// Each source with its tokens and their places.
-static SOURCES: [(&[u8], &[(u32, Want)]); 13] = [
-    (b"", &[]),
-    (b" \t\x0c\r\n! to the end", &[]),
-    (
-        b"a/* one */b/*/*/!\nc",
-        &[
-            (0, Want::Id(b"a")),
-            (10, Want::Id(b"b")),
-            (18, Want::Id(b"c")),
-        ],
-    ),
-    (
-        b"DCL DECLARE DCLx",
-        &[
-            (0, Want::Word(4)),
-            (4, Want::Word(4)),
-            (12, Want::Id(b"DCLx")),
-        ],
-    ),
-    (
-        b"9223372036854775807 0012ab",
-        &[
-            (0, Want::Number(9223372036854775807)),
-            (20, Want::Number(12)),
-            (24, Want::Id(b"ab")),
-        ],
-    ),
-    (
-        b"1.5 2.07 3.141 4.",
-        &[
-            (0, Want::Decimal(1, 500)),
-            (4, Want::Decimal(2, 70)),
-            (9, Want::Decimal(3, 141)),
-            (15, Want::Number(4)),
-            (16, Want::Symbol(7)),
-        ],
-    ),
-    (
-        b"23:59:59.999 0:0:1 1:2",
-        &[
-            (0, Want::Clock(86399999)),
-            (13, Want::Clock(1000)),
-            (19, Want::Number(1)),
-            (20, Want::Symbol(6)),
-            (21, Want::Number(2)),
-        ],
-    ),
-    (
-        b"'101'B 'FF'B4 '31'B2 '7'B3 '0'B1",
-        &[
-            (0, Want::Bits(3, 5)),
-            (7, Want::Bits(8, 255)),
-            (14, Want::Bits(4, 13)),
-            (21, Want::Bits(3, 7)),
-            (27, Want::Bits(1, 0)),
-        ],
-    ),
-    (
-        b"'1'B5 '1'Bx '''' 'it''s'",
-        &[
-            (0, Want::Text(b"1")),
-            (3, Want::Id(b"B5")),
-            (6, Want::Text(b"1")),
-            (9, Want::Id(b"Bx")),
-            (12, Want::Text(b"'")),
-            (17, Want::Text(b"it's")),
-        ],
-    ),
-    (
-        b"()[],;:.:= = ==",
-        &[
-            (0, Want::Symbol(0)),
-            (1, Want::Symbol(1)),
-            (2, Want::Symbol(2)),
-            (3, Want::Symbol(3)),
-            (4, Want::Symbol(4)),
-            (5, Want::Symbol(5)),
-            (6, Want::Symbol(6)),
-            (7, Want::Symbol(7)),
-            (8, Want::Symbol(8)),
-            (11, Want::Symbol(9)),
-            (13, Want::Symbol(10)),
-        ],
-    ),
-    (
-        b"/=<><=>=><<>+-*//**",
-        &[
-            (0, Want::Symbol(11)),
-            (2, Want::Symbol(17)),
-            (4, Want::Symbol(14)),
-            (6, Want::Symbol(15)),
-            (8, Want::Symbol(16)),
-            (10, Want::Symbol(17)),
-            (12, Want::Symbol(18)),
-            (13, Want::Symbol(19)),
-            (14, Want::Symbol(20)),
-            (15, Want::Symbol(21)),
-            (17, Want::Symbol(22)),
-        ],
-    ),
-    (
-        b": = <>= ***",
-        &[
-            (0, Want::Symbol(6)),
-            (2, Want::Symbol(9)),
-            (4, Want::Symbol(17)),
-            (6, Want::Symbol(9)),
-            (8, Want::Symbol(22)),
-            (10, Want::Symbol(20)),
-        ],
-    ),
-    (
-        b"< > <= >=",
-        &[
-            (0, Want::Symbol(12)),
-            (2, Want::Symbol(13)),
-            (4, Want::Symbol(14)),
-            (7, Want::Symbol(15)),
-        ],
-    ),
+// A table with a source in each line, and the tokens that begin at its marks.
+macro_rules! lexed {
+    ($($source:literal => $($kind:ident($($value:expr),+))*;)*) => {
+        [$(($source, &[$(Want::$kind($($value),+)),*])),*]
+    };
+}
+
+static SOURCES: [(&str, &[Want]); 24] = lexed![
+    "" =>;
+    " \t\x0c\r\n! to the end" =>;
+    "^a/* one */^b/*/*/!\n^c" => Id("a") Id("b") Id("c");
+    "^DCL ^DECLARE ^DCLx" => Word(DECLARE) Word(DECLARE) Id("DCLx");
+    "^MODULE^(^MODULES^)" => Word(MODULE) Symbol("(") Id("MODULES") Symbol(")");
+    "^9223372036854775807 ^0012^ab" => Number(9223372036854775807) Number(12) Id("ab");
+    "^1.5 ^2.07 ^3.141" => Decimal(1, 500) Decimal(2, 70) Decimal(3, 141);
+    "^4^." => Number(4) Symbol(".");
+    "^1^.^.^2" => Number(1) Symbol(".") Symbol(".") Number(2);
+    "^23:59:59.999 ^0:0:1" => Clock(86_399_999) Clock(1_000);
+    "^1^:^2" => Number(1) Symbol(":") Number(2);
+    "^1^:^:^2" => Number(1) Symbol(":") Symbol(":") Number(2);
+    "^'101'B ^'FF'B4 ^'31'B2" => Bits(3, 5) Bits(8, 255) Bits(4, 13);
+    "^'7'B3 ^'0'B1" => Bits(3, 7) Bits(1, 0);
+    "^'FFFFFFFFFFFFFFFF'B4" => Bits(64, 18446744073709551615);
+    "^'1'^B5 ^'1'^Bx ^'1'^B_" => Text("1") Id("B5") Text("1") Id("Bx") Text("1") Id("B_");
+    "^'''' ^'it''s'" => Text("'") Text("it's");
+    "^(^)^[^]^,^;^:^.^:= ^= ^=="
+        => Symbol("(") Symbol(")") Symbol("[") Symbol("]") Symbol(",") Symbol(";")
+        Symbol(":") Symbol(".") Symbol(":=") Symbol("=") Symbol("==");
+    "^/=^<>^<=^>=^><^<>^+^-^*^//^**"
+        => Symbol("/=") Symbol("<>") Symbol("<=") Symbol(">=") Symbol("><") Symbol("<>")
+        Symbol("+") Symbol("-") Symbol("*") Symbol("//") Symbol("**");
+    "^: ^= ^<>^= ^**^*" => Symbol(":") Symbol("=") Symbol("<>") Symbol("=") Symbol("**") Symbol("*");
+    "^< ^> ^<= ^>=" => Symbol("<") Symbol(">") Symbol("<=") Symbol(">=");
+    "^a^/=^b" => Id("a") Symbol("/=") Id("b");
+    "^==^=^a" => Symbol("==") Symbol("=") Id("a");
+    "^a!b" => Id("a");
 ];
 
-fn sources() -> &'static [(&'static [u8], &'static [(u32, Want)])] {
+// The symbols by their codes, counted from 0.
+static SYMBOLS: [&str; 23] = [
+    "(", ")", "[", "]", ",", ";", ":", ".", ":=", "=", "==", "/=", "<", ">", "<=", ">=", "><",
+    "<>", "+", "-", "*", "//", "**",
+];
+
+fn sources() -> &'static [(&'static str, &'static [Want])] {
     &SOURCES
 }
 
-// Each source that has no tokens, with the place at which it has none.
-fn refused() -> &'static [(&'static [u8], u32)] {
+// Sources that have no tokens, with the place at which they have none.
+fn refused() -> &'static [&'static str] {
     &[
-        (b"a _", 2),
-        (b"a /", 2),
-        (b"a \x0b", 2),
-        (b"a /* never closed *", 2),
-        (b"a /*/", 2),
-        (b"*/", 1),
-        (b"9223372036854775808", 0),
-        (b"9223372036854775808.5", 0),
-        (b"a 1.2345", 2),
-        (b"a 24:00:00", 2),
-        (b"a 0:60:00", 2),
-        (b"a 0:0:60", 2),
-        (b"a 0:0:0.1234", 2),
-        (b"a 'never closed", 2),
-        (b"a 'line\nend'", 2),
-        (b"a 'byte\x7f'", 2),
-        (b"a ''", 2),
-        (b"a ''B", 2),
-        (b"a '2'B", 2),
-        (b"a 'f'B4", 2),
-        (b"a '1''1'B", 2),
-        (b"a 'FFFFFFFFFFFFFFFF0'B4", 2),
+        "a ^_",
+        "a ^/",
+        "a ^\x0b",
+        "a ^% b",
+        "a ^/* never closed *",
+        "a ^/*/",
+        "*^/",
+        "^9223372036854775808",
+        "^9223372036854775808.5",
+        "a ^1.2345",
+        "a ^24:00:00",
+        "a ^0:60:00",
+        "a ^0:0:60",
+        "a ^0:0:0.1234",
+        "a ^'never closed",
+        "a ^'line\nend'",
+        "a ^'byte\x7f'",
+        "a ^''",
+        "a ^''B",
+        "a ^'2'B",
+        "a ^'f'B4",
+        "a ^'1''1'B",
+        "a ^'FFFFFFFFFFFFFFFF0'B4",
     ]
 }
 
 fn is_same(what: &What, want: Want) -> bool {
     match (what, want) {
         (What::Word(code), Want::Word(wanted)) => *code == wanted,
-        (What::Id(text), Want::Id(wanted)) => text.as_slice() == wanted,
+        (What::Id(text), Want::Id(wanted)) => text.as_slice() == wanted.as_bytes(),
         (What::Number(value), Want::Number(wanted)) => *value == wanted,
         (What::Decimal { whole, thousandths }, Want::Decimal(wanted, part)) => *whole == wanted
             && *thousandths == part,
         (What::Clock(value), Want::Clock(wanted)) => *value == wanted,
         (What::Bits { len, value }, Want::Bits(size, wanted)) => *len == size && *value == wanted,
-        (What::Text(text), Want::Text(wanted)) => text.as_slice() == wanted,
-        (What::Symbol(symbol), Want::Symbol(wanted)) => *symbol == wanted,
+        (What::Text(text), Want::Text(wanted)) => text.as_slice() == wanted.as_bytes(),
+        (What::Symbol(code), Want::Symbol(wanted)) => SYMBOLS.get(usize::from(*code))
+            == Some(&wanted),
         _ => false,
     }
 }
 
-fn are_same(tokens: &[Token], wants: &[(u32, Want)]) -> bool {
-    if tokens.len() != wants.len() {
+fn are_same(tokens: &[Token], places: &[u32], wants: &[Want]) -> bool {
+    if tokens.len() != places.len() || tokens.len() != wants.len() {
         return false;
     }
-    for (token, want) in tokens.iter().zip(wants) {
-        if token.place != want.0 || !is_same(&token.what, want.1) {
+    for ((token, place), want) in tokens.iter().zip(places).zip(wants) {
+        if token.place != *place || !is_same(&token.what, *want) {
             return false;
         }
     }
     true
 }
 
-fn has_tokens(alloc: Global, source: &[u8], wants: &[(u32, Want)]) -> bool {
-    if source.len() > 1048576 {
-        return false;
-    }
-    match tokens(alloc, source) {
-        Ok(tokens) => are_same(tokens.as_slice(), wants),
-        Err(_) => false,
+fn has_tokens(alloc: Global, case: &str, wants: &[Want]) -> Result<bool, AllocError> {
+    let source = source_of(alloc, case.as_bytes())?;
+    let places = places_of(alloc, case.as_bytes(), STOP)?;
+    match tokens_of(alloc, source.as_slice()) {
+        Some((tokens, _)) => Ok(are_same(tokens.as_slice(), places.as_slice(), wants)),
+        None => Ok(false),
     }
 }
 
-fn is_refused(alloc: Global, source: &[u8], place: u32) -> bool {
-    if source.len() > 1048576 {
+fn is_refused(alloc: Global, source: &[u8], place: Option<u32>) -> bool {
+    if source.len() > 1_048_576 {
         return false;
     }
     match tokens(alloc, source) {
-        Err(LexFault::Refused(at)) => at == place,
+        Err(LexFault::Refused(at)) => place == Some(at),
         _ => false,
     }
 }
 
+fn refuses(alloc: Global, case: &str) -> Result<bool, AllocError> {
+    let source = source_of(alloc, case.as_bytes())?;
+    Ok(is_refused(alloc, source.as_slice(), place_of(case.as_bytes(), STOP)))
+}
+
 // The source has this many tokens, and each is this one.
 fn has_only(alloc: Global, source: &[u8], want: Want, count: usize) -> bool {
-    if source.len() > 1048576 {
-        return false;
-    }
-    match tokens(alloc, source) {
-        Ok(tokens) => tokens.len() == count
+    match tokens_of(alloc, source) {
+        Some((tokens, _)) => tokens.len() == count
             && tokens.iter().all(|token| is_same(&token.what, want)),
-        Err(_) => false,
+        None => false,
     }
 }
 
 #[test]
-fn answers_sources(rt: HostRuntime) -> Result<(), fmt::Error> {
-    for &(source, wants) in sources() {
-        assert!(rt; has_tokens(rt.alloc(), source, wants), "{source:?}");
+fn sources_have_their_tokens(rt: HostRuntime) -> Result<(), Fail> {
+    for &(case, wants) in sources() {
+        assert!(rt; has_tokens(rt.alloc(), case, wants)?, "{case}");
     }
-    for &(source, place) in refused() {
-        assert!(rt; is_refused(rt.alloc(), source, place), "{source:?}");
+    Ok(())
+}
+
+#[test]
+fn what_is_no_token_is_refused(rt: HostRuntime) -> Result<(), Fail> {
+    for &case in refused() {
+        assert!(rt; refuses(rt.alloc(), case)?, "{case}");
     }
+    Ok(())
+}
+
+// An id of this many letters.
+fn id(alloc: Global, length: usize) -> Result<Vec<u8>, AllocError> {
+    let mut text = Vec::new(alloc);
+    text.resize(length, b'n')?;
+    Ok(text)
+}
+
+#[test]
+fn an_id_has_at_most_63_bytes(rt: HostRuntime) -> Result<(), Fail> {
+    let longest = id(rt.alloc(), 63)?;
+    assert!(rt; tokens_of(rt.alloc(), longest.as_slice()).is_some());
+    let too_long = id(rt.alloc(), 64)?;
+    assert!(rt; is_refused(rt.alloc(), too_long.as_slice(), Some(0)));
     Ok(())
 }
 
 // A source of 1 MiB that is one byte over and over.
 fn repeated(alloc: Global, byte: u8) -> Result<Vec<u8>, AllocError> {
-    let mut bytes = Vec::with_capacity(alloc, 1048576)?;
-    for _ in 0..1048576 {
-        bytes.push(byte)?;
-    }
+    let mut bytes = Vec::new(alloc);
+    bytes.resize(1_048_576, byte)?;
     Ok(bytes)
 }
 
 #[test]
 fn long_sources_are_read(rt: HostRuntime) -> Result<(), Fail> {
     let digits = repeated(rt.alloc(), b'9')?;
-    assert!(rt; is_refused(rt.alloc(), digits.as_slice(), 0));
+    assert!(rt; is_refused(rt.alloc(), digits.as_slice(), Some(0)));
     let apostrophes = repeated(rt.alloc(), b'\'')?;
-    assert!(rt; is_refused(rt.alloc(), apostrophes.as_slice(), 0));
+    assert!(rt; is_refused(rt.alloc(), apostrophes.as_slice(), Some(0)));
     let strokes = repeated(rt.alloc(), b'/')?;
-    assert!(rt; has_only(rt.alloc(), strokes.as_slice(), Want::Symbol(21), 524288));
+    assert!(rt; has_only(rt.alloc(), strokes.as_slice(), Want::Symbol("//"), 524_288));
     Ok(())
 }

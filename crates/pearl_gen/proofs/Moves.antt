@@ -1,10 +1,14 @@
 -- What one instruction does, beside what the code from it on means.
 use Rattle.std.proofs.Common.{◌≡◌, ℕ, ◌+◌, List, [], ◌∷◌, ◌++◌, Option, Some, None, Result, Ok, Err, map, slice_get, zero, suc, refl, ap, sym, ◌∙◌, subst}
+use Rattle.std.proofs.lemmas.List.{length-map}
 use Rattle.pearl_value.specs.declared.kind.Kind.{Kind}
+use Rattle.pearl_value.specs.declared.kind.CellKind.{CellKind}
+use Rattle.pearl_value.specs.declared.kind.CellKind.TheVariants.{Plain}
 use Rattle.pearl_value.specs.declared.cell.Cell.{Cell}
 use Rattle.pearl_value.specs.declared.trap.Trap.{Trap}
 use Rattle.pearl_value.specs.Cells.{kind_of}
-use Rattle.pearl_value.specs.Conversions.{SuitsKind, converted}
+use Rattle.pearl_value.specs.WellFormed.{IsValueOf}
+use Rattle.pearl_value.specs.Conversions.{converted}
 use Rattle.pearl_value.specs.Applied.{applied2}
 use Rattle.pearl_value.specs.Rows.{row2}
 use Rattle.pearl_format.specs.Items.{data_count}
@@ -14,112 +18,113 @@ use Rattle.pearl_rules.specs.declared.action.Action.TheVariants as action
 use Rattle.pearl_rules.specs.declared.action.Answer.{Answer}
 use Rattle.pearl_rules.specs.declared.setup.Setup.{Setup}
 use Rattle.pearl_rules.specs.Tables.{format_of}
-use Rattle.pearl_rules.specs.Slots.{slot_kind, IsValueOf, Suits, Fits, heard_value}
+use Rattle.pearl_rules.specs.Slots.{slot_kind, Suits, Fits, heard_value}
 use Rattle.pearl_rules.specs.Runs.{Stepped, Silent, Offers}
-use Rattle.pearl_meaning.specs.Store.{Store, Got, bind}
+use Rattle.pearl_meaning.specs.Store.{Store, Evaluation, bind}
 use Rattle.pearl_meaning.specs.Expressions.{value_or_trap}
 use Rattle.pearl_meaning.specs.Statements.{Flow, put_text}
 use Rattle.pearl_meaning.specs.Meaning.{next_action}
 use Rattle.pearl_code.specs.declared.instr.Instr.{Instr}
 use Rattle.pearl_code.specs.declared.instr.Instr.TheVariants as instr
 use Rattle.pearl_code.specs.declared.object.Object.{Object}
-use Rattle.pearl_code.specs.Rows.{Stack, top, below, last, second, put_action, next_with, pushes, row, row_after}
-use Rattle.pearl_gen.specs.Plain.{Plain, Const, Conv, Read, Write, Dyadic, Put, End, plain_of}
-use Rattle.pearl_gen.proofs.Values.{Gives, applied_gives, converted_gives}
+use Rattle.pearl_code.specs.Rows.{Stack, top, below, last, second, put_action, next_with, pushes, executed, continued}
+use Rattle.pearl_gen.specs.TaskCode.{Unboxed, Const, Conv, Read, Write, Dyadic, Put, End, unboxed_of}
+use Rattle.pearl_value.specs.Laws.{Gives}
+use Rattle.pearl_value.proofs.Results.{keeps_rows2, keeps_kinds}
 use Rattle.pearl_format.proofs.Counts.{suits-length}
-use Rattle.pearl_gen.proofs.Straight.{run_plain}
-use Rattle.pearl_gen.proofs.Steady.{PlainRuns, AreOf, pushed_of, has_last, has_two, put_left}
+use Rattle.pearl_gen.proofs.Straight.{run_unboxed}
+use Rattle.pearl_gen.proofs.Steady.{UnboxedRuns, AreOf, cell_of, pushed_of, has_last, has_two, put_left}
 
--- THE ROWS AGAIN, for plain instructions
+-- THE ROWS AGAIN, for unboxed instructions
 
-abbrev pub plain_row : Setup → Option Plain → Stack → Stepped Stack
-plain_row setup None stack = Offers action.End
-plain_row setup (Some (Const value)) stack = pushes stack stack.operands (Ok value)
-plain_row setup (Some (Conv kind)) stack = pushes stack (below 1 stack.operands) (converted (last stack.operands) kind)
-plain_row setup (Some (Read slot)) stack = Offers (action.Read slot)
-plain_row setup (Some (Write slot)) stack = Offers (action.Write slot (last stack.operands))
-plain_row setup (Some (Dyadic op)) stack = pushes stack (below 2 stack.operands) (applied2 op (second stack.operands) (last stack.operands))
-plain_row setup (Some (Put device format)) stack =
+abbrev pub unboxed_executed : Setup → Option Unboxed → Stack → Stepped Stack
+unboxed_executed setup None stack = Offers action.End
+unboxed_executed setup (Some (Const value)) stack = pushes stack stack.operands (Ok value)
+unboxed_executed setup (Some (Conv kind)) stack = pushes stack (below 1 stack.operands) (converted (last stack.operands) kind)
+unboxed_executed setup (Some (Read slot)) stack = Offers (action.Read slot)
+unboxed_executed setup (Some (Write slot)) stack = Offers (action.Write slot (last stack.operands))
+unboxed_executed setup (Some (Dyadic op)) stack = pushes stack (below 2 stack.operands) (applied2 op (second stack.operands) (last stack.operands))
+unboxed_executed setup (Some (Put device format)) stack =
     let items = format_of setup format in Offers (put_action device (text_of items (top (data_count items) stack.operands)))
-plain_row setup (Some End) stack = Offers action.End
+unboxed_executed setup (Some End) stack = Offers action.End
 
-abbrev pub plain_after : Setup → Option Plain → Stack → Answer → Stack
-plain_after setup (Some (Read slot)) stack answer = next_with stack (stack.operands ++ heard_value answer ∷ [])
-plain_after setup (Some (Write slot)) stack answer = next_with stack (below 1 stack.operands)
-plain_after setup (Some (Put device format)) stack answer = next_with stack (below (data_count (format_of setup format)) stack.operands)
-plain_after setup plain stack answer = stack
+abbrev pub unboxed_continued : Setup → Option Unboxed → Stack → Answer → Stack
+unboxed_continued setup (Some (Read slot)) stack answer = next_with stack (stack.operands ++ heard_value answer ∷ [])
+unboxed_continued setup (Some (Write slot)) stack answer = next_with stack (below 1 stack.operands)
+unboxed_continued setup (Some (Put device format)) stack answer = next_with stack (below (data_count (format_of setup format)) stack.operands)
+unboxed_continued setup unboxed stack answer = stack
 
--- the instruction of a place, plain
-abbrev pub plain_at : List Instr → ℕ → Option Plain
-plain_at code place = slice_get (map plain_of code) place
+-- the instruction of a place, unboxed
+abbrev pub unboxed_at : List Instr → ℕ → Option Unboxed
+unboxed_at code place = slice_get (map unboxed_of code) place
 
-pub row-plain : (o : Object) (code : List Instr) (place : ℕ) (stack : Stack) → row o (slice_get code place) stack ≡ plain_row o.setup (plain_at code place) stack
-row-plain o [] place stack = refl
-row-plain o (instr.Const x ∷ code) zero stack = refl
-row-plain o (instr.Conv kind ∷ code) zero stack = refl
-row-plain o (instr.Read slot ∷ code) zero stack = refl
-row-plain o (instr.Write slot ∷ code) zero stack = refl
-row-plain o (instr.Dyadic op ∷ code) zero stack = refl
-row-plain o (instr.Put device format ∷ code) zero stack = refl
-row-plain o (instr.End ∷ code) zero stack = refl
-row-plain o (i ∷ code) (suc place) stack = row-plain o code place stack
+pub executed-unboxed : (o : Object) (code : List Instr) (place : ℕ) (stack : Stack) → executed o (slice_get code place) stack ≡ unboxed_executed o.setup (unboxed_at code place) stack
+executed-unboxed o [] place stack = refl
+executed-unboxed o (instr.Const x ∷ code) zero stack = refl
+executed-unboxed o (instr.Conv kind ∷ code) zero stack = refl
+executed-unboxed o (instr.Read slot ∷ code) zero stack = refl
+executed-unboxed o (instr.Write slot ∷ code) zero stack = refl
+executed-unboxed o (instr.Dyadic op ∷ code) zero stack = refl
+executed-unboxed o (instr.Put device format ∷ code) zero stack = refl
+executed-unboxed o (instr.End ∷ code) zero stack = refl
+executed-unboxed o (i ∷ code) (suc place) stack = executed-unboxed o code place stack
 
-pub after-plain : (o : Object) (code : List Instr) (place : ℕ) (stack : Stack) (answer : Answer) →
-    row_after o (slice_get code place) stack answer ≡ plain_after o.setup (plain_at code place) stack answer
-after-plain o [] place stack answer = refl
-after-plain o (instr.Const x ∷ code) zero stack answer = refl
-after-plain o (instr.Conv kind ∷ code) zero stack answer = refl
-after-plain o (instr.Read slot ∷ code) zero stack answer = refl
-after-plain o (instr.Write slot ∷ code) zero stack answer = refl
-after-plain o (instr.Dyadic op ∷ code) zero stack answer = refl
-after-plain o (instr.Put device format ∷ code) zero stack answer = refl
-after-plain o (instr.End ∷ code) zero stack answer = refl
-after-plain o (i ∷ code) (suc place) stack answer = after-plain o code place stack answer
+pub continued-unboxed : (o : Object) (code : List Instr) (place : ℕ) (stack : Stack) (answer : Answer) →
+    continued o (slice_get code place) stack answer ≡ unboxed_continued o.setup (unboxed_at code place) stack answer
+continued-unboxed o [] place stack answer = refl
+continued-unboxed o (instr.Const x ∷ code) zero stack answer = refl
+continued-unboxed o (instr.Conv kind ∷ code) zero stack answer = refl
+continued-unboxed o (instr.Read slot ∷ code) zero stack answer = refl
+continued-unboxed o (instr.Write slot ∷ code) zero stack answer = refl
+continued-unboxed o (instr.Dyadic op ∷ code) zero stack answer = refl
+continued-unboxed o (instr.Put device format ∷ code) zero stack answer = refl
+continued-unboxed o (instr.End ∷ code) zero stack answer = refl
+continued-unboxed o (i ∷ code) (suc place) stack answer = continued-unboxed o code place stack answer
 
 -- THE NEXT STACK
 
 -- after the instruction, and these answers, the code behind it goes on where the instruction's code goes on with them
-pub record Moved (setup : Setup) (depth : ℕ) (x : Plain) (code : List Plain) (answers : List Answer) (stack after : Stack) : Type 0 where
+pub record Moved (setup : Setup) (depth : ℕ) (x : Unboxed) (code : List Unboxed) (answers : List Answer) (stack after : Stack) : Type 0 where
   pub place : after.place ≡ stack.place + 1
-  pub kinds : List Kind
+  pub kinds : List CellKind
   pub are : AreOf kinds after.operands
-  pub runs : PlainRuns setup depth (Some kinds) code
+  pub runs : UnboxedRuns setup depth (Some kinds) code
   pub meant : (store : Store) (rest : List Answer) →
-      run_plain setup (x ∷ code) stack.operands store (answers ++ rest) ≡ run_plain setup code after.operands store rest
+      run_unboxed setup (x ∷ code) stack.operands store (answers ++ rest) ≡ run_unboxed setup code after.operands store rest
 
 -- the value that the two operands of an operator make
-applied_of : (op : _) (kinds left : List Kind) (result first next : Kind) (x y : Cell) → IsValueOf first x → IsValueOf next y → row2 op first next ≡ Some result →
+applied_of : (op : _) (kinds left : List CellKind) (result first next : Kind) (x y : Cell) → IsValueOf first x → IsValueOf next y → row2 op first next ≡ Some result →
     Gives result (applied2 op x y)
 applied_of op kinds left result first next x y x_is y_is row =
-    applied_gives op x y result x_is.well_formed y_is.well_formed (rw (x_is.same_kind, y_is.same_kind) row)
+    keeps_rows2 op x y result x_is.is_value y_is.is_value (rw (x_is.same_kind, y_is.same_kind) row)
 
-module _ (setup : Setup) (depth : ℕ) (code : List Plain) (stack : Stack) where
+module _ (setup : Setup) (depth : ℕ) (code : List Unboxed) (stack : Stack) where
   -- a value is pushed
-  pushed : (x : Plain) (after : Stack) (result : Result Cell Trap) (kind : Kind) (left_kinds : List Kind) (left : List Cell) →
-      AreOf left_kinds left → Gives kind result → PlainRuns setup depth (Some (left_kinds ++ kind ∷ [])) code →
-      ((store : Store) (rest : List Answer) → run_plain setup (x ∷ code) stack.operands store rest
-      ≡ bind (value_or_trap result store rest) (λ y store rest. run_plain setup code (left ++ y ∷ []) store rest)) →
+  pushed : (x : Unboxed) (after : Stack) (result : Result Cell Trap) (kind : Kind) (left_kinds : List CellKind) (left : List Cell) →
+      AreOf left_kinds left → Gives kind result → UnboxedRuns setup depth (Some (left_kinds ++ Plain kind ∷ [])) code →
+      ((store : Store) (rest : List Answer) → run_unboxed setup (x ∷ code) stack.operands store rest
+      ≡ bind (value_or_trap result store rest) (λ y store rest. run_unboxed setup code (left ++ y ∷ []) store rest)) →
       pushes stack left result ≡ Silent after → Moved setup depth x code [] stack after
   pushed x after (Err trap) kind left_kinds left are gives runs meant e = let no : ⊥ = cc in absurd no
   pushed x after (Ok y) kind left_kinds left are gives runs meant e =
       let is : next_with stack (left ++ y ∷ []) ≡ after = cc in
       subst (λ after. Moved setup depth x code [] stack after) is record {
         place = refl;
-        kinds = left_kinds ++ kind ∷ [];
-        are = pushed_of left_kinds left kind y are gives;
+        kinds = left_kinds ++ Plain kind ∷ [];
+        are = pushed_of left_kinds left (Plain kind) y are (cell_of kind y gives);
         runs = runs;
         meant = meant;
       }
 
-  pub moves : (x : Plain) (after : Stack) (kinds : List Kind) → AreOf kinds stack.operands → PlainRuns setup depth (Some kinds) (x ∷ code) →
-      plain_row setup (Some x) stack ≡ Silent after → Moved setup depth x code [] stack after
+  pub moves : (x : Unboxed) (after : Stack) (kinds : List CellKind) → AreOf kinds stack.operands → UnboxedRuns setup depth (Some kinds) (x ∷ code) →
+      unboxed_executed setup (Some x) stack ≡ Silent after → Moved setup depth x code [] stack after
   moves (Const value) after kinds are runs e =
-      pushed (Const value) after (Ok value) (kind_of value) kinds stack.operands are (record { well_formed = runs.0; same_kind = refl }) runs.2 (λ store rest. refl) e
+      pushed (Const value) after (Ok value) (kind_of value) kinds stack.operands are (record { is_value = runs.0; same_kind = refl }) runs.2 (λ store rest. refl) e
   moves (Conv to) after kinds are runs e =
       let left = runs.0 in let fits = runs.1 in
       let t = has_last left fits.from stack.operands (subst (λ kinds. AreOf kinds stack.operands) fits.stacked are) in
       pushed (Conv to) after (converted (last stack.operands) to) to left (below 1 stack.operands) t.under
-      (converted_gives (last stack.operands) to t.is.well_formed fits.kind (subst (λ from. SuitsKind from to) (sym t.is.same_kind) fits.suits)) runs.2 (λ store rest. refl) e
+      (keeps_kinds (last stack.operands) to t.is.is_value fits.kind) runs.2 (λ store rest. refl) e
   moves (Dyadic op) after kinds are runs e =
       let left = runs.0 in let result = runs.1 in let fits = runs.2 in
       let t = has_two left fits.x fits.y stack.operands (subst (λ kinds. AreOf kinds stack.operands) fits.stacked are) in
@@ -132,30 +137,30 @@ module _ (setup : Setup) (depth : ℕ) (code : List Plain) (stack : Stack) where
 
   -- THE OFFER
 
-  trapped : (offered : Action) (result : Result Cell Trap) (left : List Cell) (store : Store) (go : Cell → Store → List Answer → Got Flow) →
+  trapped : (offered : Action) (result : Result Cell Trap) (left : List Cell) (store : Store) (go : Cell → Store → List Answer → Evaluation Flow) →
       pushes stack left result ≡ Offers offered → next_action (bind (value_or_trap result store []) go) ≡ offered
   trapped offered (Ok y) left store go e = let no : ⊥ = cc in absurd no
   trapped offered (Err trap) left store go e = cc
 
-  texted : (device : ℕ) (text : Option (List ℕ)) (store : Store) (go : Flow → Store → List Answer → Got Flow) →
+  texted : (device : ℕ) (text : Option (List ℕ)) (store : Store) (go : Flow → Store → List Answer → Evaluation Flow) →
       next_action (bind (put_text device text store []) go) ≡ put_action device text
   texted device None store go = refl
   texted device (Some text) store go = refl
 
-  pub offers : (x : Plain) (offered : Action) (store : Store) → plain_row setup (Some x) stack ≡ Offers offered →
-      next_action (run_plain setup (x ∷ code) stack.operands store []) ≡ offered
+  pub offers : (x : Unboxed) (offered : Action) (store : Store) → unboxed_executed setup (Some x) stack ≡ Offers offered →
+      next_action (run_unboxed setup (x ∷ code) stack.operands store []) ≡ offered
   offers (Const value) offered store e = let no : ⊥ = cc in absurd no
   offers (Conv to) offered store e =
-      trapped offered (converted (last stack.operands) to) (below 1 stack.operands) store (λ x store rest. run_plain setup code (below 1 stack.operands ++ x ∷ []) store rest) e
+      trapped offered (converted (last stack.operands) to) (below 1 stack.operands) store (λ x store rest. run_unboxed setup code (below 1 stack.operands ++ x ∷ []) store rest) e
   offers (Read slot) offered store e = cc
   offers (Write slot) offered store e = cc
   offers (Dyadic op) offered store e =
       trapped offered (applied2 op (second stack.operands) (last stack.operands)) (below 2 stack.operands) store
-      (λ x store rest. run_plain setup code (below 2 stack.operands ++ x ∷ []) store rest) e
+      (λ x store rest. run_unboxed setup code (below 2 stack.operands ++ x ∷ []) store rest) e
   offers (Put device format) offered store e =
       let items = format_of setup format in
       let is : put_action device (text_of items (top (data_count items) stack.operands)) ≡ offered = cc in
-      texted device (text_of items (top (data_count items) stack.operands)) store (λ flow store rest. run_plain setup code (below (data_count items) stack.operands) store rest) ∙ is
+      texted device (text_of items (top (data_count items) stack.operands)) store (λ flow store rest. run_unboxed setup code (below (data_count items) stack.operands) store rest) ∙ is
   offers End offered store e = cc
 
   -- THE ACTION'S FIT
@@ -168,8 +173,8 @@ module _ (setup : Setup) (depth : ℕ) (code : List Plain) (stack : Stack) where
   text_fits device None = tt
   text_fits device (Some text) = tt
 
-  pub fits : (x : Plain) (offered : Action) (kinds : List Kind) → AreOf kinds stack.operands → PlainRuns setup depth (Some kinds) (x ∷ code) →
-      plain_row setup (Some x) stack ≡ Offers offered → Fits setup offered
+  pub fits : (x : Unboxed) (offered : Action) (kinds : List CellKind) → AreOf kinds stack.operands → UnboxedRuns setup depth (Some kinds) (x ∷ code) →
+      unboxed_executed setup (Some x) stack ≡ Offers offered → Fits setup offered
   fits (Const value) offered kinds are runs e = let no : ⊥ = cc in absurd no
   fits (Conv to) offered kinds are runs e = trap_fits offered (converted (last stack.operands) to) (below 1 stack.operands) e
   fits (Read slot) offered kinds are runs e = let is : action.Read slot ≡ offered = cc in subst (λ offered. Fits setup offered) is runs.0.named
@@ -192,14 +197,14 @@ module _ (setup : Setup) (depth : ℕ) (code : List Plain) (stack : Stack) where
       let is : offered ≡ action.Trap trap = cc in subst (λ offered. Suits setup offered answer) is suits
 
   -- after its answer a text that was put is done
-  text_done : (device : ℕ) (text : Option (List ℕ)) (answer : Answer) (store : Store) (rest : List Answer) (go : Store → List Answer → Got Flow) →
+  text_done : (device : ℕ) (text : Option (List ℕ)) (answer : Answer) (store : Store) (rest : List Answer) (go : Store → List Answer → Evaluation Flow) →
       Suits setup (put_action device text) answer → bind (put_text device text store (answer ∷ rest)) (λ flow store rest. go store rest) ≡ go store rest
   text_done device None answer store rest go suits = absurd suits
   text_done device (Some text) answer store rest go suits = refl
 
-  pub answered : (x : Plain) (offered : Action) (answer : Answer) (kinds : List Kind) → AreOf kinds stack.operands → PlainRuns setup depth (Some kinds) (x ∷ code) →
-      plain_row setup (Some x) stack ≡ Offers offered → Suits setup offered answer →
-      Moved setup depth x code (answer ∷ []) stack (plain_after setup (Some x) stack answer)
+  pub answered : (x : Unboxed) (offered : Action) (answer : Answer) (kinds : List CellKind) → AreOf kinds stack.operands → UnboxedRuns setup depth (Some kinds) (x ∷ code) →
+      unboxed_executed setup (Some x) stack ≡ Offers offered → Suits setup offered answer →
+      Moved setup depth x code (answer ∷ []) stack (unboxed_continued setup (Some x) stack answer)
   answered (Const value) offered answer kinds are runs e suits = let no : ⊥ = cc in absurd no
   answered (Conv to) offered answer kinds are runs e suits =
       absurd (no_answer offered answer (converted (last stack.operands) to) (below 1 stack.operands) e suits)
@@ -213,8 +218,9 @@ module _ (setup : Setup) (depth : ℕ) (code : List Plain) (stack : Stack) where
       let heard : heard_value answer ≡ s.0 = ap heard_value s.1 in
       record {
         place = refl;
-        kinds = kinds ++ slot_kind setup slot ∷ [];
-        are = pushed_of kinds stack.operands (slot_kind setup slot) (heard_value answer) are (subst (λ x. IsValueOf (slot_kind setup slot) x) (sym heard) s.2);
+        kinds = kinds ++ Plain (slot_kind setup slot) ∷ [];
+        are = pushed_of kinds stack.operands (Plain (slot_kind setup slot)) (heard_value answer) are
+            (cell_of (slot_kind setup slot) (heard_value answer) (subst (λ x. IsValueOf (slot_kind setup slot) x) (sym heard) s.2));
         runs = runs.1;
         meant = λ store rest. refl;
       }
@@ -231,7 +237,8 @@ module _ (setup : Setup) (depth : ℕ) (code : List Plain) (stack : Stack) where
       record {
         place = refl;
         kinds = left;
-        are = put_left left takes.values stack.operands (data_count items) (subst (λ kinds. AreOf kinds stack.operands) takes.stacked are) (suits-length items takes.values takes.suits);
+        are = put_left left (map Plain takes.values) stack.operands (data_count items) (subst (λ kinds. AreOf kinds stack.operands) takes.stacked are)
+            (length-map takes.values Plain ∙ suits-length items takes.values takes.suits);
         runs = runs.2;
-        meant = λ store rest. text_done device text answer store rest (λ store rest. run_plain setup code (below (data_count items) stack.operands) store rest) s;
+        meant = λ store rest. text_done device text answer store rest (λ store rest. run_unboxed setup code (below (data_count items) stack.operands) store rest) s;
       }

@@ -19,12 +19,12 @@ use Rattle.pearl_code.specs.declared.object.Code.{Code}
 use Rattle.pearl_code.specs.declared.object.Object.{Object}
 use Rattle.pearl_code.specs.Rows.{instructions_or_none, code_of, engine}
 use Rattle.pearl_code.specs.MachineRun.{total_rows}
-use Rattle.pearl_gen.specs.Plain.{Plain, End, plain_of, statement_code, body_code, most_operands, IsCodeOf}
+use Rattle.pearl_gen.specs.TaskCode.{Unboxed, End, unboxed_of, statement_code, body_code, most_operands, IsCodeOf}
 use Rattle.pearl_gen.specs.Faithful.{IsFaithfulTo}
 use Rattle.pearl_gen.specs.Alone.{MeansAlone}
 use Rattle.pearl_gen.proofs.Zips.{zip_length}
 use Rattle.pearl_gen.proofs.Alone.{offers_alone}
-use Rattle.pearl_gen.proofs.Straight.{run_plain, runs_body}
+use Rattle.pearl_gen.proofs.Straight.{run_unboxed, runs_body}
 use Rattle.pearl_gen.proofs.Standing.{IsLawful, lawful, Stands, alone, weight, falls}
 use Rattle.pearl_gen.proofs.Valid as valid
 use Rattle.pearl_gen.proofs.Valid.{within_most}
@@ -33,11 +33,11 @@ use Rattle.pearl_gen.proofs.Valid.{within_most}
 
 -- these instructions are this body's, from its start on
 record Begins (setup : Setup) (body : List Statement) (instructions : List Instr) : Type 0 where
-  pub left : List Plain
-  pub code : map plain_of instructions ≡ left
+  pub left : List Unboxed
+  pub code : map unboxed_of instructions ≡ left
   pub depth : ℕ
   pub runs : IsLawful setup depth [] left
-  pub meant : (store : Store) (rest : List Answer) → next_action (exec_all setup body store rest) ≡ next_action (run_plain setup left [] store rest)
+  pub meant : (store : Store) (rest : List Answer) → next_action (exec_all setup body store rest) ≡ next_action (run_unboxed setup left [] store rest)
 
 none_begins : (setup : Setup) → Begins setup [] []
 none_begins setup = record { left = []; code = refl; depth = 0; runs = tt; meant = λ store rest. refl }
@@ -95,8 +95,8 @@ soon p setup codes rows most some = let o : Object = record { setup = setup; tas
 -- a task's code has at least its end
 some_rows : (setup : Setup) (routine : Routine) (code : Code) → IsCodeOf setup routine code → 0 < length code.instructions
 some_rows setup routine code is =
-    let whole : length (map plain_of code.instructions) ≡ length code.instructions = length-map code.instructions plain_of in
-    let split : length (map plain_of code.instructions) ≡ length (body_code setup routine.body.items) = ap length is.instructions in
+    let whole : length (map unboxed_of code.instructions) ≡ length code.instructions = length-map code.instructions unboxed_of in
+    let split : length (map unboxed_of code.instructions) ≡ length (body_code setup routine.body.items) = ap length is.instructions in
     let back : length (body_code setup routine.body.items) ≡ length (flat_map (statement_code setup) routine.body.items) + 1 =
     length-append (flat_map (statement_code setup) routine.body.items) (End ∷ []) in
     omega arith

@@ -1,3 +1,3 @@
-pub mod Plain
+pub mod TaskCode
 pub mod Faithful
 pub mod Alone

@@ -3,7 +3,7 @@
 ghost use Rattle.std.specs.Prelude.{◌≡◌, ◌≤◌, [], ◌∷◌, OnOk};
 ghost use Rattle.std.specs.List.{flat_map};
 ghost use Rattle.pearl_prog.specs.Kinds.{slot_of, held, held_by_all};
-ghost use Rattle.pearl_gen.specs.Plain.{Plain, Appends, expr_code};
+ghost use Rattle.pearl_gen.specs.TaskCode.{Unboxed, Appends, expr_code};
 
 use pearl_code::instr::Instr;
 use pearl_prog::program::{Expr, Target, Variable};
@@ -68,7 +68,7 @@ pub fn emit_expr(alloc: Global, code: &mut Vec<Instr>, expr: &Expr) -> Result<()
 }
 
 fn emit_number(alloc: Global, code: &mut Vec<Instr>, len: u8, value: i64) -> Result<(), NoMemory>
-    ensures { OnOk result (Appends code.old.items code.new.items (Plain.Const (Cell.Fixed len value) ∷ [])) }
+    ensures { OnOk result (Appends code.old.items code.new.items (Unboxed.Const (Cell.Fixed len value) ∷ [])) }
 {
     let literal = Box::new(alloc, Cell::Fixed { len, value })?;
     code.push(Instr::Const(literal))?;

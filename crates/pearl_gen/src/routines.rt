@@ -4,7 +4,7 @@ ghost use Rattle.std.specs.Prelude.{◌≡◌, ◌≤◌, ◌<◌, length, IfOk,
 ghost use Rattle.std.specs.List.{AllByRecursion, AllZip, flat_map};
 ghost use Rattle.pearl_rules.specs.Slots.{slot_kind};
 ghost use Rattle.pearl_prog.specs.Sound.{IsStatement, IsRoutine};
-ghost use Rattle.pearl_gen.specs.Plain.{Appends, statement_code, statement_depth as depth_within, most_operands, IsWithin, IsCodeOf};
+ghost use Rattle.pearl_gen.specs.TaskCode.{Appends, statement_code, statement_depth as depth_within, most_operands, IsWithin, IsCodeOf};
 
 use crate::expressions::{emit_expr, emit_values, expr_depth, slot, values_depth};
 use pearl_code::instr::Instr;

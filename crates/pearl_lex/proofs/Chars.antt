@@ -26,7 +26,7 @@ text_ends : (text rest chars : List ℕ) → text ++ chars_of rest ≡ chars →
 text_ends text [] chars all none = sym (append-nil text) ∙ all
 text_ends text (x ∷ rest) chars all none = absurd (omega (arith, none))
 
-text_fits : (text : List ℕ) → 1 ≤ length text → length text ≤ 255 → Some (what.Text (record { items = text })) ≡ text_of text
+pub text_fits : (text : List ℕ) → 1 ≤ length text → length text ≤ 255 → Some (what.Text (record { items = text })) ≡ text_of text
 text_fits text some few = grind (arith, nat_tests)
 
 pub whole_text : (text rest chars : List ℕ) → text ++ chars_of rest ≡ chars → length rest < 1 → 1 ≤ length text → length text ≤ 255

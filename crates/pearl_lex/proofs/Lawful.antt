@@ -11,8 +11,9 @@ use Rattle.std.proofs.lemmas.Slice.Eq.{bytes_eq-Decides}
 use Rattle.std.proofs.lemmas.List.Elements.{All-nil, All-cons}
 use Rattle.pearl_tree.specs.declared.token.What.{What}
 use Rattle.pearl_tree.specs.declared.token.What.TheVariants as what
-use Rattle.pearl_tables.specs.Words.{words, code_count}
+use Rattle.pearl_tables.specs.Words.{words, meanings, code_count}
 use Rattle.pearl_tables.specs.Symbols.{symbol_count}
+use Rattle.pearl_tables.specs.declared.symbol.TheConstants as s
 use Rattle.pearl_tree.specs.Tokens.{IsDigit, IsIdByte, BeginsWithLetter, IsLawfulWhat}
 use Rattle.pearl_lex.specs.declared.front.Front.{Front}
 use Rattle.pearl_lex.specs.Spelling.{is_id_byte, sized, meaning, id_of, word_or_id, double_symbol, single_symbol, longer_symbol, symbol_front}
@@ -38,7 +39,7 @@ meaning_passes p (row ∷ table) text all =
     (λ _. meaning_passes p table text (and_back (p row.1) (list_all (λ row. p row.1) table) all))
 
 all_codes : list_all (λ row. nat_lt row.1 code_count) words ≡ true
-unfolding words
+unfolding words meanings
 all_codes = refl
 
 none_differs : (row : List ℕ × ℕ) (table : List (List ℕ × ℕ)) (text : List ℕ) (same : Bool) → bytes_eq row.0 text ≡ same → meaning (row ∷ table) text ≡ None
@@ -48,11 +49,11 @@ none_differs row table text false e none go =
     All-cons (λ row. row.0 ≢ text) row table (λ is. false≢true (sym e ∙ (bytes_eq-Decides row.0 text).1 is))
     (go (sym (ap (λ b. if b then Some row.1 else meaning table text) e) ∙ none))
 
-no_meaning : (table : List (List ℕ × ℕ)) (text : List ℕ) → meaning table text ≡ None → All (λ row. row.0 ≢ text) table
+pub no_meaning : (table : List (List ℕ × ℕ)) (text : List ℕ) → meaning table text ≡ None → All (λ row. row.0 ≢ text) table
 no_meaning [] text none = All-nil (λ row. row.0 ≢ text)
 no_meaning (row ∷ table) text none = none_differs row table text (bytes_eq row.0 text) refl none (no_meaning table text)
 
-begins_name : (bytes : List ℕ) → is_ascii_alphabetic (get_or bytes 0 0) ≡ true → BeginsWithLetter (take (prefix_len is_id_byte bytes) bytes)
+pub begins_name : (bytes : List ℕ) → is_ascii_alphabetic (get_or bytes 0 0) ≡ true → BeginsWithLetter (take (prefix_len is_id_byte bytes) bytes)
 begins_name [] h = absurd (false≢true h)
 begins_name (b ∷ bytes) h = by (is_ascii_alphabetic b) refl
   where
@@ -82,7 +83,7 @@ lawful_word_front bytes h =
 within : (digits : List ℕ) (max : ℕ) → IfSome (value_within digits max) (λ value. value ≤ max)
 within digits max = choose (λ value. value ≤ max) (nat_le (value_of digits) max) (Some (value_of digits)) None (λ few. at_most (value_of digits) max few) (λ _. tt)
 
-digits_are : (bytes : List ℕ) → All IsDigit (digits_of bytes)
+pub digits_are : (bytes : List ℕ) → All IsDigit (digits_of bytes)
 digits_are bytes = all_prefix is_ascii_digit IsDigit bytes digit
 
 decimals_are : (bytes : List ℕ) → All IsDigit (decimals_of bytes)
@@ -147,7 +148,7 @@ bits_below w (d ∷ digits) value k few all =
     subst (λ n. fold (λ value digit. value * 2 ^ w + digit_value digit) (value * 2 ^ w + digit_value d) digits < 2 ^ n) e
     (bits_below w digits (value * 2 ^ w + digit_value d) (w + k) next (and_back (is_digit_of w d) (list_all (is_digit_of w) digits) all))
 
-some_bits : (w n : ℕ) → 1 ≤ w → 1 ≤ n → 1 ≤ n * w
+pub some_bits : (w n : ℕ) → 1 ≤ w → 1 ≤ n → 1 ≤ n * w
 some_bits w n some many = let up : n ≤ n * w = le-mul_of_pos_right n some in omega (arith, up, many)
 
 lawful_bits : (w : ℕ) (digits : List ℕ) → 1 ≤ w → IfSome (bits_of w digits) IsLawfulWhat
@@ -165,10 +166,10 @@ lawful_bits w digits some =
     ))
     (λ _. tt)
 
-abbrev IsChar : ℕ → Type 0
+abbrev pub IsChar : ℕ → Type 0
 IsChar b = (32 ≤ b) × (b ≤ 126)
 
-chars_cons : (a : ℕ) (ys : List ℕ) → eqb a 39 ≡ false → chars_of (a ∷ ys) ≡ a ∷ chars_of ys
+pub chars_cons : (a : ℕ) (ys : List ℕ) → eqb a 39 ≡ false → chars_of (a ∷ ys) ≡ a ∷ chars_of ys
 chars_cons a [] e = refl
 chars_cons a (y ∷ ys) e = ap (λ b. a ∷ (if b then chars_of ys else chars_of (y ∷ ys))) e
 
@@ -192,7 +193,7 @@ one_char true r a f = All-nil IsChar
 one_char false true a f = All-cons IsChar a [] (range 32 126 a f) (All-nil IsChar)
 one_char false false a f = All-nil IsChar
 
-chars_are : (bytes : List ℕ) → All IsChar (chars_of (take (chars_len bytes) bytes))
+pub chars_are : (bytes : List ℕ) → All IsChar (chars_of (take (chars_len bytes) bytes))
 chars_are [] = All-nil IsChar
 chars_are (a ∷ []) = one_char (eqb a 39) (is_char a) a refl
 chars_are (a ∷ b ∷ rest) = two_chars (eqb a 39) (eqb b 39) (is_char a) a b rest refl refl (chars_are rest) (chars_are (b ∷ rest))
@@ -203,7 +204,7 @@ lawful_text text all =
     (λ h. let fits = range 1 255 (length text) h in (fits.0, fits.1, all))
     (λ _. tt)
 
-some_width : (n : ℕ) → eqb n 0 ≡ false → 1 ≤ n
+pub some_width : (n : ℕ) → eqb n 0 ≡ false → 1 ≤ n
 some_width n h = by n h
   where
     by : (n : ℕ) → eqb n 0 ≡ false → 1 ≤ n
@@ -237,21 +238,21 @@ picks_below (row ∷ rows) all =
 double_below : (a b : ℕ) → IfSome (double_symbol a b) (λ s. s < symbol_count)
 double_below a b =
     picks_below (
-    (eqb a 58 && eqb b 61, 8) ∷
-    (eqb a 61 && eqb b 61, 10) ∷
-    (eqb a 47 && eqb b 61, 11) ∷
-    (eqb a 60 && eqb b 61, 14) ∷
-    (eqb a 62 && eqb b 61, 15) ∷
-    (eqb a 62 && eqb b 60, 16) ∷
-    (eqb a 60 && eqb b 62, 17) ∷
-    (eqb a 47 && eqb b 47, 21) ∷
-    (eqb a 42 && eqb b 42, 22) ∷ []
+    (eqb a 58 && eqb b 61, s.BECOMES) ∷
+    (eqb a 61 && eqb b 61, s.EQUAL) ∷
+    (eqb a 47 && eqb b 61, s.UNEQUAL) ∷
+    (eqb a 60 && eqb b 61, s.AT_MOST) ∷
+    (eqb a 62 && eqb b 61, s.AT_LEAST) ∷
+    (eqb a 62 && eqb b 60, s.CONCATENATE) ∷
+    (eqb a 60 && eqb b 62, s.ROTATE) ∷
+    (eqb a 47 && eqb b 47, s.DIVIDE) ∷
+    (eqb a 42 && eqb b 42, s.POWER) ∷ []
     ) refl
 
 single_below : (a : ℕ) → IfSome (single_symbol a) (λ s. s < symbol_count)
 single_below a =
     picks_below (
-    (eqb a 40, 0) ∷ (eqb a 41, 1) ∷ (eqb a 91, 2) ∷ (eqb a 93, 3) ∷ (eqb a 44, 4) ∷ (eqb a 59, 5) ∷ (eqb a 58, 6) ∷ (eqb a 46, 7) ∷ (eqb a 61, 9) ∷ (eqb a 60, 12) ∷ (eqb a 62, 13) ∷ (eqb a 43, 18) ∷ (eqb a 45, 19) ∷ (eqb a 42, 20) ∷ []
+    (eqb a 40, s.LEFT_ROUND) ∷ (eqb a 41, s.RIGHT_ROUND) ∷ (eqb a 91, s.LEFT_SQUARE) ∷ (eqb a 93, s.RIGHT_SQUARE) ∷ (eqb a 44, s.COMMA) ∷ (eqb a 59, s.SEMICOLON) ∷ (eqb a 58, s.COLON) ∷ (eqb a 46, s.PERIOD) ∷ (eqb a 61, s.EQUALS_SIGN) ∷ (eqb a 60, s.LESS) ∷ (eqb a 62, s.GREATER) ∷ (eqb a 43, s.PLUS) ∷ (eqb a 45, s.MINUS) ∷ (eqb a 42, s.TIMES) ∷ []
     ) refl
 
 lawful_longer : (double single : Option ℕ) → IfSome double (λ s. s < symbol_count) → IfSome single (λ s. s < symbol_count) → IfSome (longer_symbol double single) IsLawfulFront

@@ -4,6 +4,14 @@ pub mod BitsRoom
 pub mod Chars
 pub mod WordMeaning
 pub mod Passes
-pub mod Placed
 pub mod Lawful
 pub mod Unique
+pub mod LawfulTokens
+pub mod Runs
+pub mod Numerals
+pub mod NumeralSizes
+pub mod Names
+pub mod Widths
+pub mod QuotedTokens
+pub mod OneMeaning
+pub mod LongestFront

@@ -29,14 +29,14 @@ code_is None code e = absurd (let f = e in cc f)
 code_is (Some found) code e = ap Some (eqb-true found code e)
 
 -- every word of these groups passes the test for the number of its group
-abbrev each_word : (ℕ → List ℕ → Bool) → List (List (List ℕ)) → Bool
+abbrev pub each_word : (ℕ → List ℕ → Bool) → List (List (List ℕ)) → Bool
 each_word test [] = true
 each_word test (group ∷ groups) = list_all (test 0) group && each_word (λ code. test (suc code)) groups
 
 list_all-Contains : {X : Type 0} (p : X → Bool) (xs : List X) (x : X) → list_all p xs ≡ true → Contains xs x → p x ≡ true
 list_all-Contains p xs x h = All-contains (λ y. p y ≡ true) xs x ((Decides-by_and p (λ y. p y ≡ true) (list_all p) (λ y. (λ e. e, λ e. e)) refl (λ _ _. refl) xs).0 h)
 
-each_word-at : (test : ℕ → List ℕ → Bool) (groups : List (List (List ℕ))) → each_word test groups ≡ true → (code : ℕ) (text : List ℕ) → Contains (get_or groups code []) text → test code text ≡ true
+pub each_word-at : (test : ℕ → List ℕ → Bool) (groups : List (List (List ℕ))) → each_word test groups ≡ true → (code : ℕ) (text : List ℕ) → Contains (get_or groups code []) text → test code text ≡ true
 each_word-at test [] h code text in_group = absurd (omega (arith, in_group.1))
 each_word-at test (group ∷ groups) h zero text in_group =
     list_all-Contains (test 0) group text (and_front (list_all (test 0) group) (each_word (λ code. test (suc code)) groups) h) in_group
@@ -51,7 +51,7 @@ codes_have_words : list_all (λ row. is_word row.0 row.1) words ≡ true
 unfolding words meanings
 codes_have_words = refl
 
-word_has_code : (text : List ℕ) (code : ℕ) → IsWord text code → meaning words text ≡ Some code
+pub word_has_code : (text : List ℕ) (code : ℕ) → IsWord text code → meaning words text ≡ Some code
 word_has_code text code is = code_is (meaning words text) code (each_word-at (λ code text. is_code (meaning words text) code) meanings words_have_codes code text is)
 
 from_row : (row : List ℕ × ℕ) (table : List (List ℕ × ℕ)) (text : List ℕ) (code : ℕ) (same : Bool) → bytes_eq row.0 text ≡ same → is_word row.0 row.1 ≡ true
@@ -69,7 +69,7 @@ from_table (row ∷ table) text code all has =
     from_row row table text code (bytes_eq row.0 text) refl (and_front (is_word row.0 row.1) (list_all (λ row. is_word row.0 row.1) table) all) has
     (from_table table text code (and_back (is_word row.0 row.1) (list_all (λ row. is_word row.0 row.1) table) all))
 
-code_has_word : (text : List ℕ) (code : ℕ) → meaning words text ≡ Some code → IsWord text code
+pub code_has_word : (text : List ℕ) (code : ℕ) → meaning words text ≡ Some code → IsWord text code
 code_has_word text code has = (is_word-Decides text code).0 (from_table words text code codes_have_words has)
 
 pub word_meaning : (rows : List WordRow) (text : List ℕ) (result : Option ℕ) → AreTheWords rows

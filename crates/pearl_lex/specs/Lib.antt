@@ -3,4 +3,5 @@ pub mod Literals
 pub mod Quoted
 pub mod Front
 pub mod Lexes
+pub mod Spells
 pub mod Laws

@@ -7,6 +7,7 @@ ghost use Rattle.pearl_lex.specs.Spelling as spec;
 
 use crate::front::Front;
 use arrayvec::ArrayVec;
+use pearl_tables::symbol;
 use pearl_tables::word::{find_word, words};
 use pearl_tree::token::What;
 
@@ -168,15 +169,15 @@ fn double_symbol(first: u8, second: u8) -> Option<u8>
     ensures some { result ≢ None → second ≢ 0 }
 {
     match (first, second) {
-        (b':', b'=') => Some(8),
-        (b'=', b'=') => Some(10),
-        (b'/', b'=') => Some(11),
-        (b'<', b'=') => Some(14),
-        (b'>', b'=') => Some(15),
-        (b'>', b'<') => Some(16),
-        (b'<', b'>') => Some(17),
-        (b'/', b'/') => Some(21),
-        (b'*', b'*') => Some(22),
+        (b':', b'=') => Some(symbol::BECOMES),
+        (b'=', b'=') => Some(symbol::EQUAL),
+        (b'/', b'=') => Some(symbol::UNEQUAL),
+        (b'<', b'=') => Some(symbol::AT_MOST),
+        (b'>', b'=') => Some(symbol::AT_LEAST),
+        (b'>', b'<') => Some(symbol::CONCATENATE),
+        (b'<', b'>') => Some(symbol::ROTATE),
+        (b'/', b'/') => Some(symbol::DIVIDE),
+        (b'*', b'*') => Some(symbol::POWER),
         _ => None,
     }
 }
@@ -186,20 +187,20 @@ fn single_symbol(first: u8) -> Option<u8>
     ensures some { result ≢ None → first ≢ 0 }
 {
     match first {
-        b'(' => Some(0),
-        b')' => Some(1),
-        b'[' => Some(2),
-        b']' => Some(3),
-        b',' => Some(4),
-        b';' => Some(5),
-        b':' => Some(6),
-        b'.' => Some(7),
-        b'=' => Some(9),
-        b'<' => Some(12),
-        b'>' => Some(13),
-        b'+' => Some(18),
-        b'-' => Some(19),
-        b'*' => Some(20),
+        b'(' => Some(symbol::LEFT_ROUND),
+        b')' => Some(symbol::RIGHT_ROUND),
+        b'[' => Some(symbol::LEFT_SQUARE),
+        b']' => Some(symbol::RIGHT_SQUARE),
+        b',' => Some(symbol::COMMA),
+        b';' => Some(symbol::SEMICOLON),
+        b':' => Some(symbol::COLON),
+        b'.' => Some(symbol::PERIOD),
+        b'=' => Some(symbol::EQUALS_SIGN),
+        b'<' => Some(symbol::LESS),
+        b'>' => Some(symbol::GREATER),
+        b'+' => Some(symbol::PLUS),
+        b'-' => Some(symbol::MINUS),
+        b'*' => Some(symbol::TIMES),
         _ => None,
     }
 }

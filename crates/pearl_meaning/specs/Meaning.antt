@@ -8,7 +8,7 @@ use Rattle.pearl_rules.specs.Runs.{Source, Supplier}
 use Rattle.pearl_prog.specs.declared.program.Statement.{Statement}
 use Rattle.pearl_prog.specs.declared.program.Routine.{Routine}
 use Rattle.pearl_prog.specs.declared.program.Program.{Program}
-use Rattle.pearl_meaning.specs.Store.{Store, Got, Value, Needs, Fails}
+use Rattle.pearl_meaning.specs.Store.{Store, Evaluation, Value, Needs, Fails}
 use Rattle.pearl_meaning.specs.Statements.{Flow, exec_all}
 
 abbrev pub body_or_none : Option Routine → List Statement
@@ -23,7 +23,7 @@ body_of p t = body_or_none (slice_get p.tasks t)
 abbrev pub store_at_start : ℕ → Store
 store_at_start t = record { task = t; frames = [] }
 
-abbrev pub next_action : Got Flow → Action
+abbrev pub next_action : Evaluation Flow → Action
 next_action (Value flow store rest) = End
 next_action (Needs action) = action
 next_action (Fails trap) = Trap trap

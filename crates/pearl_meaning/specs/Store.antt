@@ -10,18 +10,18 @@ pub record Store : Type 0 where
   pub task : ℕ
   pub frames : List (List Cell)
 
-pub data Got (X : Type 0) : Type 0 where
-  Value : (x : X) (store : Store) (rest : List Answer) → Got X
-  Needs : (action : Action) → Got X
-  Fails : (trap : Trap) → Got X
+pub data Evaluation (X : Type 0) : Type 0 where
+  Value : (x : X) (store : Store) (rest : List Answer) → Evaluation X
+  Needs : (action : Action) → Evaluation X
+  Fails : (trap : Trap) → Evaluation X
 
 -- one evaluation after another
-abbrev pub bind : {X Y : Type 0} → Got X → (X → Store → List Answer → Got Y) → Got Y
+abbrev pub bind : {X Y : Type 0} → Evaluation X → (X → Store → List Answer → Evaluation Y) → Evaluation Y
 bind (Value x store rest) go = go x store rest
 bind (Needs action) go = Needs action
 bind (Fails trap) go = Fails trap
 
 -- an action: it uses one answer
-abbrev pub ask : {Y : Type 0} → Action → List Answer → (Answer → List Answer → Got Y) → Got Y
+abbrev pub ask : {Y : Type 0} → Action → List Answer → (Answer → List Answer → Evaluation Y) → Evaluation Y
 ask action [] go = Needs action
 ask action (answer ∷ rest) go = go answer rest

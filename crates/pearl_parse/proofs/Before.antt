@@ -7,7 +7,7 @@ use Rattle.pearl_tree.specs.Standing.{Spelling, what_at, HasWord, SpellsList}
 use Rattle.pearl_tree.specs.Stops.{BeginAlike}
 use Rattle.pearl_parse_expr.specs.declared.reading.Halt.{Halt}
 use Rattle.pearl_parse_expr.specs.declared.reading.Halt.TheVariants.{Refused, NoMemory}
-use Rattle.pearl_parse_expr.specs.Stops.{Sure, Exact, EndsEarly, IsHalted, is_word}
+use Rattle.pearl_parse_expr.specs.Stops.{IsLongest, IsOnly, EndsEarly, IsHalted, is_word}
 use Rattle.pearl_parse_expr.proofs.Primaries.{clash}
 use Rattle.pearl_parse_expr.proofs.Parts.{shorter}
 use Rattle.pearl_parse_decl.specs.Readings.{by_comma}
@@ -18,7 +18,7 @@ module _ {X : Type 0} (spells : List Token → Spelling X) (extends : Option Wha
     (apart : (others : List Token) (at : ℕ) (x : X) (to : ℕ) → HasWord others at word → spells others at x to → ⊥)
     (stops : extends (Some (what.Word word)) ≡ false) where
   -- where the word stands, the list is empty
-  pub at_once : (tokens : List Token) (from new : ℕ) → HasWord tokens from word → from ≤ new → Exact (SpellsBefore word spells) tokens from (from + 1) new
+  pub at_once : (tokens : List Token) (from new : ℕ) → HasWord tokens from word → from ≤ new → IsOnly (SpellsBefore word spells) tokens from (from + 1) new
   at_once tokens from new here near = λ others agree xs to h. by others (sym (agree from near) ∙ here) xs to h
     where
       by : (others : List Token) → HasWord others from word → (xs : List X) (to : ℕ) → SpellsBefore word spells others from xs to → to ≡ from + 1
@@ -29,24 +29,24 @@ module _ {X : Type 0} (spells : List Token → Spelling X) (extends : Option Wha
   as_list : (others : List Token) (from end : ℕ) → is_word word (what_at others from) ≡ false →
       ((xs : List X) (to : ℕ) → SpellsList others (spells others) from xs to → (to ≡ end) ⊎ EndsEarly (by_comma extends) others end to) →
       (xs : List X) (to : ℕ) → SpellsBefore word spells others from xs to → is_word word (Some (what.Word word)) ≡ true → HasWord others end word × (to ≡ end + 1)
-  as_list others from end other sure [] to h itself =
+  as_list others from end other longest [] to h itself =
       absurd (clash _ (ap (is_word word) (subst (λ k. HasWord others k word) h.1 h.2) ∙ itself) other)
-  as_list others from end other sure (x ∷ xs) to h itself =
+  as_list others from end other longest (x ∷ xs) to h itself =
       let none : by_comma extends (what_at others h.0) ≡ false = rw (h.2, stops) refl in
-      let same = settled (by_comma extends) others end h.0 (sure (x ∷ xs) h.0 h.1) none in
+      let same = settled (by_comma extends) others end h.0 (longest (x ∷ xs) h.0 h.1) none in
       (subst (λ k. HasWord others k word) same h.2, omega (arith, same, h.3))
 
   pub behind_list : (tokens : List Token) (from end stop new : ℕ) → is_word word (Some (what.Word word)) ≡ true → is_word word (what_at tokens from) ≡ false → from ≤ new → stop ≤ new →
-      Sure (λ tokens. SpellsList tokens (spells tokens)) (by_comma extends) tokens from end stop → Exact (SpellsBefore word spells) tokens from (end + 1) new
-  behind_list tokens from end stop new itself other near below sure = λ others agree xs to h.
+      IsLongest (λ tokens. SpellsList tokens (spells tokens)) (by_comma extends) tokens from end stop → IsOnly (SpellsBefore word spells) tokens from (end + 1) new
+  behind_list tokens from end stop new itself other near below longest = λ others agree xs to h.
       (as_list others from end (ap (is_word word) (sym (agree from near)) ∙ other)
-      (λ xs to h. sure others (shorter tokens others stop new below agree) xs to h) xs to h itself).1
+      (λ xs to h. longest others (shorter tokens others stop new below agree) xs to h) xs to h itself).1
 
   pub no_word_behind : (tokens : List Token) (from end stop : ℕ) → is_word word (Some (what.Word word)) ≡ true → is_word word (what_at tokens from) ≡ false → from ≤ stop → end ≤ stop →
-      Sure (λ tokens. SpellsList tokens (spells tokens)) (by_comma extends) tokens from end stop → is_word word (what_at tokens end) ≡ false →
+      IsLongest (λ tokens. SpellsList tokens (spells tokens)) (by_comma extends) tokens from end stop → is_word word (what_at tokens end) ≡ false →
       (others : List Token) → BeginAlike tokens others stop → (xs : List X) (to : ℕ) → SpellsBefore word spells others from xs to → ⊥
-  no_word_behind tokens from end stop itself other near below sure missing others agree xs to h =
-      let read = as_list others from end (ap (is_word word) (sym (agree from near)) ∙ other) (λ xs to h. sure others agree xs to h) xs to h itself in
+  no_word_behind tokens from end stop itself other near below longest missing others agree xs to h =
+      let read = as_list others from end (ap (is_word word) (sym (agree from near)) ∙ other) (λ xs to h. longest others agree xs to h) xs to h itself in
       clash _ (ap (is_word word) read.0 ∙ itself) (ap (is_word word) (sym (agree end below)) ∙ missing)
 
   pub no_list : (tokens : List Token) (from : ℕ) (halt : Halt) → is_word word (Some (what.Word word)) ≡ true → is_word word (what_at tokens from) ≡ false →

@@ -12,7 +12,7 @@ use Rattle.pearl_tables.specs.declared.symbol.TheConstants as s
 use Rattle.pearl_tables.specs.declared.word_code.TheConstants as w
 use Rattle.pearl_parse_expr.specs.declared.reading.Halt.{Halt}
 use Rattle.pearl_parse_expr.specs.declared.reading.Halt.TheVariants.{Refused, NoMemory}
-use Rattle.pearl_parse_expr.specs.Stops.{Sure, IsHalted, is_word}
+use Rattle.pearl_parse_expr.specs.Stops.{IsLongest, IsHalted, is_word}
 use Rattle.pearl_parse_expr.proofs.Parts.{shorter}
 use Rattle.pearl_parse_decl.specs.Readings.{by_bracket, extends_head}
 use Rattle.pearl_parse_decl.specs.Readings as readings
@@ -63,28 +63,28 @@ pub params_stop : Avoids by_bracket returns_rest
 params_stop others at to (None, m, h, rest) = ap by_bracket (subst (λ k. HasSymbol others k s.SEMICOLON) h rest.2.1)
 params_stop others at to (Some x, m, h, rest) = ap by_bracket h.1
 
-pub sure_longer : {Y : Type 0} (spells : List Token → Spelling Y) (extends : Option What → Bool) (tokens : List Token) (from end stop new : ℕ) → stop ≤ new →
-    Sure spells extends tokens from end stop → Sure spells extends tokens from end new
-sure_longer spells extends tokens from end stop new below sure = λ others agree x to h. sure others (shorter tokens others stop new below agree) x to h
+pub longest_later : {Y : Type 0} (spells : List Token → Spelling Y) (extends : Option What → Bool) (tokens : List Token) (from end stop new : ℕ) → stop ≤ new →
+    IsLongest spells extends tokens from end stop → IsLongest spells extends tokens from end new
+longest_later spells extends tokens from end stop new below longest = λ others agree x to h. longest others (shorter tokens others stop new below agree) x to h
 
-module _ (tokens : List Token) (from low : ℕ) where
-  pub opened_goes : Goes SpellsBlock tokens from opened_rest from low
+module _ (tokens : List Token) (from least_stop : ℕ) where
+  pub opened_goes : Goes SpellsBlock tokens from opened_rest from least_stop
   opened_goes = λ others agree x to h. (h.1, (x, h.0, h.2, (h.3, h.4, h.5)))
 
-  pub body_goes : Goes SpellsBlock tokens from body_rest (from + 1) low
+  pub body_goes : Goes SpellsBlock tokens from body_rest (from + 1) least_stop
   body_goes = λ others agree x to h. (x, h.0, h.2, (h.3, h.4, h.5))
 
-  pub end_goes : (end stop new : ℕ) → low ≤ new → stop ≤ new → Sure SpellsWholeBody extends_body tokens (from + 1) end stop → Goes SpellsBlock tokens from end_rest end new
-  end_goes end stop new below reach sure =
-      past SpellsBlock tokens from SpellsWholeBody extends_body end_rest (from + 1) low end new body_goes below
-      (sure_longer SpellsWholeBody extends_body tokens (from + 1) end stop new reach sure) end_stops
+  pub end_goes : (end stop new : ℕ) → least_stop ≤ new → stop ≤ new → IsLongest SpellsWholeBody extends_body tokens (from + 1) end stop → Goes SpellsBlock tokens from end_rest end new
+  end_goes end stop new below reach longest =
+      past SpellsBlock tokens from SpellsWholeBody extends_body end_rest (from + 1) least_stop end new body_goes below
+      (longest_later SpellsWholeBody extends_body tokens (from + 1) end stop new reach longest) end_stops
 
 -- a part is stopped no earlier than the part before it
-pub behind_is_stopped : {Y : Type 0} (spells : List Token → Spelling Y) (tokens : List Token) (from low : ℕ) (halt : Halt) → low ≤ length tokens →
-    IsHalted spells tokens from halt → IsStopped spells tokens from low (readings.behind halt low)
-behind_is_stopped spells tokens from low NoMemory within h = tt
-behind_is_stopped spells tokens from low (Refused stop) within h = (
-  λ others agree x to read. h.0 others (shorter tokens others stop (max stop low) (omega arith) agree) x to read,
+pub behind_is_stopped : {Y : Type 0} (spells : List Token → Spelling Y) (tokens : List Token) (from least_stop : ℕ) (halt : Halt) → least_stop ≤ length tokens →
+    IsHalted spells tokens from halt → IsStopped spells tokens from least_stop (readings.behind halt least_stop)
+behind_is_stopped spells tokens from least_stop NoMemory within h = tt
+behind_is_stopped spells tokens from least_stop (Refused stop) within h = (
+  λ others agree x to read. h.0 others (shorter tokens others stop (max stop least_stop) (omega arith) agree) x to read,
   omega (arith, h.1),
   omega arith,
   omega (arith, h.2, within),

@@ -1,5 +1,6 @@
 -- What is left of an assignment, a call or a return behind its first tokens.
-use Rattle.std.proofs.Common.{◌≡◌, ℕ, ◌+◌, ◌≤◌, true, false, List, [], ◌∷◌, Option, Some, None, ◌⊎◌, inl, inr, T, eqb, option_map, slice_get, refl, sym, ap, subst, ◌∙◌, arith, true≢false}
+use Rattle.std.proofs.Common.{◌≡◌, ℕ, ◌+◌, ◌≤◌, Bool, true, false, List, [], ◌∷◌, Option, Some, None, ◌⊎◌, inl, inr, T, eqb, option_map, slice_get, refl, sym, ap, subst, ◌∙◌, arith, true≢false}
+use Rattle.pearl_tree.specs.declared.name.Name.{Name}
 use Rattle.pearl_tree.specs.declared.parts.Parts.{Parts}
 use Rattle.pearl_tree.specs.declared.expression.Expr.{Expr}
 use Rattle.pearl_tree.specs.declared.expression.Selector.{Selector, Subscripts}
@@ -7,16 +8,16 @@ use Rattle.pearl_tree.specs.declared.statement.Stmt.{Stmt, Assign, Call, Return}
 use Rattle.pearl_tree.specs.declared.token.What.{What}
 use Rattle.pearl_tree.specs.declared.token.What.TheVariants as what
 use Rattle.pearl_tree.specs.declared.token.Token.{Token}
-use Rattle.pearl_tree.specs.Standing.{IsAt, HasWord, HasSymbol, IsName, SpellsEach, SpellsList, SpellsMaybeBracketed, what_at}
+use Rattle.pearl_tree.specs.Standing.{IsAt, HasWord, HasSymbol, IsName, SpellsFlag, SpellsMaybe, SpellsEach, SpellsList, SpellsMaybeBracketed, what_at}
 use Rattle.pearl_tree.specs.Expressions.{SpellsWhole, SpellsSelector}
-use Rattle.pearl_tree.specs.Statements.{SpellsStmt}
+use Rattle.pearl_tree.specs.Statements.{SpellsStmt, SpellsValue}
 use Rattle.pearl_tables.specs.declared.symbol.TheConstants as s
 use Rattle.pearl_tables.specs.declared.word_code.TheConstants as w
 use Rattle.pearl_tree.proofs.ExpressionLists.{spells_subscripts}
 use Rattle.pearl_tree.proofs.OneStatement.{group_of}
 use Rattle.pearl_parse_expr.specs.declared.reading.Halt.{Halt}
 use Rattle.pearl_parse_expr.specs.declared.reading.Halt.TheVariants.{Refused, NoMemory}
-use Rattle.pearl_parse_expr.specs.Stops.{Sure, Stuck, EndsEarly, IsHalted, extends_expression, extends_operand, is_name, is_symbol}
+use Rattle.pearl_parse_expr.specs.Stops.{IsLongest, Stuck, EndsEarly, IsHalted, extends_expression, extends_operand, is_name, is_symbol}
 use Rattle.pearl_parse_expr.proofs.Primaries.{clash}
 use Rattle.pearl_parse_expr.proofs.Parts.{shorter}
 use Rattle.pearl_parse_decl.specs.Readings.{by_comma}
@@ -49,11 +50,11 @@ module _ (others : List Token) (from : ℕ) where
   pub bracketed_end : (end : ℕ) → HasSymbol others from s.LEFT_ROUND →
       ((xs : List Expr) (to : ℕ) → SpellsList others (SpellsWhole others) (from + 1) xs to → (to ≡ end) ⊎ EndsEarly (by_comma extends_expression) others end to) →
       (xs : List Expr) (to : ℕ) → SpellsArguments others from xs to → closed_rest others end to
-  bracketed_end end bracket sure [] to h =
+  bracketed_end end bracket longest [] to h =
       absurd (clash _ (ap (is_symbol s.SEMICOLON) (subst (λ k. HasSymbol others k s.SEMICOLON) h.1 h.2)) (ap (is_symbol s.SEMICOLON) bracket))
-  bracketed_end end bracket sure (x ∷ xs) to h =
+  bracketed_end end bracket longest (x ∷ xs) to h =
       let inner = h.1 in
-      let same : inner.0 ≡ end = settled (by_comma extends_expression) others end inner.0 (sure (x ∷ xs) inner.0 inner.2) (ap (by_comma extends_expression) inner.3) in (
+      let same : inner.0 ≡ end = settled (by_comma extends_expression) others end inner.0 (longest (x ∷ xs) inner.0 inner.2) (ap (by_comma extends_expression) inner.3) in (
         subst (λ k. HasSymbol others k s.RIGHT_ROUND) same inner.3,
         subst (λ k. HasSymbol others k s.SEMICOLON) (inner.4 ∙ ap (λ k. k + 1) same) h.2,
         omega (arith, same, inner.4, h.3),
@@ -61,10 +62,10 @@ module _ (others : List Token) (from : ℕ) where
 
 module _ (tokens : List Token) (from : ℕ) where
   pub arguments_go : (end stop new : ℕ) → HasSymbol tokens from s.LEFT_ROUND → from ≤ new → stop ≤ new →
-      Sure (λ tokens. SpellsList tokens (SpellsWhole tokens)) (by_comma extends_expression) tokens (from + 1) end stop →
+      IsLongest (λ tokens. SpellsList tokens (SpellsWhole tokens)) (by_comma extends_expression) tokens (from + 1) end stop →
       Goes SpellsArguments tokens from closed_rest end new
-  arguments_go end stop new bracket near below sure = λ others agree xs to h.
-      bracketed_end others from end (sym (agree from near) ∙ bracket) (λ xs to h. sure others (shorter tokens others stop new below agree) xs to h) xs to h
+  arguments_go end stop new bracket near below longest = λ others agree xs to h.
+      bracketed_end others from end (sym (agree from near) ∙ bracket) (λ xs to h. longest others (shorter tokens others stop new below agree) xs to h) xs to h
 
   pub arguments_stuck : (stop new : ℕ) → HasSymbol tokens from s.LEFT_ROUND → from ≤ new → stop ≤ new →
       Stuck (λ tokens. SpellsList tokens (SpellsWhole tokens)) tokens (from + 1) stop → Stuck SpellsArguments tokens from new
@@ -122,7 +123,7 @@ name_here None h = absurd (true≢false (sym h))
 
 -- a statement that begins with a name, by the token behind its reference
 module _ (others : List Token) (depth from end : ℕ) (named : is_name (what_at others from) ≡ true)
-    (sure : (xs : List Selector) (to : ℕ) → SpellsOwnNamed others from xs to → (to ≡ end) ⊎ EndsEarly extends_operand others end to) where
+    (longest : (xs : List Selector) (to : ℕ) → SpellsOwnNamed others from xs to → (to ≡ end) ⊎ EndsEarly extends_operand others end to) where
   kind_one : (a : Stmt) (to : ℕ) → SpellsStmt others depth from a to → T (eqb (group a) 1)
   kind_one a to h = let first = name_here (what_at others from) named in of_kind others depth from 1 first.0 first.1 first.2 a to h
 
@@ -130,41 +131,55 @@ module _ (others : List Token) (depth from end : ℕ) (named : is_name (what_at 
       HasSymbol others end s.SEMICOLON
   call_end arguments b h i =
       let list = as_selectors others (from + 1) arguments b h in
-      let same = settled extends_operand others end b (sure list.0 b (named, list.1)) (ap extends_operand i) in
+      let same = settled extends_operand others end b (longest list.0 b (named, list.1)) (ap extends_operand i) in
       subst (λ k. HasSymbol others k s.SEMICOLON) same i
+
+  -- it has no CALL
+  without_call : (call : Bool) (a : ℕ) → SpellsFlag others w.CALL from call a → a ≡ from
+  without_call false a h = h
+  without_call true a h = absurd (clash _ named (ap is_name h.0))
 
   pub an_assignment : is_becomes (what_at others end) ≡ true → (a : Stmt) (to : ℕ) → SpellsStmt others depth from a to → value_rest others (end + 1) to
   an_assignment here a to h = by a (kind_one a to h) h
     where
       by : (a : Stmt) → T (eqb (group a) 1) → SpellsStmt others depth from a to → value_rest others (end + 1) to
-      by (Assign target x p) e h =
-          let same = settled extends_operand others end h.0 (sure target.selectors.items.items h.0 (named, h.3.2)) (becomes_stops (what_at others h.0) h.4) in
-          (x, h.1, subst (λ k. SpellsWhole others (k + 1) x h.1) same h.5, (h.6, h.7))
-      by (Call false name xs p) e h =
-          let args = subst (λ k. SpellsMaybeBracketed others (SpellsWhole others) (k + 1) xs.items.items h.1) h.3 h.5 in
-          absurd (clash _ here (ap is_becomes (call_end xs h.1 args h.6)))
-      by (Call true name xs p) e h = absurd (clash _ named (ap is_name h.3.0))
+      by (Assign part) e h =
+          let same = settled extends_operand others end h.0 (longest part.value.target.selectors.items.items h.0 (named, h.3.2)) (becomes_stops (what_at others h.0) h.4) in
+          (part.value.value, h.1, subst (λ k. SpellsWhole others (k + 1) part.value.value h.1) same h.5, (h.6, h.7))
+      by (Call part) e h =
+          let arguments = part.value.arguments in
+          let behind = subst (λ k. SpellsMaybeBracketed others (SpellsWhole others) (k + 1) arguments.items.items h.1) (without_call part.value.call h.0 h.3) h.5 in
+          absurd (clash _ here (ap is_becomes (call_end arguments h.1 behind h.6)))
       by a e h = absurd e
 
   pub a_call : is_becomes (what_at others end) ≡ false → (a : Stmt) (to : ℕ) → SpellsStmt others depth from a to → arguments_rest others (from + 1) to
   a_call other a to h = by a (kind_one a to h) h
     where
       by : (a : Stmt) → T (eqb (group a) 1) → SpellsStmt others depth from a to → arguments_rest others (from + 1) to
-      by (Assign target x p) e h =
-          let same = settled extends_operand others end h.0 (sure target.selectors.items.items h.0 (named, h.3.2)) (becomes_stops (what_at others h.0) h.4) in
+      by (Assign part) e h =
+          let same = settled extends_operand others end h.0 (longest part.value.target.selectors.items.items h.0 (named, h.3.2)) (becomes_stops (what_at others h.0) h.4) in
           absurd (clash _ (subst (λ k. is_becomes (what_at others k) ≡ true) same (becomes_here (what_at others h.0) h.4)) other)
-      by (Call false name xs p) e h =
-          (xs.items.items, to, (h.1, subst (λ k. SpellsMaybeBracketed others (SpellsWhole others) (k + 1) xs.items.items h.1) h.3 h.5, h.6, h.7), refl)
-      by (Call true name xs p) e h = absurd (clash _ named (ap is_name h.3.0))
+      by (Call part) e h =
+          let arguments = part.value.arguments.items.items in
+          let behind = subst (λ k. SpellsMaybeBracketed others (SpellsWhole others) (k + 1) arguments h.1) (without_call part.value.call h.0 h.3) h.5 in
+          (arguments, to, (h.1, behind, h.6, h.7), refl)
       by a e h = absurd e
+
+module _ (others : List Token) (from : ℕ) where
+  optional_value : (x : Option Expr) (a : ℕ) → SpellsMaybe (SpellsValue others) from x a → HasSymbol others a s.SEMICOLON → SpellsOptionalValue others from x a
+  optional_value None a h i = (h, ap (is_symbol s.LEFT_ROUND) (subst (λ k. HasSymbol others k s.SEMICOLON) h i))
+  optional_value (Some x) a h i = h
+
+  behind_call : (call : Bool) (name : Name) (a : ℕ) → HasWord others from w.CALL → SpellsFlag others w.CALL from call a → IsName others a name → a ≡ from + 1
+  behind_call false name a word h i = absurd (clash _ (ap is_name (subst (λ k. IsName others k name) h i).0) (ap is_name word))
+  behind_call true name a word h i = h.1
 
 module _ (tokens : List Token) (depth from : ℕ) where
   pub return_goes : HasWord tokens from w.RETURN → Goes (Spelled depth) tokens from return_rest (from + 1) from
   return_goes here = behind_word tokens depth from w.RETURN 8 return_rest here refl by
     where
       by : (others : List Token) (a : Stmt) (to : ℕ) → T (eqb (group a) 8) → SpellsStmt others depth from a to → return_rest others (from + 1) to
-      by others (Return None p) to e h = (None, h.0, (h.3, ap (is_symbol s.LEFT_ROUND) (subst (λ k. HasSymbol others k s.SEMICOLON) h.3 h.4)), (h.4, h.5))
-      by others (Return (Some x) p) to e h = (Some x, h.0, h.3, (h.4, h.5))
+      by others (Return part) to e h = (part.value.value, h.0, optional_value others (from + 1) part.value.value h.0 h.3 h.4, (h.4, h.5))
       by others a to e h = absurd e
 
   pub call_goes : HasWord tokens from w.CALL → Goes (Spelled depth) tokens from call_rest (from + 1) from
@@ -173,12 +188,13 @@ module _ (tokens : List Token) (depth from : ℕ) where
       by others a to word (of_kind others depth from 1 (what.Word w.CALL) word refl a to h) h
     where
       by : (others : List Token) (a : Stmt) (to : ℕ) → HasWord others from w.CALL → T (eqb (group a) 1) → SpellsStmt others depth from a to → call_rest others (from + 1) to
-      by others (Assign target x p) to word e h = absurd (clash _ (ap is_name h.3.1.0) (ap is_name word))
-      by others (Call false name xs p) to word e h = absurd (clash _ (ap is_name (subst (λ k. IsName others k name) h.3 h.4).0) (ap is_name word))
-      by others (Call true name xs p) to word e h = (
-        ap is_name (subst (λ k. IsName others k name) h.3.1 h.4).0,
-        (xs.items.items, to, (h.1, subst (λ k. SpellsMaybeBracketed others (SpellsWhole others) (k + 1) xs.items.items h.1) h.3.1 h.5, h.6, h.7), refl),
-      )
+      by others (Assign part) to word e h = absurd (clash _ (ap is_name h.3.1.0) (ap is_name word))
+      by others (Call part) to word e h =
+          let behind = behind_call others from part.value.call part.value.name h.0 word h.3 h.4 in
+          let arguments = part.value.arguments.items.items in (
+            ap is_name (subst (λ k. IsName others k part.value.name) behind h.4).0,
+            (arguments, to, (h.1, subst (λ k. SpellsMaybeBracketed others (SpellsWhole others) (k + 1) arguments h.1) behind h.5, h.6, h.7), refl),
+          )
       by others a to word e h = absurd e
 
   pub call_goes_on : HasWord tokens from w.CALL → Goes (Spelled depth) tokens from arguments_rest (from + 2) from
@@ -186,16 +202,16 @@ module _ (tokens : List Token) (depth from : ℕ) where
       let two : from + 1 + 1 ≡ from + 2 = omega arith in
       subst (λ k. arguments_rest others k to) two (call_goes here others agree a to h).1
 
-  pub assign_goes : (end stop : ℕ) → is_name (what_at tokens from) ≡ true → from ≤ stop → end ≤ stop → Sure SpellsOwnNamed extends_operand tokens from end stop →
+  pub assign_goes : (end stop : ℕ) → is_name (what_at tokens from) ≡ true → from ≤ stop → end ≤ stop → IsLongest SpellsOwnNamed extends_operand tokens from end stop →
       is_becomes (what_at tokens end) ≡ true → Goes (Spelled depth) tokens from value_rest (end + 1) stop
-  assign_goes end stop name near below sure here = λ others agree a to h.
-      an_assignment others depth from end (ap is_name (sym (agree from near)) ∙ name) (λ xs to h. sure others agree xs to h)
+  assign_goes end stop name near below longest here = λ others agree a to h.
+      an_assignment others depth from end (ap is_name (sym (agree from near)) ∙ name) (λ xs to h. longest others agree xs to h)
       (ap is_becomes (sym (agree end below)) ∙ here) a to h
 
-  pub named_call_goes : (end stop : ℕ) → is_name (what_at tokens from) ≡ true → from ≤ stop → end ≤ stop → Sure SpellsOwnNamed extends_operand tokens from end stop →
+  pub named_call_goes : (end stop : ℕ) → is_name (what_at tokens from) ≡ true → from ≤ stop → end ≤ stop → IsLongest SpellsOwnNamed extends_operand tokens from end stop →
       is_becomes (what_at tokens end) ≡ false → Goes (Spelled depth) tokens from arguments_rest (from + 1) stop
-  named_call_goes end stop name near below sure other = λ others agree a to h.
-      a_call others depth from end (ap is_name (sym (agree from near)) ∙ name) (λ xs to h. sure others agree xs to h)
+  named_call_goes end stop name near below longest other = λ others agree a to h.
+      a_call others depth from end (ap is_name (sym (agree from near)) ∙ name) (λ xs to h. longest others agree xs to h)
       (ap is_becomes (sym (agree end below)) ∙ other) a to h
 
   pub no_named : (halt : Halt) → is_name (what_at tokens from) ≡ true → IsHalted SpellsOwnNamed tokens from halt → IsHalted (Spelled depth) tokens from halt

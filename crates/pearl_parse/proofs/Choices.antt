@@ -8,7 +8,7 @@ use Rattle.pearl_tree.specs.Statements.{SpellsBranch}
 use Rattle.pearl_tables.specs.declared.word_code.TheConstants as w
 use Rattle.pearl_tree.specs.Stops.{BeginAlike}
 use Rattle.pearl_parse_expr.specs.declared.reading.Halt.TheVariants.{Refused}
-use Rattle.pearl_parse_expr.specs.Stops.{Sure, EndsEarly, is_word}
+use Rattle.pearl_parse_expr.specs.Stops.{IsLongest, EndsEarly, is_word}
 use Rattle.pearl_parse_expr.proofs.Primaries.{clash}
 use Rattle.pearl_parse_expr.proofs.Parts.{shorter, or_second}
 use Rattle.pearl_parse.specs.Stops.{IsStopped, begins_statement}
@@ -37,12 +37,12 @@ module _ (others : List Token) (depth : ℕ) where
       ((x : List Stmt) (to : ℕ) → SpellsHeaded depth w.ALT others end x to → (to ≡ next) ⊎ EndsEarly begins_statement others next to) →
       EndsEarly extends_alternatives others end to ⊎ ((ys : List (List Stmt)) × Each depth others end ys to) →
       EndsEarly extends_alternatives others next to ⊎ ((ys : List (List Stmt)) × Each depth others next ys to)
-  step end next to ahead here sure (inl early) = inl (omega (arith, early.0), early.1)
-  step end next to ahead here sure (inr ([], h)) = inl (
+  step end next to ahead here longest (inl early) = inl (omega (arith, early.0), early.1)
+  step end next to ahead here longest (inr ([], h)) = inl (
     omega (arith, h),
     subst (λ k. extends_alternatives (what_at others k) ≡ true) (sym h) (ap extends_alternatives here),
   )
-  step end next to ahead here sure (inr (y ∷ ys, h)) = behind next h.0 to ys h.2 (sure y h.0 h.1)
+  step end next to ahead here longest (inr (y ∷ ys, h)) = behind next h.0 to ys h.2 (longest y h.0 h.1)
 
   last : (end to : ℕ) → is_word w.ALT (what_at others end) ≡ false →
       EndsEarly extends_alternatives others end to ⊎ ((ys : List (List Stmt)) × Each depth others end ys to) →
@@ -65,22 +65,22 @@ module _ (tokens : List Token) (depth from : ℕ) where
   choices_begin stop = λ others agree xs to h. inr (xs, h)
 
   pub choices_next : (end stop next new : ℕ) → ChoicesGo tokens depth from end stop → end ≤ stop → end < next → stop ≤ new → HasWord tokens end w.ALT →
-      Sure (SpellsHeaded depth w.ALT) begins_statement tokens end next new → ChoicesGo tokens depth from next new
-  choices_next end stop next new go near ahead below here sure = λ others agree xs to h.
+      IsLongest (SpellsHeaded depth w.ALT) begins_statement tokens end next new → ChoicesGo tokens depth from next new
+  choices_next end stop next new go near ahead below here longest = λ others agree xs to h.
       step others depth end next to ahead (sym (agree end (omega arith)) ∙ here)
-      (λ x to h. sure others agree x to h)
+      (λ x to h. longest others agree x to h)
       (go others (shorter tokens others stop new below agree) xs to h)
 
   pub choices_end : (end stop : ℕ) → ChoicesGo tokens depth from end stop → end ≤ stop → is_word w.ALT (what_at tokens end) ≡ false →
-      Sure (SpellsChoices depth) extends_alternatives tokens from end stop
+      IsLongest (SpellsChoices depth) extends_alternatives tokens from end stop
   choices_end end stop go near none = λ others agree xs to h.
       last others depth end to (ap (is_word w.ALT) (sym (agree end near)) ∙ none)
       (go others agree xs to (each_of others depth from xs to h))
 
   -- no alternative stands
-  pub no_choice : (low : ℕ) → from ≤ low → low ≤ length tokens → is_word w.ALT (what_at tokens from) ≡ false → IsStopped (SpellsChoices depth) tokens from low (Refused low)
-  no_choice low near within none = (λ others agree xs to h. by others agree xs to h, near, omega arith, within)
+  pub no_choice : (least_stop : ℕ) → from ≤ least_stop → least_stop ≤ length tokens → is_word w.ALT (what_at tokens from) ≡ false → IsStopped (SpellsChoices depth) tokens from least_stop (Refused least_stop)
+  no_choice least_stop near within none = (λ others agree xs to h. by others agree xs to h, near, omega arith, within)
     where
-      by : (others : List Token) → BeginAlike tokens others low → (xs : List (List Stmt)) (to : ℕ) → SpellsChoices depth others from xs to → ⊥
+      by : (others : List Token) → BeginAlike tokens others least_stop → (xs : List (List Stmt)) (to : ℕ) → SpellsChoices depth others from xs to → ⊥
       by others agree [] to h = h
       by others agree (x ∷ xs) to h = clash _ (ap (is_word w.ALT) h.1.0) (ap (is_word w.ALT) (sym (agree from near)) ∙ none)

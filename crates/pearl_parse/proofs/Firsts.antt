@@ -10,7 +10,7 @@ use Rattle.pearl_tree.specs.Standing.{what_at, HasWord}
 use Rattle.pearl_tables.specs.declared.symbol.TheConstants as s
 use Rattle.pearl_tables.specs.declared.word_code.TheConstants as w
 use Rattle.pearl_parse_expr.specs.Stops.{is_name}
-use Rattle.pearl_parse.specs.declared.first.Plain.TheVariants as plain
+use Rattle.pearl_parse.specs.declared.first.Simple.TheVariants as simple
 use Rattle.pearl_parse.specs.declared.first.First.{First}
 use Rattle.pearl_parse.specs.declared.first.First.TheVariants as first
 use Rattle.pearl_parse.specs.Stops.{is_among, begins_statement}
@@ -58,13 +58,13 @@ module _ (tokens : List Token) (k : ℕ) where
   begins_as : (token : What) (kind : First) → what_at tokens k ≡ Some token → first_of token ≡ Some kind → BeginsAs tokens k kind
   begins_as (what.Symbol symbol) kind here h = by (symbol == s.SEMICOLON) refl h
     where
-      by : (same : Bool) → (symbol == s.SEMICOLON) ≡ same → (if same then Some (first.Plain plain.Empty) else None) ≡ Some kind → BeginsAs tokens k kind
+      by : (same : Bool) → (symbol == s.SEMICOLON) ≡ same → (if same then Some (first.Simple simple.Empty) else None) ≡ Some kind → BeginsAs tokens k kind
       by true is h =
-          let e : first.Plain plain.Empty ≡ kind = let e = h in cc e in
+          let e : first.Simple simple.Empty ≡ kind = let e = h in cc e in
           subst (λ kind. BeginsAs tokens k kind) e (subst (λ symbol. what_at tokens k ≡ Some (what.Symbol symbol)) (eqb-true symbol s.SEMICOLON is) here)
       by false is h = absurd (let e = h in cc e)
   begins_as (what.Id text) kind here h =
-      let e : first.Plain plain.Named ≡ kind = let e = h in cc e in
+      let e : first.Simple simple.Named ≡ kind = let e = h in cc e in
       subst (λ kind. BeginsAs tokens k kind) e (ap is_name here)
   begins_as (what.Word code) kind here h = some_in tokens k first_words code kind (are_right tokens k) here h
   begins_as (what.Number value) kind here h = absurd (let e = h in cc e)
@@ -83,7 +83,7 @@ token_here tokens at token inside same = ap (option_map (λ (t : Token). t.what)
 pub begins_none : (token : What) → first_of token ≡ None → begins_statement (Some token) ≡ false
 begins_none (what.Symbol symbol) h = by (symbol == s.SEMICOLON) h
   where
-    by : (same : Bool) → (if same then Some (first.Plain plain.Empty) else None) ≡ None → same ≡ false
+    by : (same : Bool) → (if same then Some (first.Simple simple.Empty) else None) ≡ None → same ≡ false
     by true h = absurd (let e = h in cc e)
     by false h = refl
 begins_none (what.Id text) h = absurd (let e = h in cc e)

@@ -1,5 +1,6 @@
 -- What is left of a statement behind its first token.
-use Rattle.std.proofs.Common.{◌≡◌, ℕ, ◌+◌, true, List, Some, None, T, eqb, refl, sym, ap, subst, ◌∙◌, arith}
+use Rattle.std.proofs.Common.{◌≡◌, ℕ, ◌+◌, true, List, Option, Some, None, T, eqb, refl, sym, ap, subst, ◌∙◌, arith}
+use Rattle.pearl_tree.specs.declared.name.Name.{Name}
 use Rattle.pearl_tree.specs.declared.statement.TaskWord.{TaskWord}
 use Rattle.pearl_tree.specs.declared.statement.TaskWord.TheVariants.{Suspend, Terminate, Prevent}
 use Rattle.pearl_tree.specs.declared.statement.InterruptWord.{InterruptWord}
@@ -7,7 +8,7 @@ use Rattle.pearl_tree.specs.declared.statement.InterruptWord.TheVariants.{Enable
 use Rattle.pearl_tree.specs.declared.statement.Stmt.{Stmt, Exit, OnTask, OnInterrupt, Send, Take}
 use Rattle.pearl_tree.specs.declared.token.What.TheVariants as what
 use Rattle.pearl_tree.specs.declared.token.Token.{Token}
-use Rattle.pearl_tree.specs.Standing.{what_at, HasWord, HasSymbol, SpellsName}
+use Rattle.pearl_tree.specs.Standing.{what_at, HasWord, HasSymbol, SpellsName, SpellsMaybe}
 use Rattle.pearl_tree.specs.Expressions.{SpellsWhole}
 use Rattle.pearl_tree.specs.Statements.{SpellsStmt, task_word, interrupt_word}
 use Rattle.pearl_tables.specs.declared.symbol.TheConstants as s
@@ -41,6 +42,10 @@ send_rest = Then SpellsWhole (station_rest w.TO)
 abbrev pub take_rest : Rest
 take_rest = Then SpellsOwnNamed (station_rest w.FROM)
 
+optional_name : (others : List Token) (from : ℕ) (x : Option Name) (a : ℕ) → SpellsMaybe (SpellsName others) from x a → HasSymbol others a s.SEMICOLON → SpellsOptional is_name SpellsName others from x a
+optional_name others from None a h i = (h, ap is_name (subst (λ k. HasSymbol others k s.SEMICOLON) h i))
+optional_name others from (Some x) a h i = h
+
 module _ (tokens : List Token) (depth from : ℕ) where
   two : from + 2 ≡ from + 1 + 1
   two = omega arith
@@ -63,14 +68,14 @@ module _ (tokens : List Token) (depth from : ℕ) where
   send_goes here = behind_word w.SEND 15 send_rest here refl by
     where
       by : (others : List Token) (a : Stmt) (to : ℕ) → T (eqb (group a) 15) → SpellsStmt others depth from a to → send_rest others (from + 1) to
-      by others (Send x d p) to e h = (x, h.0, h.2.1, (h.3, ap is_name h.4.0, h.5, h.6))
+      by others (Send part) to e h = (part.value.value, h.0, h.2.1, (h.3, ap is_name h.4.0, h.5, h.6))
       by others a to e h = absurd e
 
   pub take_goes : HasWord tokens from w.TAKE → Goes (Spelled depth) tokens from take_rest (from + 1) from
   take_goes here = behind_word w.TAKE 16 take_rest here refl by
     where
       by : (others : List Token) (a : Stmt) (to : ℕ) → T (eqb (group a) 16) → SpellsStmt others depth from a to → take_rest others (from + 1) to
-      by others (Take r d p) to e h = (r.selectors.items.items, h.0, (ap is_name h.3.1.0, h.3.2), (h.4, ap is_name h.5.0, h.6, h.7))
+      by others (Take part) to e h = (part.value.target.selectors.items.items, h.0, (ap is_name h.3.1.0, h.3.2), (h.4, ap is_name h.5.0, h.6, h.7))
       by others a to e h = absurd e
 
   pub task_goes : (word : TaskWord) → HasWord tokens from (task_word word) → Goes (Spelled depth) tokens from task_rest (from + 1) from
@@ -82,8 +87,7 @@ module _ (tokens : List Token) (depth from : ℕ) where
       kind Prevent = refl
 
       by : (others : List Token) (a : Stmt) (to : ℕ) → T (eqb (group a) 10) → SpellsStmt others depth from a to → task_rest others (from + 1) to
-      by others (OnTask c None p) to e h = (None, h.0, (h.3, ap is_name (subst (λ k. HasSymbol others k s.SEMICOLON) h.3 h.4)), (h.4, h.5))
-      by others (OnTask c (Some x) p) to e h = (Some x, h.0, h.3, (h.4, h.5))
+      by others (OnTask part) to e h = (part.value.task, h.0, optional_name others (from + 1) part.value.task h.0 h.3 h.4, (h.4, h.5))
       by others a to e h = absurd e
 
   pub interrupt_goes : (word : InterruptWord) → HasWord tokens from (interrupt_word word) → Goes (Spelled depth) tokens from interrupt_rest (from + 1) from
@@ -95,5 +99,5 @@ module _ (tokens : List Token) (depth from : ℕ) where
       kind Trigger = refl
 
       by : (others : List Token) (a : Stmt) (to : ℕ) → T (eqb (group a) 12) → SpellsStmt others depth from a to → interrupt_rest others (from + 1) to
-      by others (OnInterrupt c x p) to e h = (ap is_name h.2.0, subst (λ k. HasSymbol others k s.SEMICOLON) two h.3, omega (arith, h.4))
+      by others (OnInterrupt part) to e h = (ap is_name h.2.0, subst (λ k. HasSymbol others k s.SEMICOLON) two h.3, omega (arith, h.4))
       by others a to e h = absurd e

@@ -13,13 +13,13 @@ use Rattle.pearl_tree.specs.Declarations.{SpellsDevice}
 use Rattle.pearl_tree.specs.Modules.{SpellsDecl, SpellsModuleName, SpellsSystem, Spells}
 use Rattle.pearl_tables.specs.declared.symbol.TheConstants as s
 use Rattle.pearl_tables.specs.declared.word_code.TheConstants as w
-use Rattle.pearl_parse_expr.specs.Stops.{Sure, Exact, is_name, is_symbol, is_word}
+use Rattle.pearl_parse_expr.specs.Stops.{IsLongest, IsOnly, is_name, is_symbol, is_word}
 use Rattle.pearl_parse_expr.proofs.PastEnd.{no_token}
 use Rattle.pearl_parse_expr.proofs.Primaries.{clash}
 use Rattle.pearl_parse.specs.Modules.{begins_declaration, begins_module_name, SpellsOptionalName, SpellsHead, SpellsOptionalSystem, SpellsOpening, SpellsEnding, SpellsSource, is_end}
-use Rattle.pearl_parse.proofs.Steps.{Rest, Ends, Then, Goes, Avoids, past, past_exact}
+use Rattle.pearl_parse.proofs.Steps.{Rest, Ends, Then, Goes, Avoids, past, past_only}
 use Rattle.pearl_parse.proofs.LeafRests.{exit_rest}
-use Rattle.pearl_parse.proofs.BlockRests.{sure_longer}
+use Rattle.pearl_parse.proofs.BlockRests.{longest_later}
 
 -- ---- the name
 
@@ -53,9 +53,9 @@ module _ (tokens : List Token) (from : ℕ) where
       let two : from + 1 + 1 ≡ from + 2 = omega arith in
       subst (λ k. is_symbol s.RIGHT_ROUND (what_at tokens k) ≡ true) two (ap (is_symbol s.RIGHT_ROUND) h.1)
 
-  pub bare_is_exact : is_symbol s.LEFT_ROUND (what_at tokens from) ≡ false → is_name (what_at tokens from) ≡ true →
-      Exact SpellsOptionalName tokens from (from + 1) (from + 1)
-  bare_is_exact other here = λ others agree x to h.
+  pub bare_is_only : is_symbol s.LEFT_ROUND (what_at tokens from) ≡ false → is_name (what_at tokens from) ≡ true →
+      IsOnly SpellsOptionalName tokens from (from + 1) (from + 1)
+  bare_is_only other here = λ others agree x to h.
       by others x to (ap (is_symbol s.LEFT_ROUND) (sym (agree from (omega arith))) ∙ other) (ap is_name (sym (agree from (omega arith))) ∙ here) h
     where
       by : (others : List Token) (x : Option ModuleName) (to : ℕ) → is_symbol s.LEFT_ROUND (what_at others from) ≡ false → is_name (what_at others from) ≡ true →
@@ -101,8 +101,8 @@ module _ (tokens : List Token) (from : ℕ) where
       let two : from + 2 ≡ from + 1 + 1 = omega arith in
       (h.1, (x.items.items, to, subst (λ k. Devices others k x.items.items to) two h.2, refl))
 
-  pub system_is_sure : (end stop : ℕ) → Sure Devices is_name tokens (from + 2) end stop → Sure SpellsSystem is_name tokens from end stop
-  system_is_sure end stop sure = λ others agree x to h. sure others agree x.items.items to h.2
+  pub system_is_longest : (end stop : ℕ) → IsLongest Devices is_name tokens (from + 2) end stop → IsLongest SpellsSystem is_name tokens from end stop
+  system_is_longest end stop longest = λ others agree x to h. longest others agree x.items.items to h.2
 
   pub opening_goes : Goes SpellsOpening tokens from opening_rest from from
   opening_goes = λ others agree x to h. (x, h.0, h.1, (h.2, h.3, h.4))
@@ -113,15 +113,15 @@ system_begins others from x to h = ap (is_word w.SYSTEM) h.0
 -- ---- the end
 
 -- no token
-abbrev pub over_rest : Rest
-over_rest others at to = (to ≡ at) × (to ≡ length others)
+abbrev pub end_of_tokens_rest : Rest
+end_of_tokens_rest others at to = (to ≡ at) × (to ≡ length others)
 
 -- MODEND
 abbrev pub ending_rest : Rest
 ending_rest others at to = HasWord others at w.MODEND
 
-pub is_over : (others : List Token) (at to : ℕ) → over_rest others at to → is_end (what_at others at) ≡ true
-is_over others at to h = ap is_end (no_token others at (omega (arith, h.0, h.1)))
+pub is_end_of_tokens : (others : List Token) (at to : ℕ) → end_of_tokens_rest others at to → is_end (what_at others at) ≡ true
+is_end_of_tokens others at to h = ap is_end (no_token others at (omega (arith, h.0, h.1)))
 
 pub some_token : (tokens : List Token) (k : ℕ) → k < length tokens → is_end (what_at tokens k) ≡ false
 some_token [] k within = absurd (omega arith)
@@ -129,20 +129,20 @@ some_token (x ∷ xs) zero within = refl
 some_token (x ∷ xs) (suc k) within = some_token xs k (omega (arith, within))
 
 module _ (tokens : List Token) (from : ℕ) where
-  pub ending_goes : (low : ℕ) → Goes SpellsEnding tokens from ending_rest from low
-  ending_goes low = λ others agree x to h. h.0
+  pub ending_goes : (least_stop : ℕ) → Goes SpellsEnding tokens from ending_rest from least_stop
+  ending_goes least_stop = λ others agree x to h. h.0
 
-  pub closed_goes : (stop : ℕ) → from + 1 ≤ stop → HasSymbol tokens (from + 1) s.SEMICOLON → Goes SpellsEnding tokens from over_rest (from + 2) stop
+  pub closed_goes : (stop : ℕ) → from + 1 ≤ stop → HasSymbol tokens (from + 1) s.SEMICOLON → Goes SpellsEnding tokens from end_of_tokens_rest (from + 2) stop
   closed_goes stop near here = λ others agree x to h. by others x to (sym (agree (from + 1) near) ∙ here) h
     where
-      by : (others : List Token) (x : Bool) (to : ℕ) → HasSymbol others (from + 1) s.SEMICOLON → SpellsEnding others from x to → over_rest others (from + 2) to
+      by : (others : List Token) (x : Bool) (to : ℕ) → HasSymbol others (from + 1) s.SEMICOLON → SpellsEnding others from x to → end_of_tokens_rest others (from + 2) to
       by others false to here h = absurd (let e = sym (no_token others (from + 1) (omega (arith, h.1, h.2))) ∙ here in cc e)
       by others true to here h = (omega (arith, h.1.1), h.2)
 
-  pub open_goes : (stop : ℕ) → from + 1 ≤ stop → is_symbol s.SEMICOLON (what_at tokens (from + 1)) ≡ false → Goes SpellsEnding tokens from over_rest (from + 1) stop
+  pub open_goes : (stop : ℕ) → from + 1 ≤ stop → is_symbol s.SEMICOLON (what_at tokens (from + 1)) ≡ false → Goes SpellsEnding tokens from end_of_tokens_rest (from + 1) stop
   open_goes stop near other = λ others agree x to h. by others x to (ap (is_symbol s.SEMICOLON) (sym (agree (from + 1) near)) ∙ other) h
     where
-      by : (others : List Token) (x : Bool) (to : ℕ) → is_symbol s.SEMICOLON (what_at others (from + 1)) ≡ false → SpellsEnding others from x to → over_rest others (from + 1) to
+      by : (others : List Token) (x : Bool) (to : ℕ) → is_symbol s.SEMICOLON (what_at others (from + 1)) ≡ false → SpellsEnding others from x to → end_of_tokens_rest others (from + 1) to
       by others false to other h = (h.1, h.2)
       by others true to other h = absurd (clash _ (ap (is_symbol s.SEMICOLON) h.1.0) other)
 
@@ -185,7 +185,7 @@ module _ (others : List Token) where
           tree.system,
           whole.1 + 2,
           (whole.1, optional_system (whole.0 + 1) tree.system whole.1 whole.7 whole.8, whole.8, whole.9, refl),
-          (tree.declarations.items.items, whole.2, whole.10, (tree.semicolon, to, (whole.11, whole.12, h.1), refl)),
+          (tree.declarations.items.items, whole.2, whole.10, (tree.semicolon, to, (whole.11, whole.13, h.1), refl)),
         ),
       )
 
@@ -197,9 +197,9 @@ module _ (others : List Token) where
   maybe_system from None a h = h.0
   maybe_system from (Some system) a h = h
 
-  pub as_tree : (tree : Tree) (a b c : ℕ) → IsAt others 0 tree.place → SpellsHead others 0 tree.name a → SpellsOpening others a tree.system b →
+  pub as_tree : (tree : Tree) (a b c : ℕ) → IsAt others 0 tree.place → IsAt others c tree.modend → SpellsHead others 0 tree.name a → SpellsOpening others a tree.system b →
       Declarations others b tree.declarations.items.items c → SpellsEnding others c tree.semicolon (length others) → Spells tree others
-  as_tree tree a b c place head opening list ending = record {
+  as_tree tree a b c place modend head opening list ending = record {
     spells = (
       head.0,
       opening.0,
@@ -213,6 +213,7 @@ module _ (others : List Token) where
       opening.3,
       subst (λ k. Declarations others k tree.declarations.items.items c) opening.4 list,
       ending.0,
+      modend,
       ending.1,
     );
   }
@@ -222,9 +223,9 @@ module _ (tokens : List Token) where
   source_goes = λ others agree tree to h. as_source others 0 tree to h
 
   -- behind the declarations
-  pub last_goes : (a first b second c third new : ℕ) → first ≤ second → second ≤ new → third ≤ new → Exact SpellsHead tokens 0 a first →
-      Exact SpellsOpening tokens a b second → Sure Declarations begins_declaration tokens b c third → Goes SpellsSource tokens 0 last_rest c new
+  pub last_goes : (a first b second c third new : ℕ) → first ≤ second → second ≤ new → third ≤ new → IsOnly SpellsHead tokens 0 a first →
+      IsOnly SpellsOpening tokens a b second → IsLongest Declarations begins_declaration tokens b c third → Goes SpellsSource tokens 0 last_rest c new
   last_goes a first b second c third new near below reach head opening list =
-      let problems = past_exact SpellsSource tokens 0 SpellsHead problems_rest 0 0 a first source_goes (omega arith) head in
-      let listed = past_exact SpellsSource tokens 0 SpellsOpening list_rest a first b second problems near opening in
-      past SpellsSource tokens 0 Declarations begins_declaration last_rest b second c new listed below (sure_longer Declarations begins_declaration tokens b c third new reach list) ending_stops
+      let problems = past_only SpellsSource tokens 0 SpellsHead problems_rest 0 0 a first source_goes (omega arith) head in
+      let listed = past_only SpellsSource tokens 0 SpellsOpening list_rest a first b second problems near opening in
+      past SpellsSource tokens 0 Declarations begins_declaration last_rest b second c new listed below (longest_later Declarations begins_declaration tokens b c third new reach list) ending_stops

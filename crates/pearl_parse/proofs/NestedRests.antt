@@ -1,11 +1,18 @@
 -- What is left of IF, CASE, a loop or BEGIN, and what it says of the levels that may still stand.
 use Rattle.std.specs.Option.{option_and_then}
-use Rattle.std.proofs.Common.{◌≡◌, ℕ, ◌+◌, ◌-◌, ◌<◌, ◌≤◌, Bool, true, false, List, [], ◌∷◌, Option, Some, None, length, T, eqb, refl, sym, ap, subst, ◌∙◌, arith, true≢false}
+use Rattle.std.proofs.Common.{◌≡◌, ℕ, ◌+◌, ◌-◌, ◌<◌, ◌≤◌, Bool, true, false, List, [], ◌∷◌, Option, Some, None, length, T, eqb, refl, sym, ap, subst, ◌∙◌, arith, true≢false, Box, Global}
 use Rattle.pearl_tree.specs.declared.parts.Parts.{Parts}
 use Rattle.pearl_tree.specs.declared.expression.Expr.{Expr}
 use Rattle.pearl_tree.specs.declared.statement.Body.{Body}
 use Rattle.pearl_tree.specs.declared.statement.Branch.{Branch}
-use Rattle.pearl_tree.specs.declared.statement.Stmt.{Stmt, Empty, If, If', Case, Case', Repeat, Repeat', Begin, Begin', items-the_row-Stmt}
+use Rattle.pearl_tree.specs.declared.statement.Stmt.{Stmt, Empty, If', Case', Repeat', Begin', items-the_row-Stmt}
+use Rattle.pearl_tree.specs.declared.statement.Stmt as stmt
+use Rattle.pearl_tree.specs.declared.statement.Repeat.{Repeat}
+use Rattle.pearl_tree.specs.declared.statement.Begin.{Begin}
+use Rattle.pearl_tree.specs.declared.statement.If.{out-If, roll-If, out-roll-If}
+use Rattle.pearl_tree.specs.declared.statement.Case.{out-Case, roll-Case, out-roll-Case}
+use Rattle.pearl_tree.specs.declared.statement.If as if_
+use Rattle.pearl_tree.specs.declared.statement.Case as case_
 use Rattle.pearl_tree.specs.declared.token.What.{What}
 use Rattle.pearl_tree.specs.declared.token.What.TheVariants as what
 use Rattle.pearl_tree.specs.declared.token.Token.{Token}
@@ -17,7 +24,7 @@ use Rattle.pearl_tree.proofs.OneStatement.{group_of}
 use Rattle.pearl_tree.proofs.StatementLists.{spells_if, spells_case, spells_begin, spells_repeat}
 use Rattle.pearl_parse_expr.specs.declared.reading.Halt.{Halt}
 use Rattle.pearl_parse_expr.specs.declared.reading.Halt.TheVariants.{Refused, NoMemory}
-use Rattle.pearl_parse_expr.specs.Stops.{Exact, IsHalted, is_word}
+use Rattle.pearl_parse_expr.specs.Stops.{IsOnly, IsHalted, is_word}
 use Rattle.pearl_parse_expr.proofs.Primaries.{clash}
 use Rattle.pearl_parse.specs.declared.loops.Heads.{Heads}
 use Rattle.pearl_parse.specs.Stops.{IsStopped, begins_statement}
@@ -87,7 +94,7 @@ module _ (others : List Token) (depth from : ℕ) where
   only_if here a to h = by a (of_kind others depth from 3 (what.Word w.IF) here refl a to h) h
     where
       by : (a : Stmt) → T (eqb (group a) 3) → SpellsStmt others depth from a to → (0 < depth) × if_rest (depth - 1) others from to
-      by (If' x _ row o p) e h =
+      by (If' _ (if_.If' x _ row o p)) e h =
           let otherwise = otherwise_listed others (depth - 1) w.ELSE h.1 o h.2 (ap (is_word w.ELSE) h.9) h.8 in (
             h.4,
             (
@@ -108,7 +115,7 @@ module _ (others : List Token) (depth from : ℕ) where
   only_case here a to h = by a (of_kind others depth from 4 (what.Word w.CASE) here refl a to h) h
     where
       by : (a : Stmt) → T (eqb (group a) 4) → SpellsStmt others depth from a to → (0 < depth) × case_rest (depth - 1) others from to
-      by (Case' x _ row o p) e h =
+      by (Case' _ (case_.Case' x _ row o p)) e h =
           let otherwise = otherwise_listed others (depth - 1) w.OUT h.1 o h.2 (ap (is_word w.OUT) h.8) h.7 in
           let choices = choices_listed others (depth - 1) h.0 _ row h.1 h.6 in
           (h.4, (x, h.0, h.5, (choices.0, h.1, choices.1, (otherwise.0, h.2, otherwise.1, (tt, to, (h.8, h.9, h.10), refl)))))
@@ -118,7 +125,7 @@ module _ (others : List Token) (depth from : ℕ) where
   only_begin here a to h = by a (of_kind others depth from 7 (what.Word w.BEGIN) here refl a to h) h
     where
       by : (a : Stmt) → T (eqb (group a) 7) → SpellsStmt others depth from a to → (0 < depth) × block_rest (depth - 1) others (from + 1) to
-      by (Begin' ds _ row q p) e h = (
+      by (Begin' _ ds _ row q p) e h = (
         h.2,
         (
           (q, (ds.items.items, items-the_row-Stmt _ row)),
@@ -139,7 +146,7 @@ module _ (others : List Token) (depth from : ℕ) where
       kind None is one = absurd (true≢false (sym one))
 
       by : (a : Stmt) → T (eqb (group a) 5) → SpellsStmt others depth from a to → (0 < depth) × repeat_rest (depth - 1) others from to
-      by (Repeat' a b c d e ds _ row q p) k h = (
+      by (Repeat' _ a b c d e ds _ row q p) k h = (
         h.7,
         (
           record { control = a; begin = b; step = c; end = d; condition = e },
@@ -170,8 +177,8 @@ module _ (tokens : List Token) (depth from : ℕ) where
       (only_repeat others depth from (ap (is_one loop_words) (sym (agree from (omega arith))) ∙ here) a to h).1
 
 -- ";"
-pub empty_is_exact : (tokens : List Token) (depth from : ℕ) → HasSymbol tokens from s.SEMICOLON → Exact (Spelled depth) tokens from (from + 1) (from + 1)
-empty_is_exact tokens depth from here = λ others agree a to h.
+pub empty_is_only : (tokens : List Token) (depth from : ℕ) → HasSymbol tokens from s.SEMICOLON → IsOnly (Spelled depth) tokens from (from + 1) (from + 1)
+empty_is_only tokens depth from here = λ others agree a to h.
     by others a to (of_kind others depth from 0 (what.Symbol s.SEMICOLON) (sym (agree from (omega arith)) ∙ here) refl a to h) h
   where
     by : (others : List Token) (a : Stmt) (to : ℕ) → T (eqb (group a) 0) → SpellsStmt others depth from a to → to ≡ from + 1
@@ -183,11 +190,13 @@ module _ (tokens : List Token) (depth from place : ℕ) (here : IsAt tokens from
   abbrev Closes : ℕ → ℕ → Type 0
   Closes word k = HasWord tokens k word × HasSymbol tokens (k + 1) s.SEMICOLON
 
-  pub if_spelled : (condition : Expr) (statements : Parts Stmt) (otherwise : Option Branch) (a b c : ℕ) → SpellsCondition tokens from condition a →
+  pub if_spelled : (box : Box if_.If Global) (condition : Expr) (statements : Parts Stmt) (otherwise : Option Branch) →
+      box.value ≡ roll-If (record { condition = condition; statements = statements; otherwise = otherwise; place = place }) → (a b c : ℕ) → SpellsCondition tokens from condition a →
       SpellsStatements (depth - 1) tokens a statements.items.items b → SpellsMaybe (SpellsBranch tokens (depth - 1) w.ELSE) b otherwise c → Closes w.FIN c →
-      SpellsStmt tokens depth from (If condition statements otherwise place) (c + 2)
-  if_spelled condition statements otherwise a b c head inner other closes =
-      subst (λ X. X) (sym (spells_if tokens depth from condition statements otherwise place (c + 2))) (
+      SpellsStmt tokens depth from (stmt.If box) (c + 2)
+  if_spelled box condition statements otherwise is a b c head inner other closes =
+      let shown = ap out-If is ∙ out-roll-If (record { condition = condition; statements = statements; otherwise = otherwise; place = place }) in
+      subst (λ X. X) (sym (spells_if tokens depth from box (c + 2))) (rw shown (
         head.0,
         b,
         c,
@@ -200,23 +209,34 @@ module _ (tokens : List Token) (depth from place : ℕ) (here : IsAt tokens from
         closes.0,
         closes.1,
         refl,
-      )
+      ))
 
-  pub case_spelled : (selector : Expr) (alternatives : Parts Branch) (otherwise : Option Branch) (a b c : ℕ) → SpellsAfter tokens w.CASE from selector a →
+  pub case_spelled : (box : Box case_.Case Global) (selector : Expr) (alternatives : Parts Branch) (otherwise : Option Branch) →
+      box.value ≡ roll-Case (record { selector = selector; alternatives = alternatives; otherwise = otherwise; place = place }) → (a b c : ℕ) → SpellsAfter tokens w.CASE from selector a →
       SpellsSome (SpellsBranch tokens (depth - 1) w.ALT) a alternatives.items.items b → SpellsMaybe (SpellsBranch tokens (depth - 1) w.OUT) b otherwise c → Closes w.FIN c →
-      SpellsStmt tokens depth from (Case selector alternatives otherwise place) (c + 2)
-  case_spelled selector alternatives otherwise a b c head inner other closes =
-      subst (λ X. X) (sym (spells_case tokens depth from selector alternatives otherwise place (c + 2))) (a, b, c, here, deep, head, inner, other, closes.0, closes.1, refl)
+      SpellsStmt tokens depth from (stmt.Case box) (c + 2)
+  case_spelled box selector alternatives otherwise is a b c head inner other closes =
+      let shown = ap out-Case is ∙ out-roll-Case (record { selector = selector; alternatives = alternatives; otherwise = otherwise; place = place }) in
+      subst (λ X. X) (sym (spells_case tokens depth from box (c + 2))) (rw shown (a, b, c, here, deep, head, inner, other, closes.0, closes.1, refl))
 
-  pub begin_spelled : (body : Body) (a : ℕ) → HasWord tokens from w.BEGIN → SpellsBody tokens (depth - 1) (from + 1) body a → Closes w.END a →
-      SpellsStmt tokens depth from (Begin body place) (a + 2)
-  begin_spelled body a word inner closes =
-      subst (λ X. X) (sym (spells_begin tokens depth from body place (a + 2))) (a, here, deep, word, inner, closes.0, closes.1, refl)
+  pub begin_spelled : (box : Box Begin Global) (body : Body) → box.value ≡ record { body = body; place = place } → (a : ℕ) → HasWord tokens from w.BEGIN → SpellsBody tokens (depth - 1) (from + 1) body a → Closes w.END a →
+      SpellsStmt tokens depth from (stmt.Begin box) (a + 2)
+  begin_spelled box body is a word inner closes =
+      subst (λ X. X) (sym (spells_begin tokens depth from box (a + 2))) (rw is (a, here, deep, word, inner, closes.0, closes.1, refl))
 
-  pub repeat_spelled : (heads : Heads) (body : Body) (a b : ℕ) → SpellsHeads tokens from heads a → SpellsBody tokens (depth - 1) a body b → Closes w.END b →
-      SpellsStmt tokens depth from (Repeat heads.control heads.begin heads.step heads.end heads.condition body place) (b + 2)
-  repeat_spelled heads body a b head inner closes =
-      subst (λ X. X) (sym (spells_repeat tokens depth from heads.control heads.begin heads.step heads.end heads.condition body place (b + 2))) (
+  pub repeat_spelled : (box : Box Repeat Global) (heads : Heads) (body : Body) →
+      box.value ≡ record {
+        control = heads.control;
+        begin = heads.begin;
+        step = heads.step;
+        end = heads.end;
+        condition = heads.condition;
+        body = body;
+        place = place;
+      } → (a b : ℕ) → SpellsHeads tokens from heads a → SpellsBody tokens (depth - 1) a body b → Closes w.END b →
+      SpellsStmt tokens depth from (stmt.Repeat box) (b + 2)
+  repeat_spelled box heads body is a b head inner closes =
+      subst (λ X. X) (sym (spells_repeat tokens depth from box (b + 2))) (rw is (
         head.0,
         head.1,
         head.2,
@@ -235,7 +255,7 @@ module _ (tokens : List Token) (depth from place : ℕ) (here : IsAt tokens from
         closes.0,
         closes.1,
         refl,
-      )
+      ))
 
 -- where no level may stand
 module _ (tokens : List Token) (depth from : ℕ) (none : depth ≡ 0) (within : from ≤ length tokens) where
@@ -267,5 +287,5 @@ no_statement tokens depth from within none = (
 pub out_of_memory : {X : Type 0} (spells : List Token → Spelling X) (tokens : List Token) (from : ℕ) (halt : Halt) → halt ≡ NoMemory → IsHalted spells tokens from halt
 out_of_memory spells tokens from halt is = subst (λ halt. IsHalted spells tokens from halt) (sym is) tt
 
-pub out_of_memory_behind : {X : Type 0} (spells : List Token → Spelling X) (tokens : List Token) (from low : ℕ) (halt : Halt) → halt ≡ NoMemory → IsStopped spells tokens from low halt
-out_of_memory_behind spells tokens from low halt is = subst (λ halt. IsStopped spells tokens from low halt) (sym is) tt
+pub out_of_memory_behind : {X : Type 0} (spells : List Token → Spelling X) (tokens : List Token) (from least_stop : ℕ) (halt : Halt) → halt ≡ NoMemory → IsStopped spells tokens from least_stop halt
+out_of_memory_behind spells tokens from least_stop halt is = subst (λ halt. IsStopped spells tokens from least_stop halt) (sym is) tt

@@ -4,7 +4,7 @@ use Rattle.pearl_tree.specs.declared.token.What.{What}
 use Rattle.pearl_tree.specs.declared.token.Token.{Token}
 use Rattle.pearl_tree.specs.Standing.{Spelling, what_at, SpellsEach}
 use Rattle.pearl_tree.specs.Stops.{BeginAlike}
-use Rattle.pearl_parse_expr.specs.Stops.{Sure, Exact, Stuck, EndsEarly}
+use Rattle.pearl_parse_expr.specs.Stops.{IsLongest, IsOnly, Stuck, EndsEarly}
 use Rattle.pearl_parse_expr.proofs.Parts.{shorter}
 
 module _ {X : Type 0} (spells : List Token → Spelling X) (begins : Option What → Bool) where
@@ -21,17 +21,17 @@ module _ {X : Type 0} (spells : List Token → Spelling X) (begins : Option What
       ((x : X) (to : ℕ) → spells others end x to → to ≡ next) →
       EndsEarly begins others end to ⊎ ((ys : List X) × SpellsEach (spells others) end ys to) →
       EndsEarly begins others next to ⊎ ((ys : List X) × SpellsEach (spells others) next ys to)
-  step others end next to ahead first exact (inl early) = inl (omega (arith, early.0), early.1)
-  step others end next to ahead first exact (inr ([], h)) =
+  step others end next to ahead first only (inl early) = inl (omega (arith, early.0), early.1)
+  step others end next to ahead first only (inr ([], h)) =
       inl (omega (arith, h), subst (λ k. begins (what_at others k) ≡ true) (sym h) first)
-  step others end next to ahead first exact (inr (y ∷ ys, h)) =
-      inr (ys, subst (λ k. SpellsEach (spells others) k ys to) (exact y h.0 h.1) h.2)
+  step others end next to ahead first only (inr (y ∷ ys, h)) =
+      inr (ys, subst (λ k. SpellsEach (spells others) k ys to) (only y h.0 h.1) h.2)
 
   pub each_next : (tokens : List Token) (from end stop next last new : ℕ) → EachGoes tokens from end stop → end ≤ stop → end < next →
-      stop ≤ new → last ≤ new → begins (what_at tokens end) ≡ true → Exact spells tokens end next last → EachGoes tokens from next new
-  each_next tokens from end stop next last new go near ahead below reach first exact = λ others agree xs to h.
+      stop ≤ new → last ≤ new → begins (what_at tokens end) ≡ true → IsOnly spells tokens end next last → EachGoes tokens from next new
+  each_next tokens from end stop next last new go near ahead below reach first only = λ others agree xs to h.
       step others end next to ahead (ap begins (sym (agree end (omega arith))) ∙ first)
-      (λ x to h. exact others (shorter tokens others last new reach agree) x to h)
+      (λ x to h. only others (shorter tokens others last new reach agree) x to h)
       (go others (shorter tokens others stop new below agree) xs to h)
 
   ends : (others : List Token) (end to : ℕ) → ((x : X) (to : ℕ) → spells others end x to → ⊥) →
@@ -42,7 +42,7 @@ module _ {X : Type 0} (spells : List Token → Spelling X) (begins : Option What
   ends others end to stuck (inr (y ∷ ys, h)) = absurd (stuck y h.0 h.1)
 
   pub each_ends : (tokens : List Token) (from end stop last new : ℕ) → EachGoes tokens from end stop → stop ≤ new → last ≤ new →
-      Stuck spells tokens end last → Sure (λ tokens. SpellsEach (spells tokens)) begins tokens from end new
+      Stuck spells tokens end last → IsLongest (λ tokens. SpellsEach (spells tokens)) begins tokens from end new
   each_ends tokens from end stop last new go below reach stuck = λ others agree xs to h.
       ends others end to
       (λ x to h. stuck others (shorter tokens others last new reach agree) x to h)

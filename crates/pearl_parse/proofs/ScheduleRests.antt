@@ -17,7 +17,7 @@ use Rattle.pearl_tree.proofs.Meeting.{same_word}
 use Rattle.pearl_tree.proofs.OneSchedule.{start_word, start_begins, once_word, once_begins}
 use Rattle.pearl_parse_expr.specs.declared.reading.Halt.{Halt}
 use Rattle.pearl_parse_expr.specs.declared.reading.Halt.TheVariants.{Refused, NoMemory}
-use Rattle.pearl_parse_expr.specs.Stops.{Sure, extends_expression, is_name, is_word}
+use Rattle.pearl_parse_expr.specs.Stops.{IsLongest, extends_expression, is_name, is_word}
 use Rattle.pearl_parse_expr.proofs.Parts.{shorter}
 use Rattle.pearl_parse_decl.proofs.Lists.{settled}
 use Rattle.pearl_parse.specs.Stops.{IsStopped}
@@ -37,12 +37,12 @@ abbrev pub continue_rest : Rest
 continue_rest others at to = (is_name (what_at others (at + 1)) ≡ true) × HasSymbol others (at + 2) s.SEMICOLON × (to ≡ at + 3)
 
 module _ (tokens : List Token) (from : ℕ) where
-  pub period_stopped : (low end stop : ℕ) (halt : Halt) → Sure (λ tokens. SpellsAfter tokens w.ALL) extends_expression tokens from end stop → from ≤ end → low ≤ stop →
-      IsStopped SpellsOptionalEnd tokens end stop halt → IsStopped SpellsLongPeriod tokens from low halt
-  period_stopped low end stop NoMemory sure ahead behind h = tt
-  period_stopped low end stop (Refused k) sure ahead behind h = (
+  pub period_stopped : (least_stop end stop : ℕ) (halt : Halt) → IsLongest (λ tokens. SpellsAfter tokens w.ALL) extends_expression tokens from end stop → from ≤ end → least_stop ≤ stop →
+      IsStopped SpellsOptionalEnd tokens end stop halt → IsStopped SpellsLongPeriod tokens from least_stop halt
+  period_stopped least_stop end stop NoMemory longest ahead behind h = tt
+  period_stopped least_stop end stop (Refused k) longest ahead behind h = (
     λ others agree x to read.
-        let same = settled extends_expression others end read.0 (sure others (shorter tokens others stop k h.2 agree) x.duration read.0 read.2) read.3 in
+        let same = settled extends_expression others end read.0 (longest others (shorter tokens others stop k h.2 agree) x.duration read.0 read.2) read.3 in
         h.0 others agree x.end to (subst (λ m. SpellsOptionalEnd others m x.end to) same read.4),
     omega (arith, h.1, ahead),
     omega (arith, h.2, behind),
@@ -63,8 +63,17 @@ module _ (others : List Token) where
   no_start : (from word : ℕ) (a : Start) (to : ℕ) → HasWord others from word → ((a : Start) → T (eqb (start_word others a) word) → ⊥) → SpellsStart others from a to → ⊥
   no_start from word a to here apart h = apart a (yes_eqb (same_word others from (start_word others a) word (start_begins others from a to h) here))
 
-  no_once : (from word : ℕ) (a : Once) (to : ℕ) → HasWord others from word → ((a : Once) → T (eqb (once_word others a) word) → ⊥) → SpellsOnce others from a to → ⊥
+  pub no_once : (from word : ℕ) (a : Once) (to : ℕ) → HasWord others from word → ((a : Once) → T (eqb (once_word others a) word) → ⊥) → SpellsOnce others from a to → ⊥
   no_once from word a to here apart h = apart a (yes_eqb (same_word others from (once_word others a) word (once_begins others from a to h) here))
+
+  -- where a token stands with which none begins, there is none
+  start_is_missing : (from word : ℕ) (x : Option Start) (to : ℕ) → HasWord others from word → ((a : Start) → T (eqb (start_word others a) word) → ⊥) → SpellsMaybe (SpellsStart others) from x to → to ≡ from
+  start_is_missing from word None to here apart h = h
+  start_is_missing from word (Some a) to here apart h = absurd (no_start from word a to here apart h)
+
+  pub once_is_missing : (from word : ℕ) (x : Option Once) (to : ℕ) → HasWord others from word → ((a : Once) → T (eqb (once_word others a) word) → ⊥) → SpellsMaybe (SpellsOnce others) from x to → to ≡ from
+  once_is_missing from word None to here apart h = h
+  once_is_missing from word (Some a) to here apart h = absurd (no_once from word a to here apart h)
 
   start_no_activate : (a : Start) → T (eqb (start_word others a) w.ACTIVATE) → ⊥
   start_no_activate (start.At _ _ _) e = absurd e
@@ -92,25 +101,32 @@ module _ (others : List Token) where
   only_activation depth from here a to h = by a (of_kind others depth from 9 (what.Word w.ACTIVATE) here refl a to h) h
     where
       by : (a : Stmt) → T (eqb (group a) 9) → SpellsStmt others depth from a to → activation_rest others from to
-      by (Activate None n x p) e h =
-          let optional = priority_optional (h.0 + 2) x h.1 h.6 h.7 in
-          ((n, x), to, (h.1, here, subst (λ k. IsName others (k + 1) n) h.3 h.5, subst (λ k. SpellsOptionalPriority others (k + 2) x h.1) h.3 optional, h.7, h.8), refl)
-      by (Activate (Some x) n y p) e h = absurd (no_start from w.ACTIVATE x h.0 here start_no_activate h.3)
-      by (Continue None n p) e h = absurd (omega (arith, same_word others from w.CONTINUE w.ACTIVATE (subst (λ k. HasWord others k w.CONTINUE) h.2 h.3) here))
-      by (Continue (Some x) n p) e h = absurd (no_once from w.ACTIVATE x h.0 here once_no_activate h.2)
-      by (Resume x p) e h = absurd (no_once from w.ACTIVATE x h.0 here once_no_activate h.2)
+      by (Activate part) e h =
+          let task = part.value.task in
+          let priority = part.value.priority in
+          let none = start_is_missing from w.ACTIVATE part.value.start h.0 here start_no_activate h.3 in
+          let optional = priority_optional (h.0 + 2) priority h.1 h.6 h.7 in
+          ((task, priority), to, (h.1, here, subst (λ k. IsName others (k + 1) task) none h.5, subst (λ k. SpellsOptionalPriority others (k + 2) priority h.1) none optional, h.7, h.8), refl)
+      by (Continue part) e h =
+          let none = once_is_missing from w.ACTIVATE part.value.once h.0 here once_no_activate h.2 in
+          absurd (omega (arith, same_word others from w.CONTINUE w.ACTIVATE (subst (λ k. HasWord others k w.CONTINUE) none h.3) here))
+      by (Resume part) e h = absurd (no_once from w.ACTIVATE part.value.once h.0 here once_no_activate h.2)
       by a e h = absurd e
 
   pub only_continuation : (depth from : ℕ) → HasWord others from w.CONTINUE → (a : Stmt) (to : ℕ) → SpellsStmt others depth from a to → continue_rest others from to
   only_continuation depth from here a to h = by a (of_kind others depth from 9 (what.Word w.CONTINUE) here refl a to h) h
     where
       by : (a : Stmt) → T (eqb (group a) 9) → SpellsStmt others depth from a to → continue_rest others from to
-      by (Activate None n x p) e h = absurd (omega (arith, same_word others from w.ACTIVATE w.CONTINUE (subst (λ k. HasWord others k w.ACTIVATE) h.3 h.4) here))
-      by (Activate (Some x) n y p) e h = absurd (no_start from w.CONTINUE x h.0 here start_no_continue h.3)
-      by (Continue None n p) e h =
-          (ap is_name (subst (λ k. IsName others (k + 1) n) h.2 h.4).0, subst (λ k. HasSymbol others (k + 2) s.SEMICOLON) h.2 h.5, h.6 ∙ ap (λ k. k + 3) h.2)
-      by (Continue (Some x) n p) e h = absurd (no_once from w.CONTINUE x h.0 here once_no_continue h.2)
-      by (Resume x p) e h = absurd (no_once from w.CONTINUE x h.0 here once_no_continue h.2)
+      by (Activate part) e h =
+          let none = start_is_missing from w.CONTINUE part.value.start h.0 here start_no_continue h.3 in
+          absurd (omega (arith, same_word others from w.ACTIVATE w.CONTINUE (subst (λ k. HasWord others k w.ACTIVATE) none h.4) here))
+      by (Continue part) e h =
+          let none = once_is_missing from w.CONTINUE part.value.once h.0 here once_no_continue h.2 in (
+            ap is_name (subst (λ k. IsName others (k + 1) part.value.task) none h.4).0,
+            subst (λ k. HasSymbol others (k + 2) s.SEMICOLON) none h.5,
+            h.6 ∙ ap (λ k. k + 3) none,
+          )
+      by (Resume part) e h = absurd (no_once from w.CONTINUE part.value.once h.0 here once_no_continue h.2)
       by a e h = absurd e
 
 module _ (tokens : List Token) (depth from : ℕ) where

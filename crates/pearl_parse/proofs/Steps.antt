@@ -8,7 +8,7 @@ use Rattle.pearl_tree.specs.Standing.{Spelling, what_at}
 use Rattle.pearl_tree.specs.Stops.{BeginAlike}
 use Rattle.pearl_parse_expr.specs.declared.reading.Halt.{Halt}
 use Rattle.pearl_parse_expr.specs.declared.reading.Halt.TheVariants.{Refused, NoMemory}
-use Rattle.pearl_parse_expr.specs.Stops.{Sure, Exact, EndsEarly, IsHalted}
+use Rattle.pearl_parse_expr.specs.Stops.{IsLongest, IsOnly, EndsEarly, IsHalted}
 use Rattle.pearl_parse_expr.proofs.Primaries.{clash}
 use Rattle.pearl_parse_expr.proofs.Parts.{shorter}
 use Rattle.pearl_parse.specs.Stops.{IsStopped, IsMissing, SpellsOptional}
@@ -22,9 +22,6 @@ Ends others at to = to ≡ at
 
 abbrev pub Then : {Y : Type 0} → (List Token → Spelling Y) → Rest → Rest
 Then {Y} spells rest others at to = (y : Y) × (m : ℕ) × spells others at y m × rest others m to
-
-abbrev pub Either : Rest → Rest → Rest
-Either first second others at to = first others at to ⊎ second others at to
 
 -- whatever begins there begins with no token of this kind
 abbrev pub Avoids : (Option What → Bool) → Rest → Type 0
@@ -51,20 +48,20 @@ module _ {X : Type 0} (whole : List Token → Spelling X) (tokens : List Token) 
 
   -- behind a part that ends before no token that stands there
   pub past : {Y : Type 0} (spells : List Token → Spelling Y) (extends : Option What → Bool) (rest : Rest) (at stop end new : ℕ) →
-      Goes (Then spells rest) at stop → stop ≤ new → Sure spells extends tokens at end new → Avoids extends rest → Goes rest end new
-  past spells extends rest at stop end new go below sure avoids = λ others agree x to h.
+      Goes (Then spells rest) at stop → stop ≤ new → IsLongest spells extends tokens at end new → Avoids extends rest → Goes rest end new
+  past spells extends rest at stop end new go below longest avoids = λ others agree x to h.
       let read = go others (shorter tokens others stop new below agree) x to h in
-      by others to read (sure others agree read.0 read.1 read.2)
+      by others to read (longest others agree read.0 read.1 read.2)
     where
       by : (others : List Token) (to : ℕ) (read : Then spells rest others at to) → (read.1 ≡ end) ⊎ EndsEarly extends others end read.1 → rest others end to
       by others to read (inl same) = subst (λ k. rest others k to) same read.3
       by others to read (inr early) = absurd (clash _ early.1 (avoids others read.1 to read.3))
 
-  pub past_exact : {Y : Type 0} (spells : List Token → Spelling Y) (rest : Rest) (at stop end new : ℕ) →
-      Goes (Then spells rest) at stop → stop ≤ new → Exact spells tokens at end new → Goes rest end new
-  past_exact spells rest at stop end new go below exact = λ others agree x to h.
+  pub past_only : {Y : Type 0} (spells : List Token → Spelling Y) (rest : Rest) (at stop end new : ℕ) →
+      Goes (Then spells rest) at stop → stop ≤ new → IsOnly spells tokens at end new → Goes rest end new
+  past_only spells rest at stop end new go below only = λ others agree x to h.
       let read = go others (shorter tokens others stop new below agree) x to h in
-      subst (λ k. rest others k to) (exact others agree read.0 read.1 read.2) read.3
+      subst (λ k. rest others k to) (only others agree read.0 read.1 read.2) read.3
 
   -- a token that is not there
   pub missing : (wanted : Option What → Bool) (rest : Rest) (at stop k : ℕ) (halt : Halt) → Goes rest at stop →
@@ -79,17 +76,17 @@ module _ {X : Type 0} (whole : List Token → Spelling X) (tokens : List Token) 
     omega (arith, h.1),
   )
 
-  pub missing_behind : (low : ℕ) (wanted : Option What → Bool) (rest : Rest) (at stop k : ℕ) (halt : Halt) → Goes rest at stop →
-      ((others : List Token) (to : ℕ) → rest others at to → wanted (what_at others k) ≡ true) → from ≤ stop → low ≤ stop → k ≤ length tokens → stop ≤ length tokens →
-      IsMissing tokens wanted k stop halt → IsStopped whole tokens from low halt
-  missing_behind low wanted rest at stop k NoMemory go begins near behind within inside h = absurd h
-  missing_behind low wanted rest at stop k (Refused new) go begins near behind within inside h =
+  pub missing_behind : (least_stop : ℕ) (wanted : Option What → Bool) (rest : Rest) (at stop k : ℕ) (halt : Halt) → Goes rest at stop →
+      ((others : List Token) (to : ℕ) → rest others at to → wanted (what_at others k) ≡ true) → from ≤ stop → least_stop ≤ stop → k ≤ length tokens → stop ≤ length tokens →
+      IsMissing tokens wanted k stop halt → IsStopped whole tokens from least_stop halt
+  missing_behind least_stop wanted rest at stop k NoMemory go begins near behind within inside h = absurd h
+  missing_behind least_stop wanted rest at stop k (Refused new) go begins near behind within inside h =
       let halted = missing wanted rest at stop k (Refused new) go begins near within inside h in
       (halted.0, halted.1, omega (arith, h.1, behind), halted.2)
 
   -- one end
   pub ends : (rest : Rest) (at stop new end : ℕ) → Goes rest at stop → stop ≤ new → ((others : List Token) (to : ℕ) → rest others at to → to ≡ end) →
-      Exact whole tokens from end new
+      IsOnly whole tokens from end new
   ends rest at stop new end go below by = λ others agree x to h. by others to (go others (shorter tokens others stop new below agree) x to h)
 
   -- a part that is not there
@@ -104,10 +101,10 @@ module _ {X : Type 0} (whole : List Token → Spelling X) (tokens : List Token) 
     h.3,
   )
 
-  pub no_part_behind : {Y : Type 0} (low : ℕ) (spells : List Token → Spelling Y) (rest : Rest) (at stop : ℕ) (halt : Halt) → Goes (Then spells rest) at stop → from ≤ stop → low ≤ stop →
-      IsStopped spells tokens at stop halt → IsStopped whole tokens from low halt
-  no_part_behind low spells rest at stop NoMemory go near behind h = tt
-  no_part_behind low spells rest at stop (Refused k) go near behind h =
+  pub no_part_behind : {Y : Type 0} (least_stop : ℕ) (spells : List Token → Spelling Y) (rest : Rest) (at stop : ℕ) (halt : Halt) → Goes (Then spells rest) at stop → from ≤ stop → least_stop ≤ stop →
+      IsStopped spells tokens at stop halt → IsStopped whole tokens from least_stop halt
+  no_part_behind least_stop spells rest at stop NoMemory go near behind h = tt
+  no_part_behind least_stop spells rest at stop (Refused k) go near behind h =
       let halted = no_part spells rest at stop (Refused k) go near h in
       (halted.0, halted.1, omega (arith, h.2, behind), halted.2)
 
@@ -124,38 +121,38 @@ module _ {X : Type 0} (whole : List Token → Spelling X) (tokens : List Token) 
 
 -- a part that may be missing
 module _ {Y : Type 0} (begins : Option What → Bool) (spells : List Token → Spelling Y) (tokens : List Token) (from : ℕ) where
-  pub optional_is_sure : (extends : Option What → Bool) (end stop : ℕ) → begins (what_at tokens from) ≡ true → from ≤ stop → Sure spells extends tokens from end stop →
-      Sure (SpellsOptional begins spells) extends tokens from end stop
-  optional_is_sure extends end stop there near sure = λ others agree x to h. by others agree x to h
+  pub optional_is_longest : (extends : Option What → Bool) (end stop : ℕ) → begins (what_at tokens from) ≡ true → from ≤ stop → IsLongest spells extends tokens from end stop →
+      IsLongest (SpellsOptional begins spells) extends tokens from end stop
+  optional_is_longest extends end stop there near longest = λ others agree x to h. by others agree x to h
     where
       by : (others : List Token) → BeginAlike tokens others stop → (x : Option Y) (to : ℕ) → SpellsOptional begins spells others from x to → (to ≡ end) ⊎ EndsEarly extends others end to
       by others agree None to h = absurd (clash _ there (ap begins (agree from near) ∙ h.1))
-      by others agree (Some x) to h = sure others agree x to h
+      by others agree (Some x) to h = longest others agree x to h
 
   pub optional_is_none : (stop : ℕ) → begins (what_at tokens from) ≡ false → from ≤ stop →
-      ((others : List Token) (x : Y) (to : ℕ) → spells others from x to → begins (what_at others from) ≡ true) → Exact (SpellsOptional begins spells) tokens from from stop
+      ((others : List Token) (x : Y) (to : ℕ) → spells others from x to → begins (what_at others from) ≡ true) → IsOnly (SpellsOptional begins spells) tokens from from stop
   optional_is_none stop absent near begin = λ others agree x to h. by others agree x to h
     where
       by : (others : List Token) → BeginAlike tokens others stop → (x : Option Y) (to : ℕ) → SpellsOptional begins spells others from x to → to ≡ from
       by others agree None to h = h.0
       by others agree (Some x) to h = absurd (clash _ (begin others x to h) (sym (ap begins (agree from near)) ∙ absent))
 
-  pub optional_is_stopped : (low : ℕ) (halt : Halt) → begins (what_at tokens from) ≡ true → IsStopped spells tokens from low halt → IsStopped (SpellsOptional begins spells) tokens from low halt
-  optional_is_stopped low NoMemory there h = tt
-  optional_is_stopped low (Refused stop) there h = (λ others agree x to read. by others agree x to read, h.1, h.2, h.3)
+  pub optional_is_stopped : (least_stop : ℕ) (halt : Halt) → begins (what_at tokens from) ≡ true → IsStopped spells tokens from least_stop halt → IsStopped (SpellsOptional begins spells) tokens from least_stop halt
+  optional_is_stopped least_stop NoMemory there h = tt
+  optional_is_stopped least_stop (Refused stop) there h = (λ others agree x to read. by others agree x to read, h.1, h.2, h.3)
     where
       by : (others : List Token) → BeginAlike tokens others stop → (x : Option Y) (to : ℕ) → SpellsOptional begins spells others from x to → ⊥
       by others agree None to read = clash _ there (ap begins (agree from h.1) ∙ read.1)
       by others agree (Some x) to read = h.0 others agree x to read
 
 module _ {Y : Type 0} (begins : Option What → Bool) (spells : List Token → Spelling Y) (tokens : List Token) (from : ℕ) where
-  pub optional_is_exact : (end stop : ℕ) → begins (what_at tokens from) ≡ true → from ≤ stop → Exact spells tokens from end stop →
-      Exact (SpellsOptional begins spells) tokens from end stop
-  optional_is_exact end stop there near exact = λ others agree x to h. by others agree x to h
+  pub optional_is_only : (end stop : ℕ) → begins (what_at tokens from) ≡ true → from ≤ stop → IsOnly spells tokens from end stop →
+      IsOnly (SpellsOptional begins spells) tokens from end stop
+  optional_is_only end stop there near only = λ others agree x to h. by others agree x to h
     where
       by : (others : List Token) → BeginAlike tokens others stop → (x : Option Y) (to : ℕ) → SpellsOptional begins spells others from x to → to ≡ end
       by others agree None to h = absurd (clash _ there (ap begins (agree from near) ∙ h.1))
-      by others agree (Some x) to h = exact others agree x to h
+      by others agree (Some x) to h = only others agree x to h
 
   pub optional_is_halted : (halt : Halt) → begins (what_at tokens from) ≡ true → IsHalted spells tokens from halt → IsHalted (SpellsOptional begins spells) tokens from halt
   optional_is_halted NoMemory there h = tt
@@ -165,9 +162,9 @@ module _ {Y : Type 0} (begins : Option What → Bool) (spells : List Token → S
       by others agree None to read = clash _ there (ap begins (agree from h.1) ∙ read.1)
       by others agree (Some x) to read = h.0 others agree x to read
 
-pub exact_is_sure : {Y : Type 0} (spells : List Token → Spelling Y) (extends : Option What → Bool) (tokens : List Token) (from end stop : ℕ) →
-    Exact spells tokens from end stop → Sure spells extends tokens from end stop
-exact_is_sure spells extends tokens from end stop exact = λ others agree x to h. inl (exact others agree x to h)
+pub only_is_longest : {Y : Type 0} (spells : List Token → Spelling Y) (extends : Option What → Bool) (tokens : List Token) (from end stop : ℕ) →
+    IsOnly spells tokens from end stop → IsLongest spells extends tokens from end stop
+only_is_longest spells extends tokens from end stop only = λ others agree x to h. inl (only others agree x to h)
 
 -- a token that is not there is no want of memory
 pub missing_is_refused : (tokens : List Token) (wanted : Option What → Bool) (at stop : ℕ) (halt : Halt) → IsMissing tokens wanted at stop halt → halt ≢ NoMemory

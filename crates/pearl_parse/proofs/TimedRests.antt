@@ -20,14 +20,14 @@ use Rattle.pearl_tree.proofs.Meeting.{same_word}
 use Rattle.pearl_tree.proofs.OneSchedule.{start_word, start_begins, once_word, once_begins}
 use Rattle.pearl_tree.proofs.OneStatement.{group_of}
 use Rattle.pearl_parse_expr.specs.declared.reading.Halt.{Halt}
-use Rattle.pearl_parse_expr.specs.Stops.{Sure, IsHalted, extends_expression, is_name, is_word}
+use Rattle.pearl_parse_expr.specs.Stops.{IsLongest, IsHalted, extends_expression, is_name, is_word}
 use Rattle.pearl_parse_expr.proofs.Primaries.{clash}
 use Rattle.pearl_parse.specs.Stops.{IsStopped}
 use Rattle.pearl_parse.specs.Schedules.{begins_end, time_word, SpellsOptionalEnd, SpellsOptionalPeriod, SpellsLongPeriod, SpellsActivation, SpellsBegun}
 use Rattle.pearl_parse.proofs.ByFirst.{group, of_kind}
 use Rattle.pearl_parse.proofs.Steps.{Rest, Ends, Then, Avoids, Goes, past, no_part}
 use Rattle.pearl_parse.proofs.LeafRests.{Spelled}
-use Rattle.pearl_parse.proofs.ScheduleRests.{continue_rest, priority_optional}
+use Rattle.pearl_parse.proofs.ScheduleRests.{continue_rest, priority_optional, once_is_missing, no_once}
 
 -- CONTINUE id ";"
 abbrev pub continued : Rest
@@ -95,29 +95,39 @@ module _ (others : List Token) where
   pub same : (from a b : ℕ) → HasWord others from a → HasWord others from b → T (eqb a b)
   same from a b h g = yes_eqb (same_word others from a b h g)
 
+  after_maybe_start : (later : Bool) (from : ℕ) (x : Option Start) (to : ℕ) → HasWord others from (time_word later) → SpellsMaybe (SpellsStart others) from x to → HasWord others to w.ACTIVATE →
+      (x : Expr) × (m : ℕ) × SpellsTime later others from x m × ((u : Option Period) × SpellsMaybe (SpellsPeriod others) m u to)
+  after_maybe_start later from None to here h i = absurd (no_activate later (same from w.ACTIVATE (time_word later) (subst (λ k. HasWord others k w.ACTIVATE) h i) here))
+  after_maybe_start later from (Some a) to here h i = after_start later from a to (same from (start_word others a) (time_word later) (start_begins others from a to h) here) h
+
+  after_maybe_once : (later : Bool) (from : ℕ) (x : Option Once) (to : ℕ) → HasWord others from (time_word later) → SpellsMaybe (SpellsOnce others) from x to → HasWord others to w.CONTINUE →
+      (x : Expr) × SpellsTime later others from x to
+  after_maybe_once later from None to here h i = absurd (no_continue later (same from w.CONTINUE (time_word later) (subst (λ k. HasWord others k w.CONTINUE) h i) here))
+  after_maybe_once later from (Some a) to here h i = after_once later from a to (same from (once_word others a) (time_word later) (once_begins others from a to h) here) h
+
   only_timed : (later : Bool) (depth from : ℕ) → HasWord others from (time_word later) → (a : Stmt) (to : ℕ) → SpellsStmt others depth from a to → timed_rest later others from to
   only_timed later depth from here a to h = by a (of_kind others depth from 9 (what.Word (time_word later)) here (group_nine later) a to h) h
     where
       by : (a : Stmt) → T (eqb (group a) 9) → SpellsStmt others depth from a to → timed_rest later others from to
-      by (Activate None n x p) e h = absurd (no_activate later (same from w.ACTIVATE (time_word later) (subst (λ k. HasWord others k w.ACTIVATE) h.3 h.4) here))
-      by (Activate (Some a) n y p) e h =
-          let read = after_start later from a h.0 (same from (start_word others a) (time_word later) (start_begins others from a h.0 h.3) here) h.3 in (
+      by (Activate part) e h =
+          let read = after_maybe_start later from part.value.start h.0 here h.3 h.4 in
+          let priority = part.value.priority in (
             read.0,
             read.1,
             read.2,
             inr (inr (
-              (read.3.0, (n, y)),
+              (read.3.0, (part.value.task, priority)),
               to,
-              (h.0, optional_period read.1 read.3.0 h.0 read.3.1 h.4, (h.1, h.4, h.5, priority_optional others (h.0 + 2) y h.1 h.6 h.7, h.7, h.8)),
+              (h.0, optional_period read.1 read.3.0 h.0 read.3.1 h.4, (h.1, h.4, h.5, priority_optional others (h.0 + 2) priority h.1 h.6 h.7, h.7, h.8)),
               refl,
             )),
           )
-      by (Continue None n p) e h = absurd (no_continue later (same from w.CONTINUE (time_word later) (subst (λ k. HasWord others k w.CONTINUE) h.2 h.3) here))
-      by (Continue (Some a) n p) e h =
-          let read = after_once later from a h.0 (same from (once_word others a) (time_word later) (once_begins others from a h.0 h.2) here) h.2 in
+      by (Continue part) e h =
+          let read = after_maybe_once later from part.value.once h.0 here h.2 h.3 in
           (read.0, h.0, read.1, inl (h.3, (ap is_name h.4.0, h.5, h.6)))
-      by (Resume a p) e h =
-          let read = after_once later from a h.0 (same from (once_word others a) (time_word later) (once_begins others from a h.0 h.2) here) h.2 in
+      by (Resume part) e h =
+          let once = part.value.once in
+          let read = after_once later from once h.0 (same from (once_word others once) (time_word later) (once_begins others from once h.0 h.2) here) h.2 in
           (read.0, h.0, read.1, inr (inl (h.3, h.4, h.5)))
       by a e h = absurd e
 
@@ -133,18 +143,23 @@ module _ (others : List Token) where
       once_apart (once.After _ _) e = absurd e
       once_apart (once.When _ _) e = absurd e
 
-      started : (a : Start) (m : ℕ) → T (eqb (start_word others a) w.ALL) → SpellsStart others from a m → HasWord others m w.ACTIVATE → (u : Period) × SpellsLongPeriod others from u m
-      started (start.All u) m e h i = let last = optional_end others h.0 u.end m h.3 i in (u, (h.0, h.1, h.2, last.0, last.1))
-      started a m e h i = absurd e
+      begun : (a : Start) (m : ℕ) → T (eqb (start_word others a) w.ALL) → SpellsStart others from a m → HasWord others m w.ACTIVATE → (u : Period) × SpellsLongPeriod others from u m
+      begun (start.All u) m e h i = let last = optional_end others h.0 u.end m h.3 i in (u, (h.0, h.1, h.2, last.0, last.1))
+      begun a m e h i = absurd e
+
+      started : (x : Option Start) (m : ℕ) → SpellsMaybe (SpellsStart others) from x m → HasWord others m w.ACTIVATE → (u : Period) × SpellsLongPeriod others from u m
+      started None m h i = absurd (omega (arith, same_word others from w.ACTIVATE w.ALL (subst (λ k. HasWord others k w.ACTIVATE) h i) here))
+      started (Some a) m h i = begun a m (same others from (start_word others a) w.ALL (start_begins others from a m h) here) h i
 
       by : (a : Stmt) → T (eqb (group a) 9) → SpellsStmt others depth from a to → period_rest others from to
-      by (Activate None n x p) e h = absurd (omega (arith, same_word others from w.ACTIVATE w.ALL (subst (λ k. HasWord others k w.ACTIVATE) h.3 h.4) here))
-      by (Activate (Some a) n y p) e h =
-          let read = started a h.0 (same others from (start_word others a) w.ALL (start_begins others from a h.0 h.3) here) h.3 h.4 in
-          (read.0, h.0, read.1, ((n, y), to, (h.1, h.4, h.5, priority_optional others (h.0 + 2) y h.1 h.6 h.7, h.7, h.8), refl))
-      by (Continue None n p) e h = absurd (omega (arith, same_word others from w.CONTINUE w.ALL (subst (λ k. HasWord others k w.CONTINUE) h.2 h.3) here))
-      by (Continue (Some a) n p) e h = absurd (once_apart a (same others from (once_word others a) w.ALL (once_begins others from a h.0 h.2) here))
-      by (Resume a p) e h = absurd (once_apart a (same others from (once_word others a) w.ALL (once_begins others from a h.0 h.2) here))
+      by (Activate part) e h =
+          let read = started part.value.start h.0 h.3 h.4 in
+          let priority = part.value.priority in
+          (read.0, h.0, read.1, ((part.value.task, priority), to, (h.1, h.4, h.5, priority_optional others (h.0 + 2) priority h.1 h.6 h.7, h.7, h.8), refl))
+      by (Continue part) e h =
+          let none = once_is_missing others from w.ALL part.value.once h.0 here once_apart h.2 in
+          absurd (omega (arith, same_word others from w.CONTINUE w.ALL (subst (λ k. HasWord others k w.CONTINUE) none h.3) here))
+      by (Resume part) e h = absurd (no_once others from w.ALL part.value.once h.0 here once_apart h.2)
       by a e h = absurd e
 
 pub periodic_goes : (tokens : List Token) (depth from : ℕ) → HasWord tokens from w.ALL → Goes (Spelled depth) tokens from period_rest from from
@@ -195,11 +210,11 @@ module _ (tokens : List Token) (depth from : ℕ) where
       (subst (λ word. IsStopped (λ tokens. SpellsAfter tokens word) tokens from from halt) is h)
 
   module _ (later : Bool) (word end stop : ℕ) (here : HasWord tokens from (time_word later)) (is : word ≡ time_word later) (near : from ≤ stop) (below : end ≤ stop)
-      (sure : Sure (λ tokens. SpellsAfter tokens word) extends_expression tokens from end stop) where
+      (longest : IsLongest (λ tokens. SpellsAfter tokens word) extends_expression tokens from end stop) where
     past_time : Goes (Spelled depth) tokens from after_time end stop
     past_time =
         past (Spelled depth) tokens from (SpellsTime later) extends_expression after_time from from end stop (timed_goes later here) near
-        (subst (λ word. Sure (λ tokens. SpellsAfter tokens word) extends_expression tokens from end stop) is sure) avoids_time
+        (subst (λ word. IsLongest (λ tokens. SpellsAfter tokens word) extends_expression tokens from end stop) is longest) avoids_time
 
     pub continued_goes : HasWord tokens end w.CONTINUE → Goes (Spelled depth) tokens from continue_rest end stop
     continued_goes word = λ others agree a to h. is_continued others end to (sym (agree end below) ∙ word) (past_time others agree a to h)

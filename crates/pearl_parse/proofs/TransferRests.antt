@@ -37,9 +37,9 @@ no_value tokens from x to here h =
     no_expr_at tokens from w.TO here refl (λ e. absurd (omega (arith, e))) (λ e. absurd (omega (arith, e))) (λ e. absurd (omega (arith, e)))
     (λ e. absurd (omega (arith, e))) x to h
 
-pub station_stopped : (tokens : List Token) (from low : ℕ) (halt : Halt) → IsStopped SpellsFormats tokens (from + 2) low halt → IsStopped SpellsStation tokens from low halt
-station_stopped tokens from low NoMemory h = tt
-station_stopped tokens from low (Refused k) h = (λ others agree x to read. h.0 others agree x.1 to read.2, omega (arith, h.1), h.2, h.3)
+pub station_stopped : (tokens : List Token) (from least_stop : ℕ) (halt : Halt) → IsStopped SpellsFormats tokens (from + 2) least_stop halt → IsStopped SpellsStation tokens from least_stop halt
+station_stopped tokens from least_stop NoMemory h = tt
+station_stopped tokens from least_stop (Refused k) h = (λ others agree x to read. h.0 others agree x.1 to read.2, omega (arith, h.1), h.2, h.3)
 
 module _ (tokens : List Token) (depth from : ℕ) where
   pub semas_goes : (word : SemaWord) → HasWord tokens from (sema_word word) → Goes (Spelled depth) tokens from semas_rest (from + 1) from
@@ -50,23 +50,23 @@ module _ (tokens : List Token) (depth from : ℕ) where
       kind Release = refl
 
       by : (others : List Token) (a : Stmt) (to : ℕ) → T (eqb (group a) 11) → SpellsStmt others depth from a to → semas_rest others (from + 1) to
-      by others (OnSemas c xs p) to e h = (xs.items.items, h.0, h.3, (h.4, h.5))
+      by others (OnSemas part) to e h = (part.value.names.items.items, h.0, h.3, (h.4, h.5))
       by others a to e h = absurd e
 
   pub put_goes : HasWord tokens from w.PUT → Goes (Spelled depth) tokens from put_rest (from + 1) from
   put_goes here = behind_word tokens depth from w.PUT 13 put_rest here refl by
     where
       by : (others : List Token) (a : Stmt) (to : ℕ) → T (eqb (group a) 13) → SpellsStmt others depth from a to → put_rest others (from + 1) to
-      by others (Put xs d fs p) to e h =
+      by others (Put part) to e h =
           let two : h.0 + 2 ≡ h.0 + 1 + 1 = omega arith in
           let three : h.0 + 3 ≡ h.0 + 1 + 2 = omega arith in (
-            xs.items.items,
+            part.value.values.items.items,
             h.0 + 1,
             (h.0, h.4, h.5, refl),
             (
-              (d, fs.items.items),
+              (part.value.dation, part.value.formats.items.items),
               to,
-              (h.6, subst (λ k. HasWord others k w.BY) two h.7, (h.1, subst (λ k. SpellsList others (SpellsFmt others) k fs.items.items h.1) three h.8, h.9, h.10)),
+              (h.6, subst (λ k. HasWord others k w.BY) two h.7, (h.1, subst (λ k. SpellsList others (SpellsFmt others) k part.value.formats.items.items h.1) three h.8, h.9, h.10)),
               refl,
             ),
           )
@@ -76,16 +76,16 @@ module _ (tokens : List Token) (depth from : ℕ) where
   get_goes here = behind_word tokens depth from w.GET 14 get_rest here refl by
     where
       by : (others : List Token) (a : Stmt) (to : ℕ) → T (eqb (group a) 14) → SpellsStmt others depth from a to → get_rest others (from + 1) to
-      by others (Get xs d fs p) to e h =
+      by others (Get part) to e h =
           let two : h.0 + 2 ≡ h.0 + 1 + 1 = omega arith in
           let three : h.0 + 3 ≡ h.0 + 1 + 2 = omega arith in (
-            xs.items.items,
+            part.value.targets.items.items,
             h.0 + 1,
             (h.0, h.4, h.5, refl),
             (
-              (d, fs.items.items),
+              (part.value.dation, part.value.formats.items.items),
               to,
-              (h.6, subst (λ k. HasWord others k w.BY) two h.7, (h.1, subst (λ k. SpellsList others (SpellsFmt others) k fs.items.items h.1) three h.8, h.9, h.10)),
+              (h.6, subst (λ k. HasWord others k w.BY) two h.7, (h.1, subst (λ k. SpellsList others (SpellsFmt others) k part.value.formats.items.items h.1) three h.8, h.9, h.10)),
               refl,
             ),
           )

@@ -8,12 +8,12 @@ use Rattle.pearl_tree.specs.Standing.{what_at, HasWord, HasSymbol}
 use Rattle.pearl_tree.specs.Modules.{SpellsDecl}
 use Rattle.pearl_tables.specs.declared.symbol.TheConstants as s
 use Rattle.pearl_tables.specs.declared.word_code.TheConstants as w
-use Rattle.pearl_parse_expr.specs.Stops.{Sure, Stuck, is_name, is_word}
+use Rattle.pearl_parse_expr.specs.Stops.{IsLongest, Stuck, is_name, is_word}
 use Rattle.pearl_parse_decl.specs.Readings.{by_bracket}
 use Rattle.pearl_parse_expr.proofs.Primaries.{clash}
 use Rattle.pearl_parse.specs.Modules.{begins_declaration, declaration_begins}
 use Rattle.pearl_parse.proofs.Steps.{Rest, Goes, past}
-use Rattle.pearl_parse.proofs.BlockRests.{Params, Returned, block_rest, task_rest, returns_rest, proc_rest, returns_stop, params_stop, sure_longer}
+use Rattle.pearl_parse.proofs.BlockRests.{Params, Returned, block_rest, task_rest, returns_rest, proc_rest, returns_stop, params_stop, longest_later}
 
 pub no_first : (token : Option What) → is_name token ≡ false → is_word w.LENGTH token ≡ false → is_word w.TYPE token ≡ false → is_word w.DCL token ≡ false →
     is_word w.SPC token ≡ false → begins_declaration token ≡ false
@@ -78,7 +78,7 @@ module _ (tokens : List Token) (from : ℕ) (name : is_name (what_at tokens from
 
   -- the body of a procedure
   pub block_goes : HasWord tokens (from + 2) w.PROC → (a first b second new : ℕ) → from + 2 ≤ first → first ≤ new → second ≤ new →
-      Sure Params by_bracket tokens (from + 3) a first → Sure Returned (is_word w.RETURNS) tokens a b second → Goes SpellsDecl tokens from block_rest b new
+      IsLongest Params by_bracket tokens (from + 3) a first → IsLongest Returned (is_word w.RETURNS) tokens a b second → Goes SpellsDecl tokens from block_rest b new
   block_goes word a first b second new near below reach params returns =
       let go = past SpellsDecl tokens from Params by_bracket returns_rest (from + 3) (from + 2) a first (proc_goes word) near params params_stop in
-      past SpellsDecl tokens from Returned (is_word w.RETURNS) block_rest a first b new go below (sure_longer Returned (is_word w.RETURNS) tokens a b second new reach returns) returns_stop
+      past SpellsDecl tokens from Returned (is_word w.RETURNS) block_rest a first b new go below (longest_later Returned (is_word w.RETURNS) tokens a b second new reach returns) returns_stop

@@ -86,42 +86,54 @@ module _ (others : List Token) where
       two : from + 2 ≡ from + 1 + 1
       two = omega arith
 
-      waited : (a : Once) (m : ℕ) → T (eqb (once_word others a) w.WHEN) → SpellsOnce others from a m → (is_name (what_at others (from + 1)) ≡ true) × (m ≡ from + 1 + 1)
-      waited (once.When n p) m e h = (ap is_name h.2.0, omega (arith, h.3))
-      waited a m e h = absurd e
+      waited_for : (a : Once) (m : ℕ) → T (eqb (once_word others a) w.WHEN) → SpellsOnce others from a m → (is_name (what_at others (from + 1)) ≡ true) × (m ≡ from + 1 + 1)
+      waited_for (once.When n p) m e h = (ap is_name h.2.0, omega (arith, h.3))
+      waited_for a m e h = absurd e
 
-      started : (a : Start) (m : ℕ) → T (eqb (start_word others a) w.WHEN) → SpellsStart others from a m → HasWord others m w.ACTIVATE →
+      waited : (a : Once) (m : ℕ) → SpellsOnce others from a m → (is_name (what_at others (from + 1)) ≡ true) × (m ≡ from + 1 + 1)
+      waited a m h = waited_for a m (same others from (once_word others a) w.WHEN (once_begins others from a m h) here) h
+
+      maybe_waited : (x : Option Once) (m : ℕ) → SpellsMaybe (SpellsOnce others) from x m → HasWord others m w.CONTINUE → (is_name (what_at others (from + 1)) ≡ true) × (m ≡ from + 1 + 1)
+      maybe_waited None m h i = absurd (omega (arith, same_word others from w.CONTINUE w.WHEN (subst (λ k. HasWord others k w.CONTINUE) h i) here))
+      maybe_waited (Some a) m h i = waited a m h
+
+      begun : (a : Start) (m : ℕ) → T (eqb (start_word others a) w.WHEN) → SpellsStart others from a m → HasWord others m w.ACTIVATE →
           (is_name (what_at others (from + 1)) ≡ true) ×
           ((x : Option Expr) × (k : ℕ) × SpellsOptionalAfter others (from + 1 + 1) x k × ((u : Option Period) × SpellsOptionalPeriod others k u m))
-      started (start.When n x u p) m e h i =
+      begun (start.When n x u p) m e h i =
           let period = optional_period others h.0 u m h.5 i in
           let late = optional_after (from + 2) x h.0 h.4 (period_first h.0 u m period i) in
           (ap is_name h.3.0, (x, h.0, subst (λ k. SpellsOptionalAfter others k x h.0) two late, (u, period)))
-      started a m e h i = absurd e
+      begun a m e h i = absurd e
+
+      started : (x : Option Start) (m : ℕ) → SpellsMaybe (SpellsStart others) from x m → HasWord others m w.ACTIVATE →
+          (is_name (what_at others (from + 1)) ≡ true) ×
+          ((x : Option Expr) × (k : ℕ) × SpellsOptionalAfter others (from + 1 + 1) x k × ((u : Option Period) × SpellsOptionalPeriod others k u m))
+      started None m h i = absurd (omega (arith, same_word others from w.ACTIVATE w.WHEN (subst (λ k. HasWord others k w.ACTIVATE) h i) here))
+      started (Some a) m h i = begun a m (same others from (start_word others a) w.WHEN (start_begins others from a m h) here) h i
 
       by : (a : Stmt) → T (eqb (group a) 9) → SpellsStmt others depth from a to → when_rest others (from + 1) to
-      by (Activate None n x p) e h = absurd (omega (arith, same_word others from w.ACTIVATE w.WHEN (subst (λ k. HasWord others k w.ACTIVATE) h.3 h.4) here))
-      by (Activate (Some a) n y p) e h =
-          let read = started a h.0 (same others from (start_word others a) w.WHEN (start_begins others from a h.0 h.3) here) h.3 h.4 in (
+      by (Activate part) e h =
+          let read = started part.value.start h.0 h.3 h.4 in
+          let priority = part.value.priority in (
             read.0,
             inr (inr (
               read.1.0,
               read.1.1,
               read.1.2,
               (
-                (read.1.3.0, (n, y)),
+                (read.1.3.0, (part.value.task, priority)),
                 to,
-                (h.0, read.1.3.1, (h.1, h.4, h.5, priority_optional others (h.0 + 2) y h.1 h.6 h.7, h.7, h.8)),
+                (h.0, read.1.3.1, (h.1, h.4, h.5, priority_optional others (h.0 + 2) priority h.1 h.6 h.7, h.7, h.8)),
                 refl,
               ),
             )),
           )
-      by (Continue None n p) e h = absurd (omega (arith, same_word others from w.CONTINUE w.WHEN (subst (λ k. HasWord others k w.CONTINUE) h.2 h.3) here))
-      by (Continue (Some a) n p) e h =
-          let read = waited a h.0 (same others from (once_word others a) w.WHEN (once_begins others from a h.0 h.2) here) h.2 in
+      by (Continue part) e h =
+          let read = maybe_waited part.value.once h.0 h.2 h.3 in
           (read.0, inl (subst (λ k. continued others k to) read.1 (h.3, (ap is_name h.4.0, h.5, h.6))))
-      by (Resume a p) e h =
-          let read = waited a h.0 (same others from (once_word others a) w.WHEN (once_begins others from a h.0 h.2) here) h.2 in
+      by (Resume part) e h =
+          let read = waited part.value.once h.0 h.2 in
           (read.0, inr (inl (subst (λ k. resumed others k to) read.1 (h.3, h.4, h.5))))
       by a e h = absurd e
 

@@ -15,15 +15,16 @@ use Rattle.pearl_tree.specs.declared.format.Fmt.{Fmt}
 use Rattle.pearl_tables.specs.declared.symbol.TheConstants as s
 use Rattle.pearl_tables.specs.declared.word_code.TheConstants as w
 
--- a part that begins at `from` and may be empty was read, and was stopped within the tokens and no earlier than at `low`
-abbrev pub IsOn : List Token → ℕ → ℕ → ℕ → ℕ → Type 0
-IsOn tokens from low end stop = (from ≤ end) × (end ≤ stop) × (low ≤ stop) × (stop ≤ length tokens)
+-- a part that begins at `from` and may be empty was read, and was stopped within the tokens, no earlier than at
+-- `least_stop`, where what stands before it was stopped
+abbrev pub StopsWithin : List Token → ℕ → ℕ → ℕ → ℕ → Type 0
+StopsWithin tokens from least_stop end stop = (from ≤ end) × (end ≤ stop) × (least_stop ≤ stop) × (stop ≤ length tokens)
 
--- nothing was read: for want of memory, or since with this token, no earlier one than at `low`, none begins
+-- nothing was read: for want of memory, or since with this token, no earlier one than at `least_stop`, none begins
 abbrev pub IsStopped : {X : Type 0} → (List Token → Spelling X) → List Token → ℕ → ℕ → Halt → Type 0
-IsStopped {X} spells tokens from low NoMemory = Unit {0}
-IsStopped {X} spells tokens from low (Refused stop) =
-    Stuck spells tokens from stop × (from ≤ stop) × (low ≤ stop) × (stop ≤ length tokens)
+IsStopped {X} spells tokens from least_stop NoMemory = Unit {0}
+IsStopped {X} spells tokens from least_stop (Refused stop) =
+    Stuck spells tokens from stop × (from ≤ stop) × (least_stop ≤ stop) × (stop ≤ length tokens)
 
 -- why a token is not there: it is refused at its number, or at `stop` where that is greater
 abbrev pub IsMissing : List Token → (Option What → Bool) → ℕ → ℕ → Halt → Type 0

@@ -2,13 +2,14 @@
 
 ghost use Rattle.std.specs.Prelude.{◌≡◌, ◌+◌, ◌≤◌, length, max, IfOk, IfErr};
 ghost use Rattle.pearl_tree.specs.Modules.{SpellsBlock};
-ghost use Rattle.pearl_parse_expr.specs.Stops.{Exact};
+ghost use Rattle.pearl_parse_expr.specs.Stops.{IsOnly};
 ghost use Rattle.pearl_parse.specs.Stops as spec;
 
 use crate::body::whole_body;
-use crate::step::{SEMICOLON, symbol, word};
+use crate::step::{symbol, word};
 use pearl_parse_decl::list::behind;
 use pearl_parse_expr::reading::{Halt, Reading};
+use pearl_tables::symbol::SEMICOLON;
 use pearl_tables::word_code::END;
 use pearl_tree::statement::Body;
 use pearl_tree::token::Token;
@@ -19,20 +20,20 @@ pub fn block(
     alloc: Global,
     tokens: &[Token],
     from: usize,
-    low: usize,
+    least_stop: usize,
 ) -> Result<Reading<Body>, Halt>
-    requires low { (from ≤ low) × (low ≤ length tokens.now) }
+    requires least_stop { (from ≤ least_stop) × (least_stop ≤ length tokens.now) }
     ensures spells { IfOk result (λ reading. SpellsBlock tokens.now from reading.part reading.end) }
-    ensures sure { IfOk result (λ reading. Exact SpellsBlock tokens.now from reading.end reading.stop) }
-    ensures on { IfOk result (λ reading. spec.IsOn tokens.now (from + 1) low reading.end reading.stop) }
-    ensures refused { IfErr result (λ halt. spec.IsStopped SpellsBlock tokens.now from low halt) }
+    ensures longest { IfOk result (λ reading. IsOnly SpellsBlock tokens.now from reading.end reading.stop) }
+    ensures bounds { IfOk result (λ reading. spec.StopsWithin tokens.now (from + 1) least_stop reading.end reading.stop) }
+    ensures refused { IfErr result (λ halt. spec.IsStopped SpellsBlock tokens.now from least_stop halt) }
 {
-    symbol(tokens, from, low, SEMICOLON)?;
+    symbol(tokens, from, least_stop, SEMICOLON)?;
     let body = match whole_body(alloc, tokens, from + 1) {
         Ok(body) => body,
-        Err(halt) => return Err(behind(halt, low)),
+        Err(halt) => return Err(behind(halt, least_stop)),
     };
-    let stop = body.stop.max(low);
+    let stop = body.stop.max(least_stop);
     word(tokens, body.end, stop, END)?;
     symbol(tokens, body.end + 1, stop, SEMICOLON)?;
     Ok(Reading {

@@ -4,16 +4,17 @@ ghost use Rattle.std.specs.Prelude.{◌≡◌, ◌+◌, ◌<◌, ◌≤◌, leng
 ghost use Rattle.std.proofs.Common.{ap};
 ghost use Rattle.pearl_tree.specs.Statements.{SpellsBodyDecl, SpellsWholeBody};
 ghost use Rattle.pearl_tables.specs.declared.word_code.TheConstants as w;
-ghost use Rattle.pearl_parse_expr.specs.Stops.{Sure, Exact, IsAhead, IsHalted, is_word};
-ghost use Rattle.pearl_parse.specs.Stops.{IsOn};
+ghost use Rattle.pearl_parse_expr.specs.Stops.{IsLongest, IsOnly, IsAhead, IsHalted, is_word};
+ghost use Rattle.pearl_parse.specs.Stops.{StopsWithin};
 ghost use Rattle.pearl_parse.specs.Bodies.{extends_body};
 
 use crate::each::Repeated;
 use crate::statement::{NESTED_MAX, body};
-use crate::step::{SEMICOLON, symbol, word};
+use crate::step::{symbol, word};
 use pearl_parse_decl::list::list;
 use pearl_parse_expr::reading::{Halt, Reading};
 use pearl_parse_expr::standing::place_at;
+use pearl_tables::symbol::SEMICOLON;
 use pearl_tables::word_code::DCL;
 use pearl_tree::parts::Parts;
 use pearl_tree::statement::{Body, BodyDecl};
@@ -24,7 +25,7 @@ use std::alloc::Global;
 fn body_declaration(alloc: Global, tokens: &[Token], from: usize) -> Result<Reading<BodyDecl>, Halt>
     requires { from ≤ length tokens.now }
     ensures spells { IfOk result (λ reading. SpellsBodyDecl tokens.now from reading.part reading.end) }
-    ensures sure { IfOk result (λ reading. Exact SpellsBodyDecl tokens.now from reading.end reading.stop) }
+    ensures longest { IfOk result (λ reading. IsOnly SpellsBodyDecl tokens.now from reading.end reading.stop) }
     ensures ahead { IfOk result (λ reading. IsAhead tokens.now from reading.end reading.stop) }
     ensures refused { IfErr result (λ halt. IsHalted SpellsBodyDecl tokens.now from halt) }
 {
@@ -57,8 +58,8 @@ impl Repeated for BodyDecl {
 pub fn whole_body(alloc: Global, tokens: &[Token], from: usize) -> Result<Reading<Body>, Halt>
     requires { from ≤ length tokens.now }
     ensures spells { IfOk result (λ reading. SpellsWholeBody tokens.now from reading.part reading.end) }
-    ensures sure { IfOk result (λ reading. Sure SpellsWholeBody extends_body tokens.now from reading.end reading.stop) }
-    ensures on { IfOk result (λ reading. IsOn tokens.now from from reading.end reading.stop) }
+    ensures longest { IfOk result (λ reading. IsLongest SpellsWholeBody extends_body tokens.now from reading.end reading.stop) }
+    ensures bounds { IfOk result (λ reading. StopsWithin tokens.now from from reading.end reading.stop) }
     ensures refused { IfErr result (λ halt. IsHalted SpellsWholeBody tokens.now from halt) }
 {
     match body(alloc, tokens, from, from, NESTED_MAX) {

@@ -6,32 +6,28 @@ ghost use Rattle.pearl_tree.specs.Expressions.{SpellsWhole};
 ghost use Rattle.pearl_tree.specs.Statements.{SpellsStmt, SpellsValue, HasBecomes};
 ghost use Rattle.pearl_tables.specs.declared.word_code.TheConstants as w;
 ghost use Rattle.pearl_tables.specs.declared.symbol.TheConstants as s;
-ghost use Rattle.pearl_parse_expr.specs.Stops.{Exact, IsAhead, IsHalted, is_name, is_symbol};
+ghost use Rattle.pearl_parse_expr.specs.Stops.{IsOnly, IsAhead, IsHalted, is_name, is_symbol};
 ghost use Rattle.pearl_parse.specs.Stops as spec;
 ghost use Rattle.pearl_parse.specs.Calls as calls;
 
-use crate::step::{SEMICOLON, expr, name, symbol};
+use crate::step::{expr, name, symbol};
 use pearl_parse_decl::expression::own_reference;
 use pearl_parse_decl::list::list;
-use pearl_parse_expr::reading::{Halt, Reading};
+use pearl_parse_expr::reading::{Halt, Reading, boxed};
 use pearl_parse_expr::standing::{is_symbol, place_at};
-use pearl_parse_expr::symbol::{LEFT_ROUND, RIGHT_ROUND};
+use pearl_tables::symbol::{BECOMES, EQUALS_SIGN, LEFT_ROUND, RIGHT_ROUND, SEMICOLON};
 use pearl_tree::expression::Expr;
 use pearl_tree::parts::Parts;
-use pearl_tree::statement::Stmt;
+use pearl_tree::statement::{Assign, Call, Return, Stmt};
 use pearl_tree::token::Token;
 use std::alloc::Global;
-
-const BECOMES: u8 = 8;
-
-const EQUALS_SIGN: u8 = 9;
 
 /// `"(" expr ")"`
 fn value(alloc: Global, tokens: &[Token], from: usize) -> Result<Reading<Expr>, Halt>
     requires within { from < length tokens.now }
     requires bracket { HasSymbol tokens.now from s.LEFT_ROUND }
     ensures spells { IfOk result (λ reading. SpellsValue tokens.now from reading.part reading.end) }
-    ensures sure { IfOk result (λ reading. Exact SpellsValue tokens.now from reading.end reading.stop) }
+    ensures longest { IfOk result (λ reading. IsOnly SpellsValue tokens.now from reading.end reading.stop) }
     ensures ahead { IfOk result (λ reading. IsAhead tokens.now from reading.end reading.stop) }
     ensures refused { IfErr result (λ halt. IsHalted SpellsValue tokens.now from halt) }
 {
@@ -48,8 +44,8 @@ fn value(alloc: Global, tokens: &[Token], from: usize) -> Result<Reading<Expr>, 
 fn maybe_value(alloc: Global, tokens: &[Token], from: usize) -> Result<Reading<Option<Expr>>, Halt>
     requires within { from ≤ length tokens.now }
     ensures spells { IfOk result (λ reading. SpellsMaybe (SpellsValue tokens.now) from reading.part reading.end) }
-    ensures sure { IfOk result (λ reading. Exact calls.SpellsOptionalValue tokens.now from reading.end reading.stop) }
-    ensures on { IfOk result (λ reading. spec.IsOn tokens.now from from reading.end reading.stop) }
+    ensures longest { IfOk result (λ reading. IsOnly calls.SpellsOptionalValue tokens.now from reading.end reading.stop) }
+    ensures bounds { IfOk result (λ reading. spec.StopsWithin tokens.now from from reading.end reading.stop) }
     ensures refused { IfErr result (λ halt. IsHalted calls.SpellsOptionalValue tokens.now from halt) }
 {
     if !is_symbol(tokens, from, LEFT_ROUND) {
@@ -74,17 +70,18 @@ pub fn return_(alloc: Global, tokens: &[Token], from: usize) -> Result<Reading<S
     requires within { from < length tokens.now }
     requires word { HasWord tokens.now from w.RETURN }
     ensures spells { IfOk result (λ reading. (depth : ℕ) → SpellsStmt tokens.now depth from reading.part reading.end) }
-    ensures sure { IfOk result (λ reading. (depth : ℕ) → Exact (λ tokens. SpellsStmt tokens depth) tokens.now from reading.end reading.stop) }
+    ensures longest { IfOk result (λ reading. (depth : ℕ) → IsOnly (λ tokens. SpellsStmt tokens depth) tokens.now from reading.end reading.stop) }
     ensures ahead { IfOk result (λ reading. IsAhead tokens.now from reading.end reading.stop) }
     ensures refused { IfErr result (λ halt. (depth : ℕ) → IsHalted (λ tokens. SpellsStmt tokens depth) tokens.now from halt) }
 {
     let value = maybe_value(alloc, tokens, from + 1)?;
     symbol(tokens, value.end, value.stop, SEMICOLON)?;
+    let returned = Return {
+        value: value.part,
+        place: place_at(tokens, from),
+    };
     Ok(Reading {
-        part: Stmt::Return {
-            value: value.part,
-            place: place_at(tokens, from),
-        },
+        part: Stmt::Return(boxed(alloc, returned)?),
         end: value.end + 1,
         stop: value.stop.max(value.end + 1),
     })
@@ -95,35 +92,35 @@ fn arguments(
     alloc: Global,
     tokens: &[Token],
     from: usize,
-    low: usize,
+    least_stop: usize,
 ) -> Result<Reading<Vec<Expr>>, Halt>
     requires from { from ≤ length tokens.now }
-    requires low { low ≤ length tokens.now }
+    requires least_stop { least_stop ≤ length tokens.now }
     ensures spells { IfOk result (λ reading. calls.SpellsArguments tokens.now from reading.part.items reading.end) }
-    ensures sure { IfOk result (λ reading. Exact calls.SpellsArguments tokens.now from reading.end reading.stop) }
-    ensures on { IfOk result (λ reading. spec.IsOn tokens.now (from + 1) low reading.end reading.stop) }
-    ensures refused { IfErr result (λ halt. spec.IsStopped calls.SpellsArguments tokens.now from low halt) }
+    ensures longest { IfOk result (λ reading. IsOnly calls.SpellsArguments tokens.now from reading.end reading.stop) }
+    ensures bounds { IfOk result (λ reading. spec.StopsWithin tokens.now (from + 1) least_stop reading.end reading.stop) }
+    ensures refused { IfErr result (λ halt. spec.IsStopped calls.SpellsArguments tokens.now from least_stop halt) }
 {
     if !is_symbol(tokens, from, LEFT_ROUND) {
-        symbol(tokens, from, low, SEMICOLON)?;
+        symbol(tokens, from, least_stop, SEMICOLON)?;
         return Ok(Reading {
             part: Vec::new(alloc),
             end: from + 1,
-            stop: low.max(from + 1),
+            stop: least_stop.max(from + 1),
         });
     }
     match list(alloc, tokens, from + 1) {
         Ok(list) => {
-            symbol(tokens, list.end, list.stop.max(low), RIGHT_ROUND)?;
-            symbol(tokens, list.end + 1, list.stop.max(low), SEMICOLON)?;
+            symbol(tokens, list.end, list.stop.max(least_stop), RIGHT_ROUND)?;
+            symbol(tokens, list.end + 1, list.stop.max(least_stop), SEMICOLON)?;
             Ok(Reading {
                 part: list.part,
                 end: list.end + 2,
-                stop: list.stop.max(low).max(list.end + 2),
+                stop: list.stop.max(least_stop).max(list.end + 2),
             })
         }
         Err(halt) => match halt {
-            Halt::Refused(stop) => Err(Halt::Refused(stop.max(low))),
+            Halt::Refused(stop) => Err(Halt::Refused(stop.max(least_stop))),
             Halt::NoMemory => Err(Halt::NoMemory),
         },
     }
@@ -134,19 +131,20 @@ pub fn call(alloc: Global, tokens: &[Token], from: usize) -> Result<Reading<Stmt
     requires within { from < length tokens.now }
     requires word { HasWord tokens.now from w.CALL }
     ensures spells { IfOk result (λ reading. (depth : ℕ) → SpellsStmt tokens.now depth from reading.part reading.end) }
-    ensures sure { IfOk result (λ reading. (depth : ℕ) → Exact (λ tokens. SpellsStmt tokens depth) tokens.now from reading.end reading.stop) }
+    ensures longest { IfOk result (λ reading. (depth : ℕ) → IsOnly (λ tokens. SpellsStmt tokens depth) tokens.now from reading.end reading.stop) }
     ensures ahead { IfOk result (λ reading. IsAhead tokens.now from reading.end reading.stop) }
     ensures refused { IfErr result (λ halt. (depth : ℕ) → IsHalted (λ tokens. SpellsStmt tokens depth) tokens.now from halt) }
 {
     let called = name(tokens, from + 1, from)?;
     let arguments = arguments(alloc, tokens, from + 2, from)?;
+    let call = Call {
+        call: true,
+        name: called,
+        arguments: Parts::new(arguments.part),
+        place: place_at(tokens, from),
+    };
     Ok(Reading {
-        part: Stmt::Call {
-            call: true,
-            name: called,
-            arguments: Parts::new(arguments.part),
-            place: place_at(tokens, from),
-        },
+        part: Stmt::Call(boxed(alloc, call)?),
         end: arguments.end,
         stop: arguments.stop,
     })
@@ -169,7 +167,7 @@ pub fn named(alloc: Global, tokens: &[Token], from: usize) -> Result<Reading<Stm
     requires within { from < length tokens.now }
     requires name { is_name (what_at tokens.now from) ≡ true }
     ensures spells { IfOk result (λ reading. (depth : ℕ) → SpellsStmt tokens.now depth from reading.part reading.end) }
-    ensures sure { IfOk result (λ reading. (depth : ℕ) → Exact (λ tokens. SpellsStmt tokens depth) tokens.now from reading.end reading.stop) }
+    ensures longest { IfOk result (λ reading. (depth : ℕ) → IsOnly (λ tokens. SpellsStmt tokens depth) tokens.now from reading.end reading.stop) }
     ensures ahead { IfOk result (λ reading. IsAhead tokens.now from reading.end reading.stop) }
     ensures refused { IfErr result (λ halt. (depth : ℕ) → IsHalted (λ tokens. SpellsStmt tokens depth) tokens.now from halt) }
 {
@@ -177,25 +175,27 @@ pub fn named(alloc: Global, tokens: &[Token], from: usize) -> Result<Reading<Stm
     if becomes(tokens, target.end) {
         let value = expr(alloc, tokens, target.end + 1, target.stop)?;
         symbol(tokens, value.end, value.stop, SEMICOLON)?;
+        let assign = Assign {
+            target: target.part,
+            value: value.part,
+            place: place_at(tokens, from),
+        };
         return Ok(Reading {
-            part: Stmt::Assign {
-                target: target.part,
-                value: value.part,
-                place: place_at(tokens, from),
-            },
+            part: Stmt::Assign(boxed(alloc, assign)?),
             end: value.end + 1,
             stop: value.stop.max(value.end + 1),
         });
     }
     let called = name(tokens, from, target.stop)?;
     let arguments = arguments(alloc, tokens, from + 1, target.stop)?;
+    let call = Call {
+        call: false,
+        name: called,
+        arguments: Parts::new(arguments.part),
+        place: place_at(tokens, from),
+    };
     Ok(Reading {
-        part: Stmt::Call {
-            call: false,
-            name: called,
-            arguments: Parts::new(arguments.part),
-            place: place_at(tokens, from),
-        },
+        part: Stmt::Call(boxed(alloc, call)?),
         end: arguments.end,
         stop: arguments.stop,
     })

@@ -5,7 +5,7 @@ ghost use Rattle.pearl_tree.specs.declared.token.Token.{Token};
 ghost use Rattle.pearl_tree.specs.declared.token.What.{What};
 ghost use Rattle.pearl_tree.specs.Standing.{Spelling, SpellsEach, what_at};
 ghost use Rattle.pearl_parse_expr.specs.declared.reading.Halt.{Halt};
-ghost use Rattle.pearl_parse_expr.specs.Stops.{Sure, Exact, IsAhead, IsHalted};
+ghost use Rattle.pearl_parse_expr.specs.Stops.{IsLongest, IsOnly, IsAhead, IsHalted};
 ghost use Rattle.pearl_parse.specs.Stops as spec;
 
 use pearl_parse_expr::reading::{Halt, Reading, append};
@@ -24,7 +24,7 @@ pub trait Repeated: Drop {
     fn read(alloc: Global, tokens: &[Token], from: usize) -> Result<Reading<Self>, Halt>
         requires { from ≤ length tokens.now }
         ensures spells { IfOk result (λ reading. spelling tokens.now from reading.part reading.end) }
-        ensures sure { IfOk result (λ reading. Exact spelling tokens.now from reading.end reading.stop) }
+        ensures longest { IfOk result (λ reading. IsOnly spelling tokens.now from reading.end reading.stop) }
         ensures ahead { IfOk result (λ reading. IsAhead tokens.now from reading.end reading.stop) }
         ensures refused { IfErr result (λ halt. IsHalted spelling tokens.now from halt) };
 
@@ -40,8 +40,8 @@ pub fn each<P: Repeated>(
 ) -> Result<Reading<Vec<P>>, Halt>
     requires { from ≤ length tokens.now }
     ensures spells { IfOk result (λ reading. SpellsEach (P.spelling tokens.now) from reading.part.items reading.end) }
-    ensures sure { IfOk result (λ reading. Sure (λ tokens. SpellsEach (P.spelling tokens)) P.begins tokens.now from reading.end reading.stop) }
-    ensures on { IfOk result (λ reading. spec.IsOn tokens.now from from reading.end reading.stop) }
+    ensures longest { IfOk result (λ reading. IsLongest (λ tokens. SpellsEach (P.spelling tokens)) P.begins tokens.now from reading.end reading.stop) }
+    ensures bounds { IfOk result (λ reading. spec.StopsWithin tokens.now from from reading.end reading.stop) }
     ensures refused { IfErr result (λ halt. halt ≡ Halt.NoMemory) }
 {
     let mut list = Vec::new(alloc);

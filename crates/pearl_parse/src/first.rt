@@ -5,14 +5,14 @@ ghost use Rattle.pearl_tree.specs.Standing.{what_at};
 ghost use Rattle.pearl_parse.specs.Stops.{begins_statement};
 ghost use Rattle.pearl_parse.specs.Firsts as spec;
 
-use crate::step::SEMICOLON;
+use pearl_tables::symbol::SEMICOLON;
 use pearl_tables::word_code::*;
 use pearl_tree::statement::{InterruptWord, SemaWord, TaskWord};
 use pearl_tree::token::{Token, What};
 
 /// A statement that holds no others.
 #[derive(Clone, Copy)]
-pub enum Plain {
+pub enum Simple {
     Empty,
     /// An assignment, or a call without CALL.
     Named,
@@ -37,7 +37,7 @@ pub enum Plain {
 /// A statement, by its first token.
 #[derive(Clone, Copy)]
 pub enum First {
-    Plain(Plain),
+    Simple(Simple),
     If,
     Case,
     Repeat,
@@ -52,27 +52,27 @@ fn first_of_word(word: u8) -> Option<First>
         CASE => Some(First::Case),
         FOR | FROM | BY | TO | WHILE | REPEAT => Some(First::Repeat),
         BEGIN => Some(First::Begin),
-        CALL => Some(First::Plain(Plain::Call)),
-        EXIT => Some(First::Plain(Plain::Exit)),
-        RETURN => Some(First::Plain(Plain::Return)),
-        AT => Some(First::Plain(Plain::Timed { later: false })),
-        AFTER => Some(First::Plain(Plain::Timed { later: true })),
-        WHEN => Some(First::Plain(Plain::When)),
-        ALL => Some(First::Plain(Plain::All)),
-        ACTIVATE => Some(First::Plain(Plain::Activate)),
-        CONTINUE => Some(First::Plain(Plain::Continue)),
-        SUSPEND => Some(First::Plain(Plain::OnTask(TaskWord::Suspend))),
-        TERMINATE => Some(First::Plain(Plain::OnTask(TaskWord::Terminate))),
-        PREVENT => Some(First::Plain(Plain::OnTask(TaskWord::Prevent))),
-        REQUEST => Some(First::Plain(Plain::OnSemas(SemaWord::Request))),
-        RELEASE => Some(First::Plain(Plain::OnSemas(SemaWord::Release))),
-        ENABLE => Some(First::Plain(Plain::OnInterrupt(InterruptWord::Enable))),
-        DISABLE => Some(First::Plain(Plain::OnInterrupt(InterruptWord::Disable))),
-        TRIGGER => Some(First::Plain(Plain::OnInterrupt(InterruptWord::Trigger))),
-        PUT => Some(First::Plain(Plain::Put)),
-        GET => Some(First::Plain(Plain::Get)),
-        SEND => Some(First::Plain(Plain::Send)),
-        TAKE => Some(First::Plain(Plain::Take)),
+        CALL => Some(First::Simple(Simple::Call)),
+        EXIT => Some(First::Simple(Simple::Exit)),
+        RETURN => Some(First::Simple(Simple::Return)),
+        AT => Some(First::Simple(Simple::Timed { later: false })),
+        AFTER => Some(First::Simple(Simple::Timed { later: true })),
+        WHEN => Some(First::Simple(Simple::When)),
+        ALL => Some(First::Simple(Simple::All)),
+        ACTIVATE => Some(First::Simple(Simple::Activate)),
+        CONTINUE => Some(First::Simple(Simple::Continue)),
+        SUSPEND => Some(First::Simple(Simple::OnTask(TaskWord::Suspend))),
+        TERMINATE => Some(First::Simple(Simple::OnTask(TaskWord::Terminate))),
+        PREVENT => Some(First::Simple(Simple::OnTask(TaskWord::Prevent))),
+        REQUEST => Some(First::Simple(Simple::OnSemas(SemaWord::Request))),
+        RELEASE => Some(First::Simple(Simple::OnSemas(SemaWord::Release))),
+        ENABLE => Some(First::Simple(Simple::OnInterrupt(InterruptWord::Enable))),
+        DISABLE => Some(First::Simple(Simple::OnInterrupt(InterruptWord::Disable))),
+        TRIGGER => Some(First::Simple(Simple::OnInterrupt(InterruptWord::Trigger))),
+        PUT => Some(First::Simple(Simple::Put)),
+        GET => Some(First::Simple(Simple::Get)),
+        SEND => Some(First::Simple(Simple::Send)),
+        TAKE => Some(First::Simple(Simple::Take)),
         _ => None,
     }
 }
@@ -81,8 +81,8 @@ fn first_of(what: &What) -> Option<First>
     ensures { result ≡ spec.first_of what.now }
 {
     match *what {
-        What::Symbol(SEMICOLON) => Some(First::Plain(Plain::Empty)),
-        What::Id(_) => Some(First::Plain(Plain::Named)),
+        What::Symbol(SEMICOLON) => Some(First::Simple(Simple::Empty)),
+        What::Id(_) => Some(First::Simple(Simple::Named)),
         What::Word(word) => first_of_word(word),
         _ => None,
     }

@@ -4,14 +4,15 @@ ghost use Rattle.std.specs.Prelude.{◌≡◌, ℕ, ◌+◌, ◌<◌, ◌≤◌,
 ghost use Rattle.pearl_tree.specs.Standing.{HasWord};
 ghost use Rattle.pearl_tree.specs.Statements.{SpellsStmt};
 ghost use Rattle.pearl_tables.specs.declared.word_code.TheConstants as w;
-ghost use Rattle.pearl_parse_expr.specs.Stops.{Exact, IsAhead, IsHalted};
+ghost use Rattle.pearl_parse_expr.specs.Stops.{IsOnly, IsAhead, IsHalted};
 
 use crate::schedule::begin;
-use crate::step::{SEMICOLON, maybe_after, name, symbol};
-use pearl_parse_expr::reading::{Halt, Reading};
+use crate::step::{maybe_after, name, symbol};
+use pearl_parse_expr::reading::{Halt, Reading, boxed};
 use pearl_parse_expr::standing::{is_word, place_at};
+use pearl_tables::symbol::SEMICOLON;
 use pearl_tables::word_code::*;
-use pearl_tree::statement::{Once, Start, Stmt};
+use pearl_tree::statement::{Activate, Continue, Once, Resume, Start, Stmt};
 use pearl_tree::token::Token;
 use std::alloc::Global;
 
@@ -20,7 +21,7 @@ pub fn when(alloc: Global, tokens: &[Token], from: usize) -> Result<Reading<Stmt
     requires within { from < length tokens.now }
     requires word { HasWord tokens.now from w.WHEN }
     ensures spells { IfOk result (λ reading. (depth : ℕ) → SpellsStmt tokens.now depth from reading.part reading.end) }
-    ensures sure { IfOk result (λ reading. (depth : ℕ) → Exact (λ tokens. SpellsStmt tokens depth) tokens.now from reading.end reading.stop) }
+    ensures longest { IfOk result (λ reading. (depth : ℕ) → IsOnly (λ tokens. SpellsStmt tokens depth) tokens.now from reading.end reading.stop) }
     ensures ahead { IfOk result (λ reading. IsAhead tokens.now from reading.end reading.stop) }
     ensures refused { IfErr result (λ halt. (depth : ℕ) → IsHalted (λ tokens. SpellsStmt tokens depth) tokens.now from halt) }
 {
@@ -29,41 +30,44 @@ pub fn when(alloc: Global, tokens: &[Token], from: usize) -> Result<Reading<Stmt
     if is_word(tokens, from + 2, CONTINUE) {
         let task = name(tokens, from + 3, from + 2)?;
         symbol(tokens, from + 4, from + 2, SEMICOLON)?;
+        let continuation = Continue {
+            once: Some(Once::When { interrupt, place }),
+            task,
+            place,
+        };
         return Ok(Reading {
-            part: Stmt::Continue {
-                once: Some(Once::When { interrupt, place }),
-                task,
-                place,
-            },
+            part: Stmt::Continue(boxed(alloc, continuation)?),
             end: from + 5,
             stop: from + 5,
         });
     }
     if is_word(tokens, from + 2, RESUME) {
         symbol(tokens, from + 3, from + 2, SEMICOLON)?;
+        let resume = Resume {
+            once: Once::When { interrupt, place },
+            place,
+        };
         return Ok(Reading {
-            part: Stmt::Resume {
-                once: Once::When { interrupt, place },
-                place,
-            },
+            part: Stmt::Resume(boxed(alloc, resume)?),
             end: from + 4,
             stop: from + 4,
         });
     }
     let after = maybe_after(alloc, tokens, from + 2, from + 2, AFTER)?;
     let begun = begin(alloc, tokens, after.end, after.stop)?;
-    Ok(Reading {
-        part: Stmt::Activate {
-            start: Some(Start::When {
-                interrupt,
-                after: after.part,
-                period: begun.part.period,
-                place,
-            }),
-            task: begun.part.activation.task,
-            priority: begun.part.activation.priority,
+    let activate = Activate {
+        start: Some(Start::When {
+            interrupt,
+            after: after.part,
+            period: begun.part.period,
             place,
-        },
+        }),
+        task: begun.part.activation.task,
+        priority: begun.part.activation.priority,
+        place,
+    };
+    Ok(Reading {
+        part: Stmt::Activate(boxed(alloc, activate)?),
         end: begun.end,
         stop: begun.stop,
     })

@@ -5,14 +5,15 @@ ghost use Rattle.pearl_tree.specs.Standing.{HasWord};
 ghost use Rattle.pearl_tree.specs.Statements.{SpellsStmt, task_word, sema_word, interrupt_word};
 ghost use Rattle.pearl_tables.specs.declared.word_code.TheConstants as w;
 ghost use Rattle.pearl_parse_expr.specs.declared.reading.Halt.{Halt};
-ghost use Rattle.pearl_parse_expr.specs.Stops.{Exact, IsAhead, IsHalted};
+ghost use Rattle.pearl_parse_expr.specs.Stops.{IsOnly, IsAhead, IsHalted};
 
-use crate::step::{SEMICOLON, expr, maybe_name, name, symbol, word as word_here};
+use crate::step::{expr, maybe_name, name, symbol, word as word_here};
 use pearl_parse_decl::expression::own_reference;
-use pearl_parse_expr::reading::{Halt, Reading};
+use pearl_parse_expr::reading::{Halt, Reading, boxed};
 use pearl_parse_expr::standing::place_at;
+use pearl_tables::symbol::SEMICOLON;
 use pearl_tables::word_code::*;
-use pearl_tree::statement::{InterruptWord, Stmt, TaskWord};
+use pearl_tree::statement::{InterruptWord, OnInterrupt, OnTask, Send, Stmt, Take, TaskWord};
 use pearl_tree::token::Token;
 use std::alloc::Global;
 
@@ -21,7 +22,7 @@ pub fn exit(tokens: &[Token], from: usize) -> Result<Reading<Stmt>, Halt>
     requires within { from < length tokens.now }
     requires word { HasWord tokens.now from w.EXIT }
     ensures spells { IfOk result (λ reading. (depth : ℕ) → SpellsStmt tokens.now depth from reading.part reading.end) }
-    ensures sure { IfOk result (λ reading. (depth : ℕ) → Exact (λ tokens. SpellsStmt tokens depth) tokens.now from reading.end reading.stop) }
+    ensures longest { IfOk result (λ reading. (depth : ℕ) → IsOnly (λ tokens. SpellsStmt tokens depth) tokens.now from reading.end reading.stop) }
     ensures ahead { IfOk result (λ reading. IsAhead tokens.now from reading.end reading.stop) }
     ensures refused { IfErr result (λ halt. (depth : ℕ) → IsHalted (λ tokens. SpellsStmt tokens depth) tokens.now from halt) }
     ensures memory { IfErr result (λ halt. halt ≢ Halt.NoMemory) }
@@ -37,23 +38,28 @@ pub fn exit(tokens: &[Token], from: usize) -> Result<Reading<Stmt>, Halt>
 }
 
 /// `( SUSPEND | TERMINATE | PREVENT ) [ id ] ";"`
-pub fn on_task(tokens: &[Token], from: usize, word: TaskWord) -> Result<Reading<Stmt>, Halt>
+pub fn on_task(
+    alloc: Global,
+    tokens: &[Token],
+    from: usize,
+    word: TaskWord,
+) -> Result<Reading<Stmt>, Halt>
     requires within { from < length tokens.now }
     requires word { HasWord tokens.now from (task_word word) }
     ensures spells { IfOk result (λ reading. (depth : ℕ) → SpellsStmt tokens.now depth from reading.part reading.end) }
-    ensures sure { IfOk result (λ reading. (depth : ℕ) → Exact (λ tokens. SpellsStmt tokens depth) tokens.now from reading.end reading.stop) }
+    ensures longest { IfOk result (λ reading. (depth : ℕ) → IsOnly (λ tokens. SpellsStmt tokens depth) tokens.now from reading.end reading.stop) }
     ensures ahead { IfOk result (λ reading. IsAhead tokens.now from reading.end reading.stop) }
     ensures refused { IfErr result (λ halt. (depth : ℕ) → IsHalted (λ tokens. SpellsStmt tokens depth) tokens.now from halt) }
-    ensures memory { IfErr result (λ halt. halt ≢ Halt.NoMemory) }
 {
     let task = maybe_name(tokens, from + 1);
     symbol(tokens, task.end, task.stop, SEMICOLON)?;
+    let on_task = OnTask {
+        word,
+        task: task.part,
+        place: place_at(tokens, from),
+    };
     Ok(Reading {
-        part: Stmt::OnTask {
-            word,
-            task: task.part,
-            place: place_at(tokens, from),
-        },
+        part: Stmt::OnTask(boxed(alloc, on_task)?),
         end: task.end + 1,
         stop: task.stop.max(task.end + 1),
     })
@@ -61,6 +67,7 @@ pub fn on_task(tokens: &[Token], from: usize, word: TaskWord) -> Result<Reading<
 
 /// `( ENABLE | DISABLE | TRIGGER ) id ";"`
 pub fn on_interrupt(
+    alloc: Global,
     tokens: &[Token],
     from: usize,
     word: InterruptWord,
@@ -68,19 +75,19 @@ pub fn on_interrupt(
     requires within { from < length tokens.now }
     requires word { HasWord tokens.now from (interrupt_word word) }
     ensures spells { IfOk result (λ reading. (depth : ℕ) → SpellsStmt tokens.now depth from reading.part reading.end) }
-    ensures sure { IfOk result (λ reading. (depth : ℕ) → Exact (λ tokens. SpellsStmt tokens depth) tokens.now from reading.end reading.stop) }
+    ensures longest { IfOk result (λ reading. (depth : ℕ) → IsOnly (λ tokens. SpellsStmt tokens depth) tokens.now from reading.end reading.stop) }
     ensures ahead { IfOk result (λ reading. IsAhead tokens.now from reading.end reading.stop) }
     ensures refused { IfErr result (λ halt. (depth : ℕ) → IsHalted (λ tokens. SpellsStmt tokens depth) tokens.now from halt) }
-    ensures memory { IfErr result (λ halt. halt ≢ Halt.NoMemory) }
 {
     let interrupt = name(tokens, from + 1, from)?;
     symbol(tokens, from + 2, from, SEMICOLON)?;
+    let on_interrupt = OnInterrupt {
+        word,
+        name: interrupt,
+        place: place_at(tokens, from),
+    };
     Ok(Reading {
-        part: Stmt::OnInterrupt {
-            word,
-            name: interrupt,
-            place: place_at(tokens, from),
-        },
+        part: Stmt::OnInterrupt(boxed(alloc, on_interrupt)?),
         end: from + 3,
         stop: from + 3,
     })
@@ -91,7 +98,7 @@ pub fn send(alloc: Global, tokens: &[Token], from: usize) -> Result<Reading<Stmt
     requires within { from < length tokens.now }
     requires word { HasWord tokens.now from w.SEND }
     ensures spells { IfOk result (λ reading. (depth : ℕ) → SpellsStmt tokens.now depth from reading.part reading.end) }
-    ensures sure { IfOk result (λ reading. (depth : ℕ) → Exact (λ tokens. SpellsStmt tokens depth) tokens.now from reading.end reading.stop) }
+    ensures longest { IfOk result (λ reading. (depth : ℕ) → IsOnly (λ tokens. SpellsStmt tokens depth) tokens.now from reading.end reading.stop) }
     ensures ahead { IfOk result (λ reading. IsAhead tokens.now from reading.end reading.stop) }
     ensures refused { IfErr result (λ halt. (depth : ℕ) → IsHalted (λ tokens. SpellsStmt tokens depth) tokens.now from halt) }
 {
@@ -99,12 +106,13 @@ pub fn send(alloc: Global, tokens: &[Token], from: usize) -> Result<Reading<Stmt
     word_here(tokens, value.end, value.stop, TO)?;
     let dation = name(tokens, value.end + 1, value.stop)?;
     symbol(tokens, value.end + 2, value.stop, SEMICOLON)?;
+    let send = Send {
+        value: value.part,
+        dation,
+        place: place_at(tokens, from),
+    };
     Ok(Reading {
-        part: Stmt::Send {
-            value: value.part,
-            dation,
-            place: place_at(tokens, from),
-        },
+        part: Stmt::Send(boxed(alloc, send)?),
         end: value.end + 3,
         stop: value.stop.max(value.end + 3),
     })
@@ -115,7 +123,7 @@ pub fn take(alloc: Global, tokens: &[Token], from: usize) -> Result<Reading<Stmt
     requires within { from < length tokens.now }
     requires word { HasWord tokens.now from w.TAKE }
     ensures spells { IfOk result (λ reading. (depth : ℕ) → SpellsStmt tokens.now depth from reading.part reading.end) }
-    ensures sure { IfOk result (λ reading. (depth : ℕ) → Exact (λ tokens. SpellsStmt tokens depth) tokens.now from reading.end reading.stop) }
+    ensures longest { IfOk result (λ reading. (depth : ℕ) → IsOnly (λ tokens. SpellsStmt tokens depth) tokens.now from reading.end reading.stop) }
     ensures ahead { IfOk result (λ reading. IsAhead tokens.now from reading.end reading.stop) }
     ensures refused { IfErr result (λ halt. (depth : ℕ) → IsHalted (λ tokens. SpellsStmt tokens depth) tokens.now from halt) }
 {
@@ -123,12 +131,13 @@ pub fn take(alloc: Global, tokens: &[Token], from: usize) -> Result<Reading<Stmt
     word_here(tokens, target.end, target.stop, FROM)?;
     let dation = name(tokens, target.end + 1, target.stop)?;
     symbol(tokens, target.end + 2, target.stop, SEMICOLON)?;
+    let take = Take {
+        target: target.part,
+        dation,
+        place: place_at(tokens, from),
+    };
     Ok(Reading {
-        part: Stmt::Take {
-            target: target.part,
-            dation,
-            place: place_at(tokens, from),
-        },
+        part: Stmt::Take(boxed(alloc, take)?),
         end: target.end + 3,
         stop: target.stop.max(target.end + 3),
     })

@@ -4,17 +4,17 @@ ghost use Rattle.std.specs.Prelude.{◌≡◌, ℕ, ◌+◌, ◌≤◌, List, So
 ghost use Rattle.pearl_tree.specs.declared.token.Token.{Token};
 ghost use Rattle.pearl_tree.specs.declared.token.What.TheVariants as what;
 ghost use Rattle.pearl_tree.specs.Standing.{HasWord};
-ghost use Rattle.pearl_parse_expr.specs.Stops.{Exact, IsAhead, IsHalted};
+ghost use Rattle.pearl_parse_expr.specs.Stops.{IsOnly, IsAhead, IsHalted};
 ghost use Rattle.pearl_parse.specs.Stops as spec;
 
-use pearl_parse_decl::list::{Part, list};
+use pearl_parse_decl::list::{Readable, list};
 use pearl_parse_expr::reading::{Halt, Reading};
 use pearl_parse_expr::standing::is_word;
 use pearl_tree::token::Token;
 use std::alloc::Global;
 
 /// `[ part { "," part } ]` and the word behind it, with which no part begins and none goes on.
-pub fn before<P: Part>(
+pub fn before<P: Readable>(
     alloc: Global,
     tokens: &[Token],
     from: usize,
@@ -24,7 +24,7 @@ pub fn before<P: Part>(
     requires begins { (others : List Token) (at : ℕ) (x : P) (to : ℕ) → HasWord others at word → P.spelling others at x to → ⊥ }
     requires stops { P.extends (Some (what.Word word)) ≡ false }
     ensures spells { IfOk result (λ reading. spec.SpellsBefore word P.spelling tokens.now from reading.part.items reading.end) }
-    ensures sure { IfOk result (λ reading. Exact (spec.SpellsBefore word P.spelling) tokens.now from reading.end reading.stop) }
+    ensures longest { IfOk result (λ reading. IsOnly (spec.SpellsBefore word P.spelling) tokens.now from reading.end reading.stop) }
     ensures ahead { IfOk result (λ reading. IsAhead tokens.now from reading.end reading.stop) }
     ensures refused { IfErr result (λ halt. IsHalted (spec.SpellsBefore word P.spelling) tokens.now from halt) }
 {

@@ -4,7 +4,7 @@ ghost use Rattle.std.specs.Prelude.{◌≡◌, ◌≢◌, ◌+◌, ◌<◌, ◌�
 ghost use Rattle.pearl_tree.specs.Standing.{SpellsMaybe};
 ghost use Rattle.pearl_tree.specs.Statements.{SpellsFor};
 ghost use Rattle.pearl_parse_expr.specs.declared.reading.Halt.{Halt};
-ghost use Rattle.pearl_parse_expr.specs.Stops.{Exact, IsAhead, IsHalted};
+ghost use Rattle.pearl_parse_expr.specs.Stops.{IsOnly, IsAhead, IsHalted};
 ghost use Rattle.pearl_parse.specs.Stops as spec;
 ghost use Rattle.pearl_parse.specs.Bodies as bodies;
 
@@ -31,8 +31,8 @@ pub struct Heads {
 fn control(tokens: &[Token], from: usize) -> Result<Reading<Option<Name>>, Halt>
     requires { from ≤ length tokens.now }
     ensures spells { IfOk result (λ reading. SpellsMaybe (SpellsFor tokens.now) from reading.part reading.end) }
-    ensures sure { IfOk result (λ reading. Exact bodies.SpellsOptionalFor tokens.now from reading.end reading.stop) }
-    ensures on { IfOk result (λ reading. spec.IsOn tokens.now from from reading.end reading.stop) }
+    ensures longest { IfOk result (λ reading. IsOnly bodies.SpellsOptionalFor tokens.now from reading.end reading.stop) }
+    ensures bounds { IfOk result (λ reading. spec.StopsWithin tokens.now from from reading.end reading.stop) }
     ensures refused { IfErr result (λ halt. IsHalted bodies.SpellsOptionalFor tokens.now from halt) }
     ensures memory { IfErr result (λ halt. halt ≢ Halt.NoMemory) }
 {
@@ -55,7 +55,7 @@ fn control(tokens: &[Token], from: usize) -> Result<Reading<Option<Name>>, Halt>
 pub fn loop_heads(alloc: Global, tokens: &[Token], from: usize) -> Result<Reading<Heads>, Halt>
     requires { from ≤ length tokens.now }
     ensures spells { IfOk result (λ reading. bodies.SpellsHeads tokens.now from reading.part reading.end) }
-    ensures sure { IfOk result (λ reading. Exact bodies.SpellsHeads tokens.now from reading.end reading.stop) }
+    ensures longest { IfOk result (λ reading. IsOnly bodies.SpellsHeads tokens.now from reading.end reading.stop) }
     ensures ahead { IfOk result (λ reading. IsAhead tokens.now from reading.end reading.stop) }
     ensures refused { IfErr result (λ halt. IsHalted bodies.SpellsHeads tokens.now from halt) }
 {

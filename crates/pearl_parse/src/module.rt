@@ -1,18 +1,18 @@
 // Whole modules.
 
-ghost use Rattle.std.specs.Prelude.{◌≡◌, ◌≢◌, ◌+◌, ◌≤◌, length, max, IfOk, IfErr, OnOk};
+ghost use Rattle.std.specs.Prelude.{◌≡◌, ◌≢◌, ◌+◌, ◌<◌, ◌≤◌, length, max, IfOk, IfErr, OnOk};
 ghost use Rattle.pearl_tree.specs.Modules.{Spells};
 ghost use Rattle.pearl_parse_expr.specs.declared.reading.Halt.{Halt};
-ghost use Rattle.pearl_parse_expr.specs.Stops.{Exact, IsAhead, IsHalted};
+ghost use Rattle.pearl_parse_expr.specs.Stops.{IsOnly, IsAhead, IsHalted};
 ghost use Rattle.pearl_parse.specs.Stops as spec;
 ghost use Rattle.pearl_parse.specs.Modules as modules;
 
 use crate::each::each;
-use crate::step::{SEMICOLON, name, symbol, word};
+use crate::step::{name, symbol, word};
 use crate::system::opening;
 use pearl_parse_expr::reading::{Halt, Reading};
 use pearl_parse_expr::standing::{is_symbol, name_at, place_at};
-use pearl_parse_expr::symbol::{LEFT_ROUND, RIGHT_ROUND};
+use pearl_tables::symbol::{LEFT_ROUND, RIGHT_ROUND, SEMICOLON};
 use pearl_tables::word_code::{MODEND, MODULE};
 use pearl_tree::parts::Parts;
 use pearl_tree::token::Token;
@@ -23,8 +23,8 @@ use std::alloc::Global;
 fn module_name(tokens: &[Token], from: usize) -> Result<Reading<Option<ModuleName>>, Halt>
     requires { from ≤ length tokens.now }
     ensures spells { IfOk result (λ reading. modules.SpellsOptionalName tokens.now from reading.part reading.end) }
-    ensures sure { IfOk result (λ reading. Exact modules.SpellsOptionalName tokens.now from reading.end reading.stop) }
-    ensures on { IfOk result (λ reading. spec.IsOn tokens.now from from reading.end reading.stop) }
+    ensures longest { IfOk result (λ reading. IsOnly modules.SpellsOptionalName tokens.now from reading.end reading.stop) }
+    ensures bounds { IfOk result (λ reading. spec.StopsWithin tokens.now from from reading.end reading.stop) }
     ensures close { IfOk result (λ reading. reading.stop ≡ reading.end) }
     ensures refused { IfErr result (λ halt. IsHalted modules.SpellsOptionalName tokens.now from halt) }
     ensures memory { IfErr result (λ halt. halt ≢ Halt.NoMemory) }
@@ -56,7 +56,7 @@ fn module_name(tokens: &[Token], from: usize) -> Result<Reading<Option<ModuleNam
 fn head(tokens: &[Token], from: usize) -> Result<Reading<Option<ModuleName>>, Halt>
     requires { from ≤ length tokens.now }
     ensures spells { IfOk result (λ reading. modules.SpellsHead tokens.now from reading.part reading.end) }
-    ensures sure { IfOk result (λ reading. Exact modules.SpellsHead tokens.now from reading.end reading.stop) }
+    ensures longest { IfOk result (λ reading. IsOnly modules.SpellsHead tokens.now from reading.end reading.stop) }
     ensures ahead { IfOk result (λ reading. IsAhead tokens.now from reading.end reading.stop) }
     ensures close { IfOk result (λ reading. reading.stop ≡ reading.end) }
     ensures refused { IfErr result (λ halt. IsHalted modules.SpellsHead tokens.now from halt) }
@@ -73,9 +73,9 @@ fn head(tokens: &[Token], from: usize) -> Result<Reading<Option<ModuleName>>, Ha
 }
 
 /// The end of the tokens.
-fn over(tokens: &[Token], at: usize, stop: usize) -> Result<(), Halt>
+fn end_of_tokens(tokens: &[Token], at: usize, stop: usize) -> Result<(), Halt>
     requires { at ≤ length tokens.now }
-    ensures over { OnOk result (at ≡ length tokens.now) }
+    ensures end_of_tokens { OnOk result (at ≡ length tokens.now) }
     ensures missing { IfErr result (λ halt. spec.IsMissing tokens.now modules.is_end at stop halt) }
 {
     if at < tokens.len() {
@@ -85,19 +85,20 @@ fn over(tokens: &[Token], at: usize, stop: usize) -> Result<(), Halt>
 }
 
 /// `MODEND [ ";" ]` and the end of the tokens; whether there is a semicolon.
-fn ending(tokens: &[Token], from: usize, low: usize) -> Result<bool, Halt>
-    requires low { (from ≤ low) × (low ≤ length tokens.now) }
+fn ending(tokens: &[Token], from: usize, least_stop: usize) -> Result<bool, Halt>
+    requires least_stop { (from ≤ least_stop) × (least_stop ≤ length tokens.now) }
     ensures spells { IfOk result (λ semicolon. modules.SpellsEnding tokens.now from semicolon (length tokens.now)) }
-    ensures refused { IfErr result (λ halt. spec.IsStopped modules.SpellsEnding tokens.now from low halt) }
+    ensures within { IfOk result (λ _. from < length tokens.now) }
+    ensures refused { IfErr result (λ halt. spec.IsStopped modules.SpellsEnding tokens.now from least_stop halt) }
     ensures memory { IfErr result (λ halt. halt ≢ Halt.NoMemory) }
 {
-    word(tokens, from, low, MODEND)?;
-    let stop = low.max(from + 1);
+    word(tokens, from, least_stop, MODEND)?;
+    let stop = least_stop.max(from + 1);
     if is_symbol(tokens, from + 1, SEMICOLON) {
-        over(tokens, from + 2, stop)?;
+        end_of_tokens(tokens, from + 2, stop)?;
         return Ok(true);
     }
-    over(tokens, from + 1, stop)?;
+    end_of_tokens(tokens, from + 1, stop)?;
     Ok(false)
 }
 
@@ -117,6 +118,7 @@ pub fn module(alloc: Global, tokens: &[Token]) -> Result<Tree, Halt>
         name: head.part,
         system: opening.part,
         declarations: Parts::new(list.part),
+        modend: place_at(tokens, list.end),
         semicolon,
         place: place_at(tokens, 0),
     })

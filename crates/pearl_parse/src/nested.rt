@@ -5,12 +5,13 @@ ghost use Rattle.pearl_tree.specs.Standing.{HasWord, HasSymbol};
 ghost use Rattle.pearl_tables.specs.declared.word_code.TheConstants as w;
 ghost use Rattle.pearl_tables.specs.declared.symbol.TheConstants as s;
 ghost use Rattle.pearl_parse_expr.specs.declared.reading.Halt.{Halt};
-ghost use Rattle.pearl_parse_expr.specs.Stops.{Exact, IsAhead, IsHalted};
+ghost use Rattle.pearl_parse_expr.specs.Stops.{IsOnly, IsAhead, IsHalted};
 ghost use Rattle.pearl_parse.specs.Stops as spec;
 ghost use Rattle.pearl_parse.specs.Bodies as bodies;
 
-use crate::step::{SEMICOLON, after, symbol, word as word_here};
+use crate::step::{after, symbol, word as word_here};
 use pearl_parse_expr::reading::{Halt, Reading};
+use pearl_tables::symbol::SEMICOLON;
 use pearl_tables::word_code::*;
 use pearl_tree::expression::Expr;
 use pearl_tree::token::Token;
@@ -21,7 +22,7 @@ pub fn condition(alloc: Global, tokens: &[Token], from: usize) -> Result<Reading
     requires within { from < length tokens.now }
     requires word { HasWord tokens.now from w.IF }
     ensures spells { IfOk result (λ reading. bodies.SpellsCondition tokens.now from reading.part reading.end) }
-    ensures sure { IfOk result (λ reading. Exact bodies.SpellsCondition tokens.now from reading.end reading.stop) }
+    ensures longest { IfOk result (λ reading. IsOnly bodies.SpellsCondition tokens.now from reading.end reading.stop) }
     ensures ahead { IfOk result (λ reading. IsAhead tokens.now from reading.end reading.stop) }
     ensures refused { IfErr result (λ halt. IsHalted bodies.SpellsCondition tokens.now from halt) }
 {
@@ -35,14 +36,14 @@ pub fn condition(alloc: Global, tokens: &[Token], from: usize) -> Result<Reading
 }
 
 /// A word that closes statements, and a semicolon.
-pub fn closing(tokens: &[Token], from: usize, low: usize, word: u8) -> Result<(), Halt>
+pub fn closing(tokens: &[Token], from: usize, least_stop: usize, word: u8) -> Result<(), Halt>
     requires from { from ≤ length tokens.now }
-    requires low { (from ≤ low) × (low ≤ length tokens.now) }
+    requires least_stop { (from ≤ least_stop) × (least_stop ≤ length tokens.now) }
     ensures stands { OnOk result (HasWord tokens.now from word × HasSymbol tokens.now (from + 1) s.SEMICOLON) }
     ensures within { OnOk result (from + 2 ≤ length tokens.now) }
-    ensures refused { IfErr result (λ halt. spec.IsStopped (bodies.SpellsClosing word) tokens.now from low halt) }
+    ensures refused { IfErr result (λ halt. spec.IsStopped (bodies.SpellsClosing word) tokens.now from least_stop halt) }
     ensures memory { IfErr result (λ halt. halt ≢ Halt.NoMemory) }
 {
-    word_here(tokens, from, low, word)?;
-    symbol(tokens, from + 1, low, SEMICOLON)
+    word_here(tokens, from, least_stop, word)?;
+    symbol(tokens, from + 1, least_stop, SEMICOLON)
 }

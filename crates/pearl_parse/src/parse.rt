@@ -25,7 +25,8 @@ fn place_or_end(tokens: &[Token], end: u32, at: usize) -> u32
 /// The tree of the module that a source is. `tokens` are those of the whole source, in order. `end` is the length of the
 /// source: the place that is told where the tokens break off before the module ends.
 ///
-/// Each node of the tree has the place of its first token; a body without tokens has that of the token behind it.
+/// Each node of the tree has the place of its first token; a body without tokens has that of the token behind it. The
+/// tree has the place of MODEND too.
 ///
 /// `Refused` comes where the tokens are no module, with the place of a token up to and with which no module begins,
 /// whatever stands behind it. A token behind the end of a module is such a token. The clause doesn't say that it is the

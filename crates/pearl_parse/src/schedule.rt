@@ -5,17 +5,18 @@ ghost use Rattle.pearl_tree.specs.Standing.{HasWord, SpellsMaybe};
 ghost use Rattle.pearl_tree.specs.Statements.{SpellsPeriodEnd, SpellsPeriod, SpellsStmt};
 ghost use Rattle.pearl_tables.specs.declared.word_code.TheConstants as w;
 ghost use Rattle.pearl_parse_expr.specs.declared.reading.Halt.{Halt};
-ghost use Rattle.pearl_parse_expr.specs.Stops.{Sure, Exact, IsAhead, IsHalted, extends_expression};
+ghost use Rattle.pearl_parse_expr.specs.Stops.{IsLongest, IsOnly, IsAhead, IsHalted, extends_expression};
 ghost use Rattle.pearl_parse.specs.Stops as spec;
 ghost use Rattle.pearl_parse.specs.Schedules as schedules;
 
-use crate::step::{SEMICOLON, after, maybe_after, name, symbol, word};
-use pearl_parse_expr::reading::{Halt, Reading};
+use crate::step::{after, maybe_after, name, symbol, word};
+use pearl_parse_expr::reading::{Halt, Reading, boxed};
 use pearl_parse_expr::standing::{is_word, place_at};
+use pearl_tables::symbol::SEMICOLON;
 use pearl_tables::word_code::*;
 use pearl_tree::expression::Expr;
 use pearl_tree::name::Name;
-use pearl_tree::statement::{Period, PeriodEnd, Start, Stmt};
+use pearl_tree::statement::{Activate, Continue, Period, PeriodEnd, Start, Stmt};
 use pearl_tree::token::Token;
 use std::alloc::Global;
 
@@ -24,18 +25,18 @@ fn maybe_end(
     alloc: Global,
     tokens: &[Token],
     from: usize,
-    low: usize,
+    least_stop: usize,
 ) -> Result<Reading<Option<PeriodEnd>>, Halt>
     requires from { from ≤ length tokens.now }
-    requires low { low ≤ length tokens.now }
+    requires least_stop { least_stop ≤ length tokens.now }
     ensures spells { IfOk result (λ reading. SpellsMaybe (SpellsPeriodEnd tokens.now) from reading.part reading.end) }
     ensures optional { IfOk result (λ reading. schedules.SpellsOptionalEnd tokens.now from reading.part reading.end) }
-    ensures sure { IfOk result (λ reading. Sure schedules.SpellsOptionalEnd extends_expression tokens.now from reading.end reading.stop) }
-    ensures on { IfOk result (λ reading. spec.IsOn tokens.now from low reading.end reading.stop) }
-    ensures refused { IfErr result (λ halt. spec.IsStopped schedules.SpellsOptionalEnd tokens.now from low halt) }
+    ensures longest { IfOk result (λ reading. IsLongest schedules.SpellsOptionalEnd extends_expression tokens.now from reading.end reading.stop) }
+    ensures bounds { IfOk result (λ reading. spec.StopsWithin tokens.now from least_stop reading.end reading.stop) }
+    ensures refused { IfErr result (λ halt. spec.IsStopped schedules.SpellsOptionalEnd tokens.now from least_stop halt) }
 {
     if is_word(tokens, from, UNTIL) {
-        return match after(alloc, tokens, from, low, UNTIL) {
+        return match after(alloc, tokens, from, least_stop, UNTIL) {
             Ok(time) => Ok(Reading {
                 part: Some(PeriodEnd::Until {
                     time: time.part,
@@ -48,7 +49,7 @@ fn maybe_end(
         };
     }
     if is_word(tokens, from, DURING) {
-        return match after(alloc, tokens, from, low, DURING) {
+        return match after(alloc, tokens, from, least_stop, DURING) {
             Ok(duration) => Ok(Reading {
                 part: Some(PeriodEnd::During {
                     duration: duration.part,
@@ -63,21 +64,26 @@ fn maybe_end(
     Ok(Reading {
         part: None,
         end: from,
-        stop: from.max(low),
+        stop: from.max(least_stop),
     })
 }
 
 /// `ALL expr [ UNTIL expr | DURING expr ]`
-fn period(alloc: Global, tokens: &[Token], from: usize, low: usize) -> Result<Reading<Period>, Halt>
+fn period(
+    alloc: Global,
+    tokens: &[Token],
+    from: usize,
+    least_stop: usize,
+) -> Result<Reading<Period>, Halt>
     requires from { from < length tokens.now }
-    requires low { low ≤ length tokens.now }
+    requires least_stop { least_stop ≤ length tokens.now }
     requires word { HasWord tokens.now from w.ALL }
     ensures spells { IfOk result (λ reading. SpellsPeriod tokens.now from reading.part reading.end) }
-    ensures sure { IfOk result (λ reading. Sure schedules.SpellsLongPeriod extends_expression tokens.now from reading.end reading.stop) }
-    ensures on { IfOk result (λ reading. spec.IsOn tokens.now (from + 1) low reading.end reading.stop) }
-    ensures refused { IfErr result (λ halt. spec.IsStopped schedules.SpellsLongPeriod tokens.now from low halt) }
+    ensures longest { IfOk result (λ reading. IsLongest schedules.SpellsLongPeriod extends_expression tokens.now from reading.end reading.stop) }
+    ensures bounds { IfOk result (λ reading. spec.StopsWithin tokens.now (from + 1) least_stop reading.end reading.stop) }
+    ensures refused { IfErr result (λ halt. spec.IsStopped schedules.SpellsLongPeriod tokens.now from least_stop halt) }
 {
-    let duration = after(alloc, tokens, from, low, ALL)?;
+    let duration = after(alloc, tokens, from, least_stop, ALL)?;
     let end = maybe_end(alloc, tokens, duration.end, duration.stop)?;
     Ok(Reading {
         part: Period {
@@ -102,18 +108,18 @@ pub fn activate(
     alloc: Global,
     tokens: &[Token],
     from: usize,
-    low: usize,
+    least_stop: usize,
 ) -> Result<Reading<Activation>, Halt>
     requires from { from ≤ length tokens.now }
-    requires low { (from ≤ low) × (low ≤ length tokens.now) }
+    requires least_stop { (from ≤ least_stop) × (least_stop ≤ length tokens.now) }
     ensures spells { IfOk result (λ reading. schedules.SpellsActivation tokens.now from (reading.part.task, reading.part.priority) reading.end) }
-    ensures sure { IfOk result (λ reading. Exact schedules.SpellsActivation tokens.now from reading.end reading.stop) }
-    ensures on { IfOk result (λ reading. spec.IsOn tokens.now (from + 1) low reading.end reading.stop) }
-    ensures refused { IfErr result (λ halt. spec.IsStopped schedules.SpellsActivation tokens.now from low halt) }
+    ensures longest { IfOk result (λ reading. IsOnly schedules.SpellsActivation tokens.now from reading.end reading.stop) }
+    ensures bounds { IfOk result (λ reading. spec.StopsWithin tokens.now (from + 1) least_stop reading.end reading.stop) }
+    ensures refused { IfErr result (λ halt. spec.IsStopped schedules.SpellsActivation tokens.now from least_stop halt) }
 {
-    word(tokens, from, low, ACTIVATE)?;
-    let task = name(tokens, from + 1, low)?;
-    let priority = maybe_after(alloc, tokens, from + 2, low, PRIO)?;
+    word(tokens, from, least_stop, ACTIVATE)?;
+    let task = name(tokens, from + 1, least_stop)?;
+    let priority = maybe_after(alloc, tokens, from + 2, least_stop, PRIO)?;
     symbol(tokens, priority.end, priority.stop, SEMICOLON)?;
     Ok(Reading {
         part: Activation {
@@ -130,23 +136,23 @@ fn maybe_period(
     alloc: Global,
     tokens: &[Token],
     from: usize,
-    low: usize,
+    least_stop: usize,
 ) -> Result<Reading<Option<Period>>, Halt>
     requires from { from ≤ length tokens.now }
-    requires low { low ≤ length tokens.now }
+    requires least_stop { least_stop ≤ length tokens.now }
     ensures spells { IfOk result (λ reading. SpellsMaybe (SpellsPeriod tokens.now) from reading.part reading.end) }
-    ensures sure { IfOk result (λ reading. Sure schedules.SpellsOptionalPeriod extends_expression tokens.now from reading.end reading.stop) }
-    ensures on { IfOk result (λ reading. spec.IsOn tokens.now from low reading.end reading.stop) }
-    ensures refused { IfErr result (λ halt. spec.IsStopped schedules.SpellsOptionalPeriod tokens.now from low halt) }
+    ensures longest { IfOk result (λ reading. IsLongest schedules.SpellsOptionalPeriod extends_expression tokens.now from reading.end reading.stop) }
+    ensures bounds { IfOk result (λ reading. spec.StopsWithin tokens.now from least_stop reading.end reading.stop) }
+    ensures refused { IfErr result (λ halt. spec.IsStopped schedules.SpellsOptionalPeriod tokens.now from least_stop halt) }
 {
     if !is_word(tokens, from, ALL) {
         return Ok(Reading {
             part: None,
             end: from,
-            stop: from.max(low),
+            stop: from.max(least_stop),
         });
     }
-    match period(alloc, tokens, from, low) {
+    match period(alloc, tokens, from, least_stop) {
         Ok(read) => Ok(Reading {
             part: Some(read.part),
             end: read.end,
@@ -168,16 +174,16 @@ pub fn begin(
     alloc: Global,
     tokens: &[Token],
     from: usize,
-    low: usize,
+    least_stop: usize,
 ) -> Result<Reading<Begun>, Halt>
     requires from { from ≤ length tokens.now }
-    requires low { (from ≤ low) × (low ≤ length tokens.now) }
+    requires least_stop { (from ≤ least_stop) × (least_stop ≤ length tokens.now) }
     ensures spells { IfOk result (λ reading. schedules.HasBegun tokens.now from reading.part.period reading.part.activation.task reading.part.activation.priority reading.end) }
-    ensures sure { IfOk result (λ reading. Exact schedules.SpellsBegun tokens.now from reading.end reading.stop) }
-    ensures on { IfOk result (λ reading. spec.IsOn tokens.now (from + 1) low reading.end reading.stop) }
-    ensures refused { IfErr result (λ halt. spec.IsStopped schedules.SpellsBegun tokens.now from low halt) }
+    ensures longest { IfOk result (λ reading. IsOnly schedules.SpellsBegun tokens.now from reading.end reading.stop) }
+    ensures bounds { IfOk result (λ reading. spec.StopsWithin tokens.now (from + 1) least_stop reading.end reading.stop) }
+    ensures refused { IfErr result (λ halt. spec.IsStopped schedules.SpellsBegun tokens.now from least_stop halt) }
 {
-    let period = maybe_period(alloc, tokens, from, low)?;
+    let period = maybe_period(alloc, tokens, from, least_stop)?;
     let activation = activate(alloc, tokens, period.end, period.stop)?;
     Ok(Reading {
         part: Begun {
@@ -190,45 +196,54 @@ pub fn begin(
 }
 
 /// `ACTIVATE id [ PRIO expr ] ";"` with no start before it
-pub fn plain_activation(alloc: Global, tokens: &[Token], from: usize) -> Result<Reading<Stmt>, Halt>
+pub fn immediate_activation(
+    alloc: Global,
+    tokens: &[Token],
+    from: usize,
+) -> Result<Reading<Stmt>, Halt>
     requires within { from < length tokens.now }
     requires word { HasWord tokens.now from w.ACTIVATE }
     ensures spells { IfOk result (λ reading. (depth : ℕ) → SpellsStmt tokens.now depth from reading.part reading.end) }
-    ensures sure { IfOk result (λ reading. (depth : ℕ) → Exact (λ tokens. SpellsStmt tokens depth) tokens.now from reading.end reading.stop) }
+    ensures longest { IfOk result (λ reading. (depth : ℕ) → IsOnly (λ tokens. SpellsStmt tokens depth) tokens.now from reading.end reading.stop) }
     ensures ahead { IfOk result (λ reading. IsAhead tokens.now from reading.end reading.stop) }
     ensures refused { IfErr result (λ halt. (depth : ℕ) → IsHalted (λ tokens. SpellsStmt tokens depth) tokens.now from halt) }
 {
     let activation = activate(alloc, tokens, from, from)?;
+    let activate = Activate {
+        start: None,
+        task: activation.part.task,
+        priority: activation.part.priority,
+        place: place_at(tokens, from),
+    };
     Ok(Reading {
-        part: Stmt::Activate {
-            start: None,
-            task: activation.part.task,
-            priority: activation.part.priority,
-            place: place_at(tokens, from),
-        },
+        part: Stmt::Activate(boxed(alloc, activate)?),
         end: activation.end,
         stop: activation.stop,
     })
 }
 
 /// `CONTINUE id ";"` with no time before it
-pub fn plain_continuation(tokens: &[Token], from: usize) -> Result<Reading<Stmt>, Halt>
+pub fn immediate_continuation(
+    alloc: Global,
+    tokens: &[Token],
+    from: usize,
+) -> Result<Reading<Stmt>, Halt>
     requires within { from < length tokens.now }
     requires word { HasWord tokens.now from w.CONTINUE }
     ensures spells { IfOk result (λ reading. (depth : ℕ) → SpellsStmt tokens.now depth from reading.part reading.end) }
-    ensures sure { IfOk result (λ reading. (depth : ℕ) → Exact (λ tokens. SpellsStmt tokens depth) tokens.now from reading.end reading.stop) }
+    ensures longest { IfOk result (λ reading. (depth : ℕ) → IsOnly (λ tokens. SpellsStmt tokens depth) tokens.now from reading.end reading.stop) }
     ensures ahead { IfOk result (λ reading. IsAhead tokens.now from reading.end reading.stop) }
     ensures refused { IfErr result (λ halt. (depth : ℕ) → IsHalted (λ tokens. SpellsStmt tokens depth) tokens.now from halt) }
-    ensures memory { IfErr result (λ halt. halt ≢ Halt.NoMemory) }
 {
     let task = name(tokens, from + 1, from)?;
     symbol(tokens, from + 2, from, SEMICOLON)?;
+    let continuation = Continue {
+        once: None,
+        task,
+        place: place_at(tokens, from),
+    };
     Ok(Reading {
-        part: Stmt::Continue {
-            once: None,
-            task,
-            place: place_at(tokens, from),
-        },
+        part: Stmt::Continue(boxed(alloc, continuation)?),
         end: from + 3,
         stop: from + 3,
     })
@@ -239,19 +254,20 @@ pub fn periodic(alloc: Global, tokens: &[Token], from: usize) -> Result<Reading<
     requires within { from < length tokens.now }
     requires word { HasWord tokens.now from w.ALL }
     ensures spells { IfOk result (λ reading. (depth : ℕ) → SpellsStmt tokens.now depth from reading.part reading.end) }
-    ensures sure { IfOk result (λ reading. (depth : ℕ) → Exact (λ tokens. SpellsStmt tokens depth) tokens.now from reading.end reading.stop) }
+    ensures longest { IfOk result (λ reading. (depth : ℕ) → IsOnly (λ tokens. SpellsStmt tokens depth) tokens.now from reading.end reading.stop) }
     ensures ahead { IfOk result (λ reading. IsAhead tokens.now from reading.end reading.stop) }
     ensures refused { IfErr result (λ halt. (depth : ℕ) → IsHalted (λ tokens. SpellsStmt tokens depth) tokens.now from halt) }
 {
     let period = period(alloc, tokens, from, from)?;
     let activation = activate(alloc, tokens, period.end, period.stop)?;
+    let activate = Activate {
+        start: Some(Start::All(period.part)),
+        task: activation.part.task,
+        priority: activation.part.priority,
+        place: place_at(tokens, from),
+    };
     Ok(Reading {
-        part: Stmt::Activate {
-            start: Some(Start::All(period.part)),
-            task: activation.part.task,
-            priority: activation.part.priority,
-            place: place_at(tokens, from),
-        },
+        part: Stmt::Activate(boxed(alloc, activate)?),
         end: activation.end,
         stop: activation.stop,
     })

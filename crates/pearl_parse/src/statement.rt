@@ -5,7 +5,7 @@ ghost use Rattle.pearl_tree.specs.Standing.{what_at, HasWord, SpellsMaybe, Spell
 ghost use Rattle.pearl_tree.specs.Statements.{SpellsStmt, SpellsBranch, SpellsBody};
 ghost use Rattle.pearl_tables.specs.declared.word_code.TheConstants as w;
 ghost use Rattle.pearl_parse_expr.specs.declared.reading.Halt.{Halt};
-ghost use Rattle.pearl_parse_expr.specs.Stops.{Sure, Exact, IsAhead, IsHalted};
+ghost use Rattle.pearl_parse_expr.specs.Stops.{IsLongest, IsOnly, IsAhead, IsHalted};
 ghost use Rattle.pearl_parse.specs.Stops as spec;
 ghost use Rattle.pearl_parse.specs.Bodies as bodies;
 
@@ -13,13 +13,13 @@ use crate::each::each;
 use crate::first::{First, first_at};
 use crate::loops::loop_heads;
 use crate::nested::{closing, condition};
-use crate::plain::plain;
+use crate::simple::simple;
 use crate::step::after;
-use pearl_parse_expr::reading::{Halt, Reading, append};
+use pearl_parse_expr::reading::{Halt, Reading, append, boxed};
 use pearl_parse_expr::standing::{is_word, place_at};
 use pearl_tables::word_code::*;
 use pearl_tree::parts::Parts;
-use pearl_tree::statement::{Body, BodyDecl, Branch, Stmt};
+use pearl_tree::statement::{Begin, Body, BodyDecl, Branch, Case, If, Repeat, Stmt};
 use pearl_tree::token::Token;
 use std::alloc::Global;
 
@@ -32,18 +32,18 @@ fn statements(
     alloc: Global,
     tokens: &[Token],
     from: usize,
-    low: usize,
+    least_stop: usize,
     depth: u8,
 ) -> Result<Reading<Vec<Stmt>>, Halt>
-    requires { (from ≤ low) × (low ≤ length tokens.now) }
+    requires { (from ≤ least_stop) × (least_stop ≤ length tokens.now) }
     ensures spells { IfOk result (λ reading. bodies.SpellsStatements depth tokens.now from reading.part.items reading.end) }
-    ensures sure { IfOk result (λ reading. Sure (bodies.SpellsStatements depth) spec.begins_statement tokens.now from reading.end reading.stop) }
-    ensures on { IfOk result (λ reading. spec.IsOn tokens.now from low reading.end reading.stop) }
+    ensures longest { IfOk result (λ reading. IsLongest (bodies.SpellsStatements depth) spec.begins_statement tokens.now from reading.end reading.stop) }
+    ensures bounds { IfOk result (λ reading. spec.StopsWithin tokens.now from least_stop reading.end reading.stop) }
     ensures refused { IfErr result (λ halt. halt ≡ Halt.NoMemory) }
 {
     let mut list = Vec::new(alloc);
     let mut end = from;
-    let mut stop = low;
+    let mut stop = least_stop;
     'each: loop {
         match statement(alloc, tokens, end, depth) {
             Ok(next) => {
@@ -71,19 +71,19 @@ fn branch(
     alloc: Global,
     tokens: &[Token],
     from: usize,
-    low: usize,
+    least_stop: usize,
     depth: u8,
     word: u8,
 ) -> Result<Reading<Branch>, Halt>
     requires within { from < length tokens.now }
-    requires low { low ≤ length tokens.now }
+    requires least_stop { least_stop ≤ length tokens.now }
     requires word { HasWord tokens.now from word }
     ensures spells { IfOk result (λ reading. SpellsBranch tokens.now depth word from reading.part reading.end) }
-    ensures sure { IfOk result (λ reading. Sure (bodies.SpellsHeaded depth word) spec.begins_statement tokens.now from reading.end reading.stop) }
-    ensures on { IfOk result (λ reading. spec.IsOn tokens.now (from + 1) low reading.end reading.stop) }
+    ensures longest { IfOk result (λ reading. IsLongest (bodies.SpellsHeaded depth word) spec.begins_statement tokens.now from reading.end reading.stop) }
+    ensures bounds { IfOk result (λ reading. spec.StopsWithin tokens.now (from + 1) least_stop reading.end reading.stop) }
     ensures refused { IfErr result (λ halt. halt ≡ Halt.NoMemory) }
 {
-    match statements(alloc, tokens, from + 1, low.max(from + 1), depth) {
+    match statements(alloc, tokens, from + 1, least_stop.max(from + 1), depth) {
         Ok(statements) => Ok(Reading {
             part: Branch {
                 statements: Parts::new(statements.part),
@@ -102,24 +102,24 @@ fn maybe_branch(
     alloc: Global,
     tokens: &[Token],
     from: usize,
-    low: usize,
+    least_stop: usize,
     depth: u8,
     word: u8,
 ) -> Result<Reading<Option<Branch>>, Halt>
-    requires { (from ≤ low) × (low ≤ length tokens.now) }
+    requires { (from ≤ least_stop) × (least_stop ≤ length tokens.now) }
     ensures spells { IfOk result (λ reading. SpellsMaybe (SpellsBranch tokens.now depth word) from reading.part reading.end) }
-    ensures sure { IfOk result (λ reading. Sure (bodies.SpellsOptionalHeaded depth word) spec.begins_statement tokens.now from reading.end reading.stop) }
-    ensures on { IfOk result (λ reading. spec.IsOn tokens.now from low reading.end reading.stop) }
+    ensures longest { IfOk result (λ reading. IsLongest (bodies.SpellsOptionalHeaded depth word) spec.begins_statement tokens.now from reading.end reading.stop) }
+    ensures bounds { IfOk result (λ reading. spec.StopsWithin tokens.now from least_stop reading.end reading.stop) }
     ensures refused { IfErr result (λ halt. halt ≡ Halt.NoMemory) }
 {
     if !is_word(tokens, from, word) {
         return Ok(Reading {
             part: None,
             end: from,
-            stop: low,
+            stop: least_stop,
         });
     }
-    match branch(alloc, tokens, from, low, depth, word) {
+    match branch(alloc, tokens, from, least_stop, depth, word) {
         Ok(branch) => Ok(Reading {
             part: Some(branch.part),
             end: branch.end,
@@ -135,21 +135,21 @@ fn alternatives(
     alloc: Global,
     tokens: &[Token],
     from: usize,
-    low: usize,
+    least_stop: usize,
     depth: u8,
 ) -> Result<Reading<Vec<Branch>>, Halt>
-    requires { (from ≤ low) × (low ≤ length tokens.now) }
+    requires { (from ≤ least_stop) × (least_stop ≤ length tokens.now) }
     ensures spells { IfOk result (λ reading. SpellsSome (SpellsBranch tokens.now depth w.ALT) from reading.part.items reading.end) }
-    ensures sure { IfOk result (λ reading. Sure (bodies.SpellsChoices depth) bodies.extends_alternatives tokens.now from reading.end reading.stop) }
-    ensures on { IfOk result (λ reading. spec.IsOn tokens.now from low reading.end reading.stop) }
-    ensures refused { IfErr result (λ halt. spec.IsStopped (bodies.SpellsChoices depth) tokens.now from low halt) }
+    ensures longest { IfOk result (λ reading. IsLongest (bodies.SpellsChoices depth) bodies.extends_alternatives tokens.now from reading.end reading.stop) }
+    ensures bounds { IfOk result (λ reading. spec.StopsWithin tokens.now from least_stop reading.end reading.stop) }
+    ensures refused { IfErr result (λ halt. spec.IsStopped (bodies.SpellsChoices depth) tokens.now from least_stop halt) }
 {
     if !is_word(tokens, from, ALT) {
-        return Err(Halt::Refused(low));
+        return Err(Halt::Refused(least_stop));
     }
     let mut list = Vec::new(alloc);
     let mut end = from;
-    let mut stop = low;
+    let mut stop = least_stop;
     'each: while is_word(tokens, end, ALT) {
         match branch(alloc, tokens, end, stop, depth, ALT) {
             Ok(next) => {
@@ -173,7 +173,7 @@ fn if_(alloc: Global, tokens: &[Token], from: usize, depth: u8) -> Result<Readin
     requires within { from < length tokens.now }
     requires word { HasWord tokens.now from w.IF }
     ensures spells { IfOk result (λ reading. SpellsStmt tokens.now depth from reading.part reading.end) }
-    ensures sure { IfOk result (λ reading. Exact (λ tokens. SpellsStmt tokens depth) tokens.now from reading.end reading.stop) }
+    ensures longest { IfOk result (λ reading. IsOnly (λ tokens. SpellsStmt tokens depth) tokens.now from reading.end reading.stop) }
     ensures ahead { IfOk result (λ reading. IsAhead tokens.now from reading.end reading.stop) }
     ensures refused { IfErr result (λ halt. IsHalted (λ tokens. SpellsStmt tokens depth) tokens.now from halt) }
 {
@@ -191,13 +191,14 @@ fn if_(alloc: Global, tokens: &[Token], from: usize, depth: u8) -> Result<Readin
         ELSE,
     )?;
     closing(tokens, otherwise.end, otherwise.stop, FIN)?;
+    let if_ = If {
+        condition: condition.part,
+        statements: Parts::new(statements.part),
+        otherwise: otherwise.part,
+        place: place_at(tokens, from),
+    };
     Ok(Reading {
-        part: Stmt::If {
-            condition: condition.part,
-            statements: Parts::new(statements.part),
-            otherwise: otherwise.part,
-            place: place_at(tokens, from),
-        },
+        part: Stmt::If(boxed(alloc, if_)?),
         end: otherwise.end + 2,
         stop: otherwise.stop.max(otherwise.end + 2),
     })
@@ -209,7 +210,7 @@ fn case(alloc: Global, tokens: &[Token], from: usize, depth: u8) -> Result<Readi
     requires within { from < length tokens.now }
     requires word { HasWord tokens.now from w.CASE }
     ensures spells { IfOk result (λ reading. SpellsStmt tokens.now depth from reading.part reading.end) }
-    ensures sure { IfOk result (λ reading. Exact (λ tokens. SpellsStmt tokens depth) tokens.now from reading.end reading.stop) }
+    ensures longest { IfOk result (λ reading. IsOnly (λ tokens. SpellsStmt tokens depth) tokens.now from reading.end reading.stop) }
     ensures ahead { IfOk result (λ reading. IsAhead tokens.now from reading.end reading.stop) }
     ensures refused { IfErr result (λ halt. IsHalted (λ tokens. SpellsStmt tokens depth) tokens.now from halt) }
 {
@@ -227,39 +228,40 @@ fn case(alloc: Global, tokens: &[Token], from: usize, depth: u8) -> Result<Readi
         OUT,
     )?;
     closing(tokens, otherwise.end, otherwise.stop, FIN)?;
+    let case = Case {
+        selector: selector.part,
+        alternatives: Parts::new(alternatives.part),
+        otherwise: otherwise.part,
+        place: place_at(tokens, from),
+    };
     Ok(Reading {
-        part: Stmt::Case {
-            selector: selector.part,
-            alternatives: Parts::new(alternatives.part),
-            otherwise: otherwise.part,
-            place: place_at(tokens, from),
-        },
+        part: Stmt::Case(boxed(alloc, case)?),
         end: otherwise.end + 2,
         stop: otherwise.stop.max(otherwise.end + 2),
     })
 }
 
-/// `{ DCL item { "," item } ";" } { stmt }`: the longest body that begins here, behind what was stopped at `low`.
+/// `{ DCL item { "," item } ";" } { stmt }`: the longest body that begins here, behind what was stopped at `least_stop`.
 #[cycle(statement)]
 pub fn body(
     alloc: Global,
     tokens: &[Token],
     from: usize,
-    low: usize,
+    least_stop: usize,
     depth: u8,
 ) -> Result<Reading<Body>, Halt>
-    requires { (from ≤ low) × (low ≤ length tokens.now) }
+    requires { (from ≤ least_stop) × (least_stop ≤ length tokens.now) }
     ensures spells { IfOk result (λ reading. SpellsBody tokens.now depth from reading.part reading.end) }
-    ensures sure { IfOk result (λ reading. Sure (bodies.SpellsBlock depth) bodies.extends_body tokens.now from reading.end reading.stop) }
-    ensures on { IfOk result (λ reading. spec.IsOn tokens.now from low reading.end reading.stop) }
-    ensures refused { IfErr result (λ halt. spec.IsStopped (bodies.SpellsBlock depth) tokens.now from low halt) }
+    ensures longest { IfOk result (λ reading. IsLongest (bodies.SpellsBlock depth) bodies.extends_body tokens.now from reading.end reading.stop) }
+    ensures bounds { IfOk result (λ reading. spec.StopsWithin tokens.now from least_stop reading.end reading.stop) }
+    ensures refused { IfErr result (λ halt. spec.IsStopped (bodies.SpellsBlock depth) tokens.now from least_stop halt) }
 {
     if from == tokens.len() {
-        return Err(Halt::Refused(low));
+        return Err(Halt::Refused(least_stop));
     }
     let declarations = each::<BodyDecl>(alloc, tokens, from)?;
-    let low = declarations.stop.max(low);
-    let statements = statements(alloc, tokens, declarations.end, low, depth)?;
+    let least_stop = declarations.stop.max(least_stop);
+    let statements = statements(alloc, tokens, declarations.end, least_stop, depth)?;
     Ok(Reading {
         part: Body {
             declarations: Parts::new(declarations.part),
@@ -277,7 +279,7 @@ fn repeat(alloc: Global, tokens: &[Token], from: usize, depth: u8) -> Result<Rea
     requires within { from < length tokens.now }
     requires word { bodies.is_one bodies.loop_words (what_at tokens.now from) ≡ true }
     ensures spells { IfOk result (λ reading. SpellsStmt tokens.now depth from reading.part reading.end) }
-    ensures sure { IfOk result (λ reading. Exact (λ tokens. SpellsStmt tokens depth) tokens.now from reading.end reading.stop) }
+    ensures longest { IfOk result (λ reading. IsOnly (λ tokens. SpellsStmt tokens depth) tokens.now from reading.end reading.stop) }
     ensures ahead { IfOk result (λ reading. IsAhead tokens.now from reading.end reading.stop) }
     ensures refused { IfErr result (λ halt. IsHalted (λ tokens. SpellsStmt tokens depth) tokens.now from halt) }
 {
@@ -287,16 +289,17 @@ fn repeat(alloc: Global, tokens: &[Token], from: usize, depth: u8) -> Result<Rea
     let heads = loop_heads(alloc, tokens, from)?;
     let body = body(alloc, tokens, heads.end, heads.stop, depth - 1)?;
     closing(tokens, body.end, body.stop, END)?;
+    let repeat = Repeat {
+        control: heads.part.control,
+        begin: heads.part.begin,
+        step: heads.part.step,
+        end: heads.part.end,
+        condition: heads.part.condition,
+        body: body.part,
+        place: place_at(tokens, from),
+    };
     Ok(Reading {
-        part: Stmt::Repeat {
-            control: heads.part.control,
-            begin: heads.part.begin,
-            step: heads.part.step,
-            end: heads.part.end,
-            condition: heads.part.condition,
-            body: body.part,
-            place: place_at(tokens, from),
-        },
+        part: Stmt::Repeat(boxed(alloc, repeat)?),
         end: body.end + 2,
         stop: body.stop.max(body.end + 2),
     })
@@ -308,7 +311,7 @@ fn begin(alloc: Global, tokens: &[Token], from: usize, depth: u8) -> Result<Read
     requires within { from < length tokens.now }
     requires word { HasWord tokens.now from w.BEGIN }
     ensures spells { IfOk result (λ reading. SpellsStmt tokens.now depth from reading.part reading.end) }
-    ensures sure { IfOk result (λ reading. Exact (λ tokens. SpellsStmt tokens depth) tokens.now from reading.end reading.stop) }
+    ensures longest { IfOk result (λ reading. IsOnly (λ tokens. SpellsStmt tokens depth) tokens.now from reading.end reading.stop) }
     ensures ahead { IfOk result (λ reading. IsAhead tokens.now from reading.end reading.stop) }
     ensures refused { IfErr result (λ halt. IsHalted (λ tokens. SpellsStmt tokens depth) tokens.now from halt) }
 {
@@ -317,11 +320,12 @@ fn begin(alloc: Global, tokens: &[Token], from: usize, depth: u8) -> Result<Read
     }
     let body = body(alloc, tokens, from + 1, from + 1, depth - 1)?;
     closing(tokens, body.end, body.stop, END)?;
+    let begin = Begin {
+        body: body.part,
+        place: place_at(tokens, from),
+    };
     Ok(Reading {
-        part: Stmt::Begin {
-            body: body.part,
-            place: place_at(tokens, from),
-        },
+        part: Stmt::Begin(boxed(alloc, begin)?),
         end: body.end + 2,
         stop: body.stop.max(body.end + 2),
     })
@@ -337,7 +341,7 @@ pub fn statement(
 ) -> Result<Reading<Stmt>, Halt>
     requires { from ≤ length tokens.now }
     ensures spells { IfOk result (λ reading. SpellsStmt tokens.now depth from reading.part reading.end) }
-    ensures sure { IfOk result (λ reading. Exact (λ tokens. SpellsStmt tokens depth) tokens.now from reading.end reading.stop) }
+    ensures longest { IfOk result (λ reading. IsOnly (λ tokens. SpellsStmt tokens depth) tokens.now from reading.end reading.stop) }
     ensures ahead { IfOk result (λ reading. IsAhead tokens.now from reading.end reading.stop) }
     ensures refused { IfErr result (λ halt. IsHalted (λ tokens. SpellsStmt tokens depth) tokens.now from halt) }
 {
@@ -346,7 +350,7 @@ pub fn statement(
         None => return Err(Halt::Refused(from)),
     };
     match first {
-        First::Plain(first) => plain(alloc, tokens, from, first),
+        First::Simple(first) => simple(alloc, tokens, from, first),
         First::If => if_(alloc, tokens, from, depth),
         First::Case => case(alloc, tokens, from, depth),
         First::Repeat => repeat(alloc, tokens, from, depth),

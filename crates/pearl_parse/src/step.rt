@@ -5,18 +5,16 @@ ghost use Rattle.std.specs.Prelude.{◌≡◌, ◌+◌, ◌<◌, ◌≤◌, leng
 ghost use Rattle.pearl_tree.specs.Standing.{HasWord, HasSymbol, IsName, SpellsName, SpellsMaybe, SpellsList};
 ghost use Rattle.pearl_tree.specs.Expressions.{SpellsWhole};
 ghost use Rattle.pearl_tree.specs.Statements.{SpellsAfter};
-ghost use Rattle.pearl_parse_expr.specs.Stops.{Sure, Exact, extends_expression, is_word, is_symbol, is_name};
+ghost use Rattle.pearl_parse_expr.specs.Stops.{IsLongest, IsOnly, extends_expression, is_word, is_symbol, is_name};
 ghost use Rattle.pearl_parse.specs.Stops as spec;
 
-use pearl_parse_expr::expression::{BRACKETS_MAX, level};
+use pearl_parse_expr::expression::{BRACKETS_MAX, expression_at_depth};
 use pearl_parse_expr::reading::{Halt, Reading};
 use pearl_parse_expr::standing::{is_symbol, is_word, name_at};
 use pearl_tree::expression::Expr;
 use pearl_tree::name::Name;
 use pearl_tree::token::Token;
 use std::alloc::Global;
-
-pub const SEMICOLON: u8 = 5;
 
 /// A word.
 pub fn word(tokens: &[Token], at: usize, stop: usize, word: u8) -> Result<(), Halt>
@@ -55,22 +53,27 @@ pub fn name(tokens: &[Token], at: usize, stop: usize) -> Result<Name, Halt>
 }
 
 /// The longest expression.
-pub fn expr(alloc: Global, tokens: &[Token], from: usize, low: usize) -> Result<Reading<Expr>, Halt>
+pub fn expr(
+    alloc: Global,
+    tokens: &[Token],
+    from: usize,
+    least_stop: usize,
+) -> Result<Reading<Expr>, Halt>
     requires from { from ≤ length tokens.now }
-    requires low { low ≤ length tokens.now }
+    requires least_stop { least_stop ≤ length tokens.now }
     ensures spells { IfOk result (λ reading. SpellsWhole tokens.now from reading.part reading.end) }
-    ensures sure { IfOk result (λ reading. Sure SpellsWhole extends_expression tokens.now from reading.end reading.stop) }
-    ensures on { IfOk result (λ reading. spec.IsOn tokens.now (from + 1) low reading.end reading.stop) }
-    ensures refused { IfErr result (λ halt. spec.IsStopped SpellsWhole tokens.now from low halt) }
+    ensures longest { IfOk result (λ reading. IsLongest SpellsWhole extends_expression tokens.now from reading.end reading.stop) }
+    ensures bounds { IfOk result (λ reading. spec.StopsWithin tokens.now (from + 1) least_stop reading.end reading.stop) }
+    ensures refused { IfErr result (λ halt. spec.IsStopped SpellsWhole tokens.now from least_stop halt) }
 {
-    match level(alloc, tokens, from, BRACKETS_MAX) {
+    match expression_at_depth(alloc, tokens, from, BRACKETS_MAX) {
         Ok(read) => Ok(Reading {
             part: read.part,
             end: read.end,
-            stop: read.stop.max(low),
+            stop: read.stop.max(least_stop),
         }),
         Err(halt) => match halt {
-            Halt::Refused(stop) => Err(Halt::Refused(stop.max(low))),
+            Halt::Refused(stop) => Err(Halt::Refused(stop.max(least_stop))),
             Halt::NoMemory => Err(Halt::NoMemory),
         },
     }
@@ -80,8 +83,8 @@ pub fn expr(alloc: Global, tokens: &[Token], from: usize, low: usize) -> Result<
 pub fn maybe_name(tokens: &[Token], from: usize) -> Reading<Option<Name>>
     requires { from ≤ length tokens.now }
     ensures spells { SpellsMaybe (SpellsName tokens.now) from result.part result.end }
-    ensures sure { Exact (spec.SpellsOptional is_name SpellsName) tokens.now from result.end result.stop }
-    ensures on { spec.IsOn tokens.now from from result.end result.stop }
+    ensures longest { IsOnly (spec.SpellsOptional is_name SpellsName) tokens.now from result.end result.stop }
+    ensures bounds { spec.StopsWithin tokens.now from from result.end result.stop }
 {
     match name_at(tokens, from) {
         Some(name) => Reading {
@@ -102,18 +105,18 @@ pub fn after(
     alloc: Global,
     tokens: &[Token],
     from: usize,
-    low: usize,
+    least_stop: usize,
     word: u8,
 ) -> Result<Reading<Expr>, Halt>
     requires from { from < length tokens.now }
-    requires low { low ≤ length tokens.now }
+    requires least_stop { least_stop ≤ length tokens.now }
     requires word { HasWord tokens.now from word }
     ensures spells { IfOk result (λ reading. SpellsAfter tokens.now word from reading.part reading.end) }
-    ensures sure { IfOk result (λ reading. Sure (λ tokens. SpellsAfter tokens word) extends_expression tokens.now from reading.end reading.stop) }
-    ensures on { IfOk result (λ reading. spec.IsOn tokens.now (from + 1) low reading.end reading.stop) }
-    ensures refused { IfErr result (λ halt. spec.IsStopped (λ tokens. SpellsAfter tokens word) tokens.now from low halt) }
+    ensures longest { IfOk result (λ reading. IsLongest (λ tokens. SpellsAfter tokens word) extends_expression tokens.now from reading.end reading.stop) }
+    ensures bounds { IfOk result (λ reading. spec.StopsWithin tokens.now (from + 1) least_stop reading.end reading.stop) }
+    ensures refused { IfErr result (λ halt. spec.IsStopped (λ tokens. SpellsAfter tokens word) tokens.now from least_stop halt) }
 {
-    match expr(alloc, tokens, from + 1, low) {
+    match expr(alloc, tokens, from + 1, least_stop) {
         Ok(read) => Ok(read),
         Err(halt) => Err(halt),
     }
@@ -124,24 +127,24 @@ pub fn maybe_after(
     alloc: Global,
     tokens: &[Token],
     from: usize,
-    low: usize,
+    least_stop: usize,
     word: u8,
 ) -> Result<Reading<Option<Expr>>, Halt>
     requires from { from ≤ length tokens.now }
-    requires low { low ≤ length tokens.now }
+    requires least_stop { least_stop ≤ length tokens.now }
     ensures spells { IfOk result (λ reading. SpellsMaybe (SpellsAfter tokens.now word) from reading.part reading.end) }
-    ensures sure { IfOk result (λ reading. Sure (spec.SpellsOptional (is_word word) (λ tokens. SpellsAfter tokens word)) extends_expression tokens.now from reading.end reading.stop) }
-    ensures on { IfOk result (λ reading. spec.IsOn tokens.now from low reading.end reading.stop) }
-    ensures refused { IfErr result (λ halt. spec.IsStopped (spec.SpellsOptional (is_word word) (λ tokens. SpellsAfter tokens word)) tokens.now from low halt) }
+    ensures longest { IfOk result (λ reading. IsLongest (spec.SpellsOptional (is_word word) (λ tokens. SpellsAfter tokens word)) extends_expression tokens.now from reading.end reading.stop) }
+    ensures bounds { IfOk result (λ reading. spec.StopsWithin tokens.now from least_stop reading.end reading.stop) }
+    ensures refused { IfErr result (λ halt. spec.IsStopped (spec.SpellsOptional (is_word word) (λ tokens. SpellsAfter tokens word)) tokens.now from least_stop halt) }
 {
     if !is_word(tokens, from, word) {
         return Ok(Reading {
             part: None,
             end: from,
-            stop: from.max(low),
+            stop: from.max(least_stop),
         });
     }
-    match after(alloc, tokens, from, low, word) {
+    match after(alloc, tokens, from, least_stop, word) {
         Ok(read) => Ok(Reading {
             part: Some(read.part),
             end: read.end,

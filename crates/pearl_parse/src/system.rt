@@ -5,15 +5,16 @@ ghost use Rattle.pearl_tree.specs.Standing.{HasWord};
 ghost use Rattle.pearl_tree.specs.Declarations.{SpellsDevice};
 ghost use Rattle.pearl_tree.specs.Modules.{SpellsSystem};
 ghost use Rattle.pearl_tables.specs.declared.word_code.TheConstants as w;
-ghost use Rattle.pearl_parse_expr.specs.Stops.{Sure, Exact, IsAhead, IsHalted, is_name};
+ghost use Rattle.pearl_parse_expr.specs.Stops.{IsLongest, IsOnly, IsAhead, IsHalted, is_name};
 ghost use Rattle.pearl_parse.specs.Stops as spec;
 ghost use Rattle.pearl_parse.specs.Modules as modules;
 
 use crate::each::{Repeated, each};
-use crate::step::{SEMICOLON, symbol, word};
+use crate::step::{symbol, word};
 use pearl_parse_decl::specification::device;
 use pearl_parse_expr::reading::{Halt, Reading};
 use pearl_parse_expr::standing::is_word;
+use pearl_tables::symbol::SEMICOLON;
 use pearl_tables::word_code::{PROBLEM, SYSTEM};
 use pearl_tree::declaration::Device;
 use pearl_tree::parts::Parts;
@@ -37,7 +38,7 @@ fn system(alloc: Global, tokens: &[Token], from: usize) -> Result<Reading<Parts<
     requires within { from < length tokens.now }
     requires word { HasWord tokens.now from w.SYSTEM }
     ensures spells { IfOk result (λ reading. SpellsSystem tokens.now from reading.part reading.end) }
-    ensures sure { IfOk result (λ reading. Sure SpellsSystem is_name tokens.now from reading.end reading.stop) }
+    ensures longest { IfOk result (λ reading. IsLongest SpellsSystem is_name tokens.now from reading.end reading.stop) }
     ensures ahead { IfOk result (λ reading. IsAhead tokens.now from reading.end reading.stop) }
     ensures refused { IfErr result (λ halt. IsHalted SpellsSystem tokens.now from halt) }
 {
@@ -60,8 +61,8 @@ fn maybe_system(
 ) -> Result<Reading<Option<Parts<Device>>>, Halt>
     requires { from ≤ length tokens.now }
     ensures spells { IfOk result (λ reading. modules.SpellsOptionalSystem tokens.now from reading.part reading.end) }
-    ensures sure { IfOk result (λ reading. Sure modules.SpellsOptionalSystem is_name tokens.now from reading.end reading.stop) }
-    ensures on { IfOk result (λ reading. spec.IsOn tokens.now from from reading.end reading.stop) }
+    ensures longest { IfOk result (λ reading. IsLongest modules.SpellsOptionalSystem is_name tokens.now from reading.end reading.stop) }
+    ensures bounds { IfOk result (λ reading. spec.StopsWithin tokens.now from from reading.end reading.stop) }
     ensures refused { IfErr result (λ halt. IsHalted modules.SpellsOptionalSystem tokens.now from halt) }
 {
     if !is_word(tokens, from, SYSTEM) {
@@ -89,7 +90,7 @@ pub fn opening(
 ) -> Result<Reading<Option<Parts<Device>>>, Halt>
     requires { from ≤ length tokens.now }
     ensures spells { IfOk result (λ reading. modules.SpellsOpening tokens.now from reading.part reading.end) }
-    ensures sure { IfOk result (λ reading. Exact modules.SpellsOpening tokens.now from reading.end reading.stop) }
+    ensures longest { IfOk result (λ reading. IsOnly modules.SpellsOpening tokens.now from reading.end reading.stop) }
     ensures ahead { IfOk result (λ reading. IsAhead tokens.now from reading.end reading.stop) }
     ensures refused { IfErr result (λ halt. IsHalted modules.SpellsOpening tokens.now from halt) }
 {

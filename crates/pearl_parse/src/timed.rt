@@ -4,16 +4,17 @@ ghost use Rattle.std.specs.Prelude.{◌≡◌, ℕ, ◌+◌, ◌<◌, ◌≤◌,
 ghost use Rattle.pearl_tree.specs.declared.token.Token.{Token};
 ghost use Rattle.pearl_tree.specs.Standing.{IsAt, HasWord, SpellsMaybe};
 ghost use Rattle.pearl_tree.specs.Statements.{SpellsAfter, SpellsPeriod, SpellsStart, SpellsOnce, SpellsStmt};
-ghost use Rattle.pearl_parse_expr.specs.Stops.{Exact, IsAhead, IsHalted};
+ghost use Rattle.pearl_parse_expr.specs.Stops.{IsOnly, IsAhead, IsHalted};
 ghost use Rattle.pearl_parse.specs.Schedules as schedules;
 
 use crate::schedule::begin;
-use crate::step::{SEMICOLON, after, name, symbol};
-use pearl_parse_expr::reading::{Halt, Reading};
+use crate::step::{after, name, symbol};
+use pearl_parse_expr::reading::{Halt, Reading, boxed};
 use pearl_parse_expr::standing::{is_word, place_at};
+use pearl_tables::symbol::SEMICOLON;
 use pearl_tables::word_code::*;
 use pearl_tree::expression::Expr;
-use pearl_tree::statement::{Once, Period, Start, Stmt};
+use pearl_tree::statement::{Activate, Continue, Once, Period, Resume, Start, Stmt};
 use pearl_tree::token::Token;
 use std::alloc::Global;
 
@@ -64,7 +65,7 @@ pub fn timed(
     requires within { from < length tokens.now }
     requires word { HasWord tokens.now from (schedules.time_word later) }
     ensures spells { IfOk result (λ reading. (depth : ℕ) → SpellsStmt tokens.now depth from reading.part reading.end) }
-    ensures sure { IfOk result (λ reading. (depth : ℕ) → Exact (λ tokens. SpellsStmt tokens depth) tokens.now from reading.end reading.stop) }
+    ensures longest { IfOk result (λ reading. (depth : ℕ) → IsOnly (λ tokens. SpellsStmt tokens depth) tokens.now from reading.end reading.stop) }
     ensures ahead { IfOk result (λ reading. IsAhead tokens.now from reading.end reading.stop) }
     ensures refused { IfErr result (λ halt. (depth : ℕ) → IsHalted (λ tokens. SpellsStmt tokens depth) tokens.now from halt) }
 {
@@ -73,35 +74,38 @@ pub fn timed(
     if is_word(tokens, time.end, CONTINUE) {
         let task = name(tokens, time.end + 1, time.stop)?;
         symbol(tokens, time.end + 2, time.stop, SEMICOLON)?;
+        let continuation = Continue {
+            once: Some(once_of(later, time.part, place)),
+            task,
+            place,
+        };
         return Ok(Reading {
-            part: Stmt::Continue {
-                once: Some(once_of(later, time.part, place)),
-                task,
-                place,
-            },
+            part: Stmt::Continue(boxed(alloc, continuation)?),
             end: time.end + 3,
             stop: time.stop.max(time.end + 3),
         });
     }
     if is_word(tokens, time.end, RESUME) {
         symbol(tokens, time.end + 1, time.stop, SEMICOLON)?;
+        let resume = Resume {
+            once: once_of(later, time.part, place),
+            place,
+        };
         return Ok(Reading {
-            part: Stmt::Resume {
-                once: once_of(later, time.part, place),
-                place,
-            },
+            part: Stmt::Resume(boxed(alloc, resume)?),
             end: time.end + 2,
             stop: time.stop.max(time.end + 2),
         });
     }
     let begun = begin(alloc, tokens, time.end, time.stop)?;
+    let activate = Activate {
+        start: Some(start_of(later, time.part, begun.part.period, place)),
+        task: begun.part.activation.task,
+        priority: begun.part.activation.priority,
+        place,
+    };
     Ok(Reading {
-        part: Stmt::Activate {
-            start: Some(start_of(later, time.part, begun.part.period, place)),
-            task: begun.part.activation.task,
-            priority: begun.part.activation.priority,
-            place,
-        },
+        part: Stmt::Activate(boxed(alloc, activate)?),
         end: begun.end,
         stop: begun.stop,
     })

@@ -5,20 +5,21 @@ ghost use Rattle.pearl_tree.specs.Standing.{HasWord, SpellsList, SpellsName};
 ghost use Rattle.pearl_tree.specs.Formats.{SpellsFmt};
 ghost use Rattle.pearl_tree.specs.Statements.{SpellsStmt, sema_word};
 ghost use Rattle.pearl_tables.specs.declared.word_code.TheConstants as w;
-ghost use Rattle.pearl_parse_expr.specs.Stops.{Sure, Exact, IsAhead, IsHalted};
+ghost use Rattle.pearl_parse_expr.specs.Stops.{IsLongest, IsOnly, IsAhead, IsHalted};
 ghost use Rattle.pearl_parse_decl.specs.Readings.{by_comma, never};
 ghost use Rattle.pearl_parse.specs.Stops as spec;
 
 use crate::list::before;
-use crate::step::{SEMICOLON, name, symbol, word as word_here};
+use crate::step::{name, symbol, word as word_here};
 use pearl_parse_decl::list::list;
-use pearl_parse_expr::reading::{Halt, Reading};
+use pearl_parse_expr::reading::{Halt, Reading, boxed};
 use pearl_parse_expr::standing::{is_symbol, place_at};
+use pearl_tables::symbol::SEMICOLON;
 use pearl_tables::word_code::*;
 use pearl_tree::format::Fmt;
 use pearl_tree::name::Name;
 use pearl_tree::parts::Parts;
-use pearl_tree::statement::{SemaWord, Stmt};
+use pearl_tree::statement::{Get, OnSemas, Put, SemaWord, Stmt};
 use pearl_tree::token::Token;
 use std::alloc::Global;
 
@@ -26,7 +27,7 @@ use std::alloc::Global;
 fn name_list(alloc: Global, tokens: &[Token], from: usize) -> Result<Reading<Vec<Name>>, Halt>
     requires { from ≤ length tokens.now }
     ensures spells { IfOk result (λ reading. SpellsList tokens.now (SpellsName tokens.now) from reading.part.items reading.end) }
-    ensures sure { IfOk result (λ reading. Sure spec.SpellsNameList (by_comma never) tokens.now from reading.end reading.stop) }
+    ensures longest { IfOk result (λ reading. IsLongest spec.SpellsNameList (by_comma never) tokens.now from reading.end reading.stop) }
     ensures ahead { IfOk result (λ reading. IsAhead tokens.now from reading.end reading.stop) }
     ensures refused { IfErr result (λ halt. IsHalted spec.SpellsNameList tokens.now from halt) }
 {
@@ -43,18 +44,19 @@ pub fn on_semas(
     requires within { from < length tokens.now }
     requires word { HasWord tokens.now from (sema_word word) }
     ensures spells { IfOk result (λ reading. (depth : ℕ) → SpellsStmt tokens.now depth from reading.part reading.end) }
-    ensures sure { IfOk result (λ reading. (depth : ℕ) → Exact (λ tokens. SpellsStmt tokens depth) tokens.now from reading.end reading.stop) }
+    ensures longest { IfOk result (λ reading. (depth : ℕ) → IsOnly (λ tokens. SpellsStmt tokens depth) tokens.now from reading.end reading.stop) }
     ensures ahead { IfOk result (λ reading. IsAhead tokens.now from reading.end reading.stop) }
     ensures refused { IfErr result (λ halt. (depth : ℕ) → IsHalted (λ tokens. SpellsStmt tokens depth) tokens.now from halt) }
 {
     let names = name_list(alloc, tokens, from + 1)?;
     symbol(tokens, names.end, names.stop, SEMICOLON)?;
+    let on_semas = OnSemas {
+        word,
+        names: Parts::new(names.part),
+        place: place_at(tokens, from),
+    };
     Ok(Reading {
-        part: Stmt::OnSemas {
-            word,
-            names: Parts::new(names.part),
-            place: place_at(tokens, from),
-        },
+        part: Stmt::OnSemas(boxed(alloc, on_semas)?),
         end: names.end + 1,
         stop: names.stop.max(names.end + 1),
     })
@@ -65,28 +67,28 @@ fn formats(
     alloc: Global,
     tokens: &[Token],
     from: usize,
-    low: usize,
+    least_stop: usize,
 ) -> Result<Reading<Vec<Fmt>>, Halt>
     requires from { from ≤ length tokens.now }
-    requires low { low ≤ length tokens.now }
+    requires least_stop { least_stop ≤ length tokens.now }
     ensures spells { IfOk result (λ reading. spec.SpellsFormats tokens.now from reading.part.items reading.end) }
-    ensures sure { IfOk result (λ reading. Exact spec.SpellsFormats tokens.now from reading.end reading.stop) }
-    ensures on { IfOk result (λ reading. spec.IsOn tokens.now (from + 1) low reading.end reading.stop) }
-    ensures refused { IfErr result (λ halt. spec.IsStopped spec.SpellsFormats tokens.now from low halt) }
+    ensures longest { IfOk result (λ reading. IsOnly spec.SpellsFormats tokens.now from reading.end reading.stop) }
+    ensures bounds { IfOk result (λ reading. spec.StopsWithin tokens.now (from + 1) least_stop reading.end reading.stop) }
+    ensures refused { IfErr result (λ halt. spec.IsStopped spec.SpellsFormats tokens.now from least_stop halt) }
 {
     match list(alloc, tokens, from) {
         Ok(list) => {
             if !is_symbol(tokens, list.end, SEMICOLON) {
-                return Err(Halt::Refused(list.stop.max(low)));
+                return Err(Halt::Refused(list.stop.max(least_stop)));
             }
             Ok(Reading {
                 part: list.part,
                 end: list.end + 1,
-                stop: list.stop.max(low).max(list.end + 1),
+                stop: list.stop.max(least_stop).max(list.end + 1),
             })
         }
         Err(halt) => match halt {
-            Halt::Refused(stop) => Err(Halt::Refused(stop.max(low))),
+            Halt::Refused(stop) => Err(Halt::Refused(stop.max(least_stop))),
             Halt::NoMemory => Err(Halt::NoMemory),
         },
     }
@@ -104,18 +106,18 @@ fn station(
     alloc: Global,
     tokens: &[Token],
     from: usize,
-    low: usize,
+    least_stop: usize,
 ) -> Result<Reading<Transfer>, Halt>
     requires from { from ≤ length tokens.now }
-    requires low { low ≤ length tokens.now }
+    requires least_stop { least_stop ≤ length tokens.now }
     ensures spells { IfOk result (λ reading. spec.SpellsStation tokens.now from (reading.part.dation, reading.part.formats.items) reading.end) }
-    ensures sure { IfOk result (λ reading. Exact spec.SpellsStation tokens.now from reading.end reading.stop) }
-    ensures on { IfOk result (λ reading. spec.IsOn tokens.now (from + 1) low reading.end reading.stop) }
-    ensures refused { IfErr result (λ halt. spec.IsStopped spec.SpellsStation tokens.now from low halt) }
+    ensures longest { IfOk result (λ reading. IsOnly spec.SpellsStation tokens.now from reading.end reading.stop) }
+    ensures bounds { IfOk result (λ reading. spec.StopsWithin tokens.now (from + 1) least_stop reading.end reading.stop) }
+    ensures refused { IfErr result (λ halt. spec.IsStopped spec.SpellsStation tokens.now from least_stop halt) }
 {
-    let dation = name(tokens, from, low)?;
-    word_here(tokens, from + 1, low, BY)?;
-    let formats = formats(alloc, tokens, from + 2, low)?;
+    let dation = name(tokens, from, least_stop)?;
+    word_here(tokens, from + 1, least_stop, BY)?;
+    let formats = formats(alloc, tokens, from + 2, least_stop)?;
     Ok(Reading {
         part: Transfer {
             dation,
@@ -131,19 +133,20 @@ pub fn put(alloc: Global, tokens: &[Token], from: usize) -> Result<Reading<Stmt>
     requires within { from < length tokens.now }
     requires word { HasWord tokens.now from w.PUT }
     ensures spells { IfOk result (λ reading. (depth : ℕ) → SpellsStmt tokens.now depth from reading.part reading.end) }
-    ensures sure { IfOk result (λ reading. (depth : ℕ) → Exact (λ tokens. SpellsStmt tokens depth) tokens.now from reading.end reading.stop) }
+    ensures longest { IfOk result (λ reading. (depth : ℕ) → IsOnly (λ tokens. SpellsStmt tokens depth) tokens.now from reading.end reading.stop) }
     ensures ahead { IfOk result (λ reading. IsAhead tokens.now from reading.end reading.stop) }
     ensures refused { IfErr result (λ halt. (depth : ℕ) → IsHalted (λ tokens. SpellsStmt tokens depth) tokens.now from halt) }
 {
     let values = before(alloc, tokens, from + 1, TO)?;
     let station = station(alloc, tokens, values.end, values.stop)?;
+    let put = Put {
+        values: Parts::new(values.part),
+        dation: station.part.dation,
+        formats: Parts::new(station.part.formats),
+        place: place_at(tokens, from),
+    };
     Ok(Reading {
-        part: Stmt::Put {
-            values: Parts::new(values.part),
-            dation: station.part.dation,
-            formats: Parts::new(station.part.formats),
-            place: place_at(tokens, from),
-        },
+        part: Stmt::Put(boxed(alloc, put)?),
         end: station.end,
         stop: station.stop,
     })
@@ -154,19 +157,20 @@ pub fn get(alloc: Global, tokens: &[Token], from: usize) -> Result<Reading<Stmt>
     requires within { from < length tokens.now }
     requires word { HasWord tokens.now from w.GET }
     ensures spells { IfOk result (λ reading. (depth : ℕ) → SpellsStmt tokens.now depth from reading.part reading.end) }
-    ensures sure { IfOk result (λ reading. (depth : ℕ) → Exact (λ tokens. SpellsStmt tokens depth) tokens.now from reading.end reading.stop) }
+    ensures longest { IfOk result (λ reading. (depth : ℕ) → IsOnly (λ tokens. SpellsStmt tokens depth) tokens.now from reading.end reading.stop) }
     ensures ahead { IfOk result (λ reading. IsAhead tokens.now from reading.end reading.stop) }
     ensures refused { IfErr result (λ halt. (depth : ℕ) → IsHalted (λ tokens. SpellsStmt tokens depth) tokens.now from halt) }
 {
     let targets = before(alloc, tokens, from + 1, FROM)?;
     let station = station(alloc, tokens, targets.end, targets.stop)?;
+    let get = Get {
+        targets: Parts::new(targets.part),
+        dation: station.part.dation,
+        formats: Parts::new(station.part.formats),
+        place: place_at(tokens, from),
+    };
     Ok(Reading {
-        part: Stmt::Get {
-            targets: Parts::new(targets.part),
-            dation: station.part.dation,
-            formats: Parts::new(station.part.formats),
-            place: place_at(tokens, from),
-        },
+        part: Stmt::Get(boxed(alloc, get)?),
         end: station.end,
         stop: station.stop,
     })

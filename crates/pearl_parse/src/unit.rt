@@ -5,7 +5,7 @@ ghost use Rattle.pearl_tree.specs.Standing.{what_at, HasWord, HasSymbol, IsName}
 ghost use Rattle.pearl_tree.specs.Modules.{SpellsDecl};
 ghost use Rattle.pearl_tables.specs.declared.symbol.TheConstants as s;
 ghost use Rattle.pearl_tables.specs.declared.word_code.TheConstants as w;
-ghost use Rattle.pearl_parse_expr.specs.Stops.{Exact, IsAhead, IsHalted};
+ghost use Rattle.pearl_parse_expr.specs.Stops.{IsOnly, IsAhead, IsHalted};
 ghost use Rattle.pearl_parse.specs.Modules as modules;
 
 use crate::block::block;
@@ -14,9 +14,9 @@ use crate::step::{symbol, word};
 use pearl_parse_decl::declaration::{declare, length_of, specify, type_of};
 use pearl_parse_decl::head::{returns, task_head};
 use pearl_parse_decl::list::maybe_bracketed;
-use pearl_parse_decl::symbol::COLON;
 use pearl_parse_expr::reading::{Halt, Reading};
 use pearl_parse_expr::standing::{is_word, name_at, place_at};
+use pearl_tables::symbol::COLON;
 use pearl_tables::word_code::*;
 use pearl_tree::name::Name;
 use pearl_tree::parts::Parts;
@@ -31,7 +31,7 @@ fn task(alloc: Global, tokens: &[Token], from: usize, name: Name) -> Result<Read
     requires colon { HasSymbol tokens.now (from + 1) s.COLON }
     requires word { HasWord tokens.now (from + 2) w.TASK }
     ensures spells { IfOk result (λ reading. SpellsDecl tokens.now from reading.part reading.end) }
-    ensures sure { IfOk result (λ reading. Exact SpellsDecl tokens.now from reading.end reading.stop) }
+    ensures longest { IfOk result (λ reading. IsOnly SpellsDecl tokens.now from reading.end reading.stop) }
     ensures ahead { IfOk result (λ reading. IsAhead tokens.now from reading.end reading.stop) }
     ensures refused { IfErr result (λ halt. IsHalted SpellsDecl tokens.now from halt) }
 {
@@ -62,7 +62,7 @@ fn procedure(
     requires colon { HasSymbol tokens.now (from + 1) s.COLON }
     requires word { HasWord tokens.now (from + 2) w.PROC }
     ensures spells { IfOk result (λ reading. SpellsDecl tokens.now from reading.part reading.end) }
-    ensures sure { IfOk result (λ reading. Exact SpellsDecl tokens.now from reading.end reading.stop) }
+    ensures longest { IfOk result (λ reading. IsOnly SpellsDecl tokens.now from reading.end reading.stop) }
     ensures ahead { IfOk result (λ reading. IsAhead tokens.now from reading.end reading.stop) }
     ensures refused { IfErr result (λ halt. IsHalted SpellsDecl tokens.now from halt) }
 {
@@ -90,7 +90,7 @@ fn unit(alloc: Global, tokens: &[Token], from: usize, name: Name) -> Result<Read
     requires within { from < length tokens.now }
     requires name { IsName tokens.now from name }
     ensures spells { IfOk result (λ reading. SpellsDecl tokens.now from reading.part reading.end) }
-    ensures sure { IfOk result (λ reading. Exact SpellsDecl tokens.now from reading.end reading.stop) }
+    ensures longest { IfOk result (λ reading. IsOnly SpellsDecl tokens.now from reading.end reading.stop) }
     ensures ahead { IfOk result (λ reading. IsAhead tokens.now from reading.end reading.stop) }
     ensures refused { IfErr result (λ halt. IsHalted SpellsDecl tokens.now from halt) }
 {
@@ -106,7 +106,7 @@ fn unit(alloc: Global, tokens: &[Token], from: usize, name: Name) -> Result<Read
 pub fn declaration(alloc: Global, tokens: &[Token], from: usize) -> Result<Reading<Decl>, Halt>
     requires { from ≤ length tokens.now }
     ensures spells { IfOk result (λ reading. SpellsDecl tokens.now from reading.part reading.end) }
-    ensures sure { IfOk result (λ reading. Exact SpellsDecl tokens.now from reading.end reading.stop) }
+    ensures longest { IfOk result (λ reading. IsOnly SpellsDecl tokens.now from reading.end reading.stop) }
     ensures ahead { IfOk result (λ reading. IsAhead tokens.now from reading.end reading.stop) }
     ensures refused { IfErr result (λ halt. IsHalted SpellsDecl tokens.now from halt) }
 {

@@ -6,7 +6,7 @@ use Rattle.pearl_tree.specs.Standing.{Spelling, SpellsMaybe, what_at}
 use Rattle.pearl_tree.specs.Stops.{BeginAlike}
 use Rattle.pearl_parse_expr.specs.declared.reading.Halt.{Halt}
 use Rattle.pearl_parse_expr.specs.declared.reading.Halt.TheVariants.{Refused, NoMemory}
-use Rattle.pearl_parse_expr.specs.Stops.{Sure, Stuck, EndsEarly, IsHalted}
+use Rattle.pearl_parse_expr.specs.Stops.{IsLongest, Stuck, EndsEarly, IsHalted}
 use Rattle.pearl_parse_decl.specs.Readings.{behind, IsPast}
 use Rattle.pearl_parse_expr.proofs.Parts.{shorter, or_first, or_second}
 
@@ -45,11 +45,11 @@ pub last : (first second : Option What → Bool) (others : List Token) (d e f to
     (first (what_at others d) ≡ true → to ≡ d) → (d ≡ e) ⊎ EndsEarly first others e d →
     (d ≡ e → (to ≡ f) ⊎ EndsEarly second others f to) →
     (to ≡ f) ⊎ EndsEarly (λ token. first token || second token) others f to
-last first second others d e f to near missing (inl same) rest = either (rest same)
+last first second others d e f to near missing (inl same) rest = by_second (rest same)
   where
-    either : (to ≡ f) ⊎ EndsEarly second others f to → (to ≡ f) ⊎ EndsEarly (λ token. first token || second token) others f to
-    either (inl end) = inl end
-    either (inr early) = inr (early.0, or_second (first (what_at others to)) (second (what_at others to)) early.1)
+    by_second : (to ≡ f) ⊎ EndsEarly second others f to → (to ≡ f) ⊎ EndsEarly (λ token. first token || second token) others f to
+    by_second (inl end) = inl end
+    by_second (inr early) = inr (early.0, or_second (first (what_at others to)) (second (what_at others to)) early.1)
 last first second others d e f to near missing (inr early) rest =
     let same = missing early.1 in
     inr (omega (arith, same, early.0), or_first (first (what_at others to)) (second (what_at others to)) (subst (λ k. first (what_at others k) ≡ true) (sym same) early.1))
@@ -61,7 +61,7 @@ ends_as first second others end to more (inr early) = inr (early.0, more (what_a
 
 -- where no such part begins, none is read
 pub maybe_is_none : {X : Type 0} (spells : List Token → Spelling X) (extends : Option What → Bool) (tokens : List Token) (from stop : ℕ) →
-    Stuck spells tokens from stop → Sure (λ tokens. SpellsMaybe (spells tokens)) extends tokens from from stop
+    Stuck spells tokens from stop → IsLongest (λ tokens. SpellsMaybe (spells tokens)) extends tokens from from stop
 maybe_is_none {X} spells extends tokens from stop stuck = λ others agree x to h. by others (λ x to h. stuck others agree x to h) x to h
   where
     by : (others : List Token) → ((x : X) (to : ℕ) → spells others from x to → ⊥) → (x : Option X) (to : ℕ) → SpellsMaybe (spells others) from x to →

@@ -14,7 +14,7 @@ use Rattle.pearl_tree.specs.Types.{SpellsNames, SpellsBound, SpellsBounds, Spell
 use Rattle.pearl_tree.specs.Declarations.{SpellsItem, SpellsSema, SpellsDeclared}
 use Rattle.pearl_tables.specs.declared.word_code.TheConstants as w
 use Rattle.pearl_tree.specs.Stops.{BeginAlike}
-use Rattle.pearl_parse_expr.specs.Stops.{Sure, Exact, EndsEarly, is_word}
+use Rattle.pearl_parse_expr.specs.Stops.{IsLongest, IsOnly, EndsEarly, is_word}
 use Rattle.pearl_parse_decl.specs.Readings.{by_bracket, extends_item}
 use Rattle.pearl_parse_expr.proofs.Primaries.{clash}
 use Rattle.pearl_parse_expr.proofs.Parts.{shorter}
@@ -45,16 +45,16 @@ module _ (others : List Token) where
   pub only_sema : (from end : ℕ) → is_word w.SEMA (what_at others end) ≡ true →
       ((x : _) (to : ℕ) → SpellsNames others from x to → to ≡ end) → (x : Declared) (to : ℕ) → SpellsDeclared others from x to →
       (x : Sema) × (k : ℕ) × SpellsSema others from x k × (k ≡ to)
-  only_sema from end sema exact (declared.Item item) to h =
-      absurd (clash _ sema (subst (λ k. is_word w.SEMA (what_at others k) ≡ false) (exact item.names h.0 h.5) (item_no_sema from item to h)))
-  only_sema from end sema exact (declared.Sema part) to h = (part, to, h, refl)
+  only_sema from end sema only (declared.Item item) to h =
+      absurd (clash _ sema (subst (λ k. is_word w.SEMA (what_at others k) ≡ false) (only item.names h.0 h.5) (item_no_sema from item to h)))
+  only_sema from end sema only (declared.Sema part) to h = (part, to, h, refl)
 
   pub only_item : (from end : ℕ) → is_word w.SEMA (what_at others end) ≡ false →
       ((x : _) (to : ℕ) → SpellsNames others from x to → to ≡ end) → (x : Declared) (to : ℕ) → SpellsDeclared others from x to →
       (x : Item) × (k : ℕ) × SpellsItem others from x k × (k ≡ to)
-  only_item from end none exact (declared.Item part) to h = (part, to, h, refl)
-  only_item from end none exact (declared.Sema sema) to h =
-      absurd (clash _ (ap (is_word w.SEMA) h.3) (subst (λ k. is_word w.SEMA (what_at others k) ≡ false) (sym (exact sema.names h.0 h.2)) none))
+  only_item from end none only (declared.Item part) to h = (part, to, h, refl)
+  only_item from end none only (declared.Sema sema) to h =
+      absurd (clash _ (ap (is_word w.SEMA) h.3) (subst (λ k. is_word w.SEMA (what_at others k) ≡ false) (sym (only sema.names h.0 h.2)) none))
 
   no_init : (d : ℕ) (list : List Const) (to : ℕ) → SpellsMaybeHeaded others w.INIT (SpellsConst others) d list to → by_bracket (what_at others d) ≡ true → to ≡ d
   no_init d [] to h bracket = h
@@ -65,19 +65,19 @@ module _ (others : List Token) where
       (d ≡ e) ⊎ EndsEarly by_bracket others e d →
       ((xs : List Const) (to : ℕ) → SpellsMaybeHeaded others w.INIT (SpellsConst others) e xs to → (to ≡ f) ⊎ EndsEarly (is_word w.INIT) others f to) →
       (to ≡ f) ⊎ EndsEarly extends_item others f to
-  init_last d e f list to near h typing sure =
+  init_last d e f list to near h typing longest =
       last by_bracket (is_word w.INIT) others d e f to near (no_init d list to h) typing
-      (λ same. sure list to (subst (λ k. SpellsMaybeHeaded others w.INIT (SpellsConst others) k list to) same h))
+      (λ same. longest list to (subst (λ k. SpellsMaybeHeaded others w.INIT (SpellsConst others) k list to) same h))
 
 -- where the type of an item begins
 pub item_typing : (tokens others : List Token) (from a b c stop_a stop_b stop_c stop : ℕ) → stop_a ≤ stop → stop_b ≤ stop → stop_c ≤ stop →
-    Exact SpellsNames tokens from a stop_a → Sure SpellsBounds by_bracket tokens a b stop_b →
-    Sure (λ tokens. SpellsFlag tokens w.INV) (is_word w.INV) tokens b c stop_c → BeginAlike tokens others stop →
+    IsOnly SpellsNames tokens from a stop_a → IsLongest SpellsBounds by_bracket tokens a b stop_b →
+    IsLongest (λ tokens. SpellsFlag tokens w.INV) (is_word w.INV) tokens b c stop_c → BeginAlike tokens others stop →
     (x : Item) (to : ℕ) → SpellsItem others from x to →
     (d : ℕ) × SpellsTyping others 8 c x.typing d × SpellsMaybeHeaded others w.INIT (SpellsConst others) d x.init.items.items to
-item_typing tokens others from a b c stop_a stop_b stop_c stop below_a below_b below_c exact sure flag agree x to h =
-    let first = exact others (shorter tokens others stop_a stop below_a agree) x.names h.0 h.5 in
-    let next = sure others (shorter tokens others stop_b stop below_b agree) x.bounds h.1 (subst (λ k. SpellsBounds others k x.bounds h.1) first h.6) in
+item_typing tokens others from a b c stop_a stop_b stop_c stop below_a below_b below_c only longest flag agree x to h =
+    let first = only others (shorter tokens others stop_a stop below_a agree) x.names h.0 h.5 in
+    let next = longest others (shorter tokens others stop_b stop below_b agree) x.bounds h.1 (subst (λ k. SpellsBounds others k x.bounds h.1) first h.6) in
     let second = settled by_bracket others b h.1 next (inv_head others h.1 x.inv h.2 x.typing h.3 h.7 h.8) in
     let inv = flag others (shorter tokens others stop_c stop below_c agree) x.inv h.2 (subst (λ k. SpellsFlag others w.INV k x.inv h.2) second h.7) in
     let third = settled (is_word w.INV) others c h.2 inv (typing_no_inv others 8 h.2 x.typing h.3 h.8) in

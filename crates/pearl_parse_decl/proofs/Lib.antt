@@ -3,3 +3,4 @@ pub mod Behind
 pub mod Types
 pub mod Items
 pub mod Specifications
+pub mod Constants

@@ -6,7 +6,7 @@ use Rattle.pearl_tree.specs.declared.token.Token.{Token}
 use Rattle.pearl_tree.specs.Standing.{Spelling, what_at, HasSymbol, SpellsMore, SpellsList, SpellsBracketed, SpellsMaybeBracketed, SpellsMaybeHeaded}
 use Rattle.pearl_tables.specs.declared.symbol.TheConstants as s
 use Rattle.pearl_tree.specs.Stops.{BeginAlike}
-use Rattle.pearl_parse_expr.specs.Stops.{Sure, Stuck, Exact, EndsEarly, is_symbol, is_word}
+use Rattle.pearl_parse_expr.specs.Stops.{IsLongest, Stuck, IsOnly, EndsEarly, is_symbol, is_word}
 use Rattle.pearl_parse_decl.specs.Readings.{by_bracket, by_comma}
 use Rattle.pearl_parse_expr.proofs.Primaries.{clash}
 use Rattle.pearl_parse_expr.proofs.Parts.{shorter, or_first, or_second}
@@ -43,26 +43,26 @@ module _ {X : Type 0} (spells : List Token → Spelling X) (extends : Option Wha
         ((x : X) (to : ℕ) → spells others from x to → (to ≡ end) ⊎ EndsEarly extends others end to) →
         (xs : List X) (to : ℕ) → SpellsList others (spells others) from xs to →
         EndsEarly (by_comma extends) others end to ⊎ ((ys : List X) × SpellsMore others (spells others) end ys to)
-    begins others from end sure [] to h = absurd h
-    begins others from end sure (x ∷ xs) to h = after_part others end h.0 to xs h.2 (sure x h.0 h.1)
+    begins others from end longest [] to h = absurd h
+    begins others from end longest (x ∷ xs) to h = after_part others end h.0 to xs h.2 (longest x h.0 h.1)
 
-    pub list_begins : (tokens : List Token) (from end stop : ℕ) → Sure spells extends tokens from end stop → ListGoes tokens from end stop
-    list_begins tokens from end stop sure = λ others agree xs to h. begins others from end (λ x to h. sure others agree x to h) xs to h
+    pub list_begins : (tokens : List Token) (from end stop : ℕ) → IsLongest spells extends tokens from end stop → ListGoes tokens from end stop
+    list_begins tokens from end stop longest = λ others agree xs to h. begins others from end (λ x to h. longest others agree x to h) xs to h
 
     step : (others : List Token) (end next to : ℕ) → end < next → HasSymbol others end s.COMMA →
         ((x : X) (to : ℕ) → spells others (end + 1) x to → (to ≡ next) ⊎ EndsEarly extends others next to) →
         EndsEarly (by_comma extends) others end to ⊎ ((ys : List X) × SpellsMore others (spells others) end ys to) →
         EndsEarly (by_comma extends) others next to ⊎ ((ys : List X) × SpellsMore others (spells others) next ys to)
-    step others end next to ahead comma sure (inl early) = inl (omega (arith, early.0), early.1)
-    step others end next to ahead comma sure (inr ([], h)) =
+    step others end next to ahead comma longest (inl early) = inl (omega (arith, early.0), early.1)
+    step others end next to ahead comma longest (inr ([], h)) =
         inl (omega (arith, h), subst (λ k. by_comma extends (what_at others k) ≡ true) (sym h) (or_second (extends (what_at others end)) (is_symbol s.COMMA (what_at others end)) (ap (is_symbol s.COMMA) comma)))
-    step others end next to ahead comma sure (inr (y ∷ ys, h)) = after_part others next h.0 to ys h.3 (sure y h.0 h.2)
+    step others end next to ahead comma longest (inr (y ∷ ys, h)) = after_part others next h.0 to ys h.3 (longest y h.0 h.2)
 
     pub list_next : (tokens : List Token) (from end stop next last new : ℕ) → ListGoes tokens from end stop → end ≤ stop → end < next →
-        stop ≤ new → last ≤ new → HasSymbol tokens end s.COMMA → Sure spells extends tokens (end + 1) next last → ListGoes tokens from next new
-    list_next tokens from end stop next last new go near ahead below reach comma sure = λ others agree xs to h.
+        stop ≤ new → last ≤ new → HasSymbol tokens end s.COMMA → IsLongest spells extends tokens (end + 1) next last → ListGoes tokens from next new
+    list_next tokens from end stop next last new go near ahead below reach comma longest = λ others agree xs to h.
         step others end next to ahead (sym (agree end (omega arith)) ∙ comma)
-        (λ x to h. sure others (shorter tokens others last new reach agree) x to h)
+        (λ x to h. longest others (shorter tokens others last new reach agree) x to h)
         (go others (shorter tokens others stop new below agree) xs to h)
 
   ends : (others : List Token) (end to : ℕ) → (HasSymbol others end s.COMMA → (x : X) (to : ℕ) → spells others (end + 1) x to → ⊥) →
@@ -74,7 +74,7 @@ module _ {X : Type 0} (spells : List Token → Spelling X) (extends : Option Wha
 
   pub list_ends : (tokens : List Token) (from end stop : ℕ) → ListGoes tokens from end stop → end ≤ stop →
       is_symbol s.COMMA (what_at tokens end) ≡ false →
-      Sure (λ tokens. SpellsList tokens (spells tokens)) (by_comma extends) tokens from end stop
+      IsLongest (λ tokens. SpellsList tokens (spells tokens)) (by_comma extends) tokens from end stop
   list_ends tokens from end stop go near no_comma = λ others agree xs to h.
       ends others end to
       (λ comma x to h. clash _ (ap (is_symbol s.COMMA) comma) (ap (is_symbol s.COMMA) (sym (agree end near)) ∙ no_comma))
@@ -82,7 +82,7 @@ module _ {X : Type 0} (spells : List Token → Spelling X) (extends : Option Wha
 
   pub list_is_stuck : (tokens : List Token) (from end stop last new : ℕ) → ListGoes tokens from end stop → stop ≤ new → last ≤ new →
       Stuck spells tokens (end + 1) last →
-      Sure (λ tokens. SpellsList tokens (spells tokens)) (by_comma extends) tokens from end new
+      IsLongest (λ tokens. SpellsList tokens (spells tokens)) (by_comma extends) tokens from end new
   list_is_stuck tokens from end stop last new go below reach stuck = λ others agree xs to h.
       ends others end to
       (λ comma x to h. stuck others (shorter tokens others last new reach agree) x to h)
@@ -93,31 +93,31 @@ module _ {X : Type 0} (spells : List Token → Spelling X) (extends : Option Wha
     closes : (others : List Token) (from end : ℕ) →
         ((xs : List X) (to : ℕ) → SpellsList others (spells others) (from + 1) xs to → (to ≡ end) ⊎ EndsEarly (by_comma extends) others end to) →
         (xs : List X) (to : ℕ) → SpellsBracketed others (spells others) from xs to → HasSymbol others end s.RIGHT_ROUND × (to ≡ end + 1)
-    closes others from end sure xs to h =
+    closes others from end longest xs to h =
         let none : by_comma extends (what_at others h.0) ≡ false = rw (h.3, no_bracket) refl in
-        let same = settled (by_comma extends) others end h.0 (sure xs h.0 h.2) none in
+        let same = settled (by_comma extends) others end h.0 (longest xs h.0 h.2) none in
         (subst (λ k. HasSymbol others k s.RIGHT_ROUND) same h.3, omega (arith, same, h.4))
 
-    pub bracketed_is_exact : (tokens : List Token) (from end stop new : ℕ) → stop ≤ new →
-        Sure (λ tokens. SpellsList tokens (spells tokens)) (by_comma extends) tokens (from + 1) end stop →
-        Exact (λ tokens. SpellsBracketed tokens (spells tokens)) tokens from (end + 1) new
-    bracketed_is_exact tokens from end stop new below sure = λ others agree xs to h.
-        (closes others from end (λ xs to h. sure others (shorter tokens others stop new below agree) xs to h) xs to h).1
+    pub bracketed_is_only : (tokens : List Token) (from end stop new : ℕ) → stop ≤ new →
+        IsLongest (λ tokens. SpellsList tokens (spells tokens)) (by_comma extends) tokens (from + 1) end stop →
+        IsOnly (λ tokens. SpellsBracketed tokens (spells tokens)) tokens from (end + 1) new
+    bracketed_is_only tokens from end stop new below longest = λ others agree xs to h.
+        (closes others from end (λ xs to h. longest others (shorter tokens others stop new below agree) xs to h) xs to h).1
 
     pub bracketed_is_open : (tokens : List Token) (from end stop : ℕ) → end ≤ stop →
-        Sure (λ tokens. SpellsList tokens (spells tokens)) (by_comma extends) tokens (from + 1) end stop →
+        IsLongest (λ tokens. SpellsList tokens (spells tokens)) (by_comma extends) tokens (from + 1) end stop →
         is_symbol s.RIGHT_ROUND (what_at tokens end) ≡ false →
         Stuck (λ tokens. SpellsBracketed tokens (spells tokens)) tokens from stop
-    bracketed_is_open tokens from end stop below sure unclosed = λ others agree xs to h.
-        let closed = closes others from end (λ xs to h. sure others agree xs to h) xs to h in
+    bracketed_is_open tokens from end stop below longest unclosed = λ others agree xs to h.
+        let closed = closes others from end (λ xs to h. longest others agree xs to h) xs to h in
         clash _ (ap (is_symbol s.RIGHT_ROUND) closed.0) (ap (is_symbol s.RIGHT_ROUND) (sym (agree end below)) ∙ unclosed)
 
   -- [ "(" part { "," part } ")" ]
-  pub maybe_is_sure : (tokens : List Token) (from end stop : ℕ) → from < end → from ≤ stop → HasSymbol tokens from s.LEFT_ROUND →
-      Exact (λ tokens. SpellsBracketed tokens (spells tokens)) tokens from end stop →
-      Sure (λ tokens. SpellsMaybeBracketed tokens (spells tokens)) by_bracket tokens from end stop
-  maybe_is_sure tokens from end stop ahead near bracket exact = λ others agree xs to h.
-      by others (sym (agree from near) ∙ bracket) (λ xs to h. exact others agree xs to h) xs to h
+  pub maybe_is_longest : (tokens : List Token) (from end stop : ℕ) → from < end → from ≤ stop → HasSymbol tokens from s.LEFT_ROUND →
+      IsOnly (λ tokens. SpellsBracketed tokens (spells tokens)) tokens from end stop →
+      IsLongest (λ tokens. SpellsMaybeBracketed tokens (spells tokens)) by_bracket tokens from end stop
+  maybe_is_longest tokens from end stop ahead near bracket only = λ others agree xs to h.
+      by others (sym (agree from near) ∙ bracket) (λ xs to h. only others agree xs to h) xs to h
     where
       by : (others : List Token) → HasSymbol others from s.LEFT_ROUND →
           ((xs : List X) (to : ℕ) → SpellsBracketed others (spells others) from xs to → to ≡ end) →
@@ -126,7 +126,7 @@ module _ {X : Type 0} (spells : List Token → Spelling X) (extends : Option Wha
       by others bracket one (x ∷ xs) to h = inl (one (x ∷ xs) to h)
 
   pub maybe_is_none : (tokens : List Token) (from stop : ℕ) → Stuck (λ tokens. SpellsBracketed tokens (spells tokens)) tokens from stop →
-      Sure (λ tokens. SpellsMaybeBracketed tokens (spells tokens)) by_bracket tokens from from stop
+      IsLongest (λ tokens. SpellsMaybeBracketed tokens (spells tokens)) by_bracket tokens from from stop
   maybe_is_none tokens from stop stuck = λ others agree xs to h. by others (λ xs to h. stuck others agree xs to h) xs to h
     where
       by : (others : List Token) → ((xs : List X) (to : ℕ) → SpellsBracketed others (spells others) from xs to → ⊥) →
@@ -135,11 +135,11 @@ module _ {X : Type 0} (spells : List Token → Spelling X) (extends : Option Wha
       by others none (x ∷ xs) to h = absurd (none (x ∷ xs) to h)
 
   -- [ word "(" part { "," part } ")" ]
-  pub headed_is_sure : (tokens : List Token) (from word end stop : ℕ) → from < end → from ≤ stop → is_word word (what_at tokens from) ≡ true →
-      Exact (λ tokens. SpellsBracketed tokens (spells tokens)) tokens (from + 1) end stop →
-      Sure (λ tokens. SpellsMaybeHeaded tokens word (spells tokens)) (is_word word) tokens from end stop
-  headed_is_sure tokens from word end stop ahead near stands exact = λ others agree xs to h.
-      by others (ap (is_word word) (sym (agree from near)) ∙ stands) (λ xs to h. exact others agree xs to h) xs to h
+  pub headed_is_longest : (tokens : List Token) (from word end stop : ℕ) → from < end → from ≤ stop → is_word word (what_at tokens from) ≡ true →
+      IsOnly (λ tokens. SpellsBracketed tokens (spells tokens)) tokens (from + 1) end stop →
+      IsLongest (λ tokens. SpellsMaybeHeaded tokens word (spells tokens)) (is_word word) tokens from end stop
+  headed_is_longest tokens from word end stop ahead near stands only = λ others agree xs to h.
+      by others (ap (is_word word) (sym (agree from near)) ∙ stands) (λ xs to h. only others agree xs to h) xs to h
     where
       by : (others : List Token) → is_word word (what_at others from) ≡ true →
           ((xs : List X) (to : ℕ) → SpellsBracketed others (spells others) (from + 1) xs to → to ≡ end) →
@@ -148,7 +148,7 @@ module _ {X : Type 0} (spells : List Token → Spelling X) (extends : Option Wha
       by others stands one (x ∷ xs) to h = inl (one (x ∷ xs) to h.1)
 
   pub headed_is_none : (tokens : List Token) (from word stop : ℕ) → Stuck (λ tokens. SpellsBracketed tokens (spells tokens)) tokens (from + 1) stop →
-      Sure (λ tokens. SpellsMaybeHeaded tokens word (spells tokens)) (is_word word) tokens from from stop
+      IsLongest (λ tokens. SpellsMaybeHeaded tokens word (spells tokens)) (is_word word) tokens from from stop
   headed_is_none tokens from word stop stuck = λ others agree xs to h. by others (λ xs to h. stuck others agree xs to h) xs to h
     where
       by : (others : List Token) → ((xs : List X) (to : ℕ) → SpellsBracketed others (spells others) (from + 1) xs to → ⊥) →

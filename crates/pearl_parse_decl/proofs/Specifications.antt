@@ -24,10 +24,10 @@ module _ (others : List Token) where
   pub only_dation : (from end : ℕ) → is_word w.DATION (what_at others end) ≡ true →
       ((x : Names) (to : ℕ) → SpellsNames others from x to → to ≡ end) → (x : Spec) (to : ℕ) → SpellsSpec others from x to →
       (class : Class) × (b : ℕ) × (control : Bool) × SpellsClass others (end + 2) class b × SpellsControl others b control to
-  only_dation from end dation exact (spec.Interrupt names place) to h =
-      absurd (clash _ dation (subst (λ k. is_word w.DATION (what_at others k) ≡ false) (exact names h.0 h.2) (ap (is_word w.DATION) h.3)))
-  only_dation from end dation exact (spec.Dation names direction class control place) to h =
-      (class, h.1, control, subst (λ k. SpellsClass others (k + 2) class h.1) (exact names h.0 h.3) h.6, h.7)
+  only_dation from end dation only (spec.Interrupt names place) to h =
+      absurd (clash _ dation (subst (λ k. is_word w.DATION (what_at others k) ≡ false) (only names h.0 h.2) (ap (is_word w.DATION) h.3)))
+  only_dation from end dation only (spec.Dation names direction class control place) to h =
+      (class, h.1, control, subst (λ k. SpellsClass others (k + 2) class h.1) (only names h.0 h.3) h.6, h.7)
 
   no_control : (b : ℕ) (control : Bool) (to : ℕ) → SpellsControl others b control to → by_bracket (what_at others b) ≡ true → to ≡ b
   no_control b false to h bracket = h
@@ -38,6 +38,6 @@ module _ (others : List Token) where
       (b ≡ e) ⊎ EndsEarly by_bracket others e b →
       ((x : Bool) (to : ℕ) → SpellsControl others e x to → (to ≡ f) ⊎ EndsEarly is_name others f to) →
       (to ≡ f) ⊎ EndsEarly extends_spec others f to
-  control_last b e f control to near h class sure =
+  control_last b e f control to near h class longest =
       last by_bracket is_name others b e f to near (no_control b control to h) class
-      (λ same. sure control to (subst (λ k. SpellsControl others k control to) same h))
+      (λ same. longest control to (subst (λ k. SpellsControl others k control to) same h))

@@ -18,7 +18,7 @@ use Rattle.pearl_tree.specs.Types.{SpellsNames, SpellsBounds, sort_word, SpellsB
 use Rattle.pearl_tables.specs.declared.symbol.TheConstants as s
 use Rattle.pearl_tables.specs.declared.word_code.TheConstants as w
 use Rattle.pearl_tree.specs.Stops.{BeginAlike}
-use Rattle.pearl_parse_expr.specs.Stops.{Sure, Stuck, Exact, is_symbol, is_word, is_name}
+use Rattle.pearl_parse_expr.specs.Stops.{IsLongest, Stuck, IsOnly, is_symbol, is_word, is_name}
 use Rattle.pearl_parse_decl.specs.Readings.{by_bracket, by_comma}
 use Rattle.pearl_parse_expr.proofs.Primaries.{clash}
 use Rattle.pearl_parse_expr.proofs.Parts.{shorter}
@@ -115,17 +115,17 @@ module _ (tokens : List Token) where
 
 -- the bracket that closes a STRUCT stands at one place
 module _ (tokens : List Token) (depth from end stop : ℕ) (word : HasWord tokens from w.STRUCT) (near : from ≤ stop)
-    (sure : Sure (λ tokens. SpellsList tokens (SpellsField tokens (depth - 1))) (by_comma by_bracket) tokens (from + 2) end stop) where
+    (longest : IsLongest (λ tokens. SpellsList tokens (SpellsField tokens (depth - 1))) (by_comma by_bracket) tokens (from + 2) end stop) where
   closes : (others : List Token) → BeginAlike tokens others stop → (x : Typing) (to : ℕ) → SpellsTyping others depth from x to →
       HasSymbol others end s.RIGHT_SQUARE × (to ≡ end + 1)
   closes others agree x to h =
       let read = (only_struct others depth from (sym (agree from near) ∙ word) x to h).2 in
       let none : by_comma by_bracket (what_at others read.1) ≡ false = ap (by_comma by_bracket) read.3 in
-      let same = settled (by_comma by_bracket) others end read.1 (sure others agree read.0 read.1 read.2) none in
+      let same = settled (by_comma by_bracket) others end read.1 (longest others agree read.0 read.1 read.2) none in
       (subst (λ k. HasSymbol others k s.RIGHT_SQUARE) same read.3, omega (arith, same, read.4))
 
-  pub struct_is_sure : (new : ℕ) → stop ≤ new → Sure (λ tokens. SpellsTyping tokens depth) by_bracket tokens from (end + 1) new
-  struct_is_sure new below = λ others agree x to h. inl (closes others (shorter tokens others stop new below agree) x to h).1
+  pub struct_is_longest : (new : ℕ) → stop ≤ new → IsLongest (λ tokens. SpellsTyping tokens depth) by_bracket tokens from (end + 1) new
+  struct_is_longest new below = λ others agree x to h. inl (closes others (shorter tokens others stop new below agree) x to h).1
 
   pub struct_is_open : end ≤ stop → is_symbol s.RIGHT_SQUARE (what_at tokens end) ≡ false → Stuck (λ tokens. SpellsTyping tokens depth) tokens from stop
   struct_is_open below unclosed = λ others agree x to h.
@@ -133,10 +133,10 @@ module _ (tokens : List Token) (depth from end stop : ℕ) (word : HasWord token
 
 -- behind the names and the bounds that were read the type of a field begins
 pub field_typing : (tokens others : List Token) (depth from a b stop_a stop_b stop : ℕ) → stop_a ≤ stop → stop_b ≤ stop →
-    Exact SpellsNames tokens from a stop_a → Sure SpellsBounds by_bracket tokens a b stop_b → BeginAlike tokens others stop →
+    IsOnly SpellsNames tokens from a stop_a → IsLongest SpellsBounds by_bracket tokens a b stop_b → BeginAlike tokens others stop →
     (x : Field) (to : ℕ) → SpellsField others depth from x to → SpellsTyping others depth b x.typing to
-field_typing tokens others depth from a b stop_a stop_b stop below_a below_b exact sure agree x to h =
-    let first = exact others (shorter tokens others stop_a stop below_a agree) x.names h.0 h.3 in
-    let next = sure others (shorter tokens others stop_b stop below_b agree) x.bounds h.1 (subst (λ k. SpellsBounds others k x.bounds h.1) first h.4) in
+field_typing tokens others depth from a b stop_a stop_b stop below_a below_b only longest agree x to h =
+    let first = only others (shorter tokens others stop_a stop below_a agree) x.names h.0 h.3 in
+    let next = longest others (shorter tokens others stop_b stop below_b agree) x.bounds h.1 (subst (λ k. SpellsBounds others k x.bounds h.1) first h.4) in
     let second = settled by_bracket others b h.1 next (typing_head others depth h.1 x.typing to h.5) in
     subst (λ k. SpellsTyping others depth k x.typing to) second h.5

@@ -50,9 +50,9 @@ extends_param token = by_bracket token || is_word w.IDENT token
 abbrev pub extends_head : Option What → Bool
 extends_head token = is_word w.PRIO token || is_word w.MAIN token
 
--- what is read may be empty
-abbrev pub IsOn : List Token → ℕ → ℕ → ℕ → Type 0
-IsOn tokens from end stop = (from ≤ end) × (end ≤ stop) × (stop ≤ length tokens)
+-- what was read, which may be nothing, was stopped at its end or behind it within the tokens
+abbrev pub IsWithin : List Token → ℕ → ℕ → ℕ → Type 0
+IsWithin tokens from end stop = (from ≤ end) × (end ≤ stop) × (stop ≤ length tokens)
 
 -- a part is refused where another one before it was stopped
 abbrev pub behind : Halt → ℕ → Halt

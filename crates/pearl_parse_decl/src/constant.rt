@@ -1,17 +1,16 @@
 // Constants.
 
-ghost use Rattle.std.specs.Prelude.{◌≡◌, ◌≢◌, ◌+◌, ◌≤◌, List, Some, None, length, IfOk, IfErr, refl};
+ghost use Rattle.std.specs.Prelude.{◌≡◌, ◌+◌, ◌≤◌, List, Some, None, length, IfOk, IfErr, refl};
 ghost use Rattle.pearl_tree.specs.Standing.{SpellsMaybe};
 ghost use Rattle.pearl_tree.specs.Expressions as grammar;
-ghost use Rattle.pearl_parse_expr.specs.declared.reading.Halt.{Halt};
 ghost use Rattle.pearl_parse_expr.specs.Stops as stops;
 ghost use Rattle.pearl_parse_decl.specs.Readings as spec;
 
-use crate::list::Part;
-use crate::symbol::*;
+use crate::list::{Readable, behind};
 use pearl_parse_expr::literal::literal;
 use pearl_parse_expr::reading::{Halt, Reading};
 use pearl_parse_expr::standing::{is_symbol, place_at};
+use pearl_tables::symbol::{MINUS, PLUS};
 use pearl_tree::literal::{Const, Sign};
 use pearl_tree::token::Token;
 use std::alloc::Global;
@@ -20,8 +19,8 @@ use std::alloc::Global;
 fn sign(tokens: &[Token], from: usize) -> Reading<Option<Sign>>
     requires { from ≤ length tokens.now }
     ensures spells { SpellsMaybe (grammar.SpellsSign tokens.now) from result.part result.end }
-    ensures sure { stops.Sure (λ tokens. SpellsMaybe (grammar.SpellsSign tokens)) spec.is_sign tokens.now from result.end result.stop }
-    ensures ahead { spec.IsOn tokens.now from result.end result.stop }
+    ensures longest { stops.IsLongest (λ tokens. SpellsMaybe (grammar.SpellsSign tokens)) spec.is_sign tokens.now from result.end result.stop }
+    ensures ahead { spec.IsWithin tokens.now from result.end result.stop }
 {
     if is_symbol(tokens, from, PLUS) {
         return Reading {
@@ -45,16 +44,15 @@ fn sign(tokens: &[Token], from: usize) -> Reading<Option<Sign>>
 }
 
 /// `[ "+" | "-" ] literal`
-pub fn constant(tokens: &[Token], from: usize) -> Result<Reading<Const>, Halt>
+pub fn constant(alloc: Global, tokens: &[Token], from: usize) -> Result<Reading<Const>, Halt>
     requires { from ≤ length tokens.now }
     ensures spells { IfOk result (λ reading. grammar.SpellsConst tokens.now from reading.part reading.end) }
-    ensures sure { IfOk result (λ reading. stops.Sure grammar.SpellsConst stops.extends_operand tokens.now from reading.end reading.stop) }
+    ensures longest { IfOk result (λ reading. stops.IsLongest grammar.SpellsConst stops.extends_operand tokens.now from reading.end reading.stop) }
     ensures ahead { IfOk result (λ reading. stops.IsAhead tokens.now from reading.end reading.stop) }
     ensures refused { IfErr result (λ halt. stops.IsHalted grammar.SpellsConst tokens.now from halt) }
-    ensures memory { IfErr result (λ halt. halt ≢ Halt.NoMemory) }
 {
     let sign = sign(tokens, from);
-    match literal(tokens, sign.end) {
+    match literal(alloc, tokens, sign.end) {
         Ok(literal) => Ok(Reading {
             part: Const {
                 sign: sign.part,
@@ -64,17 +62,17 @@ pub fn constant(tokens: &[Token], from: usize) -> Result<Reading<Const>, Halt>
             end: literal.end,
             stop: literal.stop.max(sign.stop),
         }),
-        Err(stop) => Err(Halt::Refused(stop.max(sign.stop))),
+        Err(halt) => Err(behind(halt, sign.stop)),
     }
 }
 
-impl Part for Const {
+impl Readable for Const {
     ghost spelling = { grammar.SpellsConst };
 
     ghost extends = { stops.extends_operand };
 
-    fn read(_alloc: Global, tokens: &[Token], from: usize) -> Result<Reading<Const>, Halt> {
-        constant(tokens, from)
+    fn read(alloc: Global, tokens: &[Token], from: usize) -> Result<Reading<Const>, Halt> {
+        constant(alloc, tokens, from)
     }
 
     ghost stops_at_comma = { refl };

@@ -9,10 +9,10 @@ ghost use Rattle.pearl_parse_expr.specs.Stops as stops;
 
 use crate::list::list;
 use crate::name::bracketed_number;
-use crate::symbol::*;
 use crate::typing::{STRUCTS_MAX, sort_at, typing};
 use pearl_parse_expr::reading::{Halt, Reading};
 use pearl_parse_expr::standing::{is_symbol, name_at, place_at};
+use pearl_tables::symbol::SEMICOLON;
 use pearl_tree::declaration::{Declared, Spec};
 use pearl_tree::parts::Parts;
 use pearl_tree::token::Token;
@@ -24,7 +24,7 @@ pub fn length_of(tokens: &[Token], from: usize) -> Result<Reading<Decl>, Halt>
     requires within { from ≤ length tokens.now }
     requires word { HasWord tokens.now from w.LENGTH }
     ensures spells { IfOk result (λ reading. modules.SpellsDecl tokens.now from reading.part reading.end) }
-    ensures sure { IfOk result (λ reading. stops.Exact modules.SpellsDecl tokens.now from reading.end reading.stop) }
+    ensures longest { IfOk result (λ reading. stops.IsOnly modules.SpellsDecl tokens.now from reading.end reading.stop) }
     ensures ahead { IfOk result (λ reading. stops.IsAhead tokens.now from reading.end reading.stop) }
     ensures refused { IfErr result (λ halt. stops.IsHalted modules.SpellsDecl tokens.now from halt) }
     ensures memory { IfErr result (λ halt. halt ≢ Halt.NoMemory) }
@@ -56,7 +56,7 @@ pub fn type_of(alloc: Global, tokens: &[Token], from: usize) -> Result<Reading<D
     requires within { from ≤ length tokens.now }
     requires word { HasWord tokens.now from w.TYPE }
     ensures spells { IfOk result (λ reading. modules.SpellsDecl tokens.now from reading.part reading.end) }
-    ensures sure { IfOk result (λ reading. stops.Exact modules.SpellsDecl tokens.now from reading.end reading.stop) }
+    ensures longest { IfOk result (λ reading. stops.IsOnly modules.SpellsDecl tokens.now from reading.end reading.stop) }
     ensures ahead { IfOk result (λ reading. stops.IsAhead tokens.now from reading.end reading.stop) }
     ensures refused { IfErr result (λ halt. stops.IsHalted modules.SpellsDecl tokens.now from halt) }
 {
@@ -87,7 +87,7 @@ pub fn declare(alloc: Global, tokens: &[Token], from: usize) -> Result<Reading<D
     requires within { from ≤ length tokens.now }
     requires word { HasWord tokens.now from w.DCL }
     ensures spells { IfOk result (λ reading. modules.SpellsDecl tokens.now from reading.part reading.end) }
-    ensures sure { IfOk result (λ reading. stops.Exact modules.SpellsDecl tokens.now from reading.end reading.stop) }
+    ensures longest { IfOk result (λ reading. stops.IsOnly modules.SpellsDecl tokens.now from reading.end reading.stop) }
     ensures ahead { IfOk result (λ reading. stops.IsAhead tokens.now from reading.end reading.stop) }
     ensures refused { IfErr result (λ halt. stops.IsHalted modules.SpellsDecl tokens.now from halt) }
 {
@@ -113,7 +113,7 @@ pub fn specify(alloc: Global, tokens: &[Token], from: usize) -> Result<Reading<D
     requires within { from ≤ length tokens.now }
     requires word { HasWord tokens.now from w.SPC }
     ensures spells { IfOk result (λ reading. modules.SpellsDecl tokens.now from reading.part reading.end) }
-    ensures sure { IfOk result (λ reading. stops.Exact modules.SpellsDecl tokens.now from reading.end reading.stop) }
+    ensures longest { IfOk result (λ reading. stops.IsOnly modules.SpellsDecl tokens.now from reading.end reading.stop) }
     ensures ahead { IfOk result (λ reading. stops.IsAhead tokens.now from reading.end reading.stop) }
     ensures refused { IfErr result (λ halt. stops.IsHalted modules.SpellsDecl tokens.now from halt) }
 {

@@ -4,8 +4,8 @@ ghost use Rattle.std.specs.Prelude.{◌≤◌, length, IfOk, IfErr, refl};
 ghost use Rattle.pearl_tree.specs.Expressions.{SpellsWhole, SpellsOwnRef};
 ghost use Rattle.pearl_parse_expr.specs.Stops as stops;
 
-use crate::list::Part;
-use pearl_parse_expr::expression::{BRACKETS_MAX, level, reference};
+use crate::list::Readable;
+use pearl_parse_expr::expression::{BRACKETS_MAX, expression_at_depth, reference};
 use pearl_parse_expr::reading::{Halt, Reading};
 use pearl_tree::expression::{Expr, Ref};
 use pearl_tree::token::Token;
@@ -15,19 +15,19 @@ use std::alloc::Global;
 pub fn expression(alloc: Global, tokens: &[Token], from: usize) -> Result<Reading<Expr>, Halt>
     requires { from ≤ length tokens.now }
     ensures spells { IfOk result (λ reading. SpellsWhole tokens.now from reading.part reading.end) }
-    ensures sure { IfOk result (λ reading. stops.Sure SpellsWhole stops.extends_expression tokens.now from reading.end reading.stop) }
+    ensures longest { IfOk result (λ reading. stops.IsLongest SpellsWhole stops.extends_expression tokens.now from reading.end reading.stop) }
     ensures ahead { IfOk result (λ reading. stops.IsAhead tokens.now from reading.end reading.stop) }
     ensures refused { IfErr result (λ halt. stops.IsHalted SpellsWhole tokens.now from halt) }
 {
-    level(alloc, tokens, from, BRACKETS_MAX)
+    expression_at_depth(alloc, tokens, from, BRACKETS_MAX)
 }
 
 /// The longest reference that begins here, with a bracket more than within an expression.
 pub fn own_reference(alloc: Global, tokens: &[Token], from: usize) -> Result<Reading<Ref>, Halt>
     requires { from ≤ length tokens.now }
     ensures spells { IfOk result (λ reading. SpellsOwnRef tokens.now from reading.part reading.end) }
-    ensures sure { IfOk result (λ reading. stops.Sure SpellsOwnRef stops.extends_operand tokens.now from reading.end reading.stop) }
-    ensures named { IfOk result (λ reading. stops.Sure (λ tokens. stops.SpellsNamed tokens 33) stops.extends_operand tokens.now from reading.end reading.stop) }
+    ensures longest { IfOk result (λ reading. stops.IsLongest SpellsOwnRef stops.extends_operand tokens.now from reading.end reading.stop) }
+    ensures named { IfOk result (λ reading. stops.IsLongest (λ tokens. stops.SpellsNamed tokens 33) stops.extends_operand tokens.now from reading.end reading.stop) }
     ensures ahead { IfOk result (λ reading. stops.IsAhead tokens.now from reading.end reading.stop) }
     ensures refused { IfErr result (λ halt. stops.IsHalted SpellsOwnRef tokens.now from halt) }
     ensures unnamed { IfErr result (λ halt. stops.IsHalted (λ tokens. stops.SpellsNamed tokens 33) tokens.now from halt) }
@@ -38,7 +38,7 @@ pub fn own_reference(alloc: Global, tokens: &[Token], from: usize) -> Result<Rea
     }
 }
 
-impl Part for Expr {
+impl Readable for Expr {
     ghost spelling = { SpellsWhole };
 
     ghost extends = { stops.extends_expression };
@@ -52,7 +52,7 @@ impl Part for Expr {
     ghost stops_at_bracket = { refl };
 }
 
-impl Part for Ref {
+impl Readable for Ref {
     ghost spelling = { SpellsOwnRef };
 
     ghost extends = { stops.extends_operand };

@@ -13,8 +13,8 @@ use pearl_tree::token::Token;
 pub fn flag(tokens: &[Token], from: usize, word: u8) -> Reading<bool>
     requires { from ≤ length tokens.now }
     ensures spells { SpellsFlag tokens.now word from result.part result.end }
-    ensures sure { stops.Sure (λ tokens. SpellsFlag tokens word) (stops.is_word word) tokens.now from result.end result.stop }
-    ensures ahead { spec.IsOn tokens.now from result.end result.stop }
+    ensures longest { stops.IsLongest (λ tokens. SpellsFlag tokens word) (stops.is_word word) tokens.now from result.end result.stop }
+    ensures ahead { spec.IsWithin tokens.now from result.end result.stop }
 {
     if is_word(tokens, from, word) {
         Reading {

@@ -9,7 +9,7 @@ ghost use Rattle.pearl_parse_expr.specs.declared.reading.Halt.{Halt};
 ghost use Rattle.pearl_parse_expr.specs.Stops as stops;
 ghost use Rattle.pearl_parse_decl.specs.Readings as spec;
 
-use crate::list::Part;
+use crate::list::Readable;
 use crate::name::{bracketed_number, maybe_number};
 use pearl_parse_expr::reading::{Halt, Reading};
 use pearl_parse_expr::standing::place_at;
@@ -78,7 +78,7 @@ fn wide_at(tokens: &[Token], at: usize) -> Option<WideCode>
 pub fn fmt(tokens: &[Token], from: usize) -> Result<Reading<Fmt>, Halt>
     requires { from ≤ length tokens.now }
     ensures spells { IfOk result (λ reading. grammar.SpellsFmt tokens.now from reading.part reading.end) }
-    ensures sure { IfOk result (λ reading. stops.Sure grammar.SpellsFmt spec.by_bracket tokens.now from reading.end reading.stop) }
+    ensures longest { IfOk result (λ reading. stops.IsLongest grammar.SpellsFmt spec.by_bracket tokens.now from reading.end reading.stop) }
     ensures ahead { IfOk result (λ reading. stops.IsAhead tokens.now from reading.end reading.stop) }
     ensures refused { IfErr result (λ halt. stops.IsHalted grammar.SpellsFmt tokens.now from halt) }
     ensures memory { IfErr result (λ halt. halt ≢ Halt.NoMemory) }
@@ -112,7 +112,7 @@ pub fn fmt(tokens: &[Token], from: usize) -> Result<Reading<Fmt>, Halt>
     }
 }
 
-impl Part for Fmt {
+impl Readable for Fmt {
     ghost spelling = { grammar.SpellsFmt };
 
     ghost extends = { spec.by_bracket };

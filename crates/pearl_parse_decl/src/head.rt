@@ -9,12 +9,12 @@ ghost use Rattle.pearl_parse_expr.specs.Stops as stops;
 ghost use Rattle.pearl_parse_decl.specs.Readings as spec;
 
 use crate::flag::flag;
-use crate::list::{Part, behind};
+use crate::list::{Readable, behind};
 use crate::name::names;
-use crate::symbol::*;
 use crate::typing::basic;
 use pearl_parse_expr::reading::{Halt, Reading};
 use pearl_parse_expr::standing::{is_symbol, is_word, number_at, place_at};
+use pearl_tables::symbol::{LEFT_ROUND, RIGHT_ROUND};
 use pearl_tables::word_code::{IDENT, MAIN, PRIO, RETURNS};
 use pearl_tree::declaration::{Param, Prio};
 use pearl_tree::token::Token;
@@ -26,7 +26,7 @@ use std::alloc::Global;
 pub fn param(alloc: Global, tokens: &[Token], from: usize) -> Result<Reading<Param>, Halt>
     requires { from ≤ length tokens.now }
     ensures spells { IfOk result (λ reading. grammar.SpellsParam tokens.now from reading.part reading.end) }
-    ensures sure { IfOk result (λ reading. stops.Sure grammar.SpellsParam spec.extends_param tokens.now from reading.end reading.stop) }
+    ensures longest { IfOk result (λ reading. stops.IsLongest grammar.SpellsParam spec.extends_param tokens.now from reading.end reading.stop) }
     ensures ahead { IfOk result (λ reading. stops.IsAhead tokens.now from reading.end reading.stop) }
     ensures refused { IfErr result (λ halt. stops.IsHalted grammar.SpellsParam tokens.now from halt) }
 {
@@ -51,7 +51,7 @@ pub fn param(alloc: Global, tokens: &[Token], from: usize) -> Result<Reading<Par
     })
 }
 
-impl Part for Param {
+impl Readable for Param {
     ghost spelling = { grammar.SpellsParam };
 
     ghost extends = { spec.extends_param };
@@ -89,8 +89,8 @@ fn prio(tokens: &[Token], from: usize) -> Result<Prio, usize>
 pub fn task_head(tokens: &[Token], from: usize) -> Reading<TaskHead>
     requires { from ≤ length tokens.now }
     ensures spells { modules.SpellsTaskHead tokens.now from result.part result.end }
-    ensures sure { stops.Sure modules.SpellsTaskHead spec.extends_head tokens.now from result.end result.stop }
-    ensures ahead { spec.IsOn tokens.now from result.end result.stop }
+    ensures longest { stops.IsLongest modules.SpellsTaskHead spec.extends_head tokens.now from result.end result.stop }
+    ensures ahead { spec.IsWithin tokens.now from result.end result.stop }
 {
     if is_word(tokens, from, MAIN) {
         return match prio(tokens, from + 1) {
@@ -136,7 +136,7 @@ pub fn task_head(tokens: &[Token], from: usize) -> Reading<TaskHead>
 fn returned(tokens: &[Token], from: usize) -> Result<Reading<Basic>, usize>
     requires { from ≤ length tokens.now }
     ensures spells { IfOk result (λ reading. modules.SpellsReturns tokens.now from reading.part reading.end) }
-    ensures sure { IfOk result (λ reading. stops.Exact modules.SpellsReturns tokens.now from reading.end reading.stop) }
+    ensures longest { IfOk result (λ reading. stops.IsOnly modules.SpellsReturns tokens.now from reading.end reading.stop) }
     ensures ahead { IfOk result (λ reading. stops.IsAhead tokens.now from reading.end reading.stop) }
     ensures word { IfOk result (λ _. HasWord tokens.now from w.RETURNS) }
     ensures refused { IfErr result (λ stop. stops.Stuck modules.SpellsReturns tokens.now from stop) }
@@ -166,8 +166,8 @@ fn returned(tokens: &[Token], from: usize) -> Result<Reading<Basic>, usize>
 pub fn returns(tokens: &[Token], from: usize) -> Reading<Option<Basic>>
     requires { from ≤ length tokens.now }
     ensures spells { SpellsMaybe (modules.SpellsReturns tokens.now) from result.part result.end }
-    ensures sure { stops.Sure (λ tokens. SpellsMaybe (modules.SpellsReturns tokens)) (stops.is_word w.RETURNS) tokens.now from result.end result.stop }
-    ensures ahead { spec.IsOn tokens.now from result.end result.stop }
+    ensures longest { stops.IsLongest (λ tokens. SpellsMaybe (modules.SpellsReturns tokens)) (stops.is_word w.RETURNS) tokens.now from result.end result.stop }
+    ensures ahead { spec.IsWithin tokens.now from result.end result.stop }
 {
     match returned(tokens, from) {
         Ok(basic) => Reading {

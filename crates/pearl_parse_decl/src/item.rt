@@ -9,7 +9,7 @@ ghost use Rattle.pearl_parse_expr.specs.Stops as stops;
 ghost use Rattle.pearl_parse_decl.specs.Readings as spec;
 
 use crate::flag::flag;
-use crate::list::{Part, behind, maybe_headed};
+use crate::list::{Readable, behind, maybe_headed};
 use crate::name::names;
 use crate::typing::{STRUCTS_MAX, bounds, typing};
 use pearl_parse_expr::reading::{Halt, Reading};
@@ -31,10 +31,10 @@ fn item_behind(
 ) -> Result<Reading<Item>, Halt>
     requires within { from ≤ length tokens.now }
     requires spells { types.SpellsNames tokens.now from names.part names.end }
-    requires sure { stops.Exact types.SpellsNames tokens.now from names.end names.stop }
+    requires longest { stops.IsOnly types.SpellsNames tokens.now from names.end names.stop }
     requires ahead { stops.IsAhead tokens.now from names.end names.stop }
     ensures spells { IfOk result (λ reading. grammar.SpellsItem tokens.now from reading.part reading.end) }
-    ensures sure { IfOk result (λ reading. stops.Sure grammar.SpellsItem spec.extends_item tokens.now from reading.end reading.stop) }
+    ensures longest { IfOk result (λ reading. stops.IsLongest grammar.SpellsItem spec.extends_item tokens.now from reading.end reading.stop) }
     ensures ahead { IfOk result (λ reading. stops.IsAhead tokens.now from reading.end reading.stop) }
     ensures refused { IfErr result (λ halt. stops.IsHalted grammar.SpellsItem tokens.now from halt) }
     ensures far { IfOk result (λ reading. names.stop ≤ reading.stop) }
@@ -72,7 +72,7 @@ fn item_behind(
 pub fn item(alloc: Global, tokens: &[Token], from: usize) -> Result<Reading<Item>, Halt>
     requires { from ≤ length tokens.now }
     ensures spells { IfOk result (λ reading. grammar.SpellsItem tokens.now from reading.part reading.end) }
-    ensures sure { IfOk result (λ reading. stops.Sure grammar.SpellsItem spec.extends_item tokens.now from reading.end reading.stop) }
+    ensures longest { IfOk result (λ reading. stops.IsLongest grammar.SpellsItem spec.extends_item tokens.now from reading.end reading.stop) }
     ensures ahead { IfOk result (λ reading. stops.IsAhead tokens.now from reading.end reading.stop) }
     ensures refused { IfErr result (λ halt. stops.IsHalted grammar.SpellsItem tokens.now from halt) }
 {
@@ -91,10 +91,10 @@ fn sema_behind(
 ) -> Result<Reading<Sema>, Halt>
     requires within { from ≤ length tokens.now }
     requires spells { types.SpellsNames tokens.now from names.part names.end }
-    requires sure { stops.Exact types.SpellsNames tokens.now from names.end names.stop }
+    requires longest { stops.IsOnly types.SpellsNames tokens.now from names.end names.stop }
     requires ahead { stops.IsAhead tokens.now from names.end names.stop }
     ensures spells { IfOk result (λ reading. grammar.SpellsSema tokens.now from reading.part reading.end) }
-    ensures sure { IfOk result (λ reading. stops.Sure grammar.SpellsSema spec.extends_sema tokens.now from reading.end reading.stop) }
+    ensures longest { IfOk result (λ reading. stops.IsLongest grammar.SpellsSema spec.extends_sema tokens.now from reading.end reading.stop) }
     ensures ahead { IfOk result (λ reading. stops.IsAhead tokens.now from reading.end reading.stop) }
     ensures refused { IfErr result (λ halt. stops.IsHalted grammar.SpellsSema tokens.now from halt) }
     ensures far { IfOk result (λ reading. names.stop ≤ reading.stop) }
@@ -122,7 +122,7 @@ fn sema_behind(
 pub fn declared(alloc: Global, tokens: &[Token], from: usize) -> Result<Reading<Declared>, Halt>
     requires { from ≤ length tokens.now }
     ensures spells { IfOk result (λ reading. grammar.SpellsDeclared tokens.now from reading.part reading.end) }
-    ensures sure { IfOk result (λ reading. stops.Sure grammar.SpellsDeclared spec.extends_declared tokens.now from reading.end reading.stop) }
+    ensures longest { IfOk result (λ reading. stops.IsLongest grammar.SpellsDeclared spec.extends_declared tokens.now from reading.end reading.stop) }
     ensures ahead { IfOk result (λ reading. stops.IsAhead tokens.now from reading.end reading.stop) }
     ensures refused { IfErr result (λ halt. stops.IsHalted grammar.SpellsDeclared tokens.now from halt) }
 {
@@ -150,7 +150,7 @@ pub fn declared(alloc: Global, tokens: &[Token], from: usize) -> Result<Reading<
     }
 }
 
-impl Part for Item {
+impl Readable for Item {
     ghost spelling = { grammar.SpellsItem };
 
     ghost extends = { spec.extends_item };
@@ -164,7 +164,7 @@ impl Part for Item {
     ghost stops_at_bracket = { refl };
 }
 
-impl Part for Declared {
+impl Readable for Declared {
     ghost spelling = { grammar.SpellsDeclared };
 
     ghost extends = { spec.extends_declared };

@@ -11,5 +11,4 @@ pub mod item;
 pub mod list;
 pub mod name;
 pub mod specification;
-pub mod symbol;
 pub mod typing;

@@ -10,14 +10,14 @@ ghost use Rattle.pearl_parse_expr.specs.declared.reading.Halt.{Halt};
 ghost use Rattle.pearl_parse_expr.specs.Stops as stops;
 ghost use Rattle.pearl_parse_decl.specs.Readings as spec;
 
-use crate::symbol::*;
 use pearl_parse_expr::reading::{Halt, Reading, append};
 use pearl_parse_expr::standing::{is_symbol, is_word};
+use pearl_tables::symbol::{COMMA, LEFT_ROUND, RIGHT_ROUND};
 use pearl_tree::token::Token;
 use std::alloc::Global;
 
 /// What is read by the tokens from a place on.
-pub trait Part: Drop {
+pub trait Readable: Drop {
     // The tokens that a part spells.
     ghost spelling: { List Token → Spelling Self };
 
@@ -28,7 +28,7 @@ pub trait Part: Drop {
     fn read(alloc: Global, tokens: &[Token], from: usize) -> Result<Reading<Self>, Halt>
         requires { from ≤ length tokens.now }
         ensures spells { IfOk result (λ reading. spelling tokens.now from reading.part reading.end) }
-        ensures sure { IfOk result (λ reading. stops.Sure spelling extends tokens.now from reading.end reading.stop) }
+        ensures longest { IfOk result (λ reading. stops.IsLongest spelling extends tokens.now from reading.end reading.stop) }
         ensures ahead { IfOk result (λ reading. stops.IsAhead tokens.now from reading.end reading.stop) }
         ensures refused { IfErr result (λ halt. stops.IsHalted spelling tokens.now from halt) };
 
@@ -50,10 +50,14 @@ pub fn behind(halt: Halt, stop: usize) -> Halt
 }
 
 /// The longest `part { "," part }` that begins here.
-pub fn list<P: Part>(alloc: Global, tokens: &[Token], from: usize) -> Result<Reading<Vec<P>>, Halt>
+pub fn list<P: Readable>(
+    alloc: Global,
+    tokens: &[Token],
+    from: usize,
+) -> Result<Reading<Vec<P>>, Halt>
     requires { from ≤ length tokens.now }
     ensures spells { IfOk result (λ reading. SpellsList tokens.now (P.spelling tokens.now) from reading.part.items reading.end) }
-    ensures sure { IfOk result (λ reading. stops.Sure (λ tokens. SpellsList tokens (P.spelling tokens)) (spec.by_comma P.extends) tokens.now from reading.end reading.stop) }
+    ensures longest { IfOk result (λ reading. stops.IsLongest (λ tokens. SpellsList tokens (P.spelling tokens)) (spec.by_comma P.extends) tokens.now from reading.end reading.stop) }
     ensures ahead { IfOk result (λ reading. stops.IsAhead tokens.now from reading.end reading.stop) }
     ensures refused { IfErr result (λ halt. stops.IsHalted (λ tokens. SpellsList tokens (P.spelling tokens)) tokens.now from halt) }
 {
@@ -92,14 +96,14 @@ pub fn list<P: Part>(alloc: Global, tokens: &[Token], from: usize) -> Result<Rea
 }
 
 /// `"(" part { "," part } ")"`
-pub fn bracketed<P: Part>(
+pub fn bracketed<P: Readable>(
     alloc: Global,
     tokens: &[Token],
     from: usize,
 ) -> Result<Reading<Vec<P>>, Halt>
     requires { from ≤ length tokens.now }
     ensures spells { IfOk result (λ reading. SpellsBracketed tokens.now (P.spelling tokens.now) from reading.part.items reading.end) }
-    ensures sure { IfOk result (λ reading. stops.Exact (λ tokens. SpellsBracketed tokens (P.spelling tokens)) tokens.now from reading.end reading.stop) }
+    ensures longest { IfOk result (λ reading. stops.IsOnly (λ tokens. SpellsBracketed tokens (P.spelling tokens)) tokens.now from reading.end reading.stop) }
     ensures ahead { IfOk result (λ reading. stops.IsAhead tokens.now from reading.end reading.stop) }
     ensures refused { IfErr result (λ halt. stops.IsHalted (λ tokens. SpellsBracketed tokens (P.spelling tokens)) tokens.now from halt) }
 {
@@ -121,15 +125,15 @@ pub fn bracketed<P: Part>(
 }
 
 /// `[ "(" part { "," part } ")" ]`: without brackets, or where no list in brackets begins, nothing is read.
-pub fn maybe_bracketed<P: Part>(
+pub fn maybe_bracketed<P: Readable>(
     alloc: Global,
     tokens: &[Token],
     from: usize,
 ) -> Result<Reading<Vec<P>>, Halt>
     requires { from ≤ length tokens.now }
     ensures spells { IfOk result (λ reading. SpellsMaybeBracketed tokens.now (P.spelling tokens.now) from reading.part.items reading.end) }
-    ensures sure { IfOk result (λ reading. stops.Sure (λ tokens. SpellsMaybeBracketed tokens (P.spelling tokens)) spec.by_bracket tokens.now from reading.end reading.stop) }
-    ensures ahead { IfOk result (λ reading. spec.IsOn tokens.now from reading.end reading.stop) }
+    ensures longest { IfOk result (λ reading. stops.IsLongest (λ tokens. SpellsMaybeBracketed tokens (P.spelling tokens)) spec.by_bracket tokens.now from reading.end reading.stop) }
+    ensures ahead { IfOk result (λ reading. spec.IsWithin tokens.now from reading.end reading.stop) }
     ensures refused { IfErr result (λ halt. halt ≡ Halt.NoMemory) }
 {
     match bracketed(alloc, tokens, from) {
@@ -150,7 +154,7 @@ pub fn maybe_bracketed<P: Part>(
 }
 
 /// `[ word "(" part { "," part } ")" ]`: without the word, or where no list in brackets follows it, nothing is read.
-pub fn maybe_headed<P: Part>(
+pub fn maybe_headed<P: Readable>(
     alloc: Global,
     tokens: &[Token],
     from: usize,
@@ -158,8 +162,8 @@ pub fn maybe_headed<P: Part>(
 ) -> Result<Reading<Vec<P>>, Halt>
     requires { from ≤ length tokens.now }
     ensures spells { IfOk result (λ reading. SpellsMaybeHeaded tokens.now word (P.spelling tokens.now) from reading.part.items reading.end) }
-    ensures sure { IfOk result (λ reading. stops.Sure (λ tokens. SpellsMaybeHeaded tokens word (P.spelling tokens)) (stops.is_word word) tokens.now from reading.end reading.stop) }
-    ensures ahead { IfOk result (λ reading. spec.IsOn tokens.now from reading.end reading.stop) }
+    ensures longest { IfOk result (λ reading. stops.IsLongest (λ tokens. SpellsMaybeHeaded tokens word (P.spelling tokens)) (stops.is_word word) tokens.now from reading.end reading.stop) }
+    ensures ahead { IfOk result (λ reading. spec.IsWithin tokens.now from reading.end reading.stop) }
     ensures refused { IfErr result (λ halt. halt ≡ Halt.NoMemory) }
 {
     if !is_word(tokens, from, word) {

@@ -7,10 +7,10 @@ ghost use Rattle.pearl_parse_expr.specs.declared.reading.Halt.{Halt};
 ghost use Rattle.pearl_parse_expr.specs.Stops as stops;
 ghost use Rattle.pearl_parse_decl.specs.Readings as spec;
 
-use crate::list::{Part, bracketed};
-use crate::symbol::*;
+use crate::list::{Readable, bracketed};
 use pearl_parse_expr::reading::{Halt, Reading};
 use pearl_parse_expr::standing::{is_symbol, name_at, number_at, place_at};
+use pearl_tables::symbol::{LEFT_ROUND, RIGHT_ROUND};
 use pearl_tree::name::{Name, Names, Number};
 use pearl_tree::parts::Parts;
 use pearl_tree::token::Token;
@@ -20,7 +20,7 @@ use std::alloc::Global;
 pub fn name(tokens: &[Token], from: usize) -> Result<Reading<Name>, Halt>
     requires { from ≤ length tokens.now }
     ensures spells { IfOk result (λ reading. SpellsName tokens.now from reading.part reading.end) }
-    ensures sure { IfOk result (λ reading. stops.Exact SpellsName tokens.now from reading.end reading.stop) }
+    ensures longest { IfOk result (λ reading. stops.IsOnly SpellsName tokens.now from reading.end reading.stop) }
     ensures ahead { IfOk result (λ reading. stops.IsAhead tokens.now from reading.end reading.stop) }
     ensures refused { IfErr result (λ halt. stops.IsHalted SpellsName tokens.now from halt) }
     ensures memory { IfErr result (λ halt. halt ≢ Halt.NoMemory) }
@@ -39,7 +39,7 @@ pub fn name(tokens: &[Token], from: usize) -> Result<Reading<Name>, Halt>
 pub fn number(tokens: &[Token], from: usize) -> Result<Reading<Number>, Halt>
     requires { from ≤ length tokens.now }
     ensures spells { IfOk result (λ reading. SpellsNumber tokens.now from reading.part reading.end) }
-    ensures sure { IfOk result (λ reading. stops.Exact SpellsNumber tokens.now from reading.end reading.stop) }
+    ensures longest { IfOk result (λ reading. stops.IsOnly SpellsNumber tokens.now from reading.end reading.stop) }
     ensures ahead { IfOk result (λ reading. stops.IsAhead tokens.now from reading.end reading.stop) }
     ensures refused { IfErr result (λ halt. stops.IsHalted SpellsNumber tokens.now from halt) }
     ensures memory { IfErr result (λ halt. halt ≢ Halt.NoMemory) }
@@ -54,7 +54,7 @@ pub fn number(tokens: &[Token], from: usize) -> Result<Reading<Number>, Halt>
     }
 }
 
-impl Part for Name {
+impl Readable for Name {
     ghost spelling = { SpellsName };
 
     ghost extends = { spec.never };
@@ -68,7 +68,7 @@ impl Part for Name {
     ghost stops_at_bracket = { refl };
 }
 
-impl Part for Number {
+impl Readable for Number {
     ghost spelling = { SpellsNumber };
 
     ghost extends = { spec.never };
@@ -109,8 +109,8 @@ pub fn bracketed_number(tokens: &[Token], from: usize) -> Result<Number, usize>
 pub fn maybe_number(tokens: &[Token], from: usize) -> Reading<Option<Number>>
     requires { from ≤ length tokens.now }
     ensures spells { SpellsMaybe (SpellsBracketedNumber tokens.now) from result.part result.end }
-    ensures sure { stops.Sure (λ tokens. SpellsMaybe (SpellsBracketedNumber tokens)) spec.by_bracket tokens.now from result.end result.stop }
-    ensures ahead { spec.IsOn tokens.now from result.end result.stop }
+    ensures longest { stops.IsLongest (λ tokens. SpellsMaybe (SpellsBracketedNumber tokens)) spec.by_bracket tokens.now from result.end result.stop }
+    ensures ahead { spec.IsWithin tokens.now from result.end result.stop }
 {
     match bracketed_number(tokens, from) {
         Ok(number) => Reading {
@@ -130,7 +130,7 @@ pub fn maybe_number(tokens: &[Token], from: usize) -> Reading<Option<Number>>
 pub fn names(alloc: Global, tokens: &[Token], from: usize) -> Result<Reading<Names>, Halt>
     requires { from ≤ length tokens.now }
     ensures spells { IfOk result (λ reading. grammar.SpellsNames tokens.now from reading.part reading.end) }
-    ensures sure { IfOk result (λ reading. stops.Exact grammar.SpellsNames tokens.now from reading.end reading.stop) }
+    ensures longest { IfOk result (λ reading. stops.IsOnly grammar.SpellsNames tokens.now from reading.end reading.stop) }
     ensures ahead { IfOk result (λ reading. stops.IsAhead tokens.now from reading.end reading.stop) }
     ensures refused { IfErr result (λ halt. stops.IsHalted grammar.SpellsNames tokens.now from halt) }
 {

@@ -10,12 +10,12 @@ ghost use Rattle.pearl_parse_expr.specs.declared.reading.Halt.{Halt};
 ghost use Rattle.pearl_parse_expr.specs.Stops as stops;
 ghost use Rattle.pearl_parse_decl.specs.Readings as spec;
 
-use crate::list::{Part, behind};
+use crate::list::{Readable, behind};
 use crate::name::{bracketed_number, names};
-use crate::symbol::*;
 use crate::typing::basic;
 use pearl_parse_expr::reading::{Halt, Reading};
 use pearl_parse_expr::standing::{is_symbol, is_word, name_at, place_at};
+use pearl_tables::symbol::{COLON, LEFT_ROUND, RIGHT_ROUND, SEMICOLON};
 use pearl_tables::word_code::{ALL, ALPHIC, BASIC, DATION, IN, INOUT, INTERRUPT, OUT};
 use pearl_tree::declaration::{Class, Device, DeviceWord, Direction, Spec};
 use pearl_tree::name::Names;
@@ -43,7 +43,7 @@ fn direction_at(tokens: &[Token], at: usize) -> Option<Direction>
 fn class(tokens: &[Token], from: usize) -> Result<Reading<Class>, Halt>
     requires { from ≤ length tokens.now }
     ensures spells { IfOk result (λ reading. grammar.SpellsClass tokens.now from reading.part reading.end) }
-    ensures sure { IfOk result (λ reading. stops.Sure grammar.SpellsClass spec.by_bracket tokens.now from reading.end reading.stop) }
+    ensures longest { IfOk result (λ reading. stops.IsLongest grammar.SpellsClass spec.by_bracket tokens.now from reading.end reading.stop) }
     ensures ahead { IfOk result (λ reading. stops.IsAhead tokens.now from reading.end reading.stop) }
     ensures refused { IfErr result (λ halt. stops.IsHalted grammar.SpellsClass tokens.now from halt) }
     ensures memory { IfErr result (λ halt. halt ≢ Halt.NoMemory) }
@@ -101,8 +101,8 @@ fn is_control(tokens: &[Token], at: usize) -> bool
 fn control(tokens: &[Token], from: usize) -> Reading<bool>
     requires { from ≤ length tokens.now }
     ensures spells { grammar.SpellsControl tokens.now from result.part result.end }
-    ensures sure { stops.Sure grammar.SpellsControl stops.is_name tokens.now from result.end result.stop }
-    ensures ahead { spec.IsOn tokens.now from result.end result.stop }
+    ensures longest { stops.IsLongest grammar.SpellsControl stops.is_name tokens.now from result.end result.stop }
+    ensures ahead { spec.IsWithin tokens.now from result.end result.stop }
 {
     if !is_control(tokens, from) {
         return Reading {
@@ -147,11 +147,11 @@ fn dation_behind(
 ) -> Result<Reading<Spec>, Halt>
     requires within { from ≤ length tokens.now }
     requires spells { types.SpellsNames tokens.now from names.part names.end }
-    requires sure { stops.Exact types.SpellsNames tokens.now from names.end names.stop }
+    requires longest { stops.IsOnly types.SpellsNames tokens.now from names.end names.stop }
     requires ahead { stops.IsAhead tokens.now from names.end names.stop }
     requires word { HasWord tokens.now names.end w.DATION }
     ensures spells { IfOk result (λ reading. grammar.SpellsSpec tokens.now from reading.part reading.end) }
-    ensures sure { IfOk result (λ reading. stops.Sure grammar.SpellsSpec spec.extends_spec tokens.now from reading.end reading.stop) }
+    ensures longest { IfOk result (λ reading. stops.IsLongest grammar.SpellsSpec spec.extends_spec tokens.now from reading.end reading.stop) }
     ensures ahead { IfOk result (λ reading. stops.IsAhead tokens.now from reading.end reading.stop) }
     ensures refused { IfErr result (λ halt. stops.IsHalted grammar.SpellsSpec tokens.now from halt) }
     ensures memory { IfErr result (λ halt. halt ≢ Halt.NoMemory) }
@@ -183,7 +183,7 @@ fn dation_behind(
 pub fn specified(alloc: Global, tokens: &[Token], from: usize) -> Result<Reading<Spec>, Halt>
     requires { from ≤ length tokens.now }
     ensures spells { IfOk result (λ reading. grammar.SpellsSpec tokens.now from reading.part reading.end) }
-    ensures sure { IfOk result (λ reading. stops.Sure grammar.SpellsSpec spec.extends_spec tokens.now from reading.end reading.stop) }
+    ensures longest { IfOk result (λ reading. stops.IsLongest grammar.SpellsSpec spec.extends_spec tokens.now from reading.end reading.stop) }
     ensures ahead { IfOk result (λ reading. stops.IsAhead tokens.now from reading.end reading.stop) }
     ensures refused { IfErr result (λ halt. stops.IsHalted grammar.SpellsSpec tokens.now from halt) }
 {
@@ -207,7 +207,7 @@ pub fn specified(alloc: Global, tokens: &[Token], from: usize) -> Result<Reading
     Err(Halt::Refused(names.stop))
 }
 
-impl Part for Spec {
+impl Readable for Spec {
     ghost spelling = { grammar.SpellsSpec };
 
     ghost extends = { spec.extends_spec };
@@ -241,7 +241,7 @@ fn device_word(tokens: &[Token], at: usize) -> Option<DeviceWord>
 pub fn device(tokens: &[Token], from: usize) -> Result<Reading<Device>, Halt>
     requires { from ≤ length tokens.now }
     ensures spells { IfOk result (λ reading. grammar.SpellsDevice tokens.now from reading.part reading.end) }
-    ensures sure { IfOk result (λ reading. stops.Exact grammar.SpellsDevice tokens.now from reading.end reading.stop) }
+    ensures longest { IfOk result (λ reading. stops.IsOnly grammar.SpellsDevice tokens.now from reading.end reading.stop) }
     ensures ahead { IfOk result (λ reading. stops.IsAhead tokens.now from reading.end reading.stop) }
     ensures refused { IfErr result (λ halt. stops.IsHalted grammar.SpellsDevice tokens.now from halt) }
     ensures memory { IfErr result (λ halt. halt ≢ Halt.NoMemory) }

@@ -11,11 +11,11 @@ ghost use Rattle.pearl_parse_expr.specs.declared.reading.Halt.{Halt};
 ghost use Rattle.pearl_parse_expr.specs.Stops as stops;
 ghost use Rattle.pearl_parse_decl.specs.Readings as spec;
 
-use crate::list::{Part, behind, maybe_bracketed};
+use crate::list::{Readable, behind, maybe_bracketed};
 use crate::name::{maybe_number, names};
-use crate::symbol::*;
 use pearl_parse_expr::reading::{Halt, Reading, append};
 use pearl_parse_expr::standing::{is_symbol, is_word, name_at, number_at, place_at};
+use pearl_tables::symbol::{COLON, COMMA, LEFT_SQUARE, MINUS, RIGHT_SQUARE};
 use pearl_tables::word_code::{BIT, CHAR, CLOCK, DURATION, FIXED, STRUCT};
 use pearl_tree::name::Name;
 use pearl_tree::parts::Parts;
@@ -30,7 +30,7 @@ pub const STRUCTS_MAX: u8 = 8;
 pub fn int(tokens: &[Token], from: usize) -> Result<Reading<Int>, usize>
     requires { from ≤ length tokens.now }
     ensures spells { IfOk result (λ reading. grammar.SpellsInt tokens.now from reading.part reading.end) }
-    ensures sure { IfOk result (λ reading. stops.Exact grammar.SpellsInt tokens.now from reading.end reading.stop) }
+    ensures longest { IfOk result (λ reading. stops.IsOnly grammar.SpellsInt tokens.now from reading.end reading.stop) }
     ensures ahead { IfOk result (λ reading. stops.IsAhead tokens.now from reading.end reading.stop) }
     ensures refused { IfErr result (λ stop. stops.Stuck grammar.SpellsInt tokens.now from stop) }
     ensures held { IfErr result (λ stop. (from ≤ stop) × (stop ≤ length tokens.now)) }
@@ -67,8 +67,8 @@ pub fn int(tokens: &[Token], from: usize) -> Result<Reading<Int>, usize>
 fn upper(tokens: &[Token], from: usize) -> Reading<Option<Int>>
     requires { from ≤ length tokens.now }
     ensures spells { SpellsMaybe (grammar.SpellsUpper tokens.now) from result.part result.end }
-    ensures sure { stops.Sure (λ tokens. SpellsMaybe (grammar.SpellsUpper tokens)) spec.by_colon tokens.now from result.end result.stop }
-    ensures ahead { spec.IsOn tokens.now from result.end result.stop }
+    ensures longest { stops.IsLongest (λ tokens. SpellsMaybe (grammar.SpellsUpper tokens)) spec.by_colon tokens.now from result.end result.stop }
+    ensures ahead { spec.IsWithin tokens.now from result.end result.stop }
 {
     if !is_symbol(tokens, from, COLON) {
         return Reading {
@@ -95,7 +95,7 @@ fn upper(tokens: &[Token], from: usize) -> Reading<Option<Int>>
 pub fn bound(tokens: &[Token], from: usize) -> Result<Reading<Bound>, Halt>
     requires { from ≤ length tokens.now }
     ensures spells { IfOk result (λ reading. grammar.SpellsBound tokens.now from reading.part reading.end) }
-    ensures sure { IfOk result (λ reading. stops.Sure grammar.SpellsBound spec.by_colon tokens.now from reading.end reading.stop) }
+    ensures longest { IfOk result (λ reading. stops.IsLongest grammar.SpellsBound spec.by_colon tokens.now from reading.end reading.stop) }
     ensures ahead { IfOk result (λ reading. stops.IsAhead tokens.now from reading.end reading.stop) }
     ensures refused { IfErr result (λ halt. stops.IsHalted grammar.SpellsBound tokens.now from halt) }
     ensures memory { IfErr result (λ halt. halt ≢ Halt.NoMemory) }
@@ -116,7 +116,7 @@ pub fn bound(tokens: &[Token], from: usize) -> Result<Reading<Bound>, Halt>
     })
 }
 
-impl Part for Bound {
+impl Readable for Bound {
     ghost spelling = { grammar.SpellsBound };
 
     ghost extends = { spec.by_colon };
@@ -134,8 +134,8 @@ impl Part for Bound {
 pub fn bounds(alloc: Global, tokens: &[Token], from: usize) -> Result<Reading<Parts<Bound>>, Halt>
     requires { from ≤ length tokens.now }
     ensures spells { IfOk result (λ reading. grammar.SpellsBounds tokens.now from reading.part reading.end) }
-    ensures sure { IfOk result (λ reading. stops.Sure grammar.SpellsBounds spec.by_bracket tokens.now from reading.end reading.stop) }
-    ensures ahead { IfOk result (λ reading. spec.IsOn tokens.now from reading.end reading.stop) }
+    ensures longest { IfOk result (λ reading. stops.IsLongest grammar.SpellsBounds spec.by_bracket tokens.now from reading.end reading.stop) }
+    ensures ahead { IfOk result (λ reading. spec.IsWithin tokens.now from reading.end reading.stop) }
     ensures refused { IfErr result (λ halt. halt ≡ Halt.NoMemory) }
 {
     match maybe_bracketed(alloc, tokens, from) {
@@ -170,7 +170,7 @@ pub fn sort_at(tokens: &[Token], at: usize) -> Option<Sort>
 pub fn basic(tokens: &[Token], from: usize) -> Result<Reading<Basic>, Halt>
     requires { from ≤ length tokens.now }
     ensures spells { IfOk result (λ reading. grammar.SpellsBasic tokens.now from reading.part reading.end) }
-    ensures sure { IfOk result (λ reading. stops.Sure grammar.SpellsBasic spec.by_bracket tokens.now from reading.end reading.stop) }
+    ensures longest { IfOk result (λ reading. stops.IsLongest grammar.SpellsBasic spec.by_bracket tokens.now from reading.end reading.stop) }
     ensures ahead { IfOk result (λ reading. stops.IsAhead tokens.now from reading.end reading.stop) }
     ensures refused { IfErr result (λ halt. stops.IsHalted grammar.SpellsBasic tokens.now from halt) }
     ensures held { IfErr result (λ halt. halt ≡ Halt.Refused from) }
@@ -218,7 +218,7 @@ pub fn typing(
 ) -> Result<Reading<Typing>, Halt>
     requires { from ≤ length tokens.now }
     ensures spells { IfOk result (λ reading. grammar.SpellsTyping tokens.now depth from reading.part reading.end) }
-    ensures sure { IfOk result (λ reading. stops.Sure (λ tokens. grammar.SpellsTyping tokens depth) spec.by_bracket tokens.now from reading.end reading.stop) }
+    ensures longest { IfOk result (λ reading. stops.IsLongest (λ tokens. grammar.SpellsTyping tokens depth) spec.by_bracket tokens.now from reading.end reading.stop) }
     ensures ahead { IfOk result (λ reading. stops.IsAhead tokens.now from reading.end reading.stop) }
     ensures refused { IfErr result (λ halt. stops.IsHalted (λ tokens. grammar.SpellsTyping tokens depth) tokens.now from halt) }
 {
@@ -252,7 +252,7 @@ fn structure(
     requires within { from ≤ length tokens.now }
     requires word { HasWord tokens.now from w.STRUCT }
     ensures spells { IfOk result (λ reading. grammar.SpellsTyping tokens.now depth from reading.part reading.end) }
-    ensures sure { IfOk result (λ reading. stops.Sure (λ tokens. grammar.SpellsTyping tokens depth) spec.by_bracket tokens.now from reading.end reading.stop) }
+    ensures longest { IfOk result (λ reading. stops.IsLongest (λ tokens. grammar.SpellsTyping tokens depth) spec.by_bracket tokens.now from reading.end reading.stop) }
     ensures ahead { IfOk result (λ reading. stops.IsAhead tokens.now from reading.end reading.stop) }
     ensures refused { IfErr result (λ halt. stops.IsHalted (λ tokens. grammar.SpellsTyping tokens depth) tokens.now from halt) }
 {
@@ -288,7 +288,7 @@ fn fields(
 ) -> Result<Reading<Vec<Field>>, Halt>
     requires { from ≤ length tokens.now }
     ensures spells { IfOk result (λ reading. SpellsList tokens.now (grammar.SpellsField tokens.now depth) from reading.part.items reading.end) }
-    ensures sure { IfOk result (λ reading. stops.Sure (λ tokens. SpellsList tokens (grammar.SpellsField tokens depth)) (spec.by_comma spec.by_bracket) tokens.now from reading.end reading.stop) }
+    ensures longest { IfOk result (λ reading. stops.IsLongest (λ tokens. SpellsList tokens (grammar.SpellsField tokens depth)) (spec.by_comma spec.by_bracket) tokens.now from reading.end reading.stop) }
     ensures ahead { IfOk result (λ reading. stops.IsAhead tokens.now from reading.end reading.stop) }
     ensures refused { IfErr result (λ halt. stops.IsHalted (λ tokens. SpellsList tokens (grammar.SpellsField tokens depth)) tokens.now from halt) }
 {
@@ -330,7 +330,7 @@ fn fields(
 fn field(alloc: Global, tokens: &[Token], from: usize, depth: u8) -> Result<Reading<Field>, Halt>
     requires { from ≤ length tokens.now }
     ensures spells { IfOk result (λ reading. grammar.SpellsField tokens.now depth from reading.part reading.end) }
-    ensures sure { IfOk result (λ reading. stops.Sure (λ tokens. grammar.SpellsField tokens depth) spec.by_bracket tokens.now from reading.end reading.stop) }
+    ensures longest { IfOk result (λ reading. stops.IsLongest (λ tokens. grammar.SpellsField tokens depth) spec.by_bracket tokens.now from reading.end reading.stop) }
     ensures ahead { IfOk result (λ reading. stops.IsAhead tokens.now from reading.end reading.stop) }
     ensures refused { IfErr result (λ halt. stops.IsHalted (λ tokens. grammar.SpellsField tokens depth) tokens.now from halt) }
 {

@@ -1,7 +1,7 @@
 -- Operands with operators between them: what other tokens can spell that begin as these do, read up to some operand.
 use Rattle.std.proofs.Common.{◌≡◌, ℕ, zero, suc, ◌+◌, ◌<◌, ◌≤◌, Bool, true, false, ◌||◌, List, Option, Some, None, is_some, ◌⊎◌, inl, inr, refl, sym, ap, subst, ◌∙◌, arith, true≢false, eqb-true, ◌==◌}
 use Rattle.std.specs.Option.{option_and_then}
-use Rattle.pearl_tree.specs.declared.expression.Dyad.{Dyad}
+use Rattle.pearl_value.specs.declared.operator.Dyad.{Dyad}
 use Rattle.pearl_tree.specs.declared.expression.Expr.{Expr, Operand', Dyadic'}
 use Rattle.pearl_tree.specs.declared.expression.Primary.{Primary}
 use Rattle.pearl_tree.specs.declared.token.What.{What}
@@ -15,7 +15,7 @@ use Rattle.pearl_parse_expr.specs.declared.reading.Halt.{Halt}
 use Rattle.pearl_parse_expr.specs.declared.reading.Halt.TheVariants.{Refused, NoMemory}
 use Rattle.pearl_tree.specs.Following.{lengthens_operand}
 use Rattle.pearl_tree.specs.Stops.{BeginAlike}
-use Rattle.pearl_parse_expr.specs.Stops.{IsHalted, Sure, Stuck, EndsEarly, extends_operand, extends_expression, SpellsSigned}
+use Rattle.pearl_parse_expr.specs.Stops.{IsHalted, IsLongest, Stuck, EndsEarly, extends_operand, extends_expression, SpellsSigned}
 use Rattle.pearl_parse_expr.proofs.Primaries.{clash, or_absurd}
 use Rattle.pearl_parse_expr.proofs.Parts.{shorter, or_first, or_second}
 
@@ -96,28 +96,28 @@ module _ (tokens : List Token) (depth from : ℕ) where
       inl (omega (arith, h, early.0), subst (λ k. extends_expression (what_at others k) ≡ true) (sym h) (operand_extends (what_at others m) early.1))
   after_operand others end m to count (suc j) n h size (inr early) = absurd (dyad_is_behind (what_at others m) early.1 h.1)
 
-  pub chain_begins : (end stop : ℕ) → Sure (λ tokens. SpellsSigned tokens depth) extends_operand tokens from end stop →
+  pub chain_begins : (end stop : ℕ) → IsLongest (λ tokens. SpellsSigned tokens depth) extends_operand tokens from end stop →
       ChainGoes tokens depth from end stop 0
-  chain_begins end stop sure = λ others agree m n to x first rest.
-      after_operand others end m to 0 n n rest (omega arith) (sure others agree x m first)
+  chain_begins end stop longest = λ others agree m n to x first rest.
+      after_operand others end m to 0 n n rest (omega arith) (longest others agree x m first)
 
   step : (others : List Token) (end next count n to : ℕ) → end < next → is_dyad (what_at others end) ≡ true →
       ((x : Primary) (to : ℕ) → SpellsSigned others depth (end + 1) x to → (to ≡ next) ⊎ EndsEarly extends_operand others next to) →
       EndsEarly extends_expression others end to ⊎ ((j : ℕ) × (count + j ≡ n) × Rest others depth j end to) →
       EndsEarly extends_expression others next to ⊎ ((j : ℕ) × (count + 1 + j ≡ n) × Rest others depth j next to)
-  step others end next count n to ahead dyad sure (inl early) = inl (omega (arith, early.0), early.1)
-  step others end next count n to ahead dyad sure (inr (zero, size, h)) =
+  step others end next count n to ahead dyad longest (inl early) = inl (omega (arith, early.0), early.1)
+  step others end next count n to ahead dyad longest (inr (zero, size, h)) =
       inl (omega (arith, h), subst (λ k. extends_expression (what_at others k) ≡ true) (sym h) (dyad_extends (what_at others end) dyad))
-  step others end next count n to ahead dyad sure (inr (suc j, size, h)) =
-      after_operand others next h.0 to (count + 1) j n h.3 (omega arith) (sure h.2.0 h.0 h.2.1)
+  step others end next count n to ahead dyad longest (inr (suc j, size, h)) =
+      after_operand others next h.0 to (count + 1) j n h.3 (omega arith) (longest h.2.0 h.0 h.2.1)
 
   pub chain_goes_on : (end stop next last new count : ℕ) (operator : Dyad) → ChainGoes tokens depth from end stop count →
       end ≤ stop → end < next → stop ≤ new → last ≤ new → HasDyad tokens end operator →
-      Sure (λ tokens. SpellsSigned tokens depth) extends_operand tokens (end + 1) next last →
+      IsLongest (λ tokens. SpellsSigned tokens depth) extends_operand tokens (end + 1) next last →
       ChainGoes tokens depth from next new (count + 1)
-  chain_goes_on end stop next last new count operator go near ahead below reach dyad sure = λ others agree m n to x first rest.
+  chain_goes_on end stop next last new count operator go near ahead below reach dyad longest = λ others agree m n to x first rest.
       step others end next count n to ahead (ap is_dyad (sym (agree end (omega arith))) ∙ ap is_some dyad)
-      (λ x to h. sure others (shorter tokens others last new reach agree) x to h)
+      (λ x to h. longest others (shorter tokens others last new reach agree) x to h)
       (go others (shorter tokens others stop new below agree) m n to x first rest)
 
   stops : (others : List Token) (end count n to : ℕ) → ((j : ℕ) → count + suc j ≡ n → Rest others depth (suc j) end to → ⊥) →
@@ -130,7 +130,7 @@ module _ (tokens : List Token) (depth from : ℕ) where
   -- no operator follows
   pub chain_ends : (end stop count : ℕ) → ChainGoes tokens depth from end stop count → end ≤ stop →
       option_and_then dyad_of (what_at tokens end) ≡ None →
-      Sure (λ tokens. SpellsExpr tokens depth) extends_expression tokens from end stop
+      IsLongest (λ tokens. SpellsExpr tokens depth) extends_expression tokens from end stop
   chain_ends end stop count go near none = λ others agree x to h.
       let chain = flat others depth from x to h.0 in
       stops others end count (dyad_count x) to
@@ -140,7 +140,7 @@ module _ (tokens : List Token) (depth from : ℕ) where
   -- no operand follows the operator
   pub chain_is_stuck : (end stop last new count : ℕ) → ChainGoes tokens depth from end stop count → stop ≤ new → last ≤ new →
       Stuck (λ tokens. SpellsSigned tokens depth) tokens (end + 1) last →
-      Sure (λ tokens. SpellsExpr tokens depth) extends_expression tokens from end new
+      IsLongest (λ tokens. SpellsExpr tokens depth) extends_expression tokens from end new
   chain_is_stuck end stop last new count go below reach stuck = λ others agree x to h.
       let chain = flat others depth from x to h.0 in
       stops others end count (dyad_count x) to
@@ -149,7 +149,7 @@ module _ (tokens : List Token) (depth from : ℕ) where
 
   -- no more operators are allowed
   pub chain_is_full : (end stop count : ℕ) → ChainGoes tokens depth from end stop count → 100 ≤ count →
-      Sure (λ tokens. SpellsExpr tokens depth) extends_expression tokens from end stop
+      IsLongest (λ tokens. SpellsExpr tokens depth) extends_expression tokens from end stop
   chain_is_full end stop count go full = λ others agree x to h.
       let chain = flat others depth from x to h.0 in
       stops others end count (dyad_count x) to

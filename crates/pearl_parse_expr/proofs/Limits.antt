@@ -2,8 +2,8 @@
 use Rattle.std.proofs.Common.{◌≡◌, ℕ, zero, suc, ◌+◌, ◌<◌, ◌≤◌, Bool, true, false, List, [], ◌∷◌, length, Option, Some, None, ◌⊎◌, inl, inr, refl, sym, ap, subst, ◌∙◌, arith, true≢false, eqb-true, ◌==◌}
 use Rattle.std.specs.Option.{option_and_then}
 use Rattle.pearl_tree.specs.declared.name.Number.{Number}
-use Rattle.pearl_tree.specs.declared.expression.Monad.{Monad}
-use Rattle.pearl_tree.specs.declared.expression.Monad.TheVariants as monad
+use Rattle.pearl_value.specs.declared.operator.Monad.{Monad}
+use Rattle.pearl_value.specs.declared.operator.Monad.TheVariants as monad
 use Rattle.pearl_tree.specs.declared.expression.Monadic.{Monadic}
 use Rattle.pearl_tree.specs.declared.expression.Side.{Side}
 use Rattle.pearl_tree.specs.declared.expression.Side.TheVariants.{Lower, Upper}
@@ -18,7 +18,7 @@ use Rattle.pearl_tree.specs.Expressions.{SpellsPrimary, SpellsMonadic, side_word
 use Rattle.pearl_tables.specs.declared.word_code.TheConstants as w
 use Rattle.pearl_tables.specs.declared.symbol.TheConstants as s
 use Rattle.pearl_tree.specs.Stops.{BeginAlike}
-use Rattle.pearl_parse_expr.specs.Stops.{Sure, Stuck, EndsEarly, is_number, is_side, is_literal, is_name, is_symbol, is_word, monad_of, extends_operand, SpellsNamed, SpellsSigned}
+use Rattle.pearl_parse_expr.specs.Stops.{IsLongest, Stuck, EndsEarly, is_number, is_side, is_literal, is_name, is_symbol, is_word, monad_of, extends_operand, SpellsNamed, SpellsSigned}
 use Rattle.pearl_parse_expr.proofs.Primaries.{clash, or_absurd, side_head, Head, first_token, only_limit, only_counted_limit}
 
 pub side_extends : (token : Option What) (side : Side) → token ≡ Some (what.Word (side_word side)) → extends_operand token ≡ true
@@ -171,8 +171,8 @@ head_is_no_monad (primary.Ref' name _ list place) token h sign = name_is_no_mona
 head_is_no_monad (primary.Group' _ inner place) token h sign = bracket_is_no_monad token h sign
 head_is_no_monad (primary.Now place) token h sign = now_is_no_monad token h sign
 head_is_no_monad (primary.Try name place) token h sign = try_is_no_monad token h sign
-head_is_no_monad (primary.Limit' None side name _ list ref_place place) token h sign = side_is_no_monad token h sign
-head_is_no_monad (primary.Limit' (Some number) side name _ list ref_place place) token h sign = number_is_no_monad token h sign
+head_is_no_monad (primary.Limit' None side _ name _ list ref_place place) token h sign = side_is_no_monad token h sign
+head_is_no_monad (primary.Limit' (Some number) side _ name _ list ref_place place) token h sign = number_is_no_monad token h sign
 
 same_size : (a b : ℕ) → (a < b → ⊥) → (b < a → ⊥) → a ≡ b
 same_size a b above below = omega (arith, above, below)
@@ -220,8 +220,8 @@ array_read : (others : List Token) (depth from word end to : ℕ) (dimension : O
     ((list : List Selector) → SpellsNamed others depth (word + 1) list to → (to ≡ end) ⊎ EndsEarly extends_operand others end to) →
     (IsSome dimension × (to ≡ from + 1) × (extends_operand (what_at others to) ≡ true)) ⊎ ((list : List Selector) × SpellsNamed others depth (word + 1) list to) →
     (to ≡ end) ⊎ EndsEarly extends_operand others end to
-array_read others depth from word end to dimension near sure (inl number) = inr (omega (arith, number.1), number.2)
-array_read others depth from word end to dimension near sure (inr read) = sure read.0 read.1
+array_read others depth from word end to dimension near longest (inl number) = inr (omega (arith, number.1), number.2)
+array_read others depth from word end to dimension near longest (inr read) = longest read.0 read.1
 
 -- no array follows
 pub without_array : (tokens others : List Token) (depth from word stop : ℕ) (dimension : Option Number) (side : Side) →
@@ -243,8 +243,8 @@ without_number tokens others depth from word stop dimension side number stands n
 -- an array follows
 pub with_array : (tokens others : List Token) (depth from word end stop : ℕ) (dimension : Option Number) (side : Side) →
     SpellsMaybe (SpellsNumber tokens) from dimension word → HasWord tokens word (side_word side) → word + 1 < end → end ≤ stop →
-    Sure (λ tokens. SpellsNamed tokens depth) extends_operand tokens (word + 1) end stop → BeginAlike tokens others stop →
+    IsLongest (λ tokens. SpellsNamed tokens depth) extends_operand tokens (word + 1) end stop → BeginAlike tokens others stop →
     (x : Primary) (to : ℕ) → SpellsPrimary others depth from x to → (to ≡ end) ⊎ EndsEarly extends_operand others end to
-with_array tokens others depth from word end stop dimension side number stands ahead near sure agree x to h =
-    array_read others depth from word end to dimension (omega (arith, number_before tokens from word dimension number)) (λ list h. sure others agree list to h)
+with_array tokens others depth from word end stop dimension side number stands ahead near longest agree x to h =
+    array_read others depth from word end to dimension (omega (arith, number_before tokens from word dimension number)) (λ list h. longest others agree list to h)
     (limit_others tokens others depth from word stop dimension side number stands agree (omega arith) x to h)

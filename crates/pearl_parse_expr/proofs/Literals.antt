@@ -44,7 +44,7 @@ one_token tokens others from stop agree stuck (literal.Number number) to h = h.1
 one_token tokens others from stop agree stuck (literal.Bits len value place) to h = h.2
 one_token tokens others from stop agree stuck (literal.Text text place) to h = h.2
 one_token tokens others from stop agree stuck (literal.Clock milliseconds place) to h = h.2
-one_token tokens others from stop agree stuck (literal.Duration duration) to h = absurd (stuck others agree duration to h)
+one_token tokens others from stop agree stuck (literal.Duration duration) to h = absurd (stuck others agree duration.value to h)
 
 pub same_word : (token : Option What) (a b : ℕ) → token ≡ Some (what.Word a) → token ≡ Some (what.Word b) → a ≡ b
 same_word token a b first second = cc
@@ -75,7 +75,7 @@ module _ (tokens : List Token) (from end : ℕ) (far : from + 4 ≤ end)
     (hours_word : what_at tokens (from + 1) ≡ Some (what.Word w.HRS))
     (number : is_number (what_at tokens (from + 2)) ≡ true)
     (minutes_word : what_at tokens (from + 3) ≡ Some (what.Word w.MIN))
-    (sure : (x : Option Secs) (to : ℕ) → SpellsMaybeSeconds tokens (from + 4) x to →
+    (longest : (x : Option Secs) (to : ℕ) → SpellsMaybeSeconds tokens (from + 4) x to →
     (to ≡ end) ⊎ EndsEarly extends_operand tokens end to) where
   pub after_minutes : (x : Duration) (to : ℕ) → SpellsDuration tokens from x to →
       (to ≡ end) ⊎ EndsEarly extends_operand tokens end to
@@ -87,7 +87,7 @@ module _ (tokens : List Token) (from end : ℕ) (far : from + 4 ≤ end)
       absurd (omega (arith, seconds_clash tokens (from + 2) w.MIN seconds to part (subst (λ k. what_at tokens k ≡ Some (what.Word w.MIN)) (omega arith) minutes_word)))
   after_minutes (Hours hours (Some minutes) seconds place) to h =
       let at : h.0 ≡ from + 4 = omega (arith, h.4.2) in
-      sure seconds to (subst (λ m. SpellsMaybeSeconds tokens m seconds to) at h.5)
+      longest seconds to (subst (λ m. SpellsMaybeSeconds tokens m seconds to) at h.5)
   after_minutes (Minutes minutes seconds place) to h =
       absurd (omega (arith, same_word (what_at tokens (from + 1)) w.HRS w.MIN hours_word h.2))
   after_minutes (Seconds seconds place) to h =

@@ -8,7 +8,7 @@ use Rattle.pearl_tree.specs.Standing.{what_at, HasSymbol, SpellsMore}
 use Rattle.pearl_tree.specs.Expressions.{SpellsSelector, SpellsExpr}
 use Rattle.pearl_tables.specs.declared.symbol.TheConstants as s
 use Rattle.pearl_tree.specs.Stops.{BeginAlike}
-use Rattle.pearl_parse_expr.specs.Stops.{Sure, Stuck, Exact, EndsEarly, is_symbol, extends_operand, extends_expression, extends_list, SpellsSelectorsList, SpellsSubscriptsList}
+use Rattle.pearl_parse_expr.specs.Stops.{IsLongest, Stuck, IsOnly, EndsEarly, is_symbol, extends_operand, extends_expression, extends_list, SpellsSelectorsList, SpellsSubscriptsList}
 use Rattle.pearl_parse_expr.proofs.Primaries.{clash}
 
 pub shorter : (tokens others : List Token) (short long : ℕ) → short ≤ long → BeginAlike tokens others long → BeginAlike tokens others short
@@ -25,18 +25,18 @@ module _ (tokens : List Token) (depth from : ℕ) where
       ((x : Selector) (to : ℕ) → SpellsSelector others depth end x to → to ≡ next) →
       EndsEarly extends_operand others end to ⊎ ((ys : List Selector) × SpellsSelectorsList others depth end ys to) →
       EndsEarly extends_operand others next to ⊎ ((ys : List Selector) × SpellsSelectorsList others depth next ys to)
-  selectors_step end next to others ahead opens exact (inl early) = inl (omega (arith, early.0), early.1)
-  selectors_step end next to others ahead opens exact (inr ([], h)) =
+  selectors_step end next to others ahead opens only (inl early) = inl (omega (arith, early.0), early.1)
+  selectors_step end next to others ahead opens only (inr ([], h)) =
       inl (omega (arith, h), subst (λ k. extends_operand (what_at others k) ≡ true) (sym h) opens)
-  selectors_step end next to others ahead opens exact (inr (y ∷ ys, h)) =
-      inr (ys, subst (λ k. SpellsSelectorsList others depth k ys to) (exact y h.0 h.1) h.2)
+  selectors_step end next to others ahead opens only (inr (y ∷ ys, h)) =
+      inr (ys, subst (λ k. SpellsSelectorsList others depth k ys to) (only y h.0 h.1) h.2)
 
   pub selectors_next : (end stop next last new : ℕ) → SelectorsGo tokens depth from end stop → end ≤ stop → end < next → stop ≤ new →
-      last ≤ new → extends_operand (what_at tokens end) ≡ true → Exact (λ tokens. SpellsSelector tokens depth) tokens end next last →
+      last ≤ new → extends_operand (what_at tokens end) ≡ true → IsOnly (λ tokens. SpellsSelector tokens depth) tokens end next last →
       SelectorsGo tokens depth from next new
-  selectors_next end stop next last new go near ahead below reach opens exact = λ others agree xs to h.
+  selectors_next end stop next last new go near ahead below reach opens only = λ others agree xs to h.
       selectors_step end next to others ahead (ap extends_operand (sym (agree end (omega arith))) ∙ opens)
-      (λ x to h. exact others (shorter tokens others last new reach agree) x to h)
+      (λ x to h. only others (shorter tokens others last new reach agree) x to h)
       (go others (shorter tokens others stop new below agree) xs to h)
 
   selectors_stuck : (end to : ℕ) (others : List Token) → ((x : Selector) (to : ℕ) → SpellsSelector others depth end x to → ⊥) →
@@ -48,7 +48,7 @@ module _ (tokens : List Token) (depth from : ℕ) where
 
   pub selectors_end : (end stop last new : ℕ) → SelectorsGo tokens depth from end stop → stop ≤ new → last ≤ new →
       Stuck (λ tokens. SpellsSelector tokens depth) tokens end last →
-      Sure (λ tokens. SpellsSelectorsList tokens depth) extends_operand tokens from end new
+      IsLongest (λ tokens. SpellsSelectorsList tokens depth) extends_operand tokens from end new
   selectors_end end stop last new go below reach stuck = λ others agree xs to h.
       selectors_stuck end to others (λ x to h. stuck others (shorter tokens others last new reach agree) x to h)
       (go others (shorter tokens others stop new below agree) xs to h)
@@ -84,28 +84,28 @@ module _ (tokens : List Token) (depth from : ℕ) where
       ((x : Expr) (to : ℕ) → SpellsExpr others depth from x to → (to ≡ end) ⊎ EndsEarly extends_expression others end to) →
       (xs : List Expr) (to : ℕ) → SpellsSubscriptsList others depth from xs to →
       EndsEarly extends_list others end to ⊎ ((ys : List Expr) × SpellsMore others (SpellsExpr others depth) end ys to)
-  list_begins others end sure [] to h = absurd h
-  list_begins others end sure (x ∷ xs) to h = after_expression others end h.0 to xs h.2 (sure x h.0 h.1)
+  list_begins others end longest [] to h = absurd h
+  list_begins others end longest (x ∷ xs) to h = after_expression others end h.0 to xs h.2 (longest x h.0 h.1)
 
-  pub subscripts_begin : (end stop : ℕ) → Sure (λ tokens. SpellsExpr tokens depth) extends_expression tokens from end stop →
+  pub subscripts_begin : (end stop : ℕ) → IsLongest (λ tokens. SpellsExpr tokens depth) extends_expression tokens from end stop →
       SubscriptsGo tokens depth from end stop
-  subscripts_begin end stop sure = λ others agree xs to h. list_begins others end (λ x to h. sure others agree x to h) xs to h
+  subscripts_begin end stop longest = λ others agree xs to h. list_begins others end (λ x to h. longest others agree x to h) xs to h
 
   list_step : (others : List Token) (end next to : ℕ) → end < next → HasSymbol others end s.COMMA →
       ((x : Expr) (to : ℕ) → SpellsExpr others depth (end + 1) x to → (to ≡ next) ⊎ EndsEarly extends_expression others next to) →
       EndsEarly extends_list others end to ⊎ ((ys : List Expr) × SpellsMore others (SpellsExpr others depth) end ys to) →
       EndsEarly extends_list others next to ⊎ ((ys : List Expr) × SpellsMore others (SpellsExpr others depth) next ys to)
-  list_step others end next to ahead comma sure (inl early) = inl (omega (arith, early.0), early.1)
-  list_step others end next to ahead comma sure (inr ([], h)) =
+  list_step others end next to ahead comma longest (inl early) = inl (omega (arith, early.0), early.1)
+  list_step others end next to ahead comma longest (inr ([], h)) =
       inl (omega (arith, h), subst (λ k. extends_list (what_at others k) ≡ true) (sym h) (ap extends_list comma))
-  list_step others end next to ahead comma sure (inr (y ∷ ys, h)) = after_expression others next h.0 to ys h.3 (sure y h.0 h.2)
+  list_step others end next to ahead comma longest (inr (y ∷ ys, h)) = after_expression others next h.0 to ys h.3 (longest y h.0 h.2)
 
   pub subscripts_next : (end stop next last new : ℕ) → SubscriptsGo tokens depth from end stop → end ≤ stop → end < next → stop ≤ new →
-      last ≤ new → HasSymbol tokens end s.COMMA → Sure (λ tokens. SpellsExpr tokens depth) extends_expression tokens (end + 1) next last →
+      last ≤ new → HasSymbol tokens end s.COMMA → IsLongest (λ tokens. SpellsExpr tokens depth) extends_expression tokens (end + 1) next last →
       SubscriptsGo tokens depth from next new
-  subscripts_next end stop next last new go near ahead below reach comma sure = λ others agree xs to h.
+  subscripts_next end stop next last new go near ahead below reach comma longest = λ others agree xs to h.
       list_step others end next to ahead (sym (agree end (omega arith)) ∙ comma)
-      (λ x to h. sure others (shorter tokens others last new reach agree) x to h)
+      (λ x to h. longest others (shorter tokens others last new reach agree) x to h)
       (go others (shorter tokens others stop new below agree) xs to h)
 
   list_ends : (others : List Token) (end to : ℕ) →
@@ -118,7 +118,7 @@ module _ (tokens : List Token) (depth from : ℕ) where
 
   pub subscripts_end : (end stop : ℕ) → SubscriptsGo tokens depth from end stop → end ≤ stop →
       is_symbol s.COMMA (what_at tokens end) ≡ false →
-      Sure (λ tokens. SpellsSubscriptsList tokens depth) extends_list tokens from end stop
+      IsLongest (λ tokens. SpellsSubscriptsList tokens depth) extends_list tokens from end stop
   subscripts_end end stop go near no_comma = λ others agree xs to h.
       list_ends others end to
       (λ comma x to h. clash _ (ap (is_symbol s.COMMA) comma) (ap (is_symbol s.COMMA) (sym (agree end near)) ∙ no_comma))
@@ -126,7 +126,7 @@ module _ (tokens : List Token) (depth from : ℕ) where
 
   pub subscripts_stuck : (end stop last new : ℕ) → SubscriptsGo tokens depth from end stop → stop ≤ new → last ≤ new →
       Stuck (λ tokens. SpellsExpr tokens depth) tokens (end + 1) last →
-      Sure (λ tokens. SpellsSubscriptsList tokens depth) extends_list tokens from end new
+      IsLongest (λ tokens. SpellsSubscriptsList tokens depth) extends_list tokens from end new
   subscripts_stuck end stop last new go below reach stuck = λ others agree xs to h.
       list_ends others end to
       (λ comma x to h. stuck others (shorter tokens others last new reach agree) x to h)

@@ -29,8 +29,8 @@ no_head (primary.Ref' name _ list place) h = true≢false (sym h)
 no_head (primary.Group' _ inner place) h = true≢false (sym h)
 no_head (primary.Now place) h = true≢false (sym h)
 no_head (primary.Try name place) h = true≢false (sym h)
-no_head (primary.Limit' None side name _ list ref_place place) h = true≢false (sym h)
-no_head (primary.Limit' (Some number) side name _ list ref_place place) h = true≢false (sym h)
+no_head (primary.Limit' None side _ name _ list ref_place place) h = true≢false (sym h)
+no_head (primary.Limit' (Some number) side _ name _ list ref_place place) h = true≢false (sym h)
 
 no_operand : (tokens : List Token) (depth from m to : ℕ) (list : List Monadic) (x : Primary) → what_at tokens from ≡ None →
     SpellsEach (SpellsMonadic tokens) from list m → SpellsPrimary tokens depth m x to → ⊥

@@ -1,7 +1,7 @@
 -- What tokens that begin alike have in common: which token goes on with a part, and with which none goes on.
 use Rattle.std.specs.Prelude.{if◌then◌else◌, ◌≡◌, ℕ, ◌+◌, ◌<◌, ◌≤◌, ◌⊎◌, ◌==◌, ◌||◌, ◌&&◌, ◌-◌, ◌^◌, unwrap_or, Bool, true, false, List, length, Option, Some, None}
-use Rattle.pearl_tree.specs.declared.expression.Monad.{Monad}
-use Rattle.pearl_tree.specs.declared.expression.Monad.TheVariants as monad
+use Rattle.pearl_value.specs.declared.operator.Monad.{Monad}
+use Rattle.pearl_value.specs.declared.operator.Monad.TheVariants as monad
 use Rattle.pearl_tree.specs.declared.token.What.{What}
 use Rattle.pearl_tree.specs.declared.token.What.TheVariants as what
 use Rattle.pearl_tree.specs.declared.token.Token.{Token}
@@ -38,10 +38,10 @@ extends_expression = is_one_of lengthens_expr
 abbrev pub EndsEarly : (Option What → Bool) → List Token → ℕ → ℕ → Type 0
 EndsEarly extends tokens end to = (to < end) × (extends (what_at tokens to) ≡ true)
 
--- however the tokens behind this one are replaced, what begins at `from` ends at `end`, or before a token that goes on
--- with it
-abbrev pub Sure : {X : Type 0} → (List Token → Spelling X) → (Option What → Bool) → List Token → ℕ → ℕ → ℕ → Type 0
-Sure {X} spells extends tokens from end stop =
+-- `end` is the longest end: however the tokens behind `stop` are replaced, what begins at `from` ends there, or earlier
+-- and before a token that goes on with it
+abbrev pub IsLongest : {X : Type 0} → (List Token → Spelling X) → (Option What → Bool) → List Token → ℕ → ℕ → ℕ → Type 0
+IsLongest {X} spells extends tokens from end stop =
     (others : List Token) → BeginAlike tokens others stop → (x : X) (to : ℕ) → spells others from x to →
     (to ≡ end) ⊎ EndsEarly extends others end to
 
@@ -106,9 +106,9 @@ is_counted word tokens at = is_number (what_at tokens at) && is_word word (what_
 abbrev pub SpellsMaybeSeconds : List Token → Spelling (Option Secs)
 SpellsMaybeSeconds tokens = SpellsMaybe (SpellsSeconds tokens)
 
--- however the tokens behind this one are replaced, what begins at `from` ends at `end`
-abbrev pub Exact : {X : Type 0} → (List Token → Spelling X) → List Token → ℕ → ℕ → ℕ → Type 0
-Exact {X} spells tokens from end stop =
+-- `end` is the only end: however the tokens behind `stop` are replaced, what begins at `from` ends there
+abbrev pub IsOnly : {X : Type 0} → (List Token → Spelling X) → List Token → ℕ → ℕ → ℕ → Type 0
+IsOnly {X} spells tokens from end stop =
     (others : List Token) → BeginAlike tokens others stop → (x : X) (to : ℕ) → spells others from x to → to ≡ end
 
 -- nothing was read: for want of memory, or since with this token none begins

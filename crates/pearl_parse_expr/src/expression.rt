@@ -14,14 +14,14 @@ ghost use Rattle.pearl_parse_expr.specs.declared.reading.Halt.{Halt};
 ghost use Rattle.pearl_parse_expr.specs.Stops as spec;
 
 use crate::fault::ParseFault;
-use crate::grouping::joined;
+use crate::grouping::with_operand;
 use crate::leaf::{
     LimitHead, availability, component, limit_head, literal_primary, monadics, without_array,
 };
 use crate::operator::dyadic_at;
-use crate::reading::{Halt, Reading, append};
+use crate::reading::{Halt, Reading, append, boxed};
 use crate::standing::{is_name, is_symbol, is_word, name_at, place_at};
-use crate::symbol::*;
+use pearl_tables::symbol::{COMMA, LEFT_ROUND, PERIOD, RIGHT_ROUND};
 use pearl_tables::word_code::{NOW, TRY};
 use pearl_tree::expression::{Expr, Operand, Primary, Ref, Selector};
 use pearl_tree::parts::Parts;
@@ -45,17 +45,17 @@ fn subscripts(
 ) -> Result<Reading<Vec<Expr>>, Halt>
     requires { from ≤ length tokens.now }
     ensures spells { IfOk result (λ reading. spec.SpellsSubscriptsList tokens.now depth from reading.part.items reading.end) }
-    ensures sure { IfOk result (λ reading. spec.Sure (λ tokens. spec.SpellsSubscriptsList tokens depth) spec.extends_list tokens.now from reading.end reading.stop) }
+    ensures longest { IfOk result (λ reading. spec.IsLongest (λ tokens. spec.SpellsSubscriptsList tokens depth) spec.extends_list tokens.now from reading.end reading.stop) }
     ensures ahead { IfOk result (λ reading. spec.IsAhead tokens.now from reading.end reading.stop) }
     ensures refused { IfErr result (λ halt. spec.IsHalted (λ tokens. spec.SpellsSubscriptsList tokens depth) tokens.now from halt) }
 {
-    let first = level(alloc, tokens, from, depth)?;
+    let first = expression_at_depth(alloc, tokens, from, depth)?;
     let mut list = Vec::new(alloc);
     append(&mut list, first.part)?;
     let mut end = first.end;
     let mut stop = first.stop;
     'each: while is_symbol(tokens, end, COMMA) {
-        match level(alloc, tokens, end + 1, depth) {
+        match expression_at_depth(alloc, tokens, end + 1, depth) {
             Ok(next) => {
                 append(&mut list, next.part)?;
                 end = next.end;
@@ -91,7 +91,7 @@ fn bracketed(
     requires bracket { HasSymbol tokens.now from s.LEFT_ROUND }
     requires deep { 0 < depth }
     ensures spells { IfOk result (λ reading. grammar.SpellsSelector tokens.now depth from reading.part reading.end) }
-    ensures sure { IfOk result (λ reading. spec.Exact (λ tokens. grammar.SpellsSelector tokens depth) tokens.now from reading.end reading.stop) }
+    ensures longest { IfOk result (λ reading. spec.IsOnly (λ tokens. grammar.SpellsSelector tokens depth) tokens.now from reading.end reading.stop) }
     ensures ahead { IfOk result (λ reading. spec.IsAhead tokens.now from reading.end reading.stop) }
     ensures refused { IfErr result (λ halt. spec.IsHalted (λ tokens. grammar.SpellsSelector tokens depth) tokens.now from halt) }
 {
@@ -121,7 +121,7 @@ fn selector(
 ) -> Result<Reading<Selector>, Halt>
     requires { from ≤ length tokens.now }
     ensures spells { IfOk result (λ reading. grammar.SpellsSelector tokens.now depth from reading.part reading.end) }
-    ensures sure { IfOk result (λ reading. spec.Exact (λ tokens. grammar.SpellsSelector tokens depth) tokens.now from reading.end reading.stop) }
+    ensures longest { IfOk result (λ reading. spec.IsOnly (λ tokens. grammar.SpellsSelector tokens depth) tokens.now from reading.end reading.stop) }
     ensures ahead { IfOk result (λ reading. spec.IsAhead tokens.now from reading.end reading.stop) }
     ensures refused { IfErr result (λ halt. spec.IsHalted (λ tokens. grammar.SpellsSelector tokens depth) tokens.now from halt) }
 {
@@ -143,7 +143,7 @@ fn selectors(
 ) -> Result<Reading<Vec<Selector>>, Halt>
     requires { from ≤ length tokens.now }
     ensures spells { IfOk result (λ reading. spec.SpellsSelectorsList tokens.now depth from reading.part.items reading.end) }
-    ensures sure { IfOk result (λ reading. spec.Sure (λ tokens. spec.SpellsSelectorsList tokens depth) spec.extends_operand tokens.now from reading.end reading.stop) }
+    ensures longest { IfOk result (λ reading. spec.IsLongest (λ tokens. spec.SpellsSelectorsList tokens depth) spec.extends_operand tokens.now from reading.end reading.stop) }
     ensures ahead { IfOk result (λ reading. (from ≤ reading.end) × (reading.end ≤ reading.stop) × (reading.stop ≤ length tokens.now)) }
     ensures fault { IfErr result (λ halt. halt ≡ Halt.NoMemory) }
 {
@@ -181,7 +181,7 @@ pub fn reference(
 ) -> Result<Reading<Ref>, Halt>
     requires { from ≤ length tokens.now }
     ensures spells { IfOk result (λ reading. grammar.SpellsRef tokens.now depth from reading.part reading.end) }
-    ensures sure { IfOk result (λ reading. spec.Sure (λ tokens. spec.SpellsNamed tokens depth) spec.extends_operand tokens.now from reading.end reading.stop) }
+    ensures longest { IfOk result (λ reading. spec.IsLongest (λ tokens. spec.SpellsNamed tokens depth) spec.extends_operand tokens.now from reading.end reading.stop) }
     ensures ahead { IfOk result (λ reading. spec.IsAhead tokens.now from reading.end reading.stop) }
     ensures refused { IfErr result (λ halt. spec.IsHalted (λ tokens. spec.SpellsNamed tokens depth) tokens.now from halt) }
 {
@@ -208,31 +208,28 @@ fn group(alloc: Global, tokens: &[Token], from: usize, depth: u8) -> Result<Read
     requires within { from ≤ length tokens.now }
     requires bracket { HasSymbol tokens.now from s.LEFT_ROUND }
     ensures spells { IfOk result (λ reading. grammar.SpellsPrimary tokens.now depth from reading.part reading.end) }
-    ensures sure { IfOk result (λ reading. spec.Sure (λ tokens. grammar.SpellsPrimary tokens depth) spec.extends_operand tokens.now from reading.end reading.stop) }
+    ensures longest { IfOk result (λ reading. spec.IsLongest (λ tokens. grammar.SpellsPrimary tokens depth) spec.extends_operand tokens.now from reading.end reading.stop) }
     ensures ahead { IfOk result (λ reading. spec.IsAhead tokens.now from reading.end reading.stop) }
     ensures refused { IfErr result (λ halt. spec.IsHalted (λ tokens. grammar.SpellsPrimary tokens depth) tokens.now from halt) }
 {
     if depth == 0 {
         return Err(Halt::Refused(from));
     }
-    let inner = match level(alloc, tokens, from + 1, depth - 1) {
+    let inner = match expression_at_depth(alloc, tokens, from + 1, depth - 1) {
         Ok(inner) => inner,
         Err(halt) => return Err(halt),
     };
     if !is_symbol(tokens, inner.end, RIGHT_ROUND) {
         return Err(Halt::Refused(inner.stop));
     }
-    match Box::new(alloc, inner.part) {
-        Ok(expr) => Ok(Reading {
-            part: Primary::Group {
-                inner: expr,
-                place: place_at(tokens, from),
-            },
-            end: inner.end + 1,
-            stop: inner.stop.max(inner.end + 1),
-        }),
-        Err(_) => Err(Halt::NoMemory),
-    }
+    Ok(Reading {
+        part: Primary::Group {
+            inner: boxed(alloc, inner.part)?,
+            place: place_at(tokens, from),
+        },
+        end: inner.end + 1,
+        stop: inner.stop.max(inner.end + 1),
+    })
 }
 
 #[cycle(expression)]
@@ -248,21 +245,24 @@ fn limit(
     requires word { HasWord tokens.now head.word (grammar.side_word head.side) }
     requires after { from ≤ head.word }
     ensures spells { IfOk result (λ reading. grammar.SpellsPrimary tokens.now depth from reading.part reading.end) }
-    ensures sure { IfOk result (λ reading. spec.Sure (λ tokens. grammar.SpellsPrimary tokens depth) spec.extends_operand tokens.now from reading.end reading.stop) }
+    ensures longest { IfOk result (λ reading. spec.IsLongest (λ tokens. grammar.SpellsPrimary tokens depth) spec.extends_operand tokens.now from reading.end reading.stop) }
     ensures ahead { IfOk result (λ reading. spec.IsAhead tokens.now from reading.end reading.stop) }
     ensures refused { IfErr result (λ halt. spec.IsHalted (λ tokens. grammar.SpellsPrimary tokens depth) tokens.now from halt) }
 {
     match reference(alloc, tokens, head.word + 1, depth) {
-        Ok(array) => Ok(Reading {
-            part: Primary::Limit {
-                dimension: head.dimension,
-                side: head.side,
-                array: array.part,
-                place: place_at(tokens, from),
-            },
-            end: array.end,
-            stop: array.stop,
-        }),
+        Ok(read) => {
+            let array = boxed(alloc, read.part)?;
+            Ok(Reading {
+                part: Primary::Limit {
+                    dimension: head.dimension,
+                    side: head.side,
+                    array,
+                    place: place_at(tokens, from),
+                },
+                end: read.end,
+                stop: read.stop,
+            })
+        }
         Err(halt) => match halt {
             Halt::Refused(stop) => without_array(tokens, from, head, stop),
             Halt::NoMemory => Err(Halt::NoMemory),
@@ -279,7 +279,7 @@ fn primary(
 ) -> Result<Reading<Primary>, Halt>
     requires { from ≤ length tokens.now }
     ensures spells { IfOk result (λ reading. grammar.SpellsPrimary tokens.now depth from reading.part reading.end) }
-    ensures sure { IfOk result (λ reading. spec.Sure (λ tokens. grammar.SpellsPrimary tokens depth) spec.extends_operand tokens.now from reading.end reading.stop) }
+    ensures longest { IfOk result (λ reading. spec.IsLongest (λ tokens. grammar.SpellsPrimary tokens depth) spec.extends_operand tokens.now from reading.end reading.stop) }
     ensures ahead { IfOk result (λ reading. spec.IsAhead tokens.now from reading.end reading.stop) }
     ensures refused { IfErr result (λ halt. spec.IsHalted (λ tokens. grammar.SpellsPrimary tokens depth) tokens.now from halt) }
 {
@@ -310,7 +310,7 @@ fn primary(
     }
     match limit_head(tokens, from) {
         Some(head) => limit(alloc, tokens, from, head, depth),
-        None => literal_primary(tokens, from),
+        None => literal_primary(alloc, tokens, from),
     }
 }
 
@@ -323,7 +323,7 @@ fn operand(
 ) -> Result<Reading<Operand>, Halt>
     requires { from ≤ length tokens.now }
     ensures spells { IfOk result (λ reading. grammar.SpellsTerms tokens.now depth from (tree.Operand reading.part) reading.end) }
-    ensures sure { IfOk result (λ reading. spec.Sure (λ tokens. spec.SpellsSigned tokens depth) spec.extends_operand tokens.now from reading.end reading.stop) }
+    ensures longest { IfOk result (λ reading. spec.IsLongest (λ tokens. spec.SpellsSigned tokens depth) spec.extends_operand tokens.now from reading.end reading.stop) }
     ensures ahead { IfOk result (λ reading. spec.IsAhead tokens.now from reading.end reading.stop) }
     ensures refused { IfErr result (λ halt. spec.IsHalted (λ tokens. spec.SpellsSigned tokens depth) tokens.now from halt) }
 {
@@ -344,10 +344,15 @@ fn operand(
 
 /// The longest expression that begins here, with at most `depth` brackets within one another.
 #[cycle(expression)]
-pub fn level(alloc: Global, tokens: &[Token], from: usize, depth: u8) -> Result<Reading<Expr>, Halt>
+pub fn expression_at_depth(
+    alloc: Global,
+    tokens: &[Token],
+    from: usize,
+    depth: u8,
+) -> Result<Reading<Expr>, Halt>
     requires { from ≤ length tokens.now }
     ensures spells { IfOk result (λ reading. grammar.SpellsExpr tokens.now depth from reading.part reading.end) }
-    ensures sure { IfOk result (λ reading. spec.Sure (λ tokens. grammar.SpellsExpr tokens depth) spec.extends_expression tokens.now from reading.end reading.stop) }
+    ensures longest { IfOk result (λ reading. spec.IsLongest (λ tokens. grammar.SpellsExpr tokens depth) spec.extends_expression tokens.now from reading.end reading.stop) }
     ensures ahead { IfOk result (λ reading. spec.IsAhead tokens.now from reading.end reading.stop) }
     ensures refused { IfErr result (λ halt. spec.IsHalted (λ tokens. grammar.SpellsExpr tokens depth) tokens.now from halt) }
 {
@@ -355,24 +360,18 @@ pub fn level(alloc: Global, tokens: &[Token], from: usize, depth: u8) -> Result<
         Ok(first) => first,
         Err(halt) => return Err(halt),
     };
-    let mut expr = Expr::Operand(first.part);
+    let mut part = Expr::Operand(first.part);
     let mut end = first.end;
     let mut stop = first.stop;
     let mut count = 0;
     'each: while count < DYADS_MAX {
         let dyadic = match dyadic_at(tokens, end) {
             Some(dyadic) => dyadic,
-            None => {
-                return Ok(Reading {
-                    part: expr,
-                    end,
-                    stop,
-                });
-            }
+            None => return Ok(Reading { part, end, stop }),
         };
         match operand(alloc, tokens, end + 1, depth) {
             Ok(next) => {
-                expr = joined(alloc, expr, dyadic, next.part)?;
+                part = with_operand(alloc, part, dyadic, next.part)?;
                 end = next.end;
                 stop = stop.max(next.stop);
                 count += 1;
@@ -380,7 +379,7 @@ pub fn level(alloc: Global, tokens: &[Token], from: usize, depth: u8) -> Result<
             Err(halt) => match halt {
                 Halt::Refused(at) => {
                     return Ok(Reading {
-                        part: expr,
+                        part,
                         end,
                         stop: stop.max(at),
                     });
@@ -389,11 +388,7 @@ pub fn level(alloc: Global, tokens: &[Token], from: usize, depth: u8) -> Result<
             },
         }
     }
-    Ok(Reading {
-        part: expr,
-        end,
-        stop,
-    })
+    Ok(Reading { part, end, stop })
 }
 
 fn stop_place(tokens: &[Token], stop: usize) -> u32
@@ -421,7 +416,7 @@ pub fn expression(
     if from > tokens.len() {
         return Err(ParseFault::Refused(NO_PLACE));
     }
-    match level(alloc, tokens, from, BRACKETS_MAX) {
+    match expression_at_depth(alloc, tokens, from, BRACKETS_MAX) {
         Ok(reading) => Ok((reading.part, reading.end, stop_place(tokens, reading.stop))),
         Err(halt) => match halt {
             Halt::Refused(stop) => Err(ParseFault::Refused(stop_place(tokens, stop))),

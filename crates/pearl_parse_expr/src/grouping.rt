@@ -8,7 +8,7 @@ ghost use Rattle.pearl_tree.specs.Expressions as grammar;
 ghost use Rattle.pearl_parse_expr.specs.declared.reading.Halt.{Halt};
 
 use crate::operator::rank;
-use crate::reading::Halt;
+use crate::reading::{Halt, boxed};
 use pearl_tree::expression::{Dyadic, Expr, Operand};
 use std::alloc::Global;
 
@@ -33,23 +33,19 @@ fn dyadic_of(alloc: Global, left: Expr, dyadic: Dyadic, right: Expr) -> Result<E
     ensures fault { IfErr result (λ halt. halt ≡ Halt.NoMemory) }
 {
     let place = first_place(&left);
-    match Box::new(alloc, left) {
-        Ok(left) => match Box::new(alloc, right) {
-            Ok(right) => Ok(Expr::Dyadic {
-                left,
-                dyadic,
-                right,
-                place,
-            }),
-            Err(_) => Err(Halt::NoMemory),
-        },
-        Err(_) => Err(Halt::NoMemory),
-    }
+    let left = boxed(alloc, left)?;
+    let right = boxed(alloc, right)?;
+    Ok(Expr::Dyadic {
+        left,
+        dyadic,
+        right,
+        place,
+    })
 }
 
 /// What the left expression becomes where an operator and an operand follow it: the operator takes as much of it as
 /// binds closer or equally.
-pub fn joined(alloc: Global, left: Expr, dyadic: Dyadic, right: Operand) -> Result<Expr, Halt>
+pub fn with_operand(alloc: Global, left: Expr, dyadic: Dyadic, right: Operand) -> Result<Expr, Halt>
     ensures spells { IfOk result (λ expr. (tokens : List Token) (depth from m to : ℕ) →
         grammar.SpellsTerms tokens depth from left m → grammar.HasDyad tokens m dyadic.operator →
         IsAt tokens m dyadic.place → grammar.SpellsTerms tokens depth (m + 1) (tree.Operand right) to →
@@ -72,10 +68,13 @@ pub fn joined(alloc: Global, left: Expr, dyadic: Dyadic, right: Operand) -> Resu
             place,
         } => {
             if rank(dyadic.operator) < rank(upper.operator) {
-                match joined(alloc, Box::into_inner(second), dyadic, right) {
-                    Ok(second) => dyadic_of(alloc, Box::into_inner(first), upper, second),
-                    Err(halt) => Err(halt),
-                }
+                let second = with_operand(alloc, Box::into_inner(second), dyadic, right)?;
+                Ok(Expr::Dyadic {
+                    left: first,
+                    dyadic: upper,
+                    right: boxed(alloc, second)?,
+                    place,
+                })
             } else {
                 let left = Expr::Dyadic {
                     left: first,

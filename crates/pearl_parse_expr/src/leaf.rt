@@ -80,7 +80,7 @@ pub fn component(tokens: &[Token], from: usize) -> Result<Reading<Selector>, Hal
     requires within { from ≤ length tokens.now }
     requires period { HasSymbol tokens.now from s.PERIOD }
     ensures spells { IfOk result (λ reading. (depth : ℕ) → grammar.SpellsSelector tokens.now depth from reading.part reading.end) }
-    ensures sure { IfOk result (λ reading. (depth : ℕ) → spec.Exact (λ tokens. grammar.SpellsSelector tokens depth) tokens.now from reading.end reading.stop) }
+    ensures longest { IfOk result (λ reading. (depth : ℕ) → spec.IsOnly (λ tokens. grammar.SpellsSelector tokens depth) tokens.now from reading.end reading.stop) }
     ensures ahead { IfOk result (λ reading. spec.IsAhead tokens.now from reading.end reading.stop) }
     ensures refused { IfErr result (λ halt. (depth : ℕ) → spec.IsHalted (λ tokens. grammar.SpellsSelector tokens depth) tokens.now from halt) }
     ensures memory { IfErr result (λ halt. halt ≢ Halt.NoMemory) }
@@ -103,7 +103,7 @@ pub fn availability(tokens: &[Token], from: usize) -> Result<Reading<Primary>, H
     requires within { from ≤ length tokens.now }
     requires word { HasWord tokens.now from w.TRY }
     ensures spells { IfOk result (λ reading. (depth : ℕ) → grammar.SpellsPrimary tokens.now depth from reading.part reading.end) }
-    ensures sure { IfOk result (λ reading. (depth : ℕ) → spec.Sure (λ tokens. grammar.SpellsPrimary tokens depth) spec.extends_operand tokens.now from reading.end reading.stop) }
+    ensures longest { IfOk result (λ reading. (depth : ℕ) → spec.IsLongest (λ tokens. grammar.SpellsPrimary tokens depth) spec.extends_operand tokens.now from reading.end reading.stop) }
     ensures ahead { IfOk result (λ reading. spec.IsAhead tokens.now from reading.end reading.stop) }
     ensures refused { IfErr result (λ halt. (depth : ℕ) → spec.IsHalted (λ tokens. grammar.SpellsPrimary tokens depth) tokens.now from halt) }
     ensures memory { IfErr result (λ halt. halt ≢ Halt.NoMemory) }
@@ -122,7 +122,11 @@ pub fn availability(tokens: &[Token], from: usize) -> Result<Reading<Primary>, H
 }
 
 /// The longest literal that begins here, where no other primary does.
-pub fn literal_primary(tokens: &[Token], from: usize) -> Result<Reading<Primary>, Halt>
+pub fn literal_primary(
+    alloc: Global,
+    tokens: &[Token],
+    from: usize,
+) -> Result<Reading<Primary>, Halt>
     requires within { from ≤ length tokens.now }
     requires group { spec.is_symbol s.LEFT_ROUND (what_at tokens.now from) ≡ false }
     requires name { spec.is_name (what_at tokens.now from) ≡ false }
@@ -130,18 +134,17 @@ pub fn literal_primary(tokens: &[Token], from: usize) -> Result<Reading<Primary>
     requires try_word { spec.is_word w.TRY (what_at tokens.now from) ≡ false }
     requires limit { spec.begins_limit tokens.now from ≡ false }
     ensures spells { IfOk result (λ reading. (depth : ℕ) → grammar.SpellsPrimary tokens.now depth from reading.part reading.end) }
-    ensures sure { IfOk result (λ reading. (depth : ℕ) → spec.Sure (λ tokens. grammar.SpellsPrimary tokens depth) spec.extends_operand tokens.now from reading.end reading.stop) }
+    ensures longest { IfOk result (λ reading. (depth : ℕ) → spec.IsLongest (λ tokens. grammar.SpellsPrimary tokens depth) spec.extends_operand tokens.now from reading.end reading.stop) }
     ensures ahead { IfOk result (λ reading. spec.IsAhead tokens.now from reading.end reading.stop) }
     ensures refused { IfErr result (λ halt. (depth : ℕ) → spec.IsHalted (λ tokens. grammar.SpellsPrimary tokens depth) tokens.now from halt) }
-    ensures memory { IfErr result (λ halt. halt ≢ Halt.NoMemory) }
 {
-    match literal(tokens, from) {
+    match literal(alloc, tokens, from) {
         Ok(literal) => Ok(Reading {
             part: Primary::Literal(literal.part),
             end: literal.end,
             stop: literal.stop,
         }),
-        Err(stop) => Err(Halt::Refused(stop)),
+        Err(halt) => Err(halt),
     }
 }
 
@@ -157,7 +160,7 @@ pub fn without_array(
     requires after { head.word + 1 ≤ stop }
     requires within { stop ≤ length tokens.now }
     ensures spells { IfOk result (λ reading. (depth : ℕ) → grammar.SpellsPrimary tokens.now depth from reading.part reading.end) }
-    ensures sure { IfOk result (λ reading. (depth : ℕ) → spec.Stuck (λ tokens. spec.SpellsNamed tokens depth) tokens.now (head.word + 1) stop → spec.Sure (λ tokens. grammar.SpellsPrimary tokens depth) spec.extends_operand tokens.now from reading.end reading.stop) }
+    ensures longest { IfOk result (λ reading. (depth : ℕ) → spec.Stuck (λ tokens. spec.SpellsNamed tokens depth) tokens.now (head.word + 1) stop → spec.IsLongest (λ tokens. grammar.SpellsPrimary tokens depth) spec.extends_operand tokens.now from reading.end reading.stop) }
     ensures ahead { IfOk result (λ reading. spec.IsAhead tokens.now from reading.end reading.stop) }
     ensures refused { IfErr result (λ halt. (depth : ℕ) → spec.Stuck (λ tokens. spec.SpellsNamed tokens depth) tokens.now (head.word + 1) stop → spec.IsHalted (λ tokens. grammar.SpellsPrimary tokens depth) tokens.now from halt) }
     ensures memory { IfErr result (λ halt. halt ≢ Halt.NoMemory) }

@@ -9,4 +9,3 @@ pub mod literal;
 mod operator;
 pub mod reading;
 pub mod standing;
-pub mod symbol;

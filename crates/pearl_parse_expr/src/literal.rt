@@ -1,47 +1,52 @@
 // Literals and durations.
 
-ghost use Rattle.std.specs.Prelude.{◌≡◌, ◌+◌, ◌<◌, ◌≤◌, length, IfOk, IfErr, IfSome, Some, None, true, false};
+ghost use Rattle.std.specs.Prelude.{◌≡◌, ◌≢◌, ◌+◌, ◌<◌, ◌≤◌, length, IfOk, IfErr, IfSome, Some, None, true, false};
 ghost use Rattle.pearl_tree.specs.Standing.{what_at, IsNumber, HasWord};
 ghost use Rattle.pearl_tree.specs.Expressions.{SpellsSecs, SpellsSeconds, SpellsDuration, SpellsLiteral};
 ghost use Rattle.pearl_tables.specs.declared.word_code.TheConstants as w;
 ghost use Rattle.pearl_tree.specs.declared.literal.Duration.{Duration};
-ghost use Rattle.pearl_parse_expr.specs.Stops.{Sure, Stuck, IsAhead, extends_operand, is_plain, is_secs, is_counted, SpellsMaybeSeconds};
+ghost use Rattle.pearl_parse_expr.specs.declared.reading.Halt.{Halt};
+ghost use Rattle.pearl_parse_expr.specs.Stops.{IsLongest, Stuck, IsAhead, IsHalted, extends_operand, is_plain, is_secs, is_counted, SpellsMaybeSeconds};
 
-use crate::reading::Reading;
+use crate::reading::{Halt, Reading, boxed};
 use crate::standing::{is_word, number_at};
 use pearl_tables::word_code::{HRS, MIN, SEC};
 use pearl_tree::literal::{Duration, Literal, Secs};
 use pearl_tree::name::Number;
 use pearl_tree::token::{Token, What};
+use std::alloc::Global;
 
 // A literal of one token.
-fn plain_at(tokens: &[Token], at: usize) -> Option<Literal>
-    ensures some { IfSome result (λ part. SpellsLiteral tokens.now at part (at + 1)) }
-    ensures none { result ≡ None → is_plain (what_at tokens.now at) ≡ false }
-    ensures within { IfSome result (λ _. at < length tokens.now) }
+fn plain_at(alloc: Global, tokens: &[Token], at: usize) -> Result<Option<Literal>, Halt>
+    ensures some { IfOk result (λ found. IfSome found (λ part. SpellsLiteral tokens.now at part (at + 1))) }
+    ensures none { IfOk result (λ found. found ≡ None → is_plain (what_at tokens.now at) ≡ false) }
+    ensures within { IfOk result (λ found. IfSome found (λ _. at < length tokens.now)) }
+    ensures fault { IfErr result (λ halt. halt ≡ Halt.NoMemory) }
 {
-    match tokens.get(at) {
-        Some(token) => match &token.what {
-            What::Number(value) => Some(Literal::Number(Number {
-                value: *value,
-                place: token.place,
-            })),
-            What::Bits { len, value } => Some(Literal::Bits {
-                len: *len,
-                value: *value,
-                place: token.place,
-            }),
-            What::Text(text) => Some(Literal::Text {
-                text: text.clone().unwrap(),
-                place: token.place,
-            }),
-            What::Clock(milliseconds) => Some(Literal::Clock {
-                milliseconds: *milliseconds,
-                place: token.place,
-            }),
-            _ => None,
-        },
-        None => None,
+    let token = match tokens.get(at) {
+        Some(token) => token,
+        None => return Ok(None),
+    };
+    let place = token.place;
+    match &token.what {
+        What::Number(value) => Ok(Some(Literal::Number(Number {
+            value: *value,
+            place,
+        }))),
+        What::Bits { len, value } => Ok(Some(Literal::Bits {
+            len: *len,
+            value: *value,
+            place,
+        })),
+        What::Text(text) => {
+            let text = boxed(alloc, text.clone().unwrap())?;
+            Ok(Some(Literal::Text { text, place }))
+        }
+        What::Clock(milliseconds) => Ok(Some(Literal::Clock {
+            milliseconds: *milliseconds,
+            place,
+        })),
+        _ => Ok(None),
     }
 }
 
@@ -71,7 +76,7 @@ fn secs_at(tokens: &[Token], at: usize) -> Option<Secs>
 fn seconds_at(tokens: &[Token], at: usize) -> Reading<Option<Secs>>
     requires { at ≤ length tokens.now }
     ensures spells { SpellsMaybeSeconds tokens.now at result.part result.end }
-    ensures sure { Sure SpellsMaybeSeconds extends_operand tokens.now at result.end result.stop }
+    ensures longest { IsLongest SpellsMaybeSeconds extends_operand tokens.now at result.end result.stop }
     ensures ahead { (at ≤ result.end) × (result.end ≤ result.stop) × (result.stop ≤ length tokens.now) }
     ensures stuck { result.part ≡ None → Stuck SpellsSeconds tokens.now at result.stop }
     ensures near { result.part ≡ None → result.stop ≤ at + 1 }
@@ -146,7 +151,7 @@ fn from_hours(tokens: &[Token], from: usize, hours: Number) -> Reading<Duration>
     requires number { IsNumber tokens.now from hours }
     requires word { HasWord tokens.now (from + 1) w.HRS }
     ensures spells { SpellsDuration tokens.now from result.part result.end }
-    ensures sure { Sure SpellsDuration extends_operand tokens.now from result.end result.stop }
+    ensures longest { IsLongest SpellsDuration extends_operand tokens.now from result.end result.stop }
     ensures ahead { IsAhead tokens.now from result.end result.stop }
 {
     match counted_at(tokens, from + 2, MIN) {
@@ -160,7 +165,7 @@ fn from_minutes(tokens: &[Token], from: usize, minutes: Number) -> Reading<Durat
     requires number { IsNumber tokens.now from minutes }
     requires word { HasWord tokens.now (from + 1) w.MIN }
     ensures spells { SpellsDuration tokens.now from result.part result.end }
-    ensures sure { Sure SpellsDuration extends_operand tokens.now from result.end result.stop }
+    ensures longest { IsLongest SpellsDuration extends_operand tokens.now from result.end result.stop }
     ensures ahead { IsAhead tokens.now from result.end result.stop }
 {
     let seconds = seconds_at(tokens, from + 2);
@@ -180,7 +185,7 @@ fn from_seconds(tokens: &[Token], from: usize) -> Result<Reading<Duration>, usiz
     requires hours { is_counted w.HRS tokens.now from ≡ false }
     requires minutes { is_counted w.MIN tokens.now from ≡ false }
     ensures spells { IfOk result (λ reading. SpellsDuration tokens.now from reading.part reading.end) }
-    ensures sure { IfOk result (λ reading. Sure SpellsDuration extends_operand tokens.now from reading.end reading.stop) }
+    ensures longest { IfOk result (λ reading. IsLongest SpellsDuration extends_operand tokens.now from reading.end reading.stop) }
     ensures ahead { IfOk result (λ reading. IsAhead tokens.now from reading.end reading.stop) }
     ensures refused { IfErr result (λ stop. Stuck SpellsDuration tokens.now from stop) }
     ensures held { IfErr result (λ stop. (from ≤ stop) × (stop ≤ from + 1) × (stop ≤ length tokens.now)) }
@@ -202,7 +207,7 @@ fn from_seconds(tokens: &[Token], from: usize) -> Result<Reading<Duration>, usiz
 fn duration(tokens: &[Token], from: usize) -> Result<Reading<Duration>, usize>
     requires { from ≤ length tokens.now }
     ensures spells { IfOk result (λ reading. SpellsDuration tokens.now from reading.part reading.end) }
-    ensures sure { IfOk result (λ reading. Sure SpellsDuration extends_operand tokens.now from reading.end reading.stop) }
+    ensures longest { IfOk result (λ reading. IsLongest SpellsDuration extends_operand tokens.now from reading.end reading.stop) }
     ensures ahead { IfOk result (λ reading. IsAhead tokens.now from reading.end reading.stop) }
     ensures refused { IfErr result (λ stop. Stuck SpellsDuration tokens.now from stop) }
     ensures held { IfErr result (λ stop. (from ≤ stop) × (stop ≤ from + 1) × (stop ≤ length tokens.now)) }
@@ -216,29 +221,28 @@ fn duration(tokens: &[Token], from: usize) -> Result<Reading<Duration>, usize>
     from_seconds(tokens, from)
 }
 
-/// The longest literal that begins here, or the number of a token with which none begins.
-pub fn literal(tokens: &[Token], from: usize) -> Result<Reading<Literal>, usize>
+/// The longest literal that begins here.
+pub fn literal(alloc: Global, tokens: &[Token], from: usize) -> Result<Reading<Literal>, Halt>
     requires { from ≤ length tokens.now }
     ensures spells { IfOk result (λ reading. SpellsLiteral tokens.now from reading.part reading.end) }
-    ensures sure { IfOk result (λ reading. Sure SpellsLiteral extends_operand tokens.now from reading.end reading.stop) }
+    ensures longest { IfOk result (λ reading. IsLongest SpellsLiteral extends_operand tokens.now from reading.end reading.stop) }
     ensures ahead { IfOk result (λ reading. IsAhead tokens.now from reading.end reading.stop) }
-    ensures refused { IfErr result (λ stop. Stuck SpellsLiteral tokens.now from stop) }
-    ensures none { IfErr result (λ _. is_plain (what_at tokens.now from) ≡ false) }
-    ensures held { IfErr result (λ stop. (from ≤ stop) × (stop ≤ from + 1) × (stop ≤ length tokens.now)) }
+    ensures refused { IfErr result (λ halt. IsHalted SpellsLiteral tokens.now from halt) }
+    ensures none { IfErr result (λ halt. halt ≢ Halt.NoMemory → is_plain (what_at tokens.now from) ≡ false) }
 {
     match duration(tokens, from) {
         Ok(duration) => Ok(Reading {
-            part: Literal::Duration(duration.part),
+            part: Literal::Duration(boxed(alloc, duration.part)?),
             end: duration.end,
             stop: duration.stop,
         }),
-        Err(stop) => match plain_at(tokens, from) {
+        Err(stop) => match plain_at(alloc, tokens, from)? {
             Some(part) => Ok(Reading {
                 part,
                 end: from + 1,
                 stop: from + 1,
             }),
-            None => Err(stop),
+            None => Err(Halt::Refused(stop)),
         },
     }
 }

@@ -6,21 +6,22 @@ ghost use Rattle.pearl_tree.specs.Standing.{what_at, IsAt, HasWord};
 ghost use Rattle.pearl_tree.specs.Expressions as grammar;
 ghost use Rattle.pearl_parse_expr.specs.Stops as spec;
 
-use crate::symbol::*;
+use pearl_tables::symbol::*;
 use pearl_tables::word_code::*;
-use pearl_tree::expression::{Dyad, Dyadic, Monad, Monadic, Side};
+use pearl_tree::expression::{Dyadic, Monadic, Side};
 use pearl_tree::token::{Token, What};
+use pearl_value::operator::{Dyad, Monad};
 
 fn dyad_of_symbol(symbol: u8) -> Option<Dyad>
     ensures { result ≡ grammar.dyad_in grammar.dyad_symbols symbol }
 {
     match symbol {
-        POWER => Some(Dyad::Power),
-        TIMES => Some(Dyad::Times),
-        DIVIDE => Some(Dyad::Over),
+        POWER => Some(Dyad::Pow),
+        TIMES => Some(Dyad::Mul),
+        DIVIDE => Some(Dyad::Div),
         CONCATENATE => Some(Dyad::Cat),
-        PLUS => Some(Dyad::Plus),
-        MINUS => Some(Dyad::Minus),
+        PLUS => Some(Dyad::Add),
+        MINUS => Some(Dyad::Sub),
         ROTATE => Some(Dyad::Cshift),
         LESS => Some(Dyad::Lt),
         GREATER => Some(Dyad::Gt),
@@ -135,9 +136,9 @@ pub fn rank(operator: Dyad) -> u8
     ensures { result ≡ grammar.rank operator }
 {
     match operator {
-        Dyad::Power => 1,
-        Dyad::Times | Dyad::Over | Dyad::Rem | Dyad::Cat => 2,
-        Dyad::Plus | Dyad::Minus | Dyad::Cshift | Dyad::Shift => 3,
+        Dyad::Pow => 1,
+        Dyad::Mul | Dyad::Div | Dyad::Rem | Dyad::Cat => 2,
+        Dyad::Add | Dyad::Sub | Dyad::Cshift | Dyad::Shift => 3,
         Dyad::Lt | Dyad::Gt | Dyad::Le | Dyad::Ge => 4,
         Dyad::Eq | Dyad::Ne => 5,
         Dyad::And => 6,

@@ -1,7 +1,9 @@
 // What reading some tokens gave.
 
-ghost use Rattle.std.specs.Prelude.{◌≡◌, [], ◌∷◌, ◌++◌, IfErr, OnOk};
+ghost use Rattle.std.specs.Prelude.{◌≡◌, [], ◌∷◌, ◌++◌, IfOk, IfErr, OnOk};
 ghost use Rattle.pearl_parse_expr.specs.declared.reading.Halt.{Halt};
+
+use std::alloc::Global;
 
 /// A part, the number of the token after it, and the number of a token past which nothing of its kind goes that begins
 /// where it does.
@@ -22,11 +24,22 @@ pub enum Halt {
 
 /// Adds a part to a list.
 pub fn append<T: Drop>(list: &mut Vec<T>, item: T) -> Result<(), Halt>
-    ensures more { OnOk result (list.new.items ≡ list.old.items ++ item ∷ []) }
+    ensures appended { OnOk result (list.new.items ≡ list.old.items ++ item ∷ []) }
     ensures fault { IfErr result (λ halt. halt ≡ Halt.NoMemory) }
 {
     match list.push(item) {
         Ok(()) => Ok(()),
+        Err(_) => Err(Halt::NoMemory),
+    }
+}
+
+/// Puts a part into a box.
+pub fn boxed<T: Drop>(alloc: Global, part: T) -> Result<Box<T>, Halt>
+    ensures value { IfOk result (λ made. made.value ≡ part) }
+    ensures fault { IfErr result (λ halt. halt ≡ Halt.NoMemory) }
+{
+    match Box::new(alloc, part) {
+        Ok(made) => Ok(made),
         Err(_) => Err(Halt::NoMemory),
     }
 }

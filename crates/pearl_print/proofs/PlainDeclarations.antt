@@ -13,6 +13,7 @@ use Rattle.pearl_tree.specs.declared.token.What.TheVariants as what
 use Rattle.pearl_tree.specs.declared.token.Token.{Token}
 use Rattle.pearl_tree.specs.Standing.{HasWord, HasSymbol, IsNumber}
 use Rattle.pearl_tree.specs.Declarations.{IsDeviceWord, SpellsDevice, SpellsPrio, SpellsItem, SpellsSema, SpellsDeclared, direction_word, SpellsClass, SpellsSpec, SpellsParam}
+use Rattle.pearl_tree.specs.ShownLiterals.{shown_const}
 use Rattle.pearl_tree.specs.ShownDeclarations.{OfItem, OfSema, OfInterrupt, OfDation, shown_item, shown_sema, shown_declared, shown_spec, shown_param}
 use Rattle.pearl_tables.specs.declared.symbol.TheConstants as s
 use Rattle.pearl_tables.specs.declared.word_code.TheConstants as w
@@ -20,9 +21,9 @@ use Rattle.pearl_print.specs.Lists.{word, symbol, number_tokens, maybe_headed, f
 use Rattle.pearl_print.specs.Expressions.{const_tokens}
 use Rattle.pearl_print.specs.Types.{names_tokens, bounds_tokens, basic_tokens, typing_tokens}
 use Rattle.pearl_print.specs.Declarations.{device_word_tokens, device_tokens, prio_tokens, item_tokens, sema_tokens, declared_tokens, class_tokens, spec_tokens, param_tokens}
-use Rattle.pearl_print.specs.Plain.{plain_name, plain_number, plain_device_word, plain_device, plain_prio, plain_item, plain_sema, plain_declared, plain_class, plain_spec, plain_param}
+use Rattle.pearl_print.specs.Plain.{plain_name, plain_number, plain_device_word, plain_device, plain_prio, plain_const, plain_item, plain_sema, plain_declared, plain_class, plain_spec, plain_param}
 use Rattle.pearl_print.proofs.PlainSpans.{place_of, here, starts, Span, cut, cut3, cut5, cut_token, two}
-use Rattle.pearl_print.proofs.PlainLists.{Placed, Places, in_parts, maybe_headed_at, flag_at, number_places}
+use Rattle.pearl_print.proofs.PlainLists.{Placed, Places, in_parts, maybe_headed_at, flag_at, number_places, seen}
 use Rattle.pearl_print.proofs.PlainLiterals.{const_places, names_places, bounds_places, typing_places, basic_places}
 
 module _ (before tokens : List Token) where
@@ -83,7 +84,8 @@ module _ (before tokens : List Token) where
         record {
           copy = record { names = first.copy; bounds = second.copy; inv = item.inv; typing = third.copy; init = fourth.copy; place = place_of tokens from };
           spelled = (p.0, p.1, p.2, p.3, starts tokens from _ to g, first.spelled, second.spelled, flag_at tokens w.INV item.inv p.1 p.2 p.6, third.spelled, fourth.spelled);
-          same = λ i. record { names = first.same i; bounds = second.same i; inv = item.inv; part = third.same i; init = fourth.same i; place = 0 };
+          same = λ i. record { names = first.same i; bounds = second.same i; inv = item.inv; part = third.same i;
+              init = seen shown_const plain_const fourth.copy.items.items item.init.items.items fourth.same i; place = 0 };
         };
   }
 

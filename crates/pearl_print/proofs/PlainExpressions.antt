@@ -2,8 +2,8 @@
 use Rattle.std.proofs.Common.{◌≡◌, ℕ, ◌+◌, ◌-◌, ◌≤◌, ◌<◌, List, [], ◌∷◌, ◌++◌, map, Some, refl, sym, subst, ap, ◌∙◌}
 use Rattle.std.specs.List.{flat_map}
 use Rattle.std.specs.Option.{option_and_then}
-use Rattle.pearl_tree.specs.declared.expression.Dyad.{Dyad}
-use Rattle.pearl_tree.specs.declared.expression.Dyad.TheVariants as dyad
+use Rattle.pearl_value.specs.declared.operator.Dyad.{Dyad}
+use Rattle.pearl_value.specs.declared.operator.Dyad.TheVariants as dyad
 use Rattle.pearl_tree.specs.declared.expression.Expr.{Expr, Operand', Dyadic'}
 use Rattle.pearl_tree.specs.declared.expression.Primary.{Primary}
 use Rattle.pearl_tree.specs.declared.expression.Primary as primary
@@ -23,13 +23,13 @@ use Rattle.pearl_print.proofs.PlainLists.{Placed, Places, same_length, in_parts,
 use Rattle.pearl_print.proofs.PlainLiterals.{literal_places}
 
 read_back : (operator : Dyad) → dyad_of (dyad_what operator) ≡ Some operator
-read_back dyad.Power = refl
-read_back dyad.Times = refl
-read_back dyad.Over = refl
+read_back dyad.Pow = refl
+read_back dyad.Mul = refl
+read_back dyad.Div = refl
 read_back dyad.Rem = refl
 read_back dyad.Cat = refl
-read_back dyad.Plus = refl
-read_back dyad.Minus = refl
+read_back dyad.Add = refl
+read_back dyad.Sub = refl
 read_back dyad.Cshift = refl
 read_back dyad.Shift = refl
 read_back dyad.Lt = refl
@@ -149,13 +149,13 @@ module _ (before tokens : List Token) where
       spelled = (here tokens from _ g.0, g.0, (g.1.0, here tokens (from + 1) _ g.1.0), two (λ k. to ≡ k) from g.1.1.0);
       same = refl;
     }
-    primary_at depth a (primary.Limit' dimension side name shape selectors ref_place place) b h from to g =
+    primary_at depth a (primary.Limit' dimension side ptr name shape selectors ref_place place) b h from to g =
         let p = cut_token tokens from (maybe number_tokens dimension) (what.Word (side_word side)) (name_tokens name ++ selectors_tokens selectors) to g in
         let k = p.0 + 1 in
         let first = maybe_at before tokens (number_places before tokens) dimension a h.0 h.2 from p.0 p.1 in
         let inner = selectors_at depth (h.0 + 1 + 1) _ selectors b h.4.2 (k + 1) to p.3.1 in
         record {
-          copy = primary.Limit' first.copy side (record { text = name.text; place = place_of tokens k }) shape inner.copy (place_of tokens k) (place_of tokens from);
+          copy = primary.Limit' first.copy side ptr (record { text = name.text; place = place_of tokens k }) shape inner.copy (place_of tokens k) (place_of tokens from);
           spelled = (p.0, starts tokens from _ to g, first.spelled, p.2, (here tokens k _ p.3.0, (p.3.0, here tokens k _ p.3.0), inner.spelled));
           same = λ i. OfLimit (first.same i) side (plain_name name) (inner.same i) 0 0;
         }

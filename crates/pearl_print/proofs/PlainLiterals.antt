@@ -25,6 +25,7 @@ use Rattle.pearl_tree.specs.Expressions.{SpellsMinutes, SpellsSeconds, SpellsDur
 use Rattle.pearl_tree.specs.Types.{SpellsNames, SpellsInt, SpellsUpper, SpellsBound, SpellsBounds, SpellsBasic, SpellsTyping, SpellsFields, SpellsMoreFields}
 use Rattle.pearl_tree.specs.Formats.{SpellsFmt}
 use Rattle.pearl_tables.specs.declared.symbol.TheConstants as s
+use Rattle.pearl_tree.specs.ShownLiterals.{OfNumber, OfDuration, shown_literal, shown_const}
 use Rattle.pearl_tree.specs.ShownDeclarations.{shown_names, OfOne, OfSeveral, shown_typing, shown_fields, OfBasic, OfStruct, OfNamed, MoreFields}
 use Rattle.pearl_print.specs.Lists.{symbol, number_tokens, maybe, bracketed_number}
 use Rattle.pearl_print.specs.Expressions.{duration_milliseconds, carried, literal_tokens, sign_tokens, const_tokens}
@@ -57,11 +58,11 @@ module _ (before tokens : List Token) where
         carried_back ms,
       )
 
-  literal_at : (a : ℕ) (part : Literal) (b : ℕ) → SpellsLiteral before a part b → (from to : ℕ) → Span tokens from (literal_tokens part) to →
-      Placed (SpellsLiteral tokens) plain_literal from part to
+  literal_at : (a : ℕ) (part : Literal) (b : ℕ) → SpellsLiteral before a part b → (from to : ℕ) → Span tokens from (literal_tokens (shown_literal part)) to →
+      Placed (SpellsLiteral tokens) (λ part. plain_literal (shown_literal part)) from part to
   literal_at a (literal.Number number) b h from to g =
       let p = (number_places before tokens).at a number b h from to g in
-      record { copy = literal.Number p.copy; spelled = p.spelled; same = ap literal.Number p.same }
+      record { copy = literal.Number p.copy; spelled = p.spelled; same = ap OfNumber p.same }
   literal_at a (literal.Bits len value place) b h from to g =
       record { copy = literal.Bits len value (place_of tokens from); spelled = (g.0, here tokens from _ g.0, g.1.0); same = refl }
   literal_at a (literal.Text text place) b h from to g =
@@ -69,10 +70,11 @@ module _ (before tokens : List Token) where
   literal_at a (literal.Clock milliseconds place) b h from to g =
       record { copy = literal.Clock milliseconds (place_of tokens from); spelled = (g.0, here tokens from _ g.0, g.1.0); same = refl }
   literal_at a (literal.Duration duration) b h from to g =
-      let p = duration_at (duration_milliseconds duration) from to g in
-      record { copy = literal.Duration p.0; spelled = p.1; same = ap (λ ms. literal.Duration (plain_duration ms)) p.2 }
+      let p = duration_at (duration_milliseconds duration.value) from to g in
+      record { copy = literal.Duration (record duration { value = p.0 }); spelled = p.1; same = ap (λ ms. OfDuration (plain_duration ms)) p.2 }
 
-  pub literal_places : Places tokens (SpellsLiteral before) (SpellsLiteral tokens) literal_tokens plain_literal
+  pub literal_places : Places tokens (SpellsLiteral before) (SpellsLiteral tokens) (λ part. literal_tokens (shown_literal part))
+      (λ part. plain_literal (shown_literal part))
   literal_places = record { at = literal_at }
 
   sign_at : (part : Sign) (from to : ℕ) → Span tokens from (sign_tokens part) to → SpellsSign tokens from part to
@@ -83,10 +85,10 @@ module _ (before tokens : List Token) where
   maybe_sign None from to g = g.0
   maybe_sign (Some part) from to g = sign_at part from to g
 
-  pub const_places : Places tokens (SpellsConst before) (SpellsConst tokens) const_tokens plain_const
+  pub const_places : Places tokens (SpellsConst before) (SpellsConst tokens) const_tokens (λ constant. plain_const (shown_const constant))
   const_places = record {
     at = λ a constant b h from to g.
-        let p = cut tokens from (maybe sign_tokens constant.sign) (literal_tokens constant.literal) to g in
+        let p = cut tokens from (maybe sign_tokens constant.sign) (literal_tokens (shown_literal constant.literal)) to g in
         let part = literal_at h.0 constant.literal b h.3 p.0 to p.2 in
         record {
           copy = record { sign = constant.sign; literal = part.copy; place = place_of tokens from };

@@ -237,7 +237,7 @@ module _ (before tokens : List Token) where
       let third = in_parts p.0 decls p.1
       (each_at before tokens decl_places decls.items.items (h.1 + 2) h.2 h.10 p.0 p.1 p.3) in
       record {
-        copy = record { name = first.copy; system = second.copy; declarations = third.copy; semicolon = true; place = place_of tokens 0 };
+        copy = record { name = first.copy; system = second.copy; declarations = third.copy; modend = place_of tokens p.1; semicolon = true; place = place_of tokens 0 };
         spelled = (
           k.0,
           f.0,
@@ -251,12 +251,14 @@ module _ (before tokens : List Token) where
           f.3.0,
           subst (λ k. SpellsEach (SpellsDecl tokens) k third.copy.items.items p.1) (two (λ k. p.0 ≡ k) f.0 f.3.1.0) third.spelled,
           p.4.0,
+          here tokens p.1 _ p.4.0,
           (subst (λ k. HasSymbol tokens k s.SEMICOLON) p.4.1.0 last, ap (λ k. k + 1) p.4.1.0),
         );
         same = λ i. record {
           name = first.same i;
           system = seen_option shown_devices (map plain_device) second.copy tree.system second.same i;
           declarations = seen shown_decl plain_decl third.copy.items.items decls.items.items third.same i;
+          modend = 0;
           semicolon = true;
           place = 0;
         };

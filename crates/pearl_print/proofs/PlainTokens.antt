@@ -2,9 +2,6 @@
 use Rattle.std.proofs.Common.{◌≡◌, ℕ, List, ◌++◌, map, Option, option_map, refl, sym, ap, ◌∙◌}
 use Rattle.std.specs.List.{flat_map}
 use Rattle.pearl_tree.specs.declared.name.Name.{Name}
-use Rattle.pearl_tree.specs.declared.literal.Literal.{Literal}
-use Rattle.pearl_tree.specs.declared.literal.Literal.TheVariants as literal
-use Rattle.pearl_tree.specs.declared.literal.Const.{Const}
 use Rattle.pearl_tree.specs.declared.format.Fmt.{Fmt}
 use Rattle.pearl_tree.specs.declared.format.Fmt.TheVariants.{Free, Wide}
 use Rattle.pearl_tree.specs.declared.typing.Bound.{Bound}
@@ -25,6 +22,7 @@ use Rattle.pearl_tree.specs.Expressions.{side_word}
 use Rattle.pearl_tree.specs.Formats.{free_text}
 use Rattle.pearl_tree.specs.Declarations.{direction_word}
 use Rattle.pearl_tree.specs.Statements.{task_word, sema_word}
+use Rattle.pearl_tree.specs.ShownLiterals.{ShownLiteral, OfNumber, OfBits, OfText, OfClock, OfDuration, ShownConst}
 use Rattle.pearl_tree.specs.ShownExpressions.{ShownExpr, OfOperand, OfDyadic, ShownPrimary, OfLiteral, OfRef, OfGroup, OfNow, OfTry, OfLimit, ShownSelectors, NoSelectors, MoreSelectors, ShownSelector, OfSubscripts, OfComponent, ShownExprs, NoExprs, MoreExprs, ShownRef}
 use Rattle.pearl_tree.specs.ShownDeclarations.{ShownNames, OfOne, OfSeveral, ShownTyping, OfBasic, OfStruct, OfNamed, ShownFields, NoFields, MoreFields, ShownItem, ShownSema, ShownDeclared, OfItem, OfSema, ShownSpec, OfInterrupt, OfDation, ShownParam}
 use Rattle.pearl_tree.specs.ShownStatements.{ShownPeriodEnd, OfUntil, OfDuring, ShownPeriod, ShownStart, OfAt, OfAfter, OfWhen, OfAll, ShownOnce, OnceAt, OnceAfter, OnceWhen, ShownBodyDecl, ShownStmt, OfEmpty, OfAssign, OfCall, OfIf, OfCase, OfRepeat, OfExit, OfBegin, OfReturn, OfActivate, OfContinue, OfResume, OfOnTask, OfOnSemas, OfOnInterrupt, OfPut, OfGet, OfSend, OfTake, ShownStmts, NoStmts, MoreStmts, ShownBranches, NoBranches, MoreBranches, ShownOtherwise, NoOtherwise, OfOtherwise}
@@ -32,7 +30,7 @@ use Rattle.pearl_tree.specs.ShownModules.{ShownBody, ShownDecl, OfLength, OfType
 use Rattle.pearl_tables.specs.declared.symbol.TheConstants as s
 use Rattle.pearl_tables.specs.declared.word_code.TheConstants as w
 use Rattle.pearl_print.specs.Lists.{word, symbol, id, name_tokens, number_tokens, maybe, flag, bracketed_number}
-use Rattle.pearl_print.specs.Expressions.{carried, duration_milliseconds, literal_tokens, sign_tokens, const_tokens, monadic_tokens, dyadic_tokens}
+use Rattle.pearl_print.specs.Expressions.{carried, duration_milliseconds, literal_tokens, sign_tokens, monadic_tokens, dyadic_tokens}
 use Rattle.pearl_print.specs.Types.{int_tokens, upper_tokens, bound_tokens, bounds_tokens, basic_tokens}
 use Rattle.pearl_print.specs.Formats.{fmt_tokens}
 use Rattle.pearl_print.specs.Declarations.{device_word_tokens, device_tokens, prio_tokens, class_tokens}
@@ -42,21 +40,21 @@ use Rattle.pearl_print.specs.Plain.{plain_name, plain_number, plain_literal, pla
 use Rattle.pearl_print.specs.ShownText.{PlainHasOneText}
 use Rattle.pearl_print.proofs.ShownLists.{each_same, listed_same, bracketed_same, maybe_bracketed_same, maybe_headed_same, maybe_same}
 use Rattle.pearl_print.proofs.ShownExpressions.{said_expr, said_primary, said_selectors, said_selector, said_subscripts, more_said_subscripts, said_ref}
-use Rattle.pearl_print.proofs.ShownDeclarations.{said_names, said_typing, said_fields, more_said_fields, said_item, said_sema, said_declared, said_spec, said_param}
+use Rattle.pearl_print.proofs.ShownDeclarations.{said_names, said_const, said_typing, said_fields, more_said_fields, said_item, said_sema, said_declared, said_spec, said_param}
 use Rattle.pearl_print.proofs.ShownSchedules.{said_after, said_period_end, said_period, said_start, said_once}
 use Rattle.pearl_print.proofs.ShownStatements.{said_value, said_body_decl, said_loop, said_by, said_stmt, said_stmts, said_alternatives, said_otherwise}
 use Rattle.pearl_print.proofs.ShownModules.{said_task_body, said_decl, said_system, said_front, said_tree, tree_same}
 use Rattle.pearl_print.proofs.PlainLiterals.{carried_back}
 
 -- so many milliseconds are carried into the hours, minutes and seconds that make so many
-literal_kept : (part : Literal) → literal_tokens (plain_literal part) ≡ literal_tokens part
-literal_kept (literal.Number number) = refl
-literal_kept (literal.Bits len value place) = refl
-literal_kept (literal.Text text place) = refl
-literal_kept (literal.Clock milliseconds place) = refl
-literal_kept (literal.Duration duration) = ap carried (carried_back (duration_milliseconds duration))
+literal_kept : (part : ShownLiteral) → literal_tokens (plain_literal part) ≡ literal_tokens part
+literal_kept (OfNumber number) = refl
+literal_kept (OfBits len value place) = refl
+literal_kept (OfText text place) = refl
+literal_kept (OfClock milliseconds place) = refl
+literal_kept (OfDuration duration) = ap carried (carried_back (duration_milliseconds duration))
 
-const_kept : (constant : Const) → const_tokens (plain_const constant) ≡ const_tokens constant
+const_kept : (constant : ShownConst) → said_const (plain_const constant) ≡ said_const constant
 const_kept constant = λ i. maybe sign_tokens constant.sign ++ literal_kept constant.literal i
 
 mutual
@@ -146,7 +144,7 @@ device_kept part =
 item_kept : (item : ShownItem) → said_item (plain_item item) ≡ said_item item
 item_kept item =
     λ i. names_kept item.names i ++ bounds_kept item.bounds i ++ flag w.INV item.inv ++ typing_kept item.part i ++
-    maybe_headed_same plain_const const_tokens const_tokens const_kept w.INIT item.init i
+    maybe_headed_same plain_const said_const said_const const_kept w.INIT item.init i
 
 sema_kept : (sema : ShownSema) → said_sema (plain_sema sema) ≡ said_sema sema
 sema_kept sema =

@@ -1,5 +1,5 @@
 -- The tokens of nodes with lists, told by the lists that their fields show.
-use Rattle.std.proofs.Common.{◌≡◌, ℕ, ◌++◌, Option, refl, ap, ◌∙◌}
+use Rattle.std.proofs.Common.{◌≡◌, ℕ, ◌++◌, Option, refl, ap, ◌∙◌, Box, Global}
 use mathlib.Core.Former.{Count}
 use Rattle.std.specs.List.{flat_map}
 use Rattle.pearl_tree.specs.declared.parts.Parts.{Parts}
@@ -65,7 +65,7 @@ selectors_each _ (more_of-Selector selector rest) = ap (λ t. selector_tokens se
 
 abbrev selectors_of : Primary → (n : Count) × Row_of-Selector n
 selectors_of (primary.Ref' _ _ row _) = (_, row)
-selectors_of (primary.Limit' _ _ _ _ row _ _) = (_, row)
+selectors_of (primary.Limit' _ _ _ _ _ row _ _) = (_, row)
 selectors_of _ = (_, end_of-Selector)
 
 -- ref
@@ -76,8 +76,8 @@ ref_shown reference =
     (selectors_each row.0 row.1 ∙ ap (λ xs. flat_map selector_tokens xs) (items_hidden-the_row-Selector-0 reference.selectors.items))
 
 -- [ number ] ( LWB | UPB ) ref
-pub limit_shown : (dimension : Option Number) (side : Side) (array : Ref) (place : ℕ) → primary_tokens (primary.Limit dimension side array place) ≡ limit_tokens dimension side array
+pub limit_shown : (dimension : Option Number) (side : Side) (array : Box Ref Global) (place : ℕ) → primary_tokens (primary.Limit dimension side array place) ≡ limit_tokens dimension side array.value
 limit_shown dimension side array place =
     let row = selectors_of (primary.Limit dimension side array place) in
-    ap (λ t. maybe number_tokens dimension ++ word (side_word side) ++ (name_tokens array.name ++ t))
-    (selectors_each row.0 row.1 ∙ ap (λ xs. flat_map selector_tokens xs) (items_hidden-the_row-Selector-0 array.selectors.items))
+    ap (λ t. maybe number_tokens dimension ++ word (side_word side) ++ (name_tokens array.value.name ++ t))
+    (selectors_each row.0 row.1 ∙ ap (λ xs. flat_map selector_tokens xs) (items_hidden-the_row-Selector-0 array.value.selectors.items))

@@ -13,13 +13,15 @@ use Rattle.pearl_tree.specs.declared.declaration.Spec.TheVariants as spec
 use Rattle.pearl_tree.specs.declared.declaration.Param.{Param}
 use Rattle.pearl_tree.specs.declared.token.What.{What}
 use Rattle.pearl_tree.specs.Declarations.{direction_word}
+use Rattle.pearl_tree.specs.ShownLiterals.{ShownConst, shown_const}
 use Rattle.pearl_tree.specs.ShownDeclarations.{ShownNames, OfOne, OfSeveral, shown_names, ShownTyping, OfBasic, OfStruct, OfNamed, ShownFields, NoFields, MoreFields, shown_typing, shown_fields, ShownItem, shown_item, ShownSema, shown_sema, ShownDeclared, OfItem, OfSema, shown_declared, ShownSpec, OfInterrupt, OfDation, shown_spec, ShownParam, shown_param}
 use Rattle.pearl_tables.specs.declared.symbol.TheConstants as s
 use Rattle.pearl_tables.specs.declared.word_code.TheConstants as w
-use Rattle.pearl_print.specs.Lists.{word, symbol, name_tokens, number_tokens, bracketed, maybe_headed, flag}
-use Rattle.pearl_print.specs.Expressions.{const_tokens}
+use Rattle.pearl_print.specs.Lists.{word, symbol, name_tokens, number_tokens, bracketed, maybe_headed, maybe, flag}
+use Rattle.pearl_print.specs.Expressions.{sign_tokens, literal_tokens, const_tokens}
 use Rattle.pearl_print.specs.Types.{names_tokens, bounds_tokens, basic_tokens, typing_tokens, fields_tokens, more_fields_tokens}
 use Rattle.pearl_print.specs.Declarations.{item_tokens, sema_tokens, declared_tokens, class_tokens, spec_tokens, param_tokens}
+use Rattle.pearl_print.proofs.ShownLists.{maybe_headed_same}
 
 abbrev pub said_names : ShownNames → List What
 said_names (OfOne name) = name_tokens name
@@ -62,15 +64,19 @@ mutual
   more_fields_same _ (more_of-Field names bounds part place rest) =
       λ i. (symbol s.COMMA ++ names_same names i ++ bounds_tokens bounds.items.items ++ typing_same part i) ++ more_fields_same _ rest i
 
+abbrev pub said_const : ShownConst → List What
+said_const constant = maybe sign_tokens constant.sign ++ literal_tokens constant.literal
+
 abbrev pub said_item : ShownItem → List What
 said_item item =
     said_names item.names ++ bounds_tokens item.bounds ++ flag w.INV item.inv ++ said_typing item.part ++
-    maybe_headed w.INIT const_tokens item.init
+    maybe_headed w.INIT said_const item.init
 
 pub item_same : (item : Item) → said_item (shown_item item) ≡ item_tokens item
 item_same item =
     λ i. names_same item.names i ++ bounds_tokens item.bounds.items.items ++ flag w.INV item.inv ++
-    typing_same item.typing i ++ maybe_headed w.INIT const_tokens item.init.items.items
+    typing_same item.typing i ++
+    maybe_headed_same shown_const said_const const_tokens (λ constant. refl) w.INIT item.init.items.items i
 
 abbrev pub said_sema : ShownSema → List What
 said_sema sema = said_names sema.names ++ word w.SEMA ++ maybe_headed w.PRESET number_tokens sema.preset

@@ -58,7 +58,7 @@ mutual
   primary_same (primary.Group' _ inner place) = λ i. symbol s.LEFT_ROUND ++ expr_same inner i ++ symbol s.RIGHT_ROUND
   primary_same (primary.Now place) = refl
   primary_same (primary.Try name place) = refl
-  primary_same (primary.Limit' dimension side name _ selectors ref_place place) =
+  primary_same (primary.Limit' dimension side _ name _ selectors ref_place place) =
       λ i. maybe number_tokens dimension ++ word (side_word side) ++ (name_tokens name ++ selectors_same _ selectors i)
 
   selectors_same : (n : _) (row : Row_of-Selector n) → said_selectors (shown_selectors row) ≡ selectors_tokens row

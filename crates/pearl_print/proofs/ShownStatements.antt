@@ -5,7 +5,11 @@ use Rattle.pearl_tree.specs.declared.name.Name.{Name}
 use Rattle.pearl_tree.specs.declared.format.Fmt.{Fmt}
 use Rattle.pearl_tree.specs.declared.expression.Expr.{Expr}
 use Rattle.pearl_tree.specs.declared.statement.BodyDecl.{BodyDecl}
-use Rattle.pearl_tree.specs.declared.statement.Stmt.{Stmt, Empty, Assign, Call, If', Case', Repeat', Exit, Begin', Return, Activate, Continue, Resume, OnTask, OnSemas, OnInterrupt, Put, Get, Send, Take, Row_of-Stmt, end_of-Stmt, more_of-Stmt, Row_of-Branch, end_of-Branch, more_of-Branch, Held-Stmt-If-2, None', Some'}
+use Rattle.pearl_tree.specs.declared.statement.Stmt.{Stmt, Empty, Assign, Call, If', Case', Repeat', Exit, Begin', Return, Activate, Continue, Resume, OnTask, OnSemas, OnInterrupt, Put, Get, Send, Take, Row_of-Stmt, end_of-Stmt, more_of-Stmt}
+use Rattle.pearl_tree.specs.declared.statement.If as if_
+use Rattle.pearl_tree.specs.declared.statement.If.{Held-Case-otherwise, None', Some'}
+use Rattle.pearl_tree.specs.declared.statement.Case as case_
+use Rattle.pearl_tree.specs.declared.statement.Case.{Row_of-Branch, end_of-Branch, more_of-Branch}
 use Rattle.pearl_tree.specs.declared.token.What.{What}
 use Rattle.pearl_tree.specs.Statements.{task_word, sema_word, interrupt_word}
 use Rattle.pearl_tree.specs.ShownExpressions.{ShownExpr, shown_expr, shown_ref}
@@ -112,42 +116,42 @@ body_decls_same declarations = each_same shown_body_decl said_body_decl body_dec
 mutual
   pub stmt_same : (statement : Stmt) → said_stmt (shown_stmt statement) ≡ stmt_tokens statement
   stmt_same (Empty place) = refl
-  stmt_same (Assign target value place) = λ i. ref_same target i ++ symbol s.BECOMES ++ expr_same value i ++ symbol s.SEMICOLON
-  stmt_same (Call call name arguments place) =
-      λ i. word w.CALL ++ name_tokens name ++
-      maybe_bracketed_same shown_expr said_expr expr_tokens expr_same arguments.items.items i ++ symbol s.SEMICOLON
-  stmt_same (If' condition _ statements otherwise place) =
+  stmt_same (Assign part) = λ i. ref_same part.value.target i ++ symbol s.BECOMES ++ expr_same part.value.value i ++ symbol s.SEMICOLON
+  stmt_same (Call part) =
+      λ i. word w.CALL ++ name_tokens part.value.name ++
+      maybe_bracketed_same shown_expr said_expr expr_tokens expr_same part.value.arguments.items.items i ++ symbol s.SEMICOLON
+  stmt_same (If' _ (if_.If' condition _ statements otherwise place)) =
       λ i. after_same w.IF condition i ++ word w.THEN ++ stmts_same _ statements i ++ otherwise_same w.ELSE otherwise i ++
       (word w.FIN ++ symbol s.SEMICOLON)
-  stmt_same (Case' selector _ alternatives otherwise place) =
+  stmt_same (Case' _ (case_.Case' selector _ alternatives otherwise place)) =
       λ i. after_same w.CASE selector i ++ alternatives_same _ alternatives i ++ otherwise_same w.OUT otherwise i ++
       (word w.FIN ++ symbol s.SEMICOLON)
-  stmt_same (Repeat' control begin step end condition declarations _ statements body_place place) =
+  stmt_same (Repeat' _ control begin step end condition declarations _ statements body_place place) =
       λ i. loop_same control begin step end condition i ++
       (word w.REPEAT ++ (body_decls_same declarations.items.items i ++ stmts_same _ statements i) ++
       (word w.END ++ symbol s.SEMICOLON))
   stmt_same (Exit place) = refl
-  stmt_same (Begin' declarations _ statements body_place place) =
+  stmt_same (Begin' _ declarations _ statements body_place place) =
       λ i. word w.BEGIN ++ (body_decls_same declarations.items.items i ++ stmts_same _ statements i) ++
       (word w.END ++ symbol s.SEMICOLON)
-  stmt_same (Return value place) =
-      λ i. word w.RETURN ++ maybe_same shown_expr said_value value_tokens value_same value i ++ symbol s.SEMICOLON
-  stmt_same (Activate start task priority place) =
-      λ i. maybe_same shown_start said_start start_tokens start_same start i ++ word w.ACTIVATE ++ name_tokens task ++
-      maybe_after_same w.PRIO priority i ++ symbol s.SEMICOLON
-  stmt_same (Continue once task place) =
-      λ i. maybe_same shown_once said_once once_tokens once_same once i ++ word w.CONTINUE ++ name_tokens task ++ symbol s.SEMICOLON
-  stmt_same (Resume once place) = λ i. once_same once i ++ word w.RESUME ++ symbol s.SEMICOLON
-  stmt_same (OnTask code task place) = refl
-  stmt_same (OnSemas code names place) = refl
-  stmt_same (OnInterrupt code name place) = refl
-  stmt_same (Put values dation formats place) =
-      λ i. word w.PUT ++ listed_same shown_expr said_expr expr_tokens expr_same values.items.items i ++ word w.TO ++ by_tokens dation formats
-  stmt_same (Get targets dation formats place) =
-      λ i. word w.GET ++ listed_same shown_ref said_ref ref_tokens ref_same targets.items.items i ++ word w.FROM ++ by_tokens dation formats
-  stmt_same (Send value dation place) = λ i. after_same w.SEND value i ++ word w.TO ++ name_tokens dation ++ symbol s.SEMICOLON
-  stmt_same (Take target dation place) =
-      λ i. word w.TAKE ++ ref_same target i ++ word w.FROM ++ name_tokens dation ++ symbol s.SEMICOLON
+  stmt_same (Return part) =
+      λ i. word w.RETURN ++ maybe_same shown_expr said_value value_tokens value_same part.value.value i ++ symbol s.SEMICOLON
+  stmt_same (Activate part) =
+      λ i. maybe_same shown_start said_start start_tokens start_same part.value.start i ++ word w.ACTIVATE ++ name_tokens part.value.task ++
+      maybe_after_same w.PRIO part.value.priority i ++ symbol s.SEMICOLON
+  stmt_same (Continue part) =
+      λ i. maybe_same shown_once said_once once_tokens once_same part.value.once i ++ word w.CONTINUE ++ name_tokens part.value.task ++ symbol s.SEMICOLON
+  stmt_same (Resume part) = λ i. once_same part.value.once i ++ word w.RESUME ++ symbol s.SEMICOLON
+  stmt_same (OnTask part) = refl
+  stmt_same (OnSemas part) = refl
+  stmt_same (OnInterrupt part) = refl
+  stmt_same (Put part) =
+      λ i. word w.PUT ++ listed_same shown_expr said_expr expr_tokens expr_same part.value.values.items.items i ++ word w.TO ++ by_tokens part.value.dation part.value.formats
+  stmt_same (Get part) =
+      λ i. word w.GET ++ listed_same shown_ref said_ref ref_tokens ref_same part.value.targets.items.items i ++ word w.FROM ++ by_tokens part.value.dation part.value.formats
+  stmt_same (Send part) = λ i. after_same w.SEND part.value.value i ++ word w.TO ++ name_tokens part.value.dation ++ symbol s.SEMICOLON
+  stmt_same (Take part) =
+      λ i. word w.TAKE ++ ref_same part.value.target i ++ word w.FROM ++ name_tokens part.value.dation ++ symbol s.SEMICOLON
 
   stmts_same : (n : _) (row : Row_of-Stmt n) → said_stmts (shown_stmts row) ≡ stmts_tokens row
   stmts_same _ end_of-Stmt = refl
@@ -158,6 +162,6 @@ mutual
   alternatives_same _ (more_of-Branch _ statements place rest) =
       λ i. (word w.ALT ++ stmts_same _ statements i) ++ alternatives_same _ rest i
 
-  otherwise_same : (code : ℕ) (otherwise : Held-Stmt-If-2) → said_otherwise code (shown_otherwise otherwise) ≡ otherwise_tokens code otherwise
+  otherwise_same : (code : ℕ) (otherwise : Held-Case-otherwise) → said_otherwise code (shown_otherwise otherwise) ≡ otherwise_tokens code otherwise
   otherwise_same code None' = refl
   otherwise_same code (Some' _ statements place) = λ i. word code ++ stmts_same _ statements i

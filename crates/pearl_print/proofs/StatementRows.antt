@@ -1,13 +1,15 @@
 -- The tokens of statements with statements within them, told by the lists that their fields show.
-use Rattle.std.proofs.Common.{◌≡◌, ℕ, ◌++◌, Option, Some, None, refl, sym, ap, ◌∙◌}
+use Rattle.std.proofs.Common.{◌≡◌, ℕ, ◌++◌, refl, sym, ap, ◌∙◌, Box, Global}
 use mathlib.Core.Former.{Count}
 use Rattle.std.specs.List.{flat_map}
-use Rattle.pearl_tree.specs.declared.parts.Parts.{Parts}
-use Rattle.pearl_tree.specs.declared.name.Name.{Name}
-use Rattle.pearl_tree.specs.declared.expression.Expr.{Expr}
-use Rattle.pearl_tree.specs.declared.statement.Stmt.{Stmt, If, If', Case, Case', Repeat, Repeat', Begin, Begin', Row_of-Stmt, end_of-Stmt, more_of-Stmt, items-the_row-Stmt, items_shown-the_row-Stmt-0, items_hidden-the_row-Stmt-0, Row_of-Branch, end_of-Branch, more_of-Branch, items-the_row-Branch, items_hidden-the_row-Branch-1, Held-Stmt-If-2, None', Some', back-Stmt-If-2}
-use Rattle.pearl_tree.specs.declared.statement.Body.{Body}
-use Rattle.pearl_tree.specs.declared.statement.Branch.{Branch}
+use Rattle.pearl_tree.specs.declared.statement.Stmt.{Stmt, If', Case', Repeat', Begin', Row_of-Stmt, end_of-Stmt, more_of-Stmt, items-the_row-Stmt, items_shown-the_row-Stmt-0, items_hidden-the_row-Stmt-0}
+use Rattle.pearl_tree.specs.declared.statement.Stmt as stmt
+use Rattle.pearl_tree.specs.declared.statement.Repeat.{Repeat}
+use Rattle.pearl_tree.specs.declared.statement.Begin.{Begin}
+use Rattle.pearl_tree.specs.declared.statement.If as if_
+use Rattle.pearl_tree.specs.declared.statement.If.{out-If, outs-If', Held-Case-otherwise, None', Some', view-Case-otherwise}
+use Rattle.pearl_tree.specs.declared.statement.Case as case_
+use Rattle.pearl_tree.specs.declared.statement.Case.{out-Case, outs-Case', Row_of-Branch, end_of-Branch, more_of-Branch, items-the_row-Branch, items_shown-the_row-Branch-1}
 use Rattle.pearl_tables.specs.declared.symbol.TheConstants as s
 use Rattle.pearl_tables.specs.declared.word_code.TheConstants as w
 use Rattle.pearl_print.specs.Lists.{word, symbol, maybe}
@@ -19,66 +21,71 @@ stmts_each _ end_of-Stmt = refl
 stmts_each _ (more_of-Stmt statement rest) = ap (λ t. stmt_tokens statement ++ t) (stmts_each _ rest)
 
 abbrev statements_of : Stmt → (n : Count) × Row_of-Stmt n
-statements_of (If' _ _ row _ _) = (_, row)
-statements_of (Repeat' _ _ _ _ _ _ _ row _ _) = (_, row)
-statements_of (Begin' _ _ row _ _) = (_, row)
+statements_of (If' _ (if_.If' _ _ row _ _)) = (_, row)
+statements_of (Repeat' _ _ _ _ _ _ _ _ row _ _) = (_, row)
+statements_of (Begin' _ _ _ row _ _) = (_, row)
 statements_of _ = (_, end_of-Stmt)
 
-abbrev held_of : Held-Stmt-If-2 → (n : Count) × Row_of-Stmt n
-held_of (Some' _ row _) = (_, row)
-held_of None' = (_, end_of-Stmt)
-
 -- [ word { stmt } ]
-otherwise_shown : (code : ℕ) (otherwise : Option Branch) → otherwise_tokens code (back-Stmt-If-2 otherwise) ≡ maybe (branch_tokens code) otherwise
-otherwise_shown code None = refl
-otherwise_shown code (Some branch) =
-    let row = held_of (back-Stmt-If-2 (Some branch)) in
-    ap (λ t. word code ++ t) (stmts_each row.0 row.1 ∙ ap (λ xs. flat_map stmt_tokens xs) (items_hidden-the_row-Stmt-0 branch.statements.items))
+otherwise_maybe : (code : ℕ) (otherwise : Held-Case-otherwise) → otherwise_tokens code otherwise ≡ maybe (branch_tokens code) (view-Case-otherwise otherwise)
+otherwise_maybe code None' = refl
+otherwise_maybe code (Some' shape row place) =
+    ap (λ t. word code ++ t) (stmts_each _ row ∙ ap (λ xs. flat_map stmt_tokens xs) (sym (items_shown-the_row-Stmt-0 shape row)))
 
 alternatives_each : (n : _) (row : Row_of-Branch n) → alternatives_tokens row ≡ flat_map (branch_tokens w.ALT) (items-the_row-Branch n row)
 alternatives_each _ end_of-Branch = refl
 alternatives_each _ (more_of-Branch shape row place rest) =
     λ i. (word w.ALT ++ (stmts_each _ row ∙ ap (λ xs. flat_map stmt_tokens xs) (sym (items_shown-the_row-Stmt-0 shape row))) i) ++ alternatives_each _ rest i
 
-abbrev alternatives_of : Stmt → (n : Count) × Row_of-Branch n
-alternatives_of (Case' _ _ row _ _) = (_, row)
-alternatives_of _ = (_, end_of-Branch)
+if_tokens : (q : _) (part : if_.If) →
+    stmt_tokens (If' q part) ≡
+    after_tokens w.IF (out-If part).condition ++ word w.THEN ++ flat_map stmt_tokens (out-If part).statements.items.items ++
+    maybe (branch_tokens w.ELSE) (out-If part).otherwise ++ (word w.FIN ++ symbol s.SEMICOLON)
+if_tokens q (if_.If' condition shape row otherwise place) =
+    rw (outs-If' condition shape row otherwise place) (
+    λ i. after_tokens w.IF condition ++ word w.THEN ++
+    (stmts_each _ row ∙ ap (λ xs. flat_map stmt_tokens xs) (sym (items_shown-the_row-Stmt-0 shape row))) i ++
+    otherwise_maybe w.ELSE otherwise i ++ (word w.FIN ++ symbol s.SEMICOLON))
 
 -- IF expr THEN { stmt } [ ELSE { stmt } ] FIN ";"
-pub if_shown : (condition : Expr) (statements : Parts Stmt) (otherwise : Option Branch) (place : ℕ) →
-    stmt_tokens (If condition statements otherwise place) ≡
-    after_tokens w.IF condition ++ word w.THEN ++ flat_map stmt_tokens statements.items.items ++
-    maybe (branch_tokens w.ELSE) otherwise ++ (word w.FIN ++ symbol s.SEMICOLON)
-if_shown condition statements otherwise place =
-    let row = statements_of (If condition statements otherwise place) in
-    λ i. after_tokens w.IF condition ++ word w.THEN ++
-    (stmts_each row.0 row.1 ∙ ap (λ xs. flat_map stmt_tokens xs) (items_hidden-the_row-Stmt-0 statements.items)) i ++
-    otherwise_shown w.ELSE otherwise i ++ (word w.FIN ++ symbol s.SEMICOLON)
+pub if_shown : (box : Box if_.If Global) →
+    stmt_tokens (stmt.If box) ≡
+    after_tokens w.IF (out-If box.value).condition ++ word w.THEN ++ flat_map stmt_tokens (out-If box.value).statements.items.items ++
+    maybe (branch_tokens w.ELSE) (out-If box.value).otherwise ++ (word w.FIN ++ symbol s.SEMICOLON)
+if_shown box = if_tokens (record { ptr = box.ptr; alloc = box.alloc; value = tt }) box.value
+
+case_tokens : (q : _) (part : case_.Case) →
+    stmt_tokens (Case' q part) ≡
+    after_tokens w.CASE (out-Case part).selector ++ flat_map (branch_tokens w.ALT) (out-Case part).alternatives.items.items ++
+    maybe (branch_tokens w.OUT) (out-Case part).otherwise ++ (word w.FIN ++ symbol s.SEMICOLON)
+case_tokens q (case_.Case' selector shape row otherwise place) =
+    rw (outs-Case' selector shape row otherwise place) (
+    λ i. after_tokens w.CASE selector ++
+    (alternatives_each _ row ∙ ap (λ xs. flat_map (branch_tokens w.ALT) xs) (sym (items_shown-the_row-Branch-1 shape row))) i ++
+    otherwise_maybe w.OUT otherwise i ++ (word w.FIN ++ symbol s.SEMICOLON))
 
 -- CASE expr ALT { stmt } { ALT { stmt } } [ OUT { stmt } ] FIN ";"
-pub case_shown : (selector : Expr) (alternatives : Parts Branch) (otherwise : Option Branch) (place : ℕ) →
-    stmt_tokens (Case selector alternatives otherwise place) ≡
-    after_tokens w.CASE selector ++ flat_map (branch_tokens w.ALT) alternatives.items.items ++
-    maybe (branch_tokens w.OUT) otherwise ++ (word w.FIN ++ symbol s.SEMICOLON)
-case_shown selector alternatives otherwise place =
-    let row = alternatives_of (Case selector alternatives otherwise place) in
-    λ i. after_tokens w.CASE selector ++
-    (alternatives_each row.0 row.1 ∙ ap (λ xs. flat_map (branch_tokens w.ALT) xs) (items_hidden-the_row-Branch-1 alternatives.items)) i ++
-    otherwise_shown w.OUT otherwise i ++ (word w.FIN ++ symbol s.SEMICOLON)
+pub case_shown : (box : Box case_.Case Global) →
+    stmt_tokens (stmt.Case box) ≡
+    after_tokens w.CASE (out-Case box.value).selector ++ flat_map (branch_tokens w.ALT) (out-Case box.value).alternatives.items.items ++
+    maybe (branch_tokens w.OUT) (out-Case box.value).otherwise ++ (word w.FIN ++ symbol s.SEMICOLON)
+case_shown box = case_tokens (record { ptr = box.ptr; alloc = box.alloc; value = tt }) box.value
 
 -- REPEAT, and what stands before it
-pub repeat_shown : (control : Option Name) (begin step end condition : Option Expr) (body : Body) (place : ℕ) →
-    stmt_tokens (Repeat control begin step end condition body place) ≡
-    loop_tokens control begin step end condition ++ block_tokens w.REPEAT body
-repeat_shown control begin step end condition body place =
-    let row = statements_of (Repeat control begin step end condition body place) in
-    ap (λ t. loop_tokens control begin step end condition ++
+pub repeat_shown : (box : Box Repeat Global) →
+    stmt_tokens (stmt.Repeat box) ≡
+    loop_tokens box.value.control box.value.begin box.value.step box.value.end box.value.condition ++ block_tokens w.REPEAT box.value.body
+repeat_shown box =
+    let row = statements_of (stmt.Repeat box) in
+    let body = box.value.body in
+    ap (λ t. loop_tokens box.value.control box.value.begin box.value.step box.value.end box.value.condition ++
     (word w.REPEAT ++ (flat_map body_decl_tokens body.declarations.items.items ++ t) ++ (word w.END ++ symbol s.SEMICOLON)))
     (stmts_each row.0 row.1 ∙ ap (λ xs. flat_map stmt_tokens xs) (items_hidden-the_row-Stmt-0 body.statements.items))
 
 -- BEGIN body END ";"
-pub begin_shown : (body : Body) (place : ℕ) → stmt_tokens (Begin body place) ≡ block_tokens w.BEGIN body
-begin_shown body place =
-    let row = statements_of (Begin body place) in
+pub begin_shown : (box : Box Begin Global) → stmt_tokens (stmt.Begin box) ≡ block_tokens w.BEGIN box.value.body
+begin_shown box =
+    let row = statements_of (stmt.Begin box) in
+    let body = box.value.body in
     ap (λ t. word w.BEGIN ++ (flat_map body_decl_tokens body.declarations.items.items ++ t) ++ (word w.END ++ symbol s.SEMICOLON))
     (stmts_each row.0 row.1 ∙ ap (λ xs. flat_map stmt_tokens xs) (items_hidden-the_row-Stmt-0 body.statements.items))

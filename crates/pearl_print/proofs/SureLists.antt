@@ -16,7 +16,7 @@ use Rattle.pearl_tree.specs.declared.format.WideCode.TheVariants.{F, T, D}
 use Rattle.pearl_tree.specs.Formats.{free_text, wide_text}
 use Rattle.pearl_tables.specs.declared.symbol.TheConstants as s
 use Rattle.pearl_tables.specs.Symbols.{symbol_count}
-use Rattle.pearl_tables.specs.Words.{code_count, words}
+use Rattle.pearl_tables.specs.Words.{code_count, meanings, words}
 use Rattle.pearl_tree.specs.Tokens.{IsIdByte, IsLawfulWhat}
 use Rattle.pearl_tree.specs.Lawful.{IsLawfulName, IsLawfulNumber}
 use Rattle.pearl_lex.proofs.Passes.{and_front, and_back}
@@ -162,7 +162,7 @@ skip_sure no_word = one (what.Id (record { items = codes "SKIP" })) (record {
 })
 
 pub free_sure : (code : FreeCode) → Sure (id (free_text code))
-unfolding words
+unfolding words meanings
 free_sure A = letter_sure 65 (omega arith) (omega arith) (unlike (codes "A") words refl)
 free_sure B = letter_sure 66 (omega arith) (omega arith) (unlike (codes "B") words refl)
 free_sure B1 = digit_sure 49 (omega arith) (omega arith) (unlike (codes "B1") words refl)
@@ -173,7 +173,7 @@ free_sure X = letter_sure 88 (omega arith) (omega arith) (unlike (codes "X") wor
 free_sure Skip = skip_sure (unlike (codes "SKIP") words refl)
 
 pub wide_sure : (code : WideCode) → Sure (id (wide_text code))
-unfolding words
+unfolding words meanings
 wide_sure F = letter_sure 70 (omega arith) (omega arith) (unlike (codes "F") words refl)
 wide_sure T = letter_sure 84 (omega arith) (omega arith) (unlike (codes "T") words refl)
 wide_sure D = letter_sure 68 (omega arith) (omega arith) (unlike (codes "D") words refl)

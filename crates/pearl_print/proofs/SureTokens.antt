@@ -40,7 +40,11 @@ use Rattle.pearl_tree.specs.declared.statement.Start.TheVariants as start
 use Rattle.pearl_tree.specs.declared.statement.Once.{Once}
 use Rattle.pearl_tree.specs.declared.statement.Once.TheVariants as once
 use Rattle.pearl_tree.specs.declared.statement.BodyDecl.{BodyDecl}
-use Rattle.pearl_tree.specs.declared.statement.Stmt.{Stmt, Empty, Assign, Call, If', Case', Repeat', Exit, Begin', Return, Activate, Continue, Resume, OnTask, OnSemas, OnInterrupt, Put, Get, Send, Take, Row_of-Stmt, end_of-Stmt, more_of-Stmt, Row_of-Branch, end_of-Branch, more_of-Branch, Held-Stmt-If-2, None', Some'}
+use Rattle.pearl_tree.specs.declared.statement.Stmt.{Stmt, Empty, Assign, Call, If', Case', Repeat', Exit, Begin', Return, Activate, Continue, Resume, OnTask, OnSemas, OnInterrupt, Put, Get, Send, Take, Row_of-Stmt, end_of-Stmt, more_of-Stmt}
+use Rattle.pearl_tree.specs.declared.statement.If as if_
+use Rattle.pearl_tree.specs.declared.statement.If.{Held-Case-otherwise, None', Some'}
+use Rattle.pearl_tree.specs.declared.statement.Case as case_
+use Rattle.pearl_tree.specs.declared.statement.Case.{Row_of-Branch, end_of-Branch, more_of-Branch}
 use Rattle.pearl_tree.specs.declared.statement.Body.{Body}
 use Rattle.pearl_tree.specs.declared.tree.TaskHead.{TaskHead}
 use Rattle.pearl_tree.specs.declared.tree.TaskHead.TheVariants.{PrioFirst, MainFirst}
@@ -54,11 +58,11 @@ use Rattle.pearl_tree.specs.declared.declaration.Prio.{Prio}
 use Rattle.pearl_tree.specs.declared.token.What.TheVariants as what
 use Rattle.pearl_tree.specs.declared.literal.Sign.{Sign}
 use Rattle.pearl_tree.specs.declared.literal.Sign.TheVariants as sign
-use Rattle.pearl_tree.specs.declared.expression.Monad.{Monad}
-use Rattle.pearl_tree.specs.declared.expression.Monad.TheVariants as monad
+use Rattle.pearl_value.specs.declared.operator.Monad.{Monad}
+use Rattle.pearl_value.specs.declared.operator.Monad.TheVariants as monad
 use Rattle.pearl_tree.specs.declared.expression.Monadic.{Monadic}
-use Rattle.pearl_tree.specs.declared.expression.Dyad.{Dyad}
-use Rattle.pearl_tree.specs.declared.expression.Dyad.TheVariants as dyad
+use Rattle.pearl_value.specs.declared.operator.Dyad.{Dyad}
+use Rattle.pearl_value.specs.declared.operator.Dyad.TheVariants as dyad
 use Rattle.pearl_tree.specs.declared.expression.Side.{Side}
 use Rattle.pearl_tree.specs.declared.expression.Side.TheVariants.{Lower, Upper}
 use Rattle.pearl_tree.specs.declared.typing.Sort.{Sort}
@@ -76,6 +80,7 @@ use Rattle.pearl_tables.specs.declared.word_code.TheConstants as w
 use Rattle.pearl_tables.specs.Words.{code_count}
 use Rattle.pearl_tree.specs.Tokens.{IsNumberValue}
 use Rattle.pearl_tree.specs.Expressions.{monad_what, side_word}
+use Rattle.pearl_tree.specs.ShownLiterals.{shown_literal}
 use Rattle.pearl_tree.specs.Types.{sort_word}
 use Rattle.pearl_tree.specs.Declarations.{direction_word}
 use Rattle.pearl_tree.specs.Statements.{task_word, sema_word, interrupt_word}
@@ -107,12 +112,12 @@ carried_sure ms fits =
     word_sure w.MIN (omega arith) & one (what.Decimal (ms / 1000 % 60) (ms % 1000)) (omega arith, omega arith) &
     word_sure w.SEC (omega arith)
 
-literal_sure : (part : Literal) → IsLawfulLiteral part → HasFittingHours part → Sure (literal_tokens part)
+literal_sure : (part : Literal) → IsLawfulLiteral part → HasFittingHours part → Sure (literal_tokens (shown_literal part))
 literal_sure (literal.Number number) is fits = number_sure number is
 literal_sure (literal.Bits len value place) is fits = one (what.Bits len value) is
-literal_sure (literal.Text text place) is fits = one (what.Text text) is
+literal_sure (literal.Text text place) is fits = one (what.Text text.value) is
 literal_sure (literal.Clock milliseconds place) is fits = one (what.Clock milliseconds) is
-literal_sure (literal.Duration duration) is fits = carried_sure (duration_milliseconds duration) fits
+literal_sure (literal.Duration duration) is fits = carried_sure (duration_milliseconds duration.value) fits
 
 sign_sure : (part : Sign) → Sure (sign_tokens part)
 sign_sure sign.Plus = symbol_sure s.PLUS (omega arith)
@@ -136,13 +141,13 @@ monadic_sure : (part : Monadic) → Sure (monadic_tokens part)
 monadic_sure part = monad_sure part.operator
 
 dyad_sure : (part : Dyad) → Sure (dyad_what part ∷ [])
-dyad_sure dyad.Power = symbol_sure s.POWER (omega arith)
-dyad_sure dyad.Times = symbol_sure s.TIMES (omega arith)
-dyad_sure dyad.Over = symbol_sure s.DIVIDE (omega arith)
+dyad_sure dyad.Pow = symbol_sure s.POWER (omega arith)
+dyad_sure dyad.Mul = symbol_sure s.TIMES (omega arith)
+dyad_sure dyad.Div = symbol_sure s.DIVIDE (omega arith)
 dyad_sure dyad.Rem = word_sure w.REM (omega arith)
 dyad_sure dyad.Cat = symbol_sure s.CONCATENATE (omega arith)
-dyad_sure dyad.Plus = symbol_sure s.PLUS (omega arith)
-dyad_sure dyad.Minus = symbol_sure s.MINUS (omega arith)
+dyad_sure dyad.Add = symbol_sure s.PLUS (omega arith)
+dyad_sure dyad.Sub = symbol_sure s.MINUS (omega arith)
 dyad_sure dyad.Cshift = symbol_sure s.ROTATE (omega arith)
 dyad_sure dyad.Shift = word_sure w.SHIFT (omega arith)
 dyad_sure dyad.Lt = symbol_sure s.LESS (omega arith)
@@ -173,7 +178,7 @@ mutual
       symbol_sure s.LEFT_ROUND (omega arith) & expr_sure (depth - 1) inner is.1.0 fits & symbol_sure s.RIGHT_ROUND (omega arith)
   primary_sure depth (primary.Now place) is fits = word_sure w.NOW (omega arith)
   primary_sure depth (primary.Try name place) is fits = word_sure w.TRY (omega arith) & name_sure name is
-  primary_sure depth (primary.Limit' dimension side name _ selectors ref_place place) is fits =
+  primary_sure depth (primary.Limit' dimension side _ name _ selectors ref_place place) is fits =
       maybe_sure IsLawfulNumber number_tokens number_sure dimension is.0 & side_sure side & (name_sure name is.1.0 &
       selectors_sure depth _ selectors is.1.1 fits)
 
@@ -370,19 +375,19 @@ interrupt_word_sure Trigger = word_sure w.TRIGGER (omega arith)
 mutual
   stmt_sure : (depth : ℕ) (statement : Stmt) → IsLawfulStmt depth statement → InStmt HasFittingHours statement → Sure (stmt_tokens statement)
   stmt_sure depth (Empty place) is fits = end_sure
-  stmt_sure depth (Assign target value place) is fits =
-      ref_sure target is.0 fits.0 & symbol_sure s.BECOMES (omega arith) & whole_sure value is.1 fits.1 & end_sure
-  stmt_sure depth (Call call name arguments place) is fits =
-      word_sure w.CALL (omega arith) & name_sure name is.0 &
-      maybe_bracketed_both IsLawfulExpr (InExpr HasFittingHours) expr_tokens whole_sure arguments.items.items is.1 fits & end_sure
-  stmt_sure depth (If' condition _ statements otherwise place) is fits =
+  stmt_sure depth (Assign part) is fits =
+      ref_sure part.value.target is.0 fits.0 & symbol_sure s.BECOMES (omega arith) & whole_sure part.value.value is.1 fits.1 & end_sure
+  stmt_sure depth (Call part) is fits =
+      word_sure w.CALL (omega arith) & name_sure part.value.name is.0 &
+      maybe_bracketed_both IsLawfulExpr (InExpr HasFittingHours) expr_tokens whole_sure part.value.arguments.items.items is.1 fits & end_sure
+  stmt_sure depth (If' _ (if_.If' condition _ statements otherwise place)) is fits =
       after_sure w.IF (omega arith) condition is.1 fits.0 & word_sure w.THEN (omega arith) &
       stmts_sure (depth - 1) _ statements is.2 fits.1 & otherwise_sure (depth - 1) w.ELSE (omega arith) otherwise is.3 fits.2 &
       (word_sure w.FIN (omega arith) & end_sure)
-  stmt_sure depth (Case' selector _ alternatives otherwise place) is fits =
+  stmt_sure depth (Case' _ (case_.Case' selector _ alternatives otherwise place)) is fits =
       after_sure w.CASE (omega arith) selector is.1 fits.0 & alternatives_sure (depth - 1) _ alternatives is.2 fits.1 &
       otherwise_sure (depth - 1) w.OUT (omega arith) otherwise is.3 fits.2 & (word_sure w.FIN (omega arith) & end_sure)
-  stmt_sure depth (Repeat' control begin step end condition declarations _ statements body_place place) is fits =
+  stmt_sure depth (Repeat' _ control begin step end condition declarations _ statements body_place place) is fits =
       (maybe_sure IsLawfulName for_tokens for_sure control is.1 & maybe_after w.FROM (omega arith) begin is.2 fits.0 &
       maybe_after w.BY (omega arith) step is.3 fits.1 & maybe_after w.TO (omega arith) end is.4 fits.2 &
       maybe_after w.WHILE (omega arith) condition is.5 fits.3) &
@@ -390,35 +395,35 @@ mutual
       stmts_sure (depth - 1) _ statements is.6.1 fits.4.1) &
       (word_sure w.END (omega arith) & end_sure))
   stmt_sure depth (Exit place) is fits = word_sure w.EXIT (omega arith) & end_sure
-  stmt_sure depth (Begin' declarations _ statements body_place place) is fits =
+  stmt_sure depth (Begin' _ declarations _ statements body_place place) is fits =
       word_sure w.BEGIN (omega arith) & (decls_sure declarations.items.items is.1.0 fits.0 &
       stmts_sure (depth - 1) _ statements is.1.1 fits.1) &
       (word_sure w.END (omega arith) & end_sure)
-  stmt_sure depth (Return value place) is fits =
-      word_sure w.RETURN (omega arith) & maybe_both IsLawfulExpr (InExpr HasFittingHours) value_tokens value_sure value is fits & end_sure
-  stmt_sure depth (Activate start task priority place) is fits =
-      maybe_both IsLawfulStart (InStart HasFittingHours) start_tokens start_sure start is.0 fits.0 & word_sure w.ACTIVATE (omega arith) &
-      name_sure task is.1 & maybe_after w.PRIO (omega arith) priority is.2 fits.1 & end_sure
-  stmt_sure depth (Continue once task place) is fits =
-      maybe_both IsLawfulOnce (InOnce HasFittingHours) once_tokens once_sure once is.0 fits & word_sure w.CONTINUE (omega arith) &
-      name_sure task is.1 & end_sure
-  stmt_sure depth (Resume once place) is fits = once_sure once is fits & word_sure w.RESUME (omega arith) & end_sure
-  stmt_sure depth (OnTask code task place) is fits =
-      task_word_sure code & maybe_sure IsLawfulName name_tokens name_sure task is & end_sure
-  stmt_sure depth (OnSemas code names place) is fits =
-      sema_word_sure code & listed_sure IsLawfulName name_tokens name_sure names.items.items is & end_sure
-  stmt_sure depth (OnInterrupt code name place) is fits = interrupt_word_sure code & name_sure name is & end_sure
-  stmt_sure depth (Put values dation formats place) is fits =
+  stmt_sure depth (Return part) is fits =
+      word_sure w.RETURN (omega arith) & maybe_both IsLawfulExpr (InExpr HasFittingHours) value_tokens value_sure part.value.value is fits & end_sure
+  stmt_sure depth (Activate part) is fits =
+      maybe_both IsLawfulStart (InStart HasFittingHours) start_tokens start_sure part.value.start is.0 fits.0 & word_sure w.ACTIVATE (omega arith) &
+      name_sure part.value.task is.1 & maybe_after w.PRIO (omega arith) part.value.priority is.2 fits.1 & end_sure
+  stmt_sure depth (Continue part) is fits =
+      maybe_both IsLawfulOnce (InOnce HasFittingHours) once_tokens once_sure part.value.once is.0 fits & word_sure w.CONTINUE (omega arith) &
+      name_sure part.value.task is.1 & end_sure
+  stmt_sure depth (Resume part) is fits = once_sure part.value.once is fits & word_sure w.RESUME (omega arith) & end_sure
+  stmt_sure depth (OnTask part) is fits =
+      task_word_sure part.value.word & maybe_sure IsLawfulName name_tokens name_sure part.value.task is & end_sure
+  stmt_sure depth (OnSemas part) is fits =
+      sema_word_sure part.value.word & listed_sure IsLawfulName name_tokens name_sure part.value.names.items.items is & end_sure
+  stmt_sure depth (OnInterrupt part) is fits = interrupt_word_sure part.value.word & name_sure part.value.name is & end_sure
+  stmt_sure depth (Put part) is fits =
       word_sure w.PUT (omega arith) &
-      listed_both IsLawfulExpr (InExpr HasFittingHours) expr_tokens whole_sure values.items.items is.0 fits &
-      word_sure w.TO (omega arith) & by_sure dation formats is.1 is.2
-  stmt_sure depth (Get targets dation formats place) is fits =
-      word_sure w.GET (omega arith) & listed_both IsLawfulRef (InRef HasFittingHours) ref_tokens ref_sure targets.items.items is.0 fits &
-      word_sure w.FROM (omega arith) & by_sure dation formats is.1 is.2
-  stmt_sure depth (Send value dation place) is fits =
-      after_sure w.SEND (omega arith) value is.0 fits & word_sure w.TO (omega arith) & name_sure dation is.1 & end_sure
-  stmt_sure depth (Take target dation place) is fits =
-      word_sure w.TAKE (omega arith) & ref_sure target is.0 fits & word_sure w.FROM (omega arith) & name_sure dation is.1 & end_sure
+      listed_both IsLawfulExpr (InExpr HasFittingHours) expr_tokens whole_sure part.value.values.items.items is.0 fits &
+      word_sure w.TO (omega arith) & by_sure part.value.dation part.value.formats is.1 is.2
+  stmt_sure depth (Get part) is fits =
+      word_sure w.GET (omega arith) & listed_both IsLawfulRef (InRef HasFittingHours) ref_tokens ref_sure part.value.targets.items.items is.0 fits &
+      word_sure w.FROM (omega arith) & by_sure part.value.dation part.value.formats is.1 is.2
+  stmt_sure depth (Send part) is fits =
+      after_sure w.SEND (omega arith) part.value.value is.0 fits & word_sure w.TO (omega arith) & name_sure part.value.dation is.1 & end_sure
+  stmt_sure depth (Take part) is fits =
+      word_sure w.TAKE (omega arith) & ref_sure part.value.target is.0 fits & word_sure w.FROM (omega arith) & name_sure part.value.dation is.1 & end_sure
 
   stmts_sure : (depth : ℕ) (n : _) (row : Row_of-Stmt n) → AreLawfulStmts depth row → InStmts HasFittingHours row → Sure (stmts_tokens row)
   stmts_sure depth _ end_of-Stmt is fits = none
@@ -429,7 +434,7 @@ mutual
   alternatives_sure depth _ (more_of-Branch _ statements place rest) is fits =
       (word_sure w.ALT (omega arith) & stmts_sure depth _ statements is.0 fits.0) & alternatives_sure depth _ rest is.1 fits.1
 
-  otherwise_sure : (depth code : ℕ) → code < code_count → (otherwise : Held-Stmt-If-2) → IsLawfulOtherwise depth otherwise → InOtherwise HasFittingHours otherwise →
+  otherwise_sure : (depth code : ℕ) → code < code_count → (otherwise : Held-Case-otherwise) → IsLawfulOtherwise depth otherwise → InOtherwise HasFittingHours otherwise →
       Sure (otherwise_tokens code otherwise)
   otherwise_sure depth code low None' is fits = none
   otherwise_sure depth code low (Some' _ statements place) is fits = word_sure code low & stmts_sure depth _ statements is fits

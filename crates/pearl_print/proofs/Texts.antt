@@ -1,9 +1,7 @@
 -- What holds of the texts of lists of tokens.
-use Rattle.std.proofs.Common.{◌≡◌, ℕ, List, [], ◌∷◌, ◌++◌, refl, sym, ap, ◌∙◌, append_assoc, get_or, length, map}
+use Rattle.std.proofs.Common.{◌≡◌, ℕ, List, [], ◌∷◌, ◌++◌, refl, sym, ap, ◌∙◌, append_assoc}
 use Rattle.std.proofs.lemmas.List.{append-nil}
 use Rattle.std.proofs.lemmas.Grind.{flat_map-append}
-use Rattle.std.proofs.Math.ListN.{get_or-map}
-use Rattle.std.proofs.lemmas.List.{length-map}
 use Rattle.pearl_tree.specs.declared.token.What.{What}
 use Rattle.pearl_print.specs.Spelled.{spelled, gap, text_of}
 
@@ -30,12 +28,8 @@ adds a b c xs ys first second = second ∙ ap (λ t. t ++ text_of ys) first ∙ 
 pub adds_none : (a : List ℕ) → a ≡ a ++ text_of []
 adds_none a = sym (ap (λ t. a ++ t) text_of-nil ∙ append-nil a)
 
+-- the tokens of a thing were appended, which is another
+pub adds_other : {X : Type 0} (tokens : X → List What) (a b : List ℕ) (x y : X) → x ≡ y → b ≡ a ++ text_of (tokens x) → b ≡ a ++ text_of (tokens y)
+adds_other tokens a b x y same added = added ∙ ap (λ z. a ++ text_of (tokens z)) same
+
 pub ruleset text_steps = (text_of-nil, text_of-cons, text_of-append)
-
--- a table has as many rows as texts that they show
-pub shown_length : {X : Type 0} (show : X → List ℕ) (rows : List X) (texts : List (List ℕ)) → map show rows ≡ texts → length rows ≡ length texts
-shown_length show rows texts same = sym (length-map rows show) ∙ ap length same
-
--- a row of a table shows the text with the row's number
-pub shown_text : {X : Type 0} (show : X → List ℕ) (rows : List X) (texts : List (List ℕ)) → map show rows ≡ texts → (k : ℕ) (d : X) → show (get_or rows k d) ≡ get_or texts k (show d)
-shown_text show rows texts same k d = sym (get_or-map show rows k d) ∙ ap (λ xs. get_or xs k (show d)) same

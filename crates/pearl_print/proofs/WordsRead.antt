@@ -6,13 +6,13 @@ use Rattle.std.specs.Str.{bytes_eq}
 use Rattle.std.proofs.lemmas.Bool.{eqb-true}
 use Rattle.std.proofs.lemmas.Slice.Eq.{bytes_eq-Decides}
 use Rattle.std.proofs.lemmas.List.Elements.{All-head, All-tail}
-use Rattle.pearl_tables.specs.Words.{words, code_count}
+use Rattle.pearl_tables.specs.Words.{words, meanings, word_texts, word_text, code_count}
 use Rattle.pearl_tree.specs.declared.token.What.TheVariants as what
 use Rattle.pearl_lex.specs.declared.front.Front.{Front}
 use Rattle.pearl_lex.specs.Spelling.{is_id_byte, is_blank, space_len, sized, meaning, word_or_id, id_of}
 use Rattle.pearl_lex.specs.Front.{front}
 use Rattle.pearl_lex.proofs.Passes.{and_front, and_back}
-use Rattle.pearl_print.specs.Spelled.{word_texts, word_text, spelled}
+use Rattle.pearl_print.specs.Spelled.{spelled}
 use Rattle.pearl_print.specs.Reading.{IsReadBack}
 use Rattle.pearl_tree.specs.Tokens.{IsLetter, IsIdByte, IsId, BeginsWithLetter}
 use Rattle.std.proofs.lemmas.Grind.{common_steps}
@@ -91,11 +91,11 @@ each_row-at test (text ∷ texts) (suc code) e inside =
     each_row-at (λ n. test (suc n)) texts code (and_back (test 0 text) (each_row (λ n. test (suc n)) texts) e) (omega arith)
 
 words_pass : each_row is_word_text word_texts ≡ true
-unfolding words word_texts
+unfolding words word_texts meanings
 words_pass = refl
 
 words_length : length word_texts ≡ code_count
-unfolding word_texts
+unfolding word_texts meanings
 words_length = refl
 
 word_passes : (code : ℕ) → code < code_count → is_word_text code (word_text code) ≡ true

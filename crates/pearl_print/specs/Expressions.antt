@@ -6,14 +6,12 @@ use Rattle.pearl_tree.specs.declared.literal.Secs.{Secs}
 use Rattle.pearl_tree.specs.declared.literal.Secs.TheVariants as secs
 use Rattle.pearl_tree.specs.declared.literal.Duration.{Duration}
 use Rattle.pearl_tree.specs.declared.literal.Duration.TheVariants.{Hours, Minutes, Seconds}
-use Rattle.pearl_tree.specs.declared.literal.Literal.{Literal}
-use Rattle.pearl_tree.specs.declared.literal.Literal.TheVariants as literal
 use Rattle.pearl_tree.specs.declared.literal.Sign.{Sign}
 use Rattle.pearl_tree.specs.declared.literal.Sign.TheVariants as sign
 use Rattle.pearl_tree.specs.declared.literal.Const.{Const}
 use Rattle.pearl_tree.specs.declared.expression.Monadic.{Monadic}
-use Rattle.pearl_tree.specs.declared.expression.Dyad.{Dyad}
-use Rattle.pearl_tree.specs.declared.expression.Dyad.TheVariants as dyad
+use Rattle.pearl_value.specs.declared.operator.Dyad.{Dyad}
+use Rattle.pearl_value.specs.declared.operator.Dyad.TheVariants as dyad
 use Rattle.pearl_tree.specs.declared.expression.Dyadic.{Dyadic}
 use Rattle.pearl_tree.specs.declared.expression.Expr.{Expr, Operand', Dyadic'}
 use Rattle.pearl_tree.specs.declared.expression.Side.{Side}
@@ -25,6 +23,7 @@ use Rattle.pearl_tree.specs.declared.expression.Ref.{Ref, Row_of-Selector, end_o
 use Rattle.pearl_tree.specs.declared.token.What.{What}
 use Rattle.pearl_tree.specs.declared.token.What.TheVariants as what
 use Rattle.pearl_tree.specs.Expressions.{monad_what, side_word}
+use Rattle.pearl_tree.specs.ShownLiterals.{ShownLiteral, OfNumber, OfBits, OfText, OfClock, OfDuration, shown_literal}
 use Rattle.pearl_tables.specs.declared.symbol.TheConstants as s
 use Rattle.pearl_tables.specs.declared.word_code.TheConstants as w
 use Rattle.pearl_print.specs.Lists.{word, symbol, name_tokens, number_tokens, maybe}
@@ -54,12 +53,12 @@ carried ms =
     what.Decimal (ms / 1000 % 60) (ms % 1000) ∷ word w.SEC
 
 -- literal = number | bits | text | clock | duration
-abbrev pub literal_tokens : Literal → List What
-literal_tokens (literal.Number number) = number_tokens number
-literal_tokens (literal.Bits len value place) = what.Bits len value ∷ []
-literal_tokens (literal.Text text place) = what.Text text ∷ []
-literal_tokens (literal.Clock milliseconds place) = what.Clock milliseconds ∷ []
-literal_tokens (literal.Duration duration) = carried (duration_milliseconds duration)
+abbrev pub literal_tokens : ShownLiteral → List What
+literal_tokens (OfNumber number) = number_tokens number
+literal_tokens (OfBits len value place) = what.Bits len value ∷ []
+literal_tokens (OfText text place) = what.Text (record { items = text }) ∷ []
+literal_tokens (OfClock milliseconds place) = what.Clock milliseconds ∷ []
+literal_tokens (OfDuration duration) = carried (duration_milliseconds duration)
 
 -- "+" | "-"
 abbrev pub sign_tokens : Sign → List What
@@ -68,7 +67,7 @@ sign_tokens sign.Minus = symbol s.MINUS
 
 -- const = [ "+" | "-" ] literal
 abbrev pub const_tokens : Const → List What
-const_tokens constant = maybe sign_tokens constant.sign ++ literal_tokens constant.literal
+const_tokens constant = maybe sign_tokens constant.sign ++ literal_tokens (shown_literal constant.literal)
 
 -- + | - | ABS | SIGN | NOT
 abbrev pub monadic_tokens : Monadic → List What
@@ -76,13 +75,13 @@ monadic_tokens monadic = monad_what monadic.operator ∷ []
 
 -- the symbol of an operator, or its word where it has none
 abbrev pub dyad_what : Dyad → What
-dyad_what dyad.Power = what.Symbol s.POWER
-dyad_what dyad.Times = what.Symbol s.TIMES
-dyad_what dyad.Over = what.Symbol s.DIVIDE
+dyad_what dyad.Pow = what.Symbol s.POWER
+dyad_what dyad.Mul = what.Symbol s.TIMES
+dyad_what dyad.Div = what.Symbol s.DIVIDE
 dyad_what dyad.Rem = what.Word w.REM
 dyad_what dyad.Cat = what.Symbol s.CONCATENATE
-dyad_what dyad.Plus = what.Symbol s.PLUS
-dyad_what dyad.Minus = what.Symbol s.MINUS
+dyad_what dyad.Add = what.Symbol s.PLUS
+dyad_what dyad.Sub = what.Symbol s.MINUS
 dyad_what dyad.Cshift = what.Symbol s.ROTATE
 dyad_what dyad.Shift = what.Word w.SHIFT
 dyad_what dyad.Lt = what.Symbol s.LESS
@@ -106,12 +105,12 @@ abbrev mutual
 
   -- primary = literal | ref | "(" expr ")" | NOW | TRY id | [ number ] ( LWB | UPB ) ref
   pub primary_tokens : Primary → List What
-  primary_tokens (primary.Literal part) = literal_tokens part
+  primary_tokens (primary.Literal part) = literal_tokens (shown_literal part)
   primary_tokens (primary.Ref' name _ selectors place) = name_tokens name ++ selectors_tokens selectors
   primary_tokens (primary.Group' _ inner place) = symbol s.LEFT_ROUND ++ expr_tokens inner ++ symbol s.RIGHT_ROUND
   primary_tokens (primary.Now place) = word w.NOW
   primary_tokens (primary.Try name place) = word w.TRY ++ name_tokens name
-  primary_tokens (primary.Limit' dimension side name _ selectors ref_place place) =
+  primary_tokens (primary.Limit' dimension side _ name _ selectors ref_place place) =
       maybe number_tokens dimension ++ word (side_word side) ++ (name_tokens name ++ selectors_tokens selectors)
 
   -- { "(" expr { "," expr } ")" | "." id }

@@ -17,7 +17,11 @@ use Rattle.pearl_tree.specs.declared.statement.Start.TheVariants as start
 use Rattle.pearl_tree.specs.declared.statement.Once.{Once}
 use Rattle.pearl_tree.specs.declared.statement.Once.TheVariants as once
 use Rattle.pearl_tree.specs.declared.statement.BodyDecl.{BodyDecl}
-use Rattle.pearl_tree.specs.declared.statement.Stmt.{Stmt, Empty, Assign, Call, If', Case', Repeat', Exit, Begin', Return, Activate, Continue, Resume, OnTask, OnSemas, OnInterrupt, Put, Get, Send, Take, Row_of-Stmt, end_of-Stmt, more_of-Stmt, Row_of-Branch, end_of-Branch, more_of-Branch, Held-Stmt-If-2, None', Some'}
+use Rattle.pearl_tree.specs.declared.statement.Stmt.{Stmt, Empty, Assign, Call, If', Case', Repeat', Exit, Begin', Return, Activate, Continue, Resume, OnTask, OnSemas, OnInterrupt, Put, Get, Send, Take, Row_of-Stmt, end_of-Stmt, more_of-Stmt}
+use Rattle.pearl_tree.specs.declared.statement.If as if_
+use Rattle.pearl_tree.specs.declared.statement.If.{Held-Case-otherwise, None', Some'}
+use Rattle.pearl_tree.specs.declared.statement.Case as case_
+use Rattle.pearl_tree.specs.declared.statement.Case.{Row_of-Branch, end_of-Branch, more_of-Branch}
 use Rattle.pearl_tree.specs.declared.statement.Body.{Body}
 use Rattle.pearl_tree.specs.declared.tree.Decl.{Decl}
 use Rattle.pearl_tree.specs.declared.tree.Decl.TheVariants as decl
@@ -36,7 +40,7 @@ module _ (P : Literal → Type 0) where
     InPrimary (primary.Group' _ inner place) = InExpr inner
     InPrimary (primary.Now place) = Unit {0}
     InPrimary (primary.Try name place) = Unit {0}
-    InPrimary (primary.Limit' dimension side name _ selectors ref_place place) = InSelectors selectors
+    InPrimary (primary.Limit' dimension side _ name _ selectors ref_place place) = InSelectors selectors
 
     pub InSelectors : {n : _} → Row_of-Selector n → Type 0
     InSelectors end_of-Selector = Unit {0}
@@ -84,26 +88,26 @@ module _ (P : Literal → Type 0) where
   abbrev mutual
     pub InStmt : Stmt → Type 0
     InStmt (Empty place) = Unit {0}
-    InStmt (Assign target value place) = InRef target × InExpr value
-    InStmt (Call call name arguments place) = All InExpr arguments.items.items
-    InStmt (If' condition _ statements otherwise place) = InExpr condition × InStmts statements × InOtherwise otherwise
-    InStmt (Case' selector _ alternatives otherwise place) = InExpr selector × InBranches alternatives × InOtherwise otherwise
-    InStmt (Repeat' control begin step end condition declarations _ statements body_place place) =
+    InStmt (Assign part) = InRef part.value.target × InExpr part.value.value
+    InStmt (Call part) = All InExpr part.value.arguments.items.items
+    InStmt (If' _ (if_.If' condition _ statements otherwise place)) = InExpr condition × InStmts statements × InOtherwise otherwise
+    InStmt (Case' _ (case_.Case' selector _ alternatives otherwise place)) = InExpr selector × InBranches alternatives × InOtherwise otherwise
+    InStmt (Repeat' _ control begin step end condition declarations _ statements body_place place) =
         IfSome begin InExpr × IfSome step InExpr × IfSome end InExpr × IfSome condition InExpr ×
         (All InBodyDecl declarations.items.items × InStmts statements)
     InStmt (Exit place) = Unit {0}
-    InStmt (Begin' declarations _ statements body_place place) = All InBodyDecl declarations.items.items × InStmts statements
-    InStmt (Return value place) = IfSome value InExpr
-    InStmt (Activate start task priority place) = IfSome start InStart × IfSome priority InExpr
-    InStmt (Continue once task place) = IfSome once InOnce
-    InStmt (Resume once place) = InOnce once
-    InStmt (OnTask word task place) = Unit {0}
-    InStmt (OnSemas word names place) = Unit {0}
-    InStmt (OnInterrupt word name place) = Unit {0}
-    InStmt (Put values dation formats place) = All InExpr values.items.items
-    InStmt (Get targets dation formats place) = All InRef targets.items.items
-    InStmt (Send value dation place) = InExpr value
-    InStmt (Take target dation place) = InRef target
+    InStmt (Begin' _ declarations _ statements body_place place) = All InBodyDecl declarations.items.items × InStmts statements
+    InStmt (Return part) = IfSome part.value.value InExpr
+    InStmt (Activate part) = IfSome part.value.start InStart × IfSome part.value.priority InExpr
+    InStmt (Continue part) = IfSome part.value.once InOnce
+    InStmt (Resume part) = InOnce part.value.once
+    InStmt (OnTask part) = Unit {0}
+    InStmt (OnSemas part) = Unit {0}
+    InStmt (OnInterrupt part) = Unit {0}
+    InStmt (Put part) = All InExpr part.value.values.items.items
+    InStmt (Get part) = All InRef part.value.targets.items.items
+    InStmt (Send part) = InExpr part.value.value
+    InStmt (Take part) = InRef part.value.target
 
     pub InStmts : {n : _} → Row_of-Stmt n → Type 0
     InStmts end_of-Stmt = Unit {0}
@@ -113,7 +117,7 @@ module _ (P : Literal → Type 0) where
     InBranches end_of-Branch = Unit {0}
     InBranches (more_of-Branch _ statements place rest) = InStmts statements × InBranches rest
 
-    pub InOtherwise : Held-Stmt-If-2 → Type 0
+    pub InOtherwise : Held-Case-otherwise → Type 0
     InOtherwise None' = Unit {0}
     InOtherwise (Some' _ statements place) = InStmts statements
 

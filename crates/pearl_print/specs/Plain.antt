@@ -6,9 +6,6 @@ use Rattle.pearl_tree.specs.declared.name.Number.{Number}
 use Rattle.pearl_tree.specs.declared.literal.Secs.TheVariants as secs
 use Rattle.pearl_tree.specs.declared.literal.Duration.{Duration}
 use Rattle.pearl_tree.specs.declared.literal.Duration.TheVariants.{Hours}
-use Rattle.pearl_tree.specs.declared.literal.Literal.{Literal}
-use Rattle.pearl_tree.specs.declared.literal.Literal.TheVariants as literal
-use Rattle.pearl_tree.specs.declared.literal.Const.{Const}
 use Rattle.pearl_tree.specs.declared.expression.Monadic.{Monadic}
 use Rattle.pearl_tree.specs.declared.expression.Dyadic.{Dyadic}
 use Rattle.pearl_tree.specs.declared.format.Fmt.{Fmt}
@@ -30,6 +27,7 @@ use Rattle.pearl_tree.specs.declared.tree.ModuleName.TheVariants.{Bracketed, Bar
 use Rattle.pearl_tree.specs.declared.tree.Tree.{Tree}
 use Rattle.pearl_tree.specs.declared.token.Token.{Token}
 use Rattle.pearl_tree.specs.Modules.{Spells}
+use Rattle.pearl_tree.specs.ShownLiterals.{ShownLiteral, OfNumber, OfBits, OfText, OfClock, OfDuration, ShownConst}
 use Rattle.pearl_tree.specs.ShownExpressions.{ShownExpr, OfOperand, OfDyadic, ShownPrimary, OfLiteral, OfRef, OfGroup, OfNow, OfTry, OfLimit, ShownSelectors, NoSelectors, MoreSelectors, ShownSelector, OfSubscripts, OfComponent, ShownExprs, NoExprs, MoreExprs, ShownRef}
 use Rattle.pearl_tree.specs.ShownDeclarations.{ShownNames, OfOne, OfSeveral, ShownTyping, OfBasic, OfStruct, OfNamed, ShownFields, NoFields, MoreFields, ShownItem, ShownSema, ShownDeclared, OfItem, OfSema, ShownSpec, OfInterrupt, OfDation, ShownParam}
 use Rattle.pearl_tree.specs.ShownStatements.{ShownPeriodEnd, OfUntil, OfDuring, ShownPeriod, ShownStart, OfAt, OfAfter, OfWhen, OfAll, ShownOnce, OnceAt, OnceAfter, OnceWhen, ShownBodyDecl, ShownStmt, OfEmpty, OfAssign, OfCall, OfIf, OfCase, OfRepeat, OfExit, OfBegin, OfReturn, OfActivate, OfContinue, OfResume, OfOnTask, OfOnSemas, OfOnInterrupt, OfPut, OfGet, OfSend, OfTake, ShownStmts, NoStmts, MoreStmts, ShownBranches, NoBranches, MoreBranches, ShownOtherwise, NoOtherwise, OfOtherwise}
@@ -49,14 +47,14 @@ plain_duration ms =
     Hours (record { value = ms / 3600000; place = 0 }) (Some (record { value = ms / 60000 % 60; place = 0 }))
     (Some (secs.Decimal (ms / 1000 % 60) (ms % 1000) 0)) 0
 
-abbrev pub plain_literal : Literal → Literal
-plain_literal (literal.Number number) = literal.Number (plain_number number)
-plain_literal (literal.Bits len value place) = literal.Bits len value 0
-plain_literal (literal.Text text place) = literal.Text text 0
-plain_literal (literal.Clock milliseconds place) = literal.Clock milliseconds 0
-plain_literal (literal.Duration duration) = literal.Duration (plain_duration (duration_milliseconds duration))
+abbrev pub plain_literal : ShownLiteral → ShownLiteral
+plain_literal (OfNumber number) = OfNumber (plain_number number)
+plain_literal (OfBits len value place) = OfBits len value 0
+plain_literal (OfText text place) = OfText text 0
+plain_literal (OfClock milliseconds place) = OfClock milliseconds 0
+plain_literal (OfDuration duration) = OfDuration (plain_duration (duration_milliseconds duration))
 
-abbrev pub plain_const : Const → Const
+abbrev pub plain_const : ShownConst → ShownConst
 plain_const constant = record constant { literal = plain_literal constant.literal; place = 0 }
 
 abbrev pub plain_monadic : Monadic → Monadic
@@ -270,6 +268,7 @@ plain tree = record {
   name = option_map plain_module_name tree.name;
   system = option_map (map plain_device) tree.system;
   declarations = map plain_decl tree.declarations;
+  modend = 0;
   semicolon = true;
   place = 0;
 }

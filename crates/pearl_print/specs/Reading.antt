@@ -36,7 +36,7 @@ LawfulTextReads = (whats : List What) → All IsLawfulWhat whats → Reads (text
 
 -- a duration has less than 2^63 hours, once its minutes and seconds are carried into them
 abbrev pub HasFittingHours : Literal → Type 0
-HasFittingHours (literal.Duration duration) = IsNumberValue (duration_milliseconds duration / 3600000)
+HasFittingHours (literal.Duration duration) = IsNumberValue (duration_milliseconds duration.value / 3600000)
 HasFittingHours _ = Unit {0}
 
 -- so has each duration of a tree

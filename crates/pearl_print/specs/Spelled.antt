@@ -1,41 +1,12 @@
 -- How each token is written, and the text of a list of tokens.
-use Rattle.std.specs.Prelude.{ℕ, zero, suc, ◌+◌, ◌/◌, ◌%◌, ◌^◌, ◌==◌, if◌then◌else◌, List, [], ◌∷◌, ◌++◌, codes, slice_index_or}
+use Rattle.std.specs.Prelude.{ℕ, zero, suc, ◌+◌, ◌/◌, ◌%◌, ◌^◌, ◌==◌, if◌then◌else◌, List, [], ◌∷◌, ◌++◌, codes}
 use Rattle.std.specs.Fmt.{decimal}
 use Rattle.std.specs.List.{flat_map}
 use Rattle.pearl_tree.specs.declared.token.What.{What}
 use Rattle.pearl_tree.specs.declared.token.What.TheVariants as what
 use Rattle.pearl_tables.specs.declared.symbol.TheConstants as s
-
--- the words in the order of their codes: of those that mean the same, the one that the grammar names
-unfoldable pub word_texts : List (List ℕ)
-word_texts =
-    codes "MODULE" ∷ codes "MODEND" ∷ codes "SYSTEM" ∷ codes "PROBLEM" ∷ codes "DCL" ∷ codes "SPC" ∷ codes "INV" ∷
-    codes "INIT" ∷ codes "PRESET" ∷ codes "STRUCT" ∷ codes "TYPE" ∷ codes "LENGTH" ∷ codes "FIXED" ∷ codes "BIT" ∷
-    codes "CHAR" ∷ codes "CLOCK" ∷ codes "DURATION" ∷ codes "SEMA" ∷ codes "INTERRUPT" ∷ codes "DATION" ∷
-    codes "IN" ∷ codes "OUT" ∷ codes "INOUT" ∷ codes "ALPHIC" ∷ codes "BASIC" ∷ codes "TASK" ∷ codes "PROC" ∷
-    codes "MAIN" ∷ codes "PRIO" ∷ codes "IDENT" ∷ codes "RETURNS" ∷ codes "RETURN" ∷ codes "BEGIN" ∷ codes "END" ∷
-    codes "IF" ∷ codes "THEN" ∷ codes "ELSE" ∷ codes "FIN" ∷ codes "CASE" ∷ codes "ALT" ∷ codes "FOR" ∷
-    codes "FROM" ∷ codes "BY" ∷ codes "TO" ∷ codes "WHILE" ∷ codes "REPEAT" ∷ codes "EXIT" ∷ codes "CALL" ∷
-    codes "ACTIVATE" ∷ codes "TERMINATE" ∷ codes "SUSPEND" ∷ codes "CONTINUE" ∷ codes "RESUME" ∷ codes "PREVENT" ∷
-    codes "AT" ∷ codes "AFTER" ∷ codes "ALL" ∷ codes "UNTIL" ∷ codes "DURING" ∷ codes "WHEN" ∷ codes "REQUEST" ∷
-    codes "RELEASE" ∷ codes "TRY" ∷ codes "ENABLE" ∷ codes "DISABLE" ∷ codes "TRIGGER" ∷ codes "GET" ∷ codes "PUT" ∷
-    codes "TAKE" ∷ codes "SEND" ∷ codes "NOW" ∷ codes "REM" ∷ codes "ABS" ∷ codes "SIGN" ∷ codes "EQ" ∷ codes "NE" ∷
-    codes "LT" ∷ codes "GT" ∷ codes "LE" ∷ codes "GE" ∷ codes "AND" ∷ codes "OR" ∷ codes "EXOR" ∷ codes "NOT" ∷
-    codes "CAT" ∷ codes "CSHIFT" ∷ codes "SHIFT" ∷ codes "LWB" ∷ codes "UPB" ∷ codes "HRS" ∷ codes "MIN" ∷
-    codes "SEC" ∷ codes "GLOBAL" ∷ codes "BOLT" ∷ codes "RESERVE" ∷ codes "FREE" ∷ codes "ENTER" ∷ codes "LEAVE" ∷ []
-
-unfoldable pub word_text : ℕ → List ℕ
-word_text code = slice_index_or word_texts code []
-
--- the symbols in the order of their codes
-unfoldable pub symbol_texts : List (List ℕ)
-symbol_texts =
-    codes "(" ∷ codes ")" ∷ codes "[" ∷ codes "]" ∷ codes "," ∷ codes ";" ∷ codes ":" ∷ codes "." ∷ codes ":=" ∷
-    codes "=" ∷ codes "==" ∷ codes "/=" ∷ codes "<" ∷ codes ">" ∷ codes "<=" ∷ codes ">=" ∷ codes "><" ∷ codes "<>" ∷
-    codes "+" ∷ codes "-" ∷ codes "*" ∷ codes "//" ∷ codes "**" ∷ []
-
-unfoldable pub symbol_text : ℕ → List ℕ
-symbol_text code = slice_index_or symbol_texts code []
+use Rattle.pearl_tables.specs.Symbols.{symbol_text}
+use Rattle.pearl_tables.specs.Words.{word_text}
 
 -- the last digit of a number
 abbrev pub digit : ℕ → ℕ

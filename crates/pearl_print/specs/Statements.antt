@@ -4,7 +4,25 @@ use Rattle.std.specs.List.{flat_map}
 use Rattle.pearl_tree.specs.declared.name.Name.{Name}
 use Rattle.pearl_tree.specs.declared.expression.Expr.{Expr}
 use Rattle.pearl_tree.specs.declared.statement.BodyDecl.{BodyDecl}
-use Rattle.pearl_tree.specs.declared.statement.Stmt.{Stmt, Empty, Assign, Call, If', Case', Repeat', Exit, Begin', Return, Activate, Continue, Resume, OnTask, OnSemas, OnInterrupt, Put, Get, Send, Take, Row_of-Stmt, end_of-Stmt, more_of-Stmt, Row_of-Branch, end_of-Branch, more_of-Branch, Held-Stmt-If-2, None', Some'}
+use Rattle.pearl_tree.specs.declared.statement.Stmt.{Stmt, Row_of-Stmt, end_of-Stmt, more_of-Stmt}
+use Rattle.pearl_tree.specs.declared.statement.Stmt as stmt
+use Rattle.pearl_tree.specs.declared.statement.Assign.{Assign}
+use Rattle.pearl_tree.specs.declared.statement.Call.{Call}
+use Rattle.pearl_tree.specs.declared.statement.Return.{Return}
+use Rattle.pearl_tree.specs.declared.statement.Activate.{Activate}
+use Rattle.pearl_tree.specs.declared.statement.Continue.{Continue}
+use Rattle.pearl_tree.specs.declared.statement.Resume.{Resume}
+use Rattle.pearl_tree.specs.declared.statement.OnTask.{OnTask}
+use Rattle.pearl_tree.specs.declared.statement.OnSemas.{OnSemas}
+use Rattle.pearl_tree.specs.declared.statement.OnInterrupt.{OnInterrupt}
+use Rattle.pearl_tree.specs.declared.statement.Put.{Put}
+use Rattle.pearl_tree.specs.declared.statement.Get.{Get}
+use Rattle.pearl_tree.specs.declared.statement.Send.{Send}
+use Rattle.pearl_tree.specs.declared.statement.Take.{Take}
+use Rattle.pearl_tree.specs.declared.statement.If as if_
+use Rattle.pearl_tree.specs.declared.statement.If.{Held-Case-otherwise, None', Some'}
+use Rattle.pearl_tree.specs.declared.statement.Case as case_
+use Rattle.pearl_tree.specs.declared.statement.Case.{Row_of-Branch, end_of-Branch, more_of-Branch}
 use Rattle.pearl_tree.specs.declared.statement.Body.{Body}
 use Rattle.pearl_tree.specs.declared.statement.Branch.{Branch}
 use Rattle.pearl_tree.specs.declared.token.What.{What}
@@ -36,65 +54,100 @@ loop_tokens control begin step end condition =
     maybe for_tokens control ++ maybe (after_tokens w.FROM) begin ++ maybe (after_tokens w.BY) step ++
     maybe (after_tokens w.TO) end ++ maybe (after_tokens w.WHILE) condition
 
+-- ref ":=" expr ";"
+abbrev pub assign_tokens : Assign → List What
+assign_tokens part = ref_tokens part.target ++ symbol s.BECOMES ++ expr_tokens part.value ++ symbol s.SEMICOLON
+
+-- CALL id [ "(" expr { "," expr } ")" ] ";"
+abbrev pub call_tokens : Call → List What
+call_tokens part =
+    word w.CALL ++ name_tokens part.name ++ maybe_bracketed expr_tokens part.arguments.items.items ++ symbol s.SEMICOLON
+
+-- RETURN [ "(" expr ")" ] ";"
+abbrev pub return_tokens : Return → List What
+return_tokens part = word w.RETURN ++ maybe value_tokens part.value ++ symbol s.SEMICOLON
+
+-- [ start ] ACTIVATE id [ PRIO expr ] ";"
+abbrev pub activate_tokens : Activate → List What
+activate_tokens part =
+    maybe start_tokens part.start ++ word w.ACTIVATE ++ name_tokens part.task ++
+    maybe (after_tokens w.PRIO) part.priority ++ symbol s.SEMICOLON
+
+-- [ once ] CONTINUE id ";"
+abbrev pub continue_tokens : Continue → List What
+continue_tokens part = maybe once_tokens part.once ++ word w.CONTINUE ++ name_tokens part.task ++ symbol s.SEMICOLON
+
+-- once RESUME ";"
+abbrev pub resume_tokens : Resume → List What
+resume_tokens part = once_tokens part.once ++ word w.RESUME ++ symbol s.SEMICOLON
+
+-- ( SUSPEND | TERMINATE | PREVENT ) [ id ] ";"
+abbrev pub on_task_tokens : OnTask → List What
+on_task_tokens part = word (task_word part.word) ++ maybe name_tokens part.task ++ symbol s.SEMICOLON
+
+-- ( REQUEST | RELEASE ) id { "," id } ";"
+abbrev pub on_semas_tokens : OnSemas → List What
+on_semas_tokens part = word (sema_word part.word) ++ listed name_tokens part.names.items.items ++ symbol s.SEMICOLON
+
+-- ( ENABLE | DISABLE | TRIGGER ) id ";"
+abbrev pub on_interrupt_tokens : OnInterrupt → List What
+on_interrupt_tokens part = word (interrupt_word part.word) ++ name_tokens part.name ++ symbol s.SEMICOLON
+
+-- PUT [ expr { "," expr } ] TO id BY fmt { "," fmt } ";"
+abbrev pub put_tokens : Put → List What
+put_tokens part =
+    word w.PUT ++ listed expr_tokens part.values.items.items ++ word w.TO ++ by_tokens part.dation part.formats
+
+-- GET [ ref { "," ref } ] FROM id BY fmt { "," fmt } ";"
+abbrev pub get_tokens : Get → List What
+get_tokens part =
+    word w.GET ++ listed ref_tokens part.targets.items.items ++ word w.FROM ++ by_tokens part.dation part.formats
+
+-- SEND expr TO id ";"
+abbrev pub send_tokens : Send → List What
+send_tokens part = after_tokens w.SEND part.value ++ word w.TO ++ name_tokens part.dation ++ symbol s.SEMICOLON
+
+-- TAKE ref FROM id ";"
+abbrev pub take_tokens : Take → List What
+take_tokens part =
+    word w.TAKE ++ ref_tokens part.target ++ word w.FROM ++ name_tokens part.dation ++ symbol s.SEMICOLON
+
 abbrev mutual
   pub stmt_tokens : Stmt → List What
   -- ";"
-  stmt_tokens (Empty place) = symbol s.SEMICOLON
-  -- ref ":=" expr ";"
-  stmt_tokens (Assign target value place) =
-      ref_tokens target ++ symbol s.BECOMES ++ expr_tokens value ++ symbol s.SEMICOLON
-  -- CALL id [ "(" expr { "," expr } ")" ] ";"
-  stmt_tokens (Call call name arguments place) =
-      word w.CALL ++ name_tokens name ++ maybe_bracketed expr_tokens arguments.items.items ++ symbol s.SEMICOLON
+  stmt_tokens (stmt.Empty place) = symbol s.SEMICOLON
+  stmt_tokens (stmt.Assign part) = assign_tokens part.value
+  stmt_tokens (stmt.Call part) = call_tokens part.value
   -- IF expr THEN { stmt } [ ELSE { stmt } ] FIN ";"
-  stmt_tokens (If' condition _ statements otherwise place) =
+  stmt_tokens (stmt.If' _ (if_.If' condition _ statements otherwise place)) =
       after_tokens w.IF condition ++ word w.THEN ++ stmts_tokens statements ++ otherwise_tokens w.ELSE otherwise ++
       (word w.FIN ++ symbol s.SEMICOLON)
   -- CASE expr ALT { stmt } { ALT { stmt } } [ OUT { stmt } ] FIN ";"
-  stmt_tokens (Case' selector _ alternatives otherwise place) =
+  stmt_tokens (stmt.Case' _ (case_.Case' selector _ alternatives otherwise place)) =
       after_tokens w.CASE selector ++ alternatives_tokens alternatives ++ otherwise_tokens w.OUT otherwise ++
       (word w.FIN ++ symbol s.SEMICOLON)
   -- [ FOR id ] [ FROM expr ] [ BY expr ] [ TO expr ] [ WHILE expr ] REPEAT body END ";"
-  stmt_tokens (Repeat' control begin step end condition declarations _ statements body_place place) =
+  stmt_tokens (stmt.Repeat' _ control begin step end condition declarations _ statements body_place place) =
       loop_tokens control begin step end condition ++
       (word w.REPEAT ++ (flat_map body_decl_tokens declarations.items.items ++ stmts_tokens statements) ++
       (word w.END ++ symbol s.SEMICOLON))
   -- EXIT ";"
-  stmt_tokens (Exit place) = word w.EXIT ++ symbol s.SEMICOLON
+  stmt_tokens (stmt.Exit place) = word w.EXIT ++ symbol s.SEMICOLON
   -- BEGIN body END ";"
-  stmt_tokens (Begin' declarations _ statements body_place place) =
+  stmt_tokens (stmt.Begin' _ declarations _ statements body_place place) =
       word w.BEGIN ++ (flat_map body_decl_tokens declarations.items.items ++ stmts_tokens statements) ++
       (word w.END ++ symbol s.SEMICOLON)
-  -- RETURN [ "(" expr ")" ] ";"
-  stmt_tokens (Return value place) = word w.RETURN ++ maybe value_tokens value ++ symbol s.SEMICOLON
-  -- [ start ] ACTIVATE id [ PRIO expr ] ";"
-  stmt_tokens (Activate start task priority place) =
-      maybe start_tokens start ++ word w.ACTIVATE ++ name_tokens task ++ maybe (after_tokens w.PRIO) priority ++
-      symbol s.SEMICOLON
-  -- [ once ] CONTINUE id ";"
-  stmt_tokens (Continue once task place) =
-      maybe once_tokens once ++ word w.CONTINUE ++ name_tokens task ++ symbol s.SEMICOLON
-  -- once RESUME ";"
-  stmt_tokens (Resume once place) = once_tokens once ++ word w.RESUME ++ symbol s.SEMICOLON
-  -- ( SUSPEND | TERMINATE | PREVENT ) [ id ] ";"
-  stmt_tokens (OnTask code task place) = word (task_word code) ++ maybe name_tokens task ++ symbol s.SEMICOLON
-  -- ( REQUEST | RELEASE ) id { "," id } ";"
-  stmt_tokens (OnSemas code names place) =
-      word (sema_word code) ++ listed name_tokens names.items.items ++ symbol s.SEMICOLON
-  -- ( ENABLE | DISABLE | TRIGGER ) id ";"
-  stmt_tokens (OnInterrupt code name place) = word (interrupt_word code) ++ name_tokens name ++ symbol s.SEMICOLON
-  -- PUT [ expr { "," expr } ] TO id BY fmt { "," fmt } ";"
-  stmt_tokens (Put values dation formats place) =
-      word w.PUT ++ listed expr_tokens values.items.items ++ word w.TO ++ by_tokens dation formats
-  -- GET [ ref { "," ref } ] FROM id BY fmt { "," fmt } ";"
-  stmt_tokens (Get targets dation formats place) =
-      word w.GET ++ listed ref_tokens targets.items.items ++ word w.FROM ++ by_tokens dation formats
-  -- SEND expr TO id ";"
-  stmt_tokens (Send value dation place) =
-      after_tokens w.SEND value ++ word w.TO ++ name_tokens dation ++ symbol s.SEMICOLON
-  -- TAKE ref FROM id ";"
-  stmt_tokens (Take target dation place) =
-      word w.TAKE ++ ref_tokens target ++ word w.FROM ++ name_tokens dation ++ symbol s.SEMICOLON
+  stmt_tokens (stmt.Return part) = return_tokens part.value
+  stmt_tokens (stmt.Activate part) = activate_tokens part.value
+  stmt_tokens (stmt.Continue part) = continue_tokens part.value
+  stmt_tokens (stmt.Resume part) = resume_tokens part.value
+  stmt_tokens (stmt.OnTask part) = on_task_tokens part.value
+  stmt_tokens (stmt.OnSemas part) = on_semas_tokens part.value
+  stmt_tokens (stmt.OnInterrupt part) = on_interrupt_tokens part.value
+  stmt_tokens (stmt.Put part) = put_tokens part.value
+  stmt_tokens (stmt.Get part) = get_tokens part.value
+  stmt_tokens (stmt.Send part) = send_tokens part.value
+  stmt_tokens (stmt.Take part) = take_tokens part.value
 
   -- { stmt }
   pub stmts_tokens : {n : _} → Row_of-Stmt n → List What
@@ -108,7 +161,7 @@ abbrev mutual
       (word w.ALT ++ stmts_tokens statements) ++ alternatives_tokens rest
 
   -- [ word { stmt } ]
-  pub otherwise_tokens : ℕ → Held-Stmt-If-2 → List What
+  pub otherwise_tokens : ℕ → Held-Case-otherwise → List What
   otherwise_tokens code None' = []
   otherwise_tokens code (Some' _ statements place) = word code ++ stmts_tokens statements
 

@@ -11,11 +11,15 @@ ghost use Rattle.pearl_print.specs.Expressions.{monadic_tokens, dyad_what, expr_
 use crate::lists::{Part, put_each, put_maybe};
 use crate::literal::put_literal;
 use crate::put::{put_symbol, put_word};
-use crate::symbol::*;
+use pearl_tables::symbol::{
+    AT_LEAST, AT_MOST, COMMA, CONCATENATE, DIVIDE, EQUAL, GREATER, LEFT_ROUND, LESS, MINUS, PERIOD, PLUS,
+    POWER, RIGHT_ROUND, ROTATE, TIMES, UNEQUAL,
+};
 use pearl_tables::word_code::{ABS, AND, EXOR, LWB, NOT, NOW, OR, REM, SHIFT, SIGN, TRY, UPB};
-use pearl_tree::expression::{Dyad, Expr, Monad, Monadic, Operand, Primary, Ref, Selector, Side};
+use pearl_tree::expression::{Expr, Monadic, Operand, Primary, Ref, Selector, Side};
 use pearl_tree::name::Number;
 use pearl_tree::parts::Parts;
+use pearl_value::operator::{Dyad, Monad};
 use std::alloc::AllocError as NoMemory;
 
 impl Part for Monadic {
@@ -36,13 +40,13 @@ fn put_dyad(into: &mut Vec<u8>, operator: Dyad) -> Result<(), NoMemory>
     ensures { OnOk result (into.new.items ≡ into.old.items ++ text_of (dyad_what operator ∷ [])) }
 {
     match operator {
-        Dyad::Power => put_symbol(into, POWER),
-        Dyad::Times => put_symbol(into, TIMES),
-        Dyad::Over => put_symbol(into, DIVIDE),
+        Dyad::Pow => put_symbol(into, POWER),
+        Dyad::Mul => put_symbol(into, TIMES),
+        Dyad::Div => put_symbol(into, DIVIDE),
         Dyad::Rem => put_word(into, REM),
         Dyad::Cat => put_symbol(into, CONCATENATE),
-        Dyad::Plus => put_symbol(into, PLUS),
-        Dyad::Minus => put_symbol(into, MINUS),
+        Dyad::Add => put_symbol(into, PLUS),
+        Dyad::Sub => put_symbol(into, MINUS),
         Dyad::Cshift => put_symbol(into, ROTATE),
         Dyad::Shift => put_word(into, SHIFT),
         Dyad::Lt => put_symbol(into, LESS),

@@ -9,7 +9,7 @@ ghost use Rattle.pearl_print.specs.Spelled.{text_of};
 ghost use Rattle.pearl_print.specs.Lists.{listed, bracketed, maybe_bracketed, maybe_headed, maybe, flag, bracketed_number, name_tokens, number_tokens};
 
 use crate::put::{put_id, put_symbol, put_value, put_word};
-use crate::symbol::{COMMA, LEFT_ROUND, RIGHT_ROUND};
+use pearl_tables::symbol::{COMMA, LEFT_ROUND, RIGHT_ROUND};
 use pearl_tree::name::{Name, Number};
 use std::alloc::AllocError as NoMemory;
 

@@ -2,12 +2,13 @@
 #![tactic(auto, using(crate::proofs::Texts::text_steps, std::proofs::lemmas::Grind::common_steps))]
 
 ghost use Rattle.std.specs.Prelude.{◌≡◌, ◌<◌, ◌^◌, ◌++◌, OnOk};
+ghost use Rattle.pearl_tree.specs.ShownLiterals.{shown_literal};
 ghost use Rattle.pearl_print.specs.Spelled.{text_of};
 ghost use Rattle.pearl_print.specs.Expressions.{secs_milliseconds, maybe_seconds, maybe_minutes, duration_milliseconds, carried, literal_tokens, sign_tokens, const_tokens};
 
 use crate::lists::Part;
 use crate::put::{put_bits, put_clock, put_decimal, put_symbol, put_text, put_value, put_word};
-use crate::symbol::{MINUS, PLUS};
+use pearl_tables::symbol::{MINUS, PLUS};
 use pearl_tables::word_code::{HRS, MIN, SEC};
 use pearl_tree::literal::{Const, Duration, Literal, Secs, Sign};
 use pearl_tree::name::Number;
@@ -81,7 +82,7 @@ fn put_carried(into: &mut Vec<u8>, milliseconds: u128) -> Result<(), NoMemory>
 }
 
 pub(crate) fn put_literal(into: &mut Vec<u8>, literal: &Literal) -> Result<(), NoMemory>
-    ensures { OnOk result (into.new.items ≡ into.old.items ++ text_of (literal_tokens literal.now)) }
+    ensures { OnOk result (into.new.items ≡ into.old.items ++ text_of (literal_tokens (shown_literal literal.now))) }
 {
     match literal {
         Literal::Number(number) => number.put(into),

@@ -11,8 +11,8 @@ use crate::lists::{
 };
 use crate::put::{put_symbol, put_word};
 use crate::statement::put_body;
-use crate::symbol::{COLON, LEFT_ROUND, RIGHT_ROUND, SEMICOLON};
 use crate::typing::{put_basic, put_typing, sort_word};
+use pearl_tables::symbol::{COLON, LEFT_ROUND, RIGHT_ROUND, SEMICOLON};
 use pearl_tables::word_code::{
     DCL, END, LENGTH, MAIN, MODEND, MODULE, PROBLEM, PROC, RETURNS, SPC, SYSTEM, TASK,
     TYPE,

@@ -9,10 +9,10 @@ ghost use Rattle.pearl_tables.specs.Words.{code_count};
 ghost use Rattle.pearl_print.specs.Spelled.{binary, doubled, two_digits, three_digits, clock_text, fraction, text_of};
 ghost use Rattle.pearl_print.specs.Lists.{word, symbol, id};
 
-use crate::spelling::{symbol_text, word_text};
-use crate::symbol::SEMICOLON;
 use arrayvec::ArrayVec;
 use itoa::Buffer;
+use pearl_tables::symbol::{SEMICOLON, symbol_text};
+use pearl_tables::word::word_text;
 use std::alloc::AllocError as NoMemory;
 
 pub(crate) fn put_word(into: &mut Vec<u8>, code: u8) -> Result<(), NoMemory>

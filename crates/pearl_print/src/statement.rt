@@ -6,28 +6,27 @@ ghost use Rattle.std.specs.List.{flat_map};
 ghost use Rattle.pearl_tables.specs.declared.symbol.TheConstants as s;
 ghost use Rattle.pearl_tables.specs.declared.word_code.TheConstants as w;
 ghost use Rattle.pearl_tables.specs.Words.{code_count};
-ghost use Rattle.pearl_print.specs.Lists.{word, symbol, name_tokens, maybe_bracketed, maybe};
+ghost use Rattle.pearl_print.specs.Lists.{word, symbol, maybe};
 ghost use Rattle.pearl_print.specs.Spelled.{text_of};
-ghost use Rattle.pearl_print.specs.Expressions.{expr_tokens, ref_tokens};
-ghost use Rattle.pearl_print.specs.Statements.{value_tokens, body_decl_tokens, for_tokens, loop_tokens, stmt_tokens, branch_tokens, body_tokens, block_tokens};
+ghost use Rattle.pearl_print.specs.Statements.{assign_tokens, call_tokens, return_tokens, value_tokens, body_decl_tokens, for_tokens, loop_tokens, stmt_tokens, branch_tokens, body_tokens, block_tokens};
 
 use crate::expression::{put_expr, put_ref};
 use crate::lists::{Part, put_each, put_listed, put_maybe_bracketed};
 use crate::put::{put_symbol, put_word};
 use crate::schedule::{put_after, put_maybe_after};
-use crate::symbol::{BECOMES, LEFT_ROUND, RIGHT_ROUND, SEMICOLON};
 use crate::tasking::{
     put_activate, put_continue, put_on_interrupt, put_on_semas, put_on_task, put_resume,
 };
 use crate::transfer::{put_get, put_put, put_send, put_take};
+use pearl_tables::symbol::{BECOMES, LEFT_ROUND, RIGHT_ROUND, SEMICOLON};
 use pearl_tables::word_code::{
     ALT, BEGIN, BY, CALL, CASE, DCL, ELSE, END, EXIT, FIN, FOR, FROM, IF, OUT, REPEAT, RETURN,
     THEN, TO, WHILE,
 };
-use pearl_tree::expression::{Expr, Ref};
+use pearl_tree::expression::Expr;
 use pearl_tree::name::Name;
 use pearl_tree::parts::Parts;
-use pearl_tree::statement::{Body, BodyDecl, Branch, Stmt};
+use pearl_tree::statement::{Assign, Body, BodyDecl, Branch, Call, Repeat, Return, Stmt};
 use std::alloc::AllocError as NoMemory;
 
 impl Part for BodyDecl {
@@ -41,38 +40,31 @@ impl Part for BodyDecl {
     }
 }
 
-fn put_assign(into: &mut Vec<u8>, target: &Ref, value: &Expr) -> Result<(), NoMemory>
-    ensures { OnOk result
-        (let tokens = ref_tokens target.now ++ symbol s.BECOMES ++ expr_tokens value.now ++ symbol s.SEMICOLON in
-        into.new.items ≡ into.old.items ++ text_of tokens) }
+fn put_assign(into: &mut Vec<u8>, part: &Assign) -> Result<(), NoMemory>
+    ensures { OnOk result (into.new.items ≡ into.old.items ++ text_of (assign_tokens part.now)) }
 {
-    put_ref(into, target)?;
+    put_ref(into, &part.target)?;
     put_symbol(into, BECOMES)?;
-    put_expr(into, value)?;
+    put_expr(into, &part.value)?;
     put_symbol(into, SEMICOLON)?;
     Ok(())
 }
 
-fn put_call(into: &mut Vec<u8>, name: &Name, arguments: &Parts<Expr>) -> Result<(), NoMemory>
-    ensures { OnOk result
-        (let tokens = word w.CALL ++ name_tokens name.now ++ maybe_bracketed expr_tokens arguments.now.items.items ++
-        symbol s.SEMICOLON in
-        into.new.items ≡ into.old.items ++ text_of tokens) }
+fn put_call(into: &mut Vec<u8>, part: &Call) -> Result<(), NoMemory>
+    ensures { OnOk result (into.new.items ≡ into.old.items ++ text_of (call_tokens part.now)) }
 {
     put_word(into, CALL)?;
-    name.put(into)?;
-    put_maybe_bracketed(into, arguments.as_slice())?;
+    part.name.put(into)?;
+    put_maybe_bracketed(into, part.arguments.as_slice())?;
     put_symbol(into, SEMICOLON)?;
     Ok(())
 }
 
-fn put_return(into: &mut Vec<u8>, value: &Option<Expr>) -> Result<(), NoMemory>
-    ensures { OnOk result
-        (let tokens = word w.RETURN ++ maybe value_tokens value.now ++ symbol s.SEMICOLON in
-        into.new.items ≡ into.old.items ++ text_of tokens) }
+fn put_return(into: &mut Vec<u8>, part: &Return) -> Result<(), NoMemory>
+    ensures { OnOk result (into.new.items ≡ into.old.items ++ text_of (return_tokens part.now)) }
 {
     put_word(into, RETURN)?;
-    put_returned(into, value)?;
+    put_returned(into, &part.value)?;
     put_symbol(into, SEMICOLON)?;
     Ok(())
 }
@@ -98,23 +90,16 @@ fn put_ended(into: &mut Vec<u8>, code: u8) -> Result<(), NoMemory>
 }
 
 // What stands before REPEAT.
-fn put_loop(
-    into: &mut Vec<u8>,
-    control: &Option<Name>,
-    begin: &Option<Expr>,
-    step: &Option<Expr>,
-    end: &Option<Expr>,
-    condition: &Option<Expr>,
-) -> Result<(), NoMemory>
+fn put_loop(into: &mut Vec<u8>, part: &Repeat) -> Result<(), NoMemory>
     ensures { OnOk result
-        (let tokens = loop_tokens control.now begin.now step.now end.now condition.now in
+        (let tokens = loop_tokens part.now.control part.now.begin part.now.step part.now.end part.now.condition in
         into.new.items ≡ into.old.items ++ text_of tokens) }
 {
-    put_for(into, control)?;
-    put_maybe_after(into, FROM, begin)?;
-    put_maybe_after(into, BY, step)?;
-    put_maybe_after(into, TO, end)?;
-    put_maybe_after(into, WHILE, condition)?;
+    put_for(into, &part.control)?;
+    put_maybe_after(into, FROM, &part.begin)?;
+    put_maybe_after(into, BY, &part.step)?;
+    put_maybe_after(into, TO, &part.end)?;
+    put_maybe_after(into, WHILE, &part.condition)?;
     Ok(())
 }
 
@@ -134,78 +119,41 @@ fn put_stmt(into: &mut Vec<u8>, stmt: &Stmt) -> Result<(), NoMemory>
 {
     match stmt {
         Stmt::Empty { .. } => put_symbol(into, SEMICOLON),
-        Stmt::Assign { target, value, .. } => put_assign(into, target, value),
-        Stmt::Call {
-            name,
-            arguments,
-            ..
-        } => put_call(into, name, arguments),
-        Stmt::If {
-            condition,
-            statements,
-            otherwise,
-            ..
-        } => {
-            put_after(into, IF, condition)?;
+        Stmt::Assign(part) => put_assign(into, part),
+        Stmt::Call(part) => put_call(into, part),
+        Stmt::If(part) => {
+            put_after(into, IF, &part.condition)?;
             put_word(into, THEN)?;
-            put_stmts(into, statements)?;
-            put_otherwise(into, ELSE, otherwise)?;
+            put_stmts(into, &part.statements)?;
+            put_otherwise(into, ELSE, &part.otherwise)?;
             put_ended(into, FIN)?;
             Ok(())
         }
-        Stmt::Case {
-            selector,
-            alternatives,
-            otherwise,
-            ..
-        } => {
-            put_after(into, CASE, selector)?;
-            put_alternatives(into, alternatives)?;
-            put_otherwise(into, OUT, otherwise)?;
+        Stmt::Case(part) => {
+            put_after(into, CASE, &part.selector)?;
+            put_alternatives(into, &part.alternatives)?;
+            put_otherwise(into, OUT, &part.otherwise)?;
             put_ended(into, FIN)?;
             Ok(())
         }
-        Stmt::Repeat {
-            control,
-            begin,
-            step,
-            end,
-            condition,
-            body,
-            ..
-        } => {
-            put_loop(into, control, begin, step, end, condition)?;
-            put_block(into, REPEAT, body)?;
+        Stmt::Repeat(part) => {
+            put_loop(into, part)?;
+            put_block(into, REPEAT, &part.body)?;
             Ok(())
         }
         Stmt::Exit { .. } => put_ended(into, EXIT),
-        Stmt::Begin { body, .. } => put_block(into, BEGIN, body),
-        Stmt::Return { value, .. } => put_return(into, value),
-        Stmt::Activate {
-            start,
-            task,
-            priority,
-            ..
-        } => put_activate(into, start, task, priority),
-        Stmt::Continue { once, task, .. } => put_continue(into, once, task),
-        Stmt::Resume { once, .. } => put_resume(into, once),
-        Stmt::OnTask { word, task, .. } => put_on_task(into, *word, task),
-        Stmt::OnSemas { word, names, .. } => put_on_semas(into, *word, names),
-        Stmt::OnInterrupt { word, name, .. } => put_on_interrupt(into, *word, name),
-        Stmt::Put {
-            values,
-            dation,
-            formats,
-            ..
-        } => put_put(into, values, dation, formats),
-        Stmt::Get {
-            targets,
-            dation,
-            formats,
-            ..
-        } => put_get(into, targets, dation, formats),
-        Stmt::Send { value, dation, .. } => put_send(into, value, dation),
-        Stmt::Take { target, dation, .. } => put_take(into, target, dation),
+        Stmt::Begin(part) => put_block(into, BEGIN, &part.body),
+        Stmt::Return(part) => put_return(into, part),
+        Stmt::Activate(part) => put_activate(into, part),
+        Stmt::Continue(part) => put_continue(into, part),
+        Stmt::Resume(part) => put_resume(into, part),
+        Stmt::OnTask(part) => put_on_task(into, part),
+        Stmt::OnSemas(part) => put_on_semas(into, part),
+        Stmt::OnInterrupt(part) => put_on_interrupt(into, part),
+        Stmt::Put(part) => put_put(into, part),
+        Stmt::Get(part) => put_get(into, part),
+        Stmt::Send(part) => put_send(into, part),
+        Stmt::Take(part) => put_take(into, part),
     }
 }
 

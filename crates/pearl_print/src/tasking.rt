@@ -3,68 +3,47 @@
 
 ghost use Rattle.std.specs.Prelude.{◌≡◌, ◌++◌, OnOk};
 ghost use Rattle.pearl_tree.specs.Statements.{task_word, sema_word, interrupt_word};
-ghost use Rattle.pearl_tables.specs.declared.symbol.TheConstants as s;
-ghost use Rattle.pearl_tables.specs.declared.word_code.TheConstants as w;
-ghost use Rattle.pearl_print.specs.Lists.{word, symbol, name_tokens, listed, maybe};
 ghost use Rattle.pearl_print.specs.Spelled.{text_of};
-ghost use Rattle.pearl_print.specs.Schedules.{after_tokens, start_tokens, once_tokens};
+ghost use Rattle.pearl_print.specs.Statements.{activate_tokens, continue_tokens, resume_tokens, on_task_tokens, on_semas_tokens, on_interrupt_tokens};
 
 use crate::lists::{Part, put_listed, put_maybe};
 use crate::put::{put_symbol, put_word};
 use crate::schedule::put_maybe_after;
-use crate::symbol::SEMICOLON;
+use pearl_tables::symbol::SEMICOLON;
 use pearl_tables::word_code::{
     ACTIVATE, CONTINUE, DISABLE, ENABLE, PREVENT, PRIO, RELEASE, REQUEST, RESUME, SUSPEND,
     TERMINATE, TRIGGER,
 };
-use pearl_tree::expression::Expr;
-use pearl_tree::name::Name;
-use pearl_tree::parts::Parts;
-use pearl_tree::statement::{InterruptWord, Once, SemaWord, Start, TaskWord};
+use pearl_tree::statement::{
+    Activate, Continue, InterruptWord, OnInterrupt, OnSemas, OnTask, Resume, SemaWord, TaskWord,
+};
 use std::alloc::AllocError as NoMemory;
 
-pub(crate) fn put_activate(
-    into: &mut Vec<u8>,
-    start: &Option<Start>,
-    task: &Name,
-    priority: &Option<Expr>,
-) -> Result<(), NoMemory>
-    ensures { OnOk result
-        (let tokens = maybe start_tokens start.now ++ word w.ACTIVATE ++ name_tokens task.now ++
-        maybe (after_tokens w.PRIO) priority.now ++ symbol s.SEMICOLON in
-        into.new.items ≡ into.old.items ++ text_of tokens) }
+pub(crate) fn put_activate(into: &mut Vec<u8>, part: &Activate) -> Result<(), NoMemory>
+    ensures { OnOk result (into.new.items ≡ into.old.items ++ text_of (activate_tokens part.now)) }
 {
-    put_maybe(into, start)?;
+    put_maybe(into, &part.start)?;
     put_word(into, ACTIVATE)?;
-    task.put(into)?;
-    put_maybe_after(into, PRIO, priority)?;
+    part.task.put(into)?;
+    put_maybe_after(into, PRIO, &part.priority)?;
     put_symbol(into, SEMICOLON)?;
     Ok(())
 }
 
-pub(crate) fn put_continue(
-    into: &mut Vec<u8>,
-    once: &Option<Once>,
-    task: &Name,
-) -> Result<(), NoMemory>
-    ensures { OnOk result
-        (let tokens = maybe once_tokens once.now ++ word w.CONTINUE ++ name_tokens task.now ++
-        symbol s.SEMICOLON in
-        into.new.items ≡ into.old.items ++ text_of tokens) }
+pub(crate) fn put_continue(into: &mut Vec<u8>, part: &Continue) -> Result<(), NoMemory>
+    ensures { OnOk result (into.new.items ≡ into.old.items ++ text_of (continue_tokens part.now)) }
 {
-    put_maybe(into, once)?;
+    put_maybe(into, &part.once)?;
     put_word(into, CONTINUE)?;
-    task.put(into)?;
+    part.task.put(into)?;
     put_symbol(into, SEMICOLON)?;
     Ok(())
 }
 
-pub(crate) fn put_resume(into: &mut Vec<u8>, once: &Once) -> Result<(), NoMemory>
-    ensures { OnOk result
-        (let tokens = once_tokens once.now ++ word w.RESUME ++ symbol s.SEMICOLON in
-        into.new.items ≡ into.old.items ++ text_of tokens) }
+pub(crate) fn put_resume(into: &mut Vec<u8>, part: &Resume) -> Result<(), NoMemory>
+    ensures { OnOk result (into.new.items ≡ into.old.items ++ text_of (resume_tokens part.now)) }
 {
-    once.put(into)?;
+    part.once.put(into)?;
     put_word(into, RESUME)?;
     put_symbol(into, SEMICOLON)?;
     Ok(())
@@ -80,17 +59,11 @@ fn task_word(word: TaskWord) -> u8
     }
 }
 
-pub(crate) fn put_on_task(
-    into: &mut Vec<u8>,
-    code: TaskWord,
-    task: &Option<Name>,
-) -> Result<(), NoMemory>
-    ensures { OnOk result
-        (let tokens = word (task_word code) ++ maybe name_tokens task.now ++ symbol s.SEMICOLON in
-        into.new.items ≡ into.old.items ++ text_of tokens) }
+pub(crate) fn put_on_task(into: &mut Vec<u8>, part: &OnTask) -> Result<(), NoMemory>
+    ensures { OnOk result (into.new.items ≡ into.old.items ++ text_of (on_task_tokens part.now)) }
 {
-    put_word(into, task_word(code))?;
-    put_maybe(into, task)?;
+    put_word(into, task_word(part.word))?;
+    put_maybe(into, &part.task)?;
     put_symbol(into, SEMICOLON)?;
     Ok(())
 }
@@ -104,17 +77,11 @@ fn sema_word(word: SemaWord) -> u8
     }
 }
 
-pub(crate) fn put_on_semas(
-    into: &mut Vec<u8>,
-    code: SemaWord,
-    names: &Parts<Name>,
-) -> Result<(), NoMemory>
-    ensures { OnOk result
-        (let tokens = word (sema_word code) ++ listed name_tokens names.now.items.items ++ symbol s.SEMICOLON in
-        into.new.items ≡ into.old.items ++ text_of tokens) }
+pub(crate) fn put_on_semas(into: &mut Vec<u8>, part: &OnSemas) -> Result<(), NoMemory>
+    ensures { OnOk result (into.new.items ≡ into.old.items ++ text_of (on_semas_tokens part.now)) }
 {
-    put_word(into, sema_word(code))?;
-    put_listed(into, names.as_slice())?;
+    put_word(into, sema_word(part.word))?;
+    put_listed(into, part.names.as_slice())?;
     put_symbol(into, SEMICOLON)?;
     Ok(())
 }
@@ -129,17 +96,11 @@ fn interrupt_word(word: InterruptWord) -> u8
     }
 }
 
-pub(crate) fn put_on_interrupt(
-    into: &mut Vec<u8>,
-    code: InterruptWord,
-    name: &Name,
-) -> Result<(), NoMemory>
-    ensures { OnOk result
-        (let tokens = word (interrupt_word code) ++ name_tokens name.now ++ symbol s.SEMICOLON in
-        into.new.items ≡ into.old.items ++ text_of tokens) }
+pub(crate) fn put_on_interrupt(into: &mut Vec<u8>, part: &OnInterrupt) -> Result<(), NoMemory>
+    ensures { OnOk result (into.new.items ≡ into.old.items ++ text_of (on_interrupt_tokens part.now)) }
 {
-    put_word(into, interrupt_word(code))?;
-    name.put(into)?;
+    put_word(into, interrupt_word(part.word))?;
+    part.name.put(into)?;
     put_symbol(into, SEMICOLON)?;
     Ok(())
 }

@@ -2,24 +2,20 @@
 #![tactic(auto, using(crate::proofs::Texts::text_steps, std::proofs::lemmas::Grind::common_steps))]
 
 ghost use Rattle.std.specs.Prelude.{◌≡◌, ◌++◌, OnOk};
-ghost use Rattle.pearl_tables.specs.declared.symbol.TheConstants as s;
-ghost use Rattle.pearl_tables.specs.declared.word_code.TheConstants as w;
-ghost use Rattle.pearl_print.specs.Lists.{word, symbol, name_tokens, listed};
 ghost use Rattle.pearl_print.specs.Spelled.{text_of};
-ghost use Rattle.pearl_print.specs.Expressions.{expr_tokens, ref_tokens};
 ghost use Rattle.pearl_print.specs.Formats.{by_tokens};
-ghost use Rattle.pearl_print.specs.Schedules.{after_tokens};
+ghost use Rattle.pearl_print.specs.Statements.{put_tokens, get_tokens, send_tokens, take_tokens};
 
 use crate::expression::put_ref;
 use crate::lists::{Part, put_listed};
 use crate::put::{put_symbol, put_word};
 use crate::schedule::put_after;
-use crate::symbol::SEMICOLON;
+use pearl_tables::symbol::SEMICOLON;
 use pearl_tables::word_code::{BY, FROM, GET, PUT, SEND, TAKE, TO};
-use pearl_tree::expression::{Expr, Ref};
 use pearl_tree::format::Fmt;
 use pearl_tree::name::Name;
 use pearl_tree::parts::Parts;
+use pearl_tree::statement::{Get, Put, Send, Take};
 use std::alloc::AllocError as NoMemory;
 
 fn put_by(into: &mut Vec<u8>, name: &Name, formats: &Parts<Fmt>) -> Result<(), NoMemory>
@@ -32,64 +28,43 @@ fn put_by(into: &mut Vec<u8>, name: &Name, formats: &Parts<Fmt>) -> Result<(), N
     Ok(())
 }
 
-pub(crate) fn put_put(
-    into: &mut Vec<u8>,
-    values: &Parts<Expr>,
-    dation: &Name,
-    formats: &Parts<Fmt>,
-) -> Result<(), NoMemory>
-    ensures { OnOk result
-        (let tokens = word w.PUT ++ listed expr_tokens values.now.items.items ++ word w.TO ++
-        by_tokens dation.now formats.now in
-        into.new.items ≡ into.old.items ++ text_of tokens) }
+pub(crate) fn put_put(into: &mut Vec<u8>, part: &Put) -> Result<(), NoMemory>
+    ensures { OnOk result (into.new.items ≡ into.old.items ++ text_of (put_tokens part.now)) }
 {
     put_word(into, PUT)?;
-    put_listed(into, values.as_slice())?;
+    put_listed(into, part.values.as_slice())?;
     put_word(into, TO)?;
-    put_by(into, dation, formats)?;
+    put_by(into, &part.dation, &part.formats)?;
     Ok(())
 }
 
-pub(crate) fn put_get(
-    into: &mut Vec<u8>,
-    targets: &Parts<Ref>,
-    dation: &Name,
-    formats: &Parts<Fmt>,
-) -> Result<(), NoMemory>
-    ensures { OnOk result
-        (let tokens = word w.GET ++ listed ref_tokens targets.now.items.items ++ word w.FROM ++
-        by_tokens dation.now formats.now in
-        into.new.items ≡ into.old.items ++ text_of tokens) }
+pub(crate) fn put_get(into: &mut Vec<u8>, part: &Get) -> Result<(), NoMemory>
+    ensures { OnOk result (into.new.items ≡ into.old.items ++ text_of (get_tokens part.now)) }
 {
     put_word(into, GET)?;
-    put_listed(into, targets.as_slice())?;
+    put_listed(into, part.targets.as_slice())?;
     put_word(into, FROM)?;
-    put_by(into, dation, formats)?;
+    put_by(into, &part.dation, &part.formats)?;
     Ok(())
 }
 
-pub(crate) fn put_send(into: &mut Vec<u8>, value: &Expr, dation: &Name) -> Result<(), NoMemory>
-    ensures { OnOk result
-        (let tokens = after_tokens w.SEND value.now ++ word w.TO ++ name_tokens dation.now ++ symbol s.SEMICOLON in
-        into.new.items ≡ into.old.items ++ text_of tokens) }
+pub(crate) fn put_send(into: &mut Vec<u8>, part: &Send) -> Result<(), NoMemory>
+    ensures { OnOk result (into.new.items ≡ into.old.items ++ text_of (send_tokens part.now)) }
 {
-    put_after(into, SEND, value)?;
+    put_after(into, SEND, &part.value)?;
     put_word(into, TO)?;
-    dation.put(into)?;
+    part.dation.put(into)?;
     put_symbol(into, SEMICOLON)?;
     Ok(())
 }
 
-pub(crate) fn put_take(into: &mut Vec<u8>, target: &Ref, dation: &Name) -> Result<(), NoMemory>
-    ensures { OnOk result
-        (let tokens = word w.TAKE ++ ref_tokens target.now ++ word w.FROM ++ name_tokens dation.now ++
-        symbol s.SEMICOLON in
-        into.new.items ≡ into.old.items ++ text_of tokens) }
+pub(crate) fn put_take(into: &mut Vec<u8>, part: &Take) -> Result<(), NoMemory>
+    ensures { OnOk result (into.new.items ≡ into.old.items ++ text_of (take_tokens part.now)) }
 {
     put_word(into, TAKE)?;
-    put_ref(into, target)?;
+    put_ref(into, &part.target)?;
     put_word(into, FROM)?;
-    dation.put(into)?;
+    part.dation.put(into)?;
     put_symbol(into, SEMICOLON)?;
     Ok(())
 }

@@ -1,9 +1,8 @@
 -- Which programs are sound: every number names a thing of the needed sort, and every size and length is in its range.
 use Rattle.std.specs.Prelude.{◌≡◌, ℕ, ◌<◌, ◌≤◌, List, Option, Some, None, length, map, slice_get, IsSome}
 use Rattle.std.specs.List.{AllByRecursion}
-use Rattle.pearl_value.specs.declared.kind.Kind.TheVariants.{Fixed}
-use Rattle.pearl_value.specs.Kinds.{IsKind}
-use Rattle.pearl_value.specs.Cells.{FitsFixed}
+use Rattle.pearl_value.specs.declared.cell.Cell.TheVariants.{Fixed}
+use Rattle.pearl_value.specs.WellFormed.{IsValue}
 use Rattle.pearl_value.specs.Conversions.{SuitsKind}
 use Rattle.pearl_value.specs.Rows.{row2}
 use Rattle.pearl_format.specs.declared.item.Item.{Item}
@@ -23,9 +22,9 @@ use Rattle.pearl_prog.specs.Kinds.{slot_of, kind_of_expr, held, held_by_all}
 abbrev pub IsVariable : Setup → Variable → Type 0
 IsVariable setup variable = slot_of variable.target < length setup.slots
 
--- a literal's value fits its length, and an operator has a row for the kinds of its operands
+-- a literal is a value, and an operator has a row for the kinds of its operands
 abbrev pub IsExpr : Setup → Expr → Type 0
-IsExpr setup (Number len value) = IsKind (Fixed len) × FitsFixed len value
+IsExpr setup (Number len value) = IsValue (Fixed len value)
 IsExpr setup (Read variable) = IsVariable setup variable
 IsExpr setup (Dyadic' op _ left _ right) =
     IsExpr setup left × IsExpr setup right × IsSome (row2 op (kind_of_expr setup left) (kind_of_expr setup right))

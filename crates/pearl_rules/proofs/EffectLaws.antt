@@ -3,7 +3,7 @@ use Rattle.std.proofs.Common.{◌≡◌, ℕ, List, [], ◌∷◌, ◌++◌, Opt
 use Rattle.std.specs.List.{AllByRecursion, AllZip}
 use Rattle.std.proofs.lemmas.Option.{same_Some}
 use Rattle.pearl_value.specs.declared.cell.Cell.{Cell}
-use Rattle.pearl_value.specs.WellFormed.{IsWellFormed}
+use Rattle.pearl_value.specs.WellFormed.{IsValue}
 use Rattle.pearl_rules.specs.declared.action.Action.{Action}
 use Rattle.pearl_rules.specs.declared.action.Action.TheVariants.{Read, Write, Put, End, Trap}
 use Rattle.pearl_rules.specs.declared.row.TaskRow.{TaskRow}
@@ -12,7 +12,7 @@ use Rattle.pearl_rules.specs.declared.event.Event.TheVariants as event
 use Rattle.pearl_rules.specs.declared.action.Answer.{Answer}
 use Rattle.pearl_rules.specs.declared.action.Answer.TheVariants.{Nothing, One}
 use Rattle.pearl_rules.specs.declared.setup.Setup.{Setup}
-use Rattle.pearl_rules.specs.Core.{Core, Said, Happened, value_at, row_of, with_row}
+use Rattle.pearl_rules.specs.Core.{Core, Report, Happened, value_at, row_of, with_row}
 use Rattle.pearl_rules.specs.Effect.{Reply, Hears, Ends, effect, ended, on_row}
 use Rattle.pearl_rules.specs.Slots.{Suits, Fits, IsLike, HasKinds}
 
@@ -43,7 +43,7 @@ ended-told core t = by_row (row_of core t)
     by_row (Some row) = refl
 
 -- what was told before an action stays, and what the action tells comes after it
-pub effect-told : (core : Core) (t : ℕ) (action : Action) → (more : List (ℕ × Said)) × ((effect core t action).core.told ≡ core.told ++ more)
+pub effect-told : (core : Core) (t : ℕ) (action : Action) → (more : List (ℕ × Report)) × ((effect core t action).core.told ≡ core.told ++ more)
 unfolding effect
 effect-told core t (Read slot) = ([], sym (append-nil core.told))
 effect-told core t (Write slot value) = ([], sym (append-nil core.told))
@@ -58,9 +58,9 @@ effect-told core t (Trap trap) =
 -- THE KINDS OF THE SLOTS
 
 -- the first values have their own kinds
-pub opening-kinds : (slots : List Cell) → AllByRecursion IsWellFormed slots → AllZip IsLike slots slots
+pub opening-kinds : (slots : List Cell) → AllByRecursion IsValue slots → AllZip IsLike slots slots
 opening-kinds [] all = tt
-opening-kinds (x ∷ slots) all = (record { well_formed = all.0; same_kind = refl }, opening-kinds slots all.1)
+opening-kinds (x ∷ slots) all = (record { is_value = all.0; same_kind = refl }, opening-kinds slots all.1)
 
 -- a slot has a value of its kind
 value_kind : (first now : List Cell) (slot : ℕ) → AllZip IsLike first now → slot < length first → IsLike (value_at first slot) (value_at now slot)

@@ -1,7 +1,7 @@
 -- What holds of one task at a time is enough for a whole run.
 use Rattle.std.proofs.Common.{◌≡◌, ℕ, None, ◌+◌, ◌*◌, ◌≤◌, List, length, refl, sym, subst, ◌∙◌, arith}
 use Rattle.std.specs.List.{AllByRecursion}
-use Rattle.pearl_value.specs.WellFormed.{IsWellFormed}
+use Rattle.pearl_value.specs.WellFormed.{IsValue}
 use Rattle.pearl_rules.specs.declared.action.Answer.{Answer}
 use Rattle.pearl_rules.specs.declared.entry.Entry.{Entry}
 use Rattle.pearl_rules.specs.declared.setup.Setup.{Setup}
@@ -14,7 +14,7 @@ use Rattle.pearl_rules.proofs.Settling.{Reaches, reaches, settled_with}
 
 -- code that stands where each task's answers lead, and that offers soon, runs as the source's rules say
 pub faithful : (offer : Supplier) {S : Type 0} (engine : Engine S) (Stands : ℕ → List Answer → S → Type 0) (weight : ℕ → S → ℕ)
-    (setup : Setup) (rows : ℕ) → AllByRecursion IsWellFormed setup.slots → Alone setup offer engine Stands → Soon engine Stands weight rows → IsFaithful offer engine setup (length setup.tasks) rows
+    (setup : Setup) (rows : ℕ) → AllByRecursion IsValue setup.slots → Alone setup offer engine Stands → Soon engine Stands weight rows → IsFaithful offer engine setup (length setup.tasks) rows
 faithful offer {S} engine Stands weight setup rows slots alone soon = record {
   same_core = λ es n. (sim es n).same_core;
   same_entries = λ es n. (sim es n).same_entries;
@@ -38,7 +38,7 @@ faithful offer {S} engine Stands weight setup rows slots alone soon = record {
 
 -- and where the source's run ends, the machine comes to its end
 pub ends_soon : (offer : Supplier) {S : Type 0} (engine : Engine S) (Stands : ℕ → List Answer → S → Type 0) (weight : ℕ → S → ℕ)
-    (setup : Setup) (rows : ℕ) → AllByRecursion IsWellFormed setup.slots → Alone setup offer engine Stands → Soon engine Stands weight rows → (es : List Entry) (m : ℕ) →
+    (setup : Setup) (rows : ℕ) → AllByRecursion IsValue setup.slots → Alone setup offer engine Stands → Soon engine Stands weight rows → (es : List Entry) (m : ℕ) →
     Comes offer setup es m → source_next offer (source_run offer setup es m) ≡ None → EndsSoon engine setup es m ((m + 1) * (length setup.tasks * rows + 1))
 ends_soon offer {S} engine Stands weight setup rows slots alone soon es m comes none =
     let first = sim_start setup offer S engine Stands alone (length setup.tasks) slots es refl in
@@ -60,7 +60,7 @@ ends_soon offer {S} engine Stands weight setup rows slots alone soon es m comes 
 
 -- each slot holds a value of its kind after any number of steps
 pub has_kinds : (offer : Supplier) {S : Type 0} (engine : Engine S) (Stands : ℕ → List Answer → S → Type 0) (setup : Setup) →
-    AllByRecursion IsWellFormed setup.slots → Alone setup offer engine Stands → (es : List Entry) (n : ℕ) → HasKinds setup (machine_run engine setup es n).core
+    AllByRecursion IsValue setup.slots → Alone setup offer engine Stands → (es : List Entry) (n : ℕ) → HasKinds setup (machine_run engine setup es n).core
 has_kinds offer {S} engine Stands setup slots alone es n =
     (sim_after setup offer S engine Stands alone (length setup.tasks) (source_start setup es) (machine_start engine setup es)
     (sim_start setup offer S engine Stands alone (length setup.tasks) slots es refl) n).kinds

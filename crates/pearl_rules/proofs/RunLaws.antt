@@ -9,7 +9,7 @@ use Rattle.pearl_rules.specs.declared.row.Mode.{Mode}
 use Rattle.pearl_rules.specs.declared.row.Mode.TheVariants.{Dormant, Active}
 use Rattle.pearl_rules.specs.declared.row.TaskRow.{TaskRow}
 use Rattle.pearl_rules.specs.declared.setup.Setup.{Setup}
-use Rattle.pearl_rules.specs.Core.{Said, first_events, row_of}
+use Rattle.pearl_rules.specs.Core.{Report, first_events, row_of}
 use Rattle.pearl_rules.specs.Pick.{is_possible, is_ready, is_ready_row, pick}
 use Rattle.pearl_rules.specs.Runs.{Mark, Acts, Coming, next_of_run, next_mark, kept_at, mapped, Supplier, Source, source_offers, source_next, source_acts, source_mark, source_step_by, source_step, source_start, source_after, source_run}
 use Rattle.pearl_rules.specs.Laws.{EndsTelling}
@@ -123,7 +123,7 @@ source_ends offer setup es = by_fall (ends_or_falls offer (source_start setup es
 
 -- what `after` has told begins with what `before` has told
 abbrev TellsOn : Source → Source → Type 0
-TellsOn before after = (more : List (ℕ × Said)) × (after.core.told ≡ before.core.told ++ more)
+TellsOn before after = (more : List (ℕ × Report)) × (after.core.told ≡ before.core.told ++ more)
 
 -- where nothing changed nothing more was told
 tells_same : (s : Source) → TellsOn s s
@@ -161,7 +161,7 @@ after_tells offer s m (suc k) =
 
 -- later marks only tell more
 pub tells_more : (offer : Supplier) (setup : Setup) (es : List Entry) (m k : ℕ) →
-    (more : List (ℕ × Said)) × ((source_run offer setup es (m + k)).core.told ≡ (source_run offer setup es m).core.told ++ more)
+    (more : List (ℕ × Report)) × ((source_run offer setup es (m + k)).core.told ≡ (source_run offer setup es m).core.told ++ more)
 tells_more offer setup es m k = after_tells offer (source_start setup es) m k
 
 -- a run comes to an end at which all that was told after any number of marks stands first
@@ -193,5 +193,5 @@ opens_at_start offer setup es = refl
 
 -- and whatever it has told later begins with those
 pub opens_with : (offer : Supplier) (setup : Setup) (es : List Entry) (m : ℕ) →
-    (more : List (ℕ × Said)) × ((source_run offer setup es m).core.told ≡ first_events 0 setup.tasks ++ more)
+    (more : List (ℕ × Report)) × ((source_run offer setup es m).core.told ≡ first_events 0 setup.tasks ++ more)
 opens_with offer setup es m = subst (λ n. TellsOn (source_start setup es) (source_run offer setup es n)) (zero-add m) (tells_more offer setup es 0 m)

@@ -4,7 +4,7 @@ use Rattle.std.specs.List.{AllByRecursion}
 use Rattle.std.proofs.Math.Path.{fun_ext}
 use Rattle.std.proofs.lemmas.Option.{none-some, same_Some}
 use Rattle.std.proofs.lemmas.List.{length-map}
-use Rattle.pearl_value.specs.WellFormed.{IsWellFormed}
+use Rattle.pearl_value.specs.WellFormed.{IsValue}
 use Rattle.pearl_rules.specs.declared.action.Action.{Action}
 use Rattle.pearl_rules.specs.declared.action.Answer.{Answer}
 use Rattle.pearl_rules.specs.declared.entry.Entry.{Entry}
@@ -315,7 +315,7 @@ module _ (setup : Setup) (offer : Supplier) (S : Type 0) (engine : Engine S) (St
     sim_after start m sim (suc n) = sim_step start (marked_after engine m n) (machine_after engine m n) (sim_after start m sim n)
 
     -- at the start
-    pub sim_start : AllByRecursion IsWellFormed setup.slots → (es : List Entry) → length setup.tasks ≡ count → Sim (machine_start engine setup es) (source_start setup es)
+    pub sim_start : AllByRecursion IsValue setup.slots → (es : List Entry) → length setup.tasks ≡ count → Sim (machine_start engine setup es) (source_start setup es)
     sim_start slots es size =
         let kept : length (map first_row setup.tasks) ≡ count = length-map setup.tasks first_row ∙ size in
         record {

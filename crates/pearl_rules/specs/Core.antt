@@ -13,9 +13,9 @@ use Rattle.pearl_rules.specs.declared.setup.TaskEntry.{TaskEntry}
 use Rattle.pearl_rules.specs.declared.setup.Setup.{Setup}
 
 -- what a run tells: that something happened, or how a task stands
-pub data Said : Type 0 where
-  Happened : (event : Event) → Said
-  Shows : (task : ℕ) (shown : Shown) → Said
+pub data Report : Type 0 where
+  Happened : (event : Event) → Report
+  Shows : (task : ℕ) (shown : Shown) → Report
 
 -- the moment is in milliseconds since the start; `told` has all that was told so far, each with its moment
 pub record Core : Type 0 where
@@ -23,7 +23,7 @@ pub record Core : Type 0 where
   pub tasks : List TaskRow
   pub slots : List Cell
   pub last : Option ℕ
-  pub told : List (ℕ × Said)
+  pub told : List (ℕ × Report)
 
 abbrev pub cell_or_zero : Option Cell → Cell
 cell_or_zero None = Fixed 31 (pos 0)
@@ -65,12 +65,12 @@ first_mode false priority = Dormant
 abbrev pub first_row : TaskEntry → TaskRow
 first_row task = record { mode = first_mode task.main task.priority }
 
-abbrev pub first_events_if : Bool → ℕ → ℕ → List (ℕ × Said) → List (ℕ × Said)
+abbrev pub first_events_if : Bool → ℕ → ℕ → List (ℕ × Report) → List (ℕ × Report)
 first_events_if true t priority rest = (0, Happened (Start t priority)) ∷ rest
 first_events_if false t priority rest = rest
 
 -- the starts of the MAIN tasks, in order of declaration, the first task having the number t
-abbrev pub first_events : ℕ → List TaskEntry → List (ℕ × Said)
+abbrev pub first_events : ℕ → List TaskEntry → List (ℕ × Report)
 first_events t [] = []
 first_events t (task ∷ tasks) = first_events_if task.main t task.priority (first_events (t + 1) tasks)
 

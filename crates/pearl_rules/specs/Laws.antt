@@ -2,7 +2,7 @@
 use Rattle.std.specs.Prelude.{◌≡◌, ◌≢◌, ℕ, ◌<◌, ◌≤◌, List, ◌++◌, None}
 use Rattle.pearl_rules.specs.declared.entry.Entry.{Entry}
 use Rattle.pearl_rules.specs.declared.setup.Setup.{Setup}
-use Rattle.pearl_rules.specs.Core.{Said}
+use Rattle.pearl_rules.specs.Core.{Report}
 use Rattle.pearl_rules.specs.Runs.{Supplier, Source, Engine, Machine, source_run, source_next, source_offers, machine_run, machine_offers, machine_next, marked, unsettled, told_at_end}
 
 -- the machine's run is at its end after n steps: nothing is unsettled and no mark comes
@@ -28,7 +28,7 @@ pub record EndsAlike (offer : Supplier) {S : Type 0} (engine : Engine S) (setup 
 pub record EndsTelling (offer : Supplier) (setup : Setup) (es : List Entry) (m : ℕ) : Type 0 where
   pub last : ℕ
   pub no_mark : source_next offer (source_run offer setup es last) ≡ None
-  pub more : List (ℕ × Said)
+  pub more : List (ℕ × Report)
   pub told : (source_run offer setup es last).core.told ≡ (source_run offer setup es m).core.told ++ more
 
 -- each of the first m marks of the source's run comes

@@ -6,7 +6,7 @@ use Rattle.pearl_rules.specs.declared.row.Mode.TheVariants.{Dormant, Active}
 use Rattle.pearl_rules.specs.declared.row.TaskRow.{TaskRow}
 use Rattle.pearl_rules.specs.declared.event.Shown.TheVariants as shown
 use Rattle.pearl_rules.specs.declared.event.Shown.{Shown}
-use Rattle.pearl_rules.specs.Core.{Core, Said, Shows, row_of}
+use Rattle.pearl_rules.specs.Core.{Core, Report, Shows, row_of}
 
 -- what each task offers to do next: none where it isn't active or hasn't offered yet
 abbrev pub Offered : Type 0
@@ -102,10 +102,10 @@ abbrev pub shown_of : Core → Offered → ℕ → Shown
 shown_of core offers t = shown_row (row_of core t) (is_possible core (offers t)) (is_last_of (pick core offers) t)
 
 -- how the first n tasks stand, in order of declaration
-abbrev pub states_first : Core → Offered → ℕ → List (ℕ × Said)
+abbrev pub states_first : Core → Offered → ℕ → List (ℕ × Report)
 states_first core offers zero = []
 states_first core offers (suc n) = states_first core offers n ++ (core.moment, Shows n (shown_of core offers n)) ∷ []
 
 -- how all tasks stand
-abbrev pub states : Core → Offered → List (ℕ × Said)
+abbrev pub states : Core → Offered → List (ℕ × Report)
 states core offers = states_first core offers (length core.tasks)

@@ -6,7 +6,7 @@ use Rattle.pearl_rules.specs.declared.entry.Entry.{Entry}
 use Rattle.pearl_rules.specs.declared.entry.Entry.TheVariants.{Run}
 use Rattle.pearl_rules.specs.declared.row.TaskRow.{TaskRow}
 use Rattle.pearl_rules.specs.declared.setup.Setup.{Setup}
-use Rattle.pearl_rules.specs.Core.{Core, Said, is_active_row, opening}
+use Rattle.pearl_rules.specs.Core.{Core, Report, is_active_row, opening}
 use Rattle.pearl_rules.specs.Pick.{Offered, pick, states}
 use Rattle.pearl_rules.specs.Effect.{Reply, Hears, Ends, effect}
 
@@ -42,12 +42,12 @@ refreshed fresh t (row ∷ rows) [] = kept (is_active_row (Some row)) (fresh t) 
 refreshed fresh t (row ∷ rows) (x ∷ xs) = kept (is_active_row (Some row)) (fresh t) x ∷ refreshed fresh (t + 1) rows xs
 
 -- what is at a place of a list of what is kept
-abbrev pub joined : {X : Type 0} → Option (Option X) → Option X
-joined None = None
-joined (Some x) = x
+abbrev pub flattened : {X : Type 0} → Option (Option X) → Option X
+flattened None = None
+flattened (Some x) = x
 
 abbrev pub kept_at : {X : Type 0} → List (Option X) → ℕ → Option X
-kept_at xs t = joined (slice_get xs t)
+kept_at xs t = flattened (slice_get xs t)
 
 abbrev pub mapped : {X Y : Type 0} → (X → Y) → Option X → Option Y
 mapped f None = None
@@ -230,5 +230,5 @@ marked engine setup entries n = marked_after engine (machine_start engine setup 
 -- WHAT A RUN TELLS
 
 -- all that a core and the last offers tell at the end of a journal: what was told, and how each task stands
-abbrev pub told_at_end : Core → Offered → List (ℕ × Said)
+abbrev pub told_at_end : Core → Offered → List (ℕ × Report)
 told_at_end core offers = core.told ++ states core offers

@@ -4,7 +4,7 @@ use Rattle.std.specs.List.{AllZip}
 use Rattle.pearl_value.specs.declared.kind.Kind.{Kind}
 use Rattle.pearl_value.specs.declared.cell.Cell.{Cell}
 use Rattle.pearl_value.specs.Cells.{kind_of}
-use Rattle.pearl_value.specs.WellFormed.{IsWellFormed}
+use Rattle.pearl_value.specs.WellFormed.{IsValueOf}
 use Rattle.pearl_rules.specs.declared.action.Action.{Action}
 use Rattle.pearl_rules.specs.declared.action.Action.TheVariants.{Read, Write, Put, End, Trap}
 use Rattle.pearl_rules.specs.declared.action.Answer.{Answer}
@@ -15,11 +15,6 @@ use Rattle.pearl_rules.specs.Core.{Core, cell_or_zero, value_at}
 -- the kind of a slot's values: that of its first value
 abbrev pub slot_kind : Setup → ℕ → Kind
 slot_kind setup slot = kind_of (value_at setup.slots slot)
-
--- a well-formed value of this kind
-pub record IsValueOf (kind : Kind) (x : Cell) : Type 0 where
-  pub well_formed : IsWellFormed x
-  pub same_kind : kind_of x ≡ kind
 
 -- the answers that an action can have; a task that ends hears nothing more
 abbrev pub Suits : Setup → Action → Answer → Type 0

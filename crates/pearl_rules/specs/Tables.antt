@@ -2,11 +2,9 @@
 use Rattle.std.specs.Prelude.{◌≡◌, ◌⊎◌, ℕ, ◌<◌, ◌≤◌, Bool, ◌&&◌, ◌||◌, ◌==◌, nat_le, IsTrue, List, [], ◌∷◌, Option, Some, None, length, slice_index, slice_get}
 use Rattle.std.specs.Char.{is_ascii_alphabetic, is_ascii_digit}
 use Rattle.std.specs.List.{AllByRecursion, list_all}
-use Rattle.pearl_value.specs.WellFormed.{IsWellFormed}
-use Rattle.pearl_format.specs.declared.item.ItemCode.{ItemCode}
-use Rattle.pearl_format.specs.declared.item.ItemCode.TheVariants.{F, T, D}
+use Rattle.pearl_value.specs.WellFormed.{IsValue}
 use Rattle.pearl_format.specs.declared.item.Item.{Item}
-use Rattle.pearl_format.specs.Items.{width_sum, data_count}
+use Rattle.pearl_format.specs.Items.{HasWidth}
 use Rattle.pearl_rules.specs.declared.setup.TaskEntry.{TaskEntry}
 use Rattle.pearl_rules.specs.declared.setup.Device.{Device}
 use Rattle.pearl_rules.specs.declared.setup.Device.TheVariants.{Interrupt, Terminal}
@@ -50,26 +48,18 @@ AreRising [] = Unit {0}
 AreRising (device ∷ []) = Unit {0}
 AreRising (device ∷ next ∷ devices) = IsBefore device next × AreRising (next ∷ devices)
 
-abbrev pub HasWidth : ItemCode → ℕ → Type 0
-HasWidth F width = (0 < width) × (width ≤ 255)
-HasWidth T width = (8 ≤ width) × (width ≤ 255)
-HasWidth D width = (0 < width) × (width ≤ 255)
-HasWidth code width = Unit {0}
-
--- F and D have a width from 1 to 255, and T one from 8 on
+-- the width suits the code, and is at most 255
 abbrev pub IsItem : Item → Type 0
-IsItem item = HasWidth item.code item.width
+IsItem item = HasWidth item.code item.width × (item.width ≤ 255)
 
--- at most 64 of the items take a value, and their widths are at most 1,024 together
-pub record IsFormat (format : List Item) : Type 0 where
-  pub items : AllByRecursion IsItem format
-  pub few : data_count format ≤ 64
-  pub short : width_sum format ≤ 1024
+-- How many values the items take and how long their text gets is asked only of a PUT that names the format.
+abbrev pub IsFormat : List Item → Type 0
+IsFormat items = AllByRecursion IsItem items
 
 -- at most 200 tasks, 65,536 slots and 396 devices, each slot with a first value; a format is lawful also where no PUT uses it
 pub record IsSetup (setup : Setup) : Type 0 where
   pub tasks : AllByRecursion IsTaskEntry setup.tasks
-  pub slots : AllByRecursion IsWellFormed setup.slots
+  pub slots : AllByRecursion IsValue setup.slots
   pub devices : AllByRecursion IsDevice setup.devices
   pub rising : AreRising setup.devices
   pub formats : AllByRecursion IsFormat setup.formats

@@ -2,12 +2,12 @@
 
 ghost use Rattle.std.specs.Prelude.{◌≡◌, ◌↔◌, ℕ, ◌+◌, ◌*◌, ◌++◌, List, false, Some, None, length};
 ghost use Rattle.std.specs.List.{AllByRecursion};
-ghost use Rattle.pearl_value.specs.WellFormed.{IsWellFormed};
+ghost use Rattle.pearl_value.specs.WellFormed.{IsValue};
 ghost use Rattle.pearl_rules.specs.declared.action.Action.{Action};
 ghost use Rattle.pearl_rules.specs.declared.action.Answer.{Answer};
 ghost use Rattle.pearl_rules.specs.declared.entry.Entry.{Entry};
 ghost use Rattle.pearl_rules.specs.declared.setup.Setup.{Setup};
-ghost use Rattle.pearl_rules.specs.Core.{Core, Said, first_events};
+ghost use Rattle.pearl_rules.specs.Core.{Core, Report, first_events};
 ghost use Rattle.pearl_rules.specs.Effect.{Hears, effect};
 ghost use Rattle.pearl_rules.specs.Slots.{Suits, Fits, HasKinds};
 ghost use Rattle.pearl_rules.specs.Pick.{Offered, is_eligible, pick, IsPicked, states};
@@ -56,13 +56,13 @@ pub trait Code {
 /// What holds of one task at a time is enough for a whole run: where each task's code stands where its answers lead, and
 /// offers its next action within a bound, the machine runs as the source's rules say, for any tasks and any journal.
 pub fn faithful_by_task<S: Code>()
-    ensures { (setup : Setup) → AllByRecursion IsWellFormed setup.slots → Alone setup S.offer S.engine S.Stands → Soon S.engine S.Stands S.weight S.rows →
+    ensures { (setup : Setup) → AllByRecursion IsValue setup.slots → Alone setup S.offer S.engine S.Stands → Soon S.engine S.Stands S.weight S.rows →
         IsFaithful S.offer S.engine setup (length setup.tasks) S.rows }
 {}
 
 /// Under the same conditions every variable of the module holds a value of its kind, after any number of marks.
 pub fn always_has_kinds<S: Code>()
-    ensures { (setup : Setup) → AllByRecursion IsWellFormed setup.slots → Alone setup S.offer S.engine S.Stands → (es : List Entry) (n : ℕ) →
+    ensures { (setup : Setup) → AllByRecursion IsValue setup.slots → Alone setup S.offer S.engine S.Stands → (es : List Entry) (n : ℕ) →
         HasKinds setup (machine_run S.engine setup es n).core }
 {}
 
@@ -76,7 +76,7 @@ pub fn ends_alike<S>()
 /// Under the same conditions the machine comes to its end where the source's run does: after the m marks that come, within
 /// m + 1 times the steps from one mark to the next.
 pub fn ends_soon<S: Code>()
-    ensures { (setup : Setup) → AllByRecursion IsWellFormed setup.slots → Alone setup S.offer S.engine S.Stands → Soon S.engine S.Stands S.weight S.rows → (es : List Entry) (m : ℕ) →
+    ensures { (setup : Setup) → AllByRecursion IsValue setup.slots → Alone setup S.offer S.engine S.Stands → Soon S.engine S.Stands S.weight S.rows → (es : List Entry) (m : ℕ) →
         Comes S.offer setup es m → source_next S.offer (source_run S.offer setup es m) ≡ None →
         EndsSoon S.engine setup es m ((m + 1) * (length setup.tasks * S.rows + 1)) }
 {}
@@ -96,7 +96,7 @@ pub fn always_ends()
 /// What was told stays: later marks only tell more after it.
 pub fn tells_more()
     ensures { (offer : Supplier) (setup : Setup) (es : List Entry) (m k : ℕ) →
-        (more : List (ℕ × Said)) × ((source_run offer setup es (m + k)).core.told ≡ (source_run offer setup es m).core.told ++ more) }
+        (more : List (ℕ × Report)) × ((source_run offer setup es (m + k)).core.told ≡ (source_run offer setup es m).core.told ++ more) }
 {}
 
 /// A run comes to an end at which all that was told after any number of marks stands first.
@@ -110,7 +110,7 @@ pub fn opens_with()
     ensures at_start { (offer : Supplier) (setup : Setup) (es : List Entry) →
         (source_run offer setup es 0).core.told ≡ first_events 0 setup.tasks }
     ensures later { (offer : Supplier) (setup : Setup) (es : List Entry) (m : ℕ) →
-        (more : List (ℕ × Said)) × ((source_run offer setup es m).core.told ≡ first_events 0 setup.tasks ++ more) }
+        (more : List (ℕ × Report)) × ((source_run offer setup es m).core.told ≡ first_events 0 setup.tasks ++ more) }
 {}
 
 /// For as long as marks come of a journal's first entries, its run is the run over those, with the other entries still to come.

@@ -87,11 +87,11 @@ pub start_ready : (o : Object) (frame : Frame) → IsValid o → length o.tasks 
 start_ready o frame valid single first empty room = record {
   steady = subst (IsSteady o) (sym (ap (λ n. let s : Stack = record { place = n; operands = frame.operands.items } in s) first
       ∙ ap (λ xs. let s : Stack = record { place = 0; operands = xs } in s) empty)) (code_runs o.setup o.tasks single valid.codes);
-  well_formed = subst (λ xs. All IsWellFormed xs) (sym empty) (All-nil IsWellFormed);
+  cells = subst (λ xs. All IsWellFormed xs) (sym empty) (All-nil IsWellFormed);
   room = room;
 }
 
--- the first values are well formed, so each slot holds one of its kind
+-- the first values are values, so each slot holds one of its kind
 pub first_kinds : (setup : Setup) (slots : List Cell) → IsSetup setup → slots ≡ setup.slots → AllZip IsLike setup.slots slots
 first_kinds setup slots is same = subst (λ xs. AllZip IsLike setup.slots xs) (sym same) (opening-kinds setup.slots is.slots)
 

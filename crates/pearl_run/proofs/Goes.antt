@@ -1,7 +1,7 @@
 -- Where a run goes from where a machine stands.
 use Rattle.std.proofs.Common.{◌≡◌, ℕ, ◌+◌, List, ◌++◌, Option, Some, None, refl, sym, ap, ◌∙◌, subst, append_assoc}
 use Rattle.pearl_rules.specs.declared.entry.Entry.{Entry}
-use Rattle.pearl_rules.specs.Core.{Said}
+use Rattle.pearl_rules.specs.Core.{Report}
 use Rattle.pearl_rules.specs.Pick.{pick}
 use Rattle.pearl_rules.specs.Runs.{Machine, Acts, machine_offers, machine_next, machine_after, unsettled}
 use Rattle.pearl_code.specs.Rows.{Stack, engine}
@@ -9,7 +9,7 @@ use Rattle.pearl_run.specs.Seen.{Seen, IsAt, Leads, Goes, Picks}
 use Rattle.pearl_run.proofs.Steps.{after-add}
 
 -- the state of a run at which the machine stands, with what was told before and what remains
-abbrev pub at : Seen → List (ℕ × Said) → List Entry → Machine Stack
+abbrev pub at : Seen → List (ℕ × Report) → List Entry → Machine Stack
 at seen told entries = record {
   core = record { moment = seen.moment; tasks = seen.tasks; slots = seen.slots; last = seen.last; told = told };
   running = seen.running;
@@ -25,7 +25,7 @@ stands_at seen m is =
     ∙ ap (λ x. let n : Machine Stack = record m { core = record m.core { moment = seen.moment; tasks = seen.tasks; slots = seen.slots; last = seen.last }; running = x } in n) is.running)))
 
 -- it is enough to go there
-pub goes_to : (m : Machine Stack) (rest : List Entry) (seen : Seen) (told : List (ℕ × Said)) (steps : ℕ) →
+pub goes_to : (m : Machine Stack) (rest : List Entry) (seen : Seen) (told : List (ℕ × Report)) (steps : ℕ) →
     machine_after (engine seen.object) m steps ≡ at seen (m.core.told ++ told) rest → unsettled (at seen (m.core.told ++ told) rest) ≡ None →
     Goes m rest seen told
 goes_to m rest seen told steps e settled = record {
@@ -43,7 +43,7 @@ goes_to m rest seen told steps e settled = record {
 }
 
 -- going on from there
-pub goes_on : (m : Machine Stack) (rest last : List Entry) (mid new : Seen) (told more : List (ℕ × Said)) → new.object ≡ mid.object →
+pub goes_on : (m : Machine Stack) (rest last : List Entry) (mid new : Seen) (told more : List (ℕ × Report)) → new.object ≡ mid.object →
     (g : Goes m rest mid told) → Goes (machine_after (engine mid.object) m g.steps) last new more → Goes m last new (told ++ more)
 goes_on m rest last mid new told more same g h =
     let e : machine_after (engine new.object) m (g.steps + h.steps) ≡ machine_after (engine new.object) (machine_after (engine mid.object) m g.steps) h.steps =
@@ -59,12 +59,12 @@ goes_on m rest last mid new told more same g h =
 
 -- what is shown at the state that is stood at holds at each
 pub picks_by : (seen : Seen) (task : Option ℕ) →
-    ((told : List (ℕ × Said)) (entries : List Entry) → pick (at seen told entries).core (machine_offers (at seen told entries)) ≡ task) → Picks seen task
+    ((told : List (ℕ × Report)) (entries : List Entry) → pick (at seen told entries).core (machine_offers (at seen told entries)) ≡ task) → Picks seen task
 picks_by seen task go m is =
     subst (λ n. pick n.core (machine_offers n) ≡ task) (sym (stands_at seen m is)) (go m.core.told m.entries)
 
-pub goes_by : (old new : Seen) (told : List (ℕ × Said)) →
-    ((before : List (ℕ × Said)) (entries rest : List Entry) → machine_next (at old before entries) ≡ Some (record { mark = Acts 0; rest = rest }) →
+pub goes_by : (old new : Seen) (told : List (ℕ × Report)) →
+    ((before : List (ℕ × Report)) (entries rest : List Entry) → machine_next (at old before entries) ≡ Some (record { mark = Acts 0; rest = rest }) →
     Goes (at old before entries) rest new told) →
     (m : Machine Stack) (rest : List Entry) → IsAt old m → machine_next m ≡ Some (record { mark = Acts 0; rest = rest }) → Goes m rest new told
 goes_by old new told go m rest is next =

@@ -13,11 +13,11 @@ use Rattle.pearl_rules.specs.declared.event.Event.TheVariants as events
 use Rattle.pearl_rules.specs.declared.row.Mode.{Mode}
 use Rattle.pearl_rules.specs.declared.row.Mode.TheVariants.{Dormant, Active}
 use Rattle.pearl_rules.specs.declared.row.TaskRow.{TaskRow}
-use Rattle.pearl_rules.specs.Core.{Core, Said, Happened, value_at}
+use Rattle.pearl_rules.specs.Core.{Core, Report, Happened, value_at}
 use Rattle.pearl_rules.specs.Pick.{Offered, is_possible, is_eligible, better, pick}
 use Rattle.pearl_rules.specs.Runs.{Machine, Acts, machine_offers, machine_next, machine_mark_by, machine_after, unsettled, unsettled_from}
 use Rattle.pearl_code.specs.declared.object.Object.{Object}
-use Rattle.pearl_code.specs.Rows.{Stack, engine, fetched, row_after}
+use Rattle.pearl_code.specs.Rows.{Stack, engine, fetched, continued}
 use Rattle.pearl_run.specs.declared.frame.Frame.{Frame}
 use Rattle.pearl_run.specs.declared.task.Task.{Task}
 use Rattle.pearl_run.specs.Frame.{stack_of}
@@ -68,17 +68,17 @@ picks_first o slots task last moment t p =
     (p m (record { moment = refl; tasks = refl; slots = refl; last = refl; running = refl }))
 
 -- a mark of an active task that goes on
-module _ (o : Object) (priority : ℕ) (suspended : Bool) (frame : Frame) (offer : Option Action) (new : Task) (last : Option ℕ) (moment : ℕ) (before : List (ℕ × Said)) (entries rest : List Entry) where
+module _ (o : Object) (priority : ℕ) (suspended : Bool) (frame : Frame) (offer : Option Action) (new : Task) (last : Option ℕ) (moment : ℕ) (before : List (ℕ × Report)) (entries rest : List Entry) where
   abbrev mode : Mode
   mode = Active priority suspended
 
   abbrev from_task : Option Action → Task
   from_task x = record { row = record { mode = mode }; frame = frame; offer = x }
 
-  goes_heard : (slots after : List Cell) (action : Action) (answer : Answer) (told : List (ℕ × Said)) →
+  goes_heard : (slots after : List Cell) (action : Action) (answer : Answer) (told : List (ℕ × Report)) →
       machine_next (at (seen_of o slots (from_task (Some action)) last moment) before entries) ≡ Some (record { mark = Acts 0; rest = rest }) →
       machine_mark_by (engine o) (at (seen_of o slots (from_task (Some action)) last moment) before entries) (Some (record { mark = Acts 0; rest = rest }))
-      ≡ one (core_at moment mode after (Some 0) (before ++ told)) (going (row_after o (fetched o 0 (stack_of frame)) (stack_of frame) answer)) rest →
+      ≡ one (core_at moment mode after (Some 0) (before ++ told)) (going (continued o (fetched o 0 (stack_of frame)) (stack_of frame) answer)) rest →
       Resumes o (from_task offer) answer new →
       Goes (at (seen_of o slots (from_task (Some action)) last moment) before entries) rest (seen_of o after new (Some 0) moment) told
   goes_heard slots after action answer told next mark r =
@@ -91,7 +91,7 @@ module _ (o : Object) (priority : ℕ) (suspended : Bool) (frame : Frame) (offer
       (ap unsettled (sym same))
 
   -- a mark that ends the task
-  goes_ended : (slots : List Cell) (action : Action) (told : List (ℕ × Said)) → new.row.mode ≡ Dormant →
+  goes_ended : (slots : List Cell) (action : Action) (told : List (ℕ × Report)) → new.row.mode ≡ Dormant →
       machine_after (engine o) (at (seen_of o slots (from_task (Some action)) last moment) before entries) 1
       ≡ one (core_at moment Dormant slots (Some 0) (before ++ told)) None rest →
       Goes (at (seen_of o slots (from_task (Some action)) last moment) before entries) rest (seen_of o slots new (Some 0) moment) told
@@ -103,10 +103,10 @@ module _ (o : Object) (priority : ℕ) (suspended : Bool) (frame : Frame) (offer
 
   -- a read and a write tell nothing
   nothing_told : (slots : List Cell) (answer : Answer) →
-      one (core_at moment mode slots (Some 0) before) (going (row_after o (fetched o 0 (stack_of frame)) (stack_of frame) answer)) rest
-      ≡ one (core_at moment mode slots (Some 0) (before ++ [])) (going (row_after o (fetched o 0 (stack_of frame)) (stack_of frame) answer)) rest
+      one (core_at moment mode slots (Some 0) before) (going (continued o (fetched o 0 (stack_of frame)) (stack_of frame) answer)) rest
+      ≡ one (core_at moment mode slots (Some 0) (before ++ [])) (going (continued o (fetched o 0 (stack_of frame)) (stack_of frame) answer)) rest
   nothing_told slots answer =
-      ap (λ told. one (core_at moment mode slots (Some 0) told) (going (row_after o (fetched o 0 (stack_of frame)) (stack_of frame) answer)) rest) (sym (append-nil before))
+      ap (λ told. one (core_at moment mode slots (Some 0) told) (going (continued o (fetched o 0 (stack_of frame)) (stack_of frame) answer)) rest) (sym (append-nil before))
 
   goes_active : (slots after : List Cell) (action : Action) (event : Option Event) → Performs o slots (from_task offer) action after new event →
       machine_next (at (seen_of o slots (from_task (Some action)) last moment) before entries) ≡ Some (record { mark = Acts 0; rest = rest }) →
@@ -130,7 +130,7 @@ module _ (o : Object) (priority : ℕ) (suspended : Bool) (frame : Frame) (offer
 -- the mark
 marks_by : (o : Object) (slots after : List Cell) (mode : Mode) (frame : Frame) (offer : Option Action) (action : Action) (last : Option ℕ) (moment : ℕ) (new : Task) (event : Option Event) →
     HasOffered o mode (stack_of frame) (Some action) → Performs o slots (record { row = record { mode = mode }; frame = frame; offer = offer }) action after new event →
-    (before : List (ℕ × Said)) (entries rest : List Entry) →
+    (before : List (ℕ × Report)) (entries rest : List Entry) →
     machine_next (at (seen_of o slots (record { row = record { mode = mode }; frame = frame; offer = Some action }) last moment) before entries) ≡ Some (record { mark = Acts 0; rest = rest }) →
     Goes (at (seen_of o slots (record { row = record { mode = mode }; frame = frame; offer = Some action }) last moment) before entries) rest
     (seen_of o after new (Some 0) moment) (told_by moment event)

@@ -6,13 +6,13 @@ use Rattle.pearl_rules.specs.declared.entry.Entry.{Entry}
 use Rattle.pearl_rules.specs.declared.entry.Entry.TheVariants.{Run}
 use Rattle.pearl_rules.specs.declared.event.Event.{Event}
 use Rattle.pearl_rules.specs.declared.setup.Setup.{Setup}
-use Rattle.pearl_rules.specs.Core.{Said, Happened}
+use Rattle.pearl_rules.specs.Core.{Report, Happened}
 use Rattle.pearl_rules.specs.Pick.{pick}
 use Rattle.pearl_rules.specs.Runs.{Machine, Acts, machine_offers, machine_next, machine_after, next_mark, unsettled_from}
 use Rattle.pearl_code.specs.Rows.{Stack, engine}
 use Rattle.pearl_io.specs.Outside.{Takes, TakesFront}
 use Rattle.pearl_io.proofs.Pieces.{takes_more}
-use Rattle.pearl_script.specs.Lines.{said_line, lines_of}
+use Rattle.pearl_script.specs.Lines.{report_line, lines_of}
 use Rattle.pearl_script.proofs.LineLemmas.{lines_of-append, lines_of-next}
 use Rattle.pearl_run.specs.Seen.{Seen, IsAt, Handles, Picks, Marks, told_by}
 use Rattle.pearl_run.specs.Told.{IsCutOff}
@@ -29,7 +29,7 @@ run_none_yet seen count settled m rest is leads = record {
 }
 
 -- what remains of the entry changes nothing more
-run_over : (old new : Seen) (count left : ℕ) (told : List (ℕ × Said)) → Handles old (Run count) (Run left ∷ []) new told →
+run_over : (old new : Seen) (count left : ℕ) (told : List (ℕ × Report)) → Handles old (Run count) (Run left ∷ []) new told →
     ((a : Machine Stack) (rest : List Entry) → IsAt new a → next_mark (pick a.core (machine_offers a)) (Run left ∷ rest) ≡ next_mark (pick a.core (machine_offers a)) rest) →
     Handles old (Run count) [] new told
 run_over old new count left told handles over m rest is leads =
@@ -43,14 +43,14 @@ run_over old new count left told handles over m rest is leads =
     }
 
 -- where no task can act
-pub run_stops : (old new : Seen) (count left : ℕ) (told : List (ℕ × Said)) → Handles old (Run count) (Run left ∷ []) new told → Picks new None →
+pub run_stops : (old new : Seen) (count left : ℕ) (told : List (ℕ × Report)) → Handles old (Run count) (Run left ∷ []) new told → Picks new None →
     Handles old (Run count) [] new told
 run_stops old new count left told handles none =
     run_over old new count left told handles (λ a rest stands.
     subst (λ p. next_mark p (Run left ∷ rest) ≡ next_mark p rest) (sym (none a stands)) refl)
 
 -- where no pick is left
-pub run_ends : (old new : Seen) (count left : ℕ) (told : List (ℕ × Said)) → left ≡ 0 → Handles old (Run count) (Run left ∷ []) new told →
+pub run_ends : (old new : Seen) (count left : ℕ) (told : List (ℕ × Report)) → left ≡ 0 → Handles old (Run count) (Run left ∷ []) new told →
     Handles old (Run count) [] new told
 run_ends old new count left told e handles =
     run_over old new count left told handles (λ a rest stands. rw e (dropped (pick a.core (machine_offers a)) rest))
@@ -60,7 +60,7 @@ run_ends old new count left told e handles =
     dropped (Some t) rest = refl
 
 -- one mark more
-pub run_more : (old mid new : Seen) (count left : ℕ) (told : List (ℕ × Said)) (event : Option Event) → 0 < left → new.object ≡ mid.object →
+pub run_more : (old mid new : Seen) (count left : ℕ) (told : List (ℕ × Report)) (event : Option Event) → 0 < left → new.object ≡ mid.object →
     Handles old (Run count) (Run left ∷ []) mid told → Marks mid new event →
     Handles old (Run count) (Run (left - 1) ∷ []) new (told ++ told_by mid.moment event)
 run_more old mid new count left told event some same handles marks m rest is leads =
@@ -73,15 +73,15 @@ run_more old mid new count left told event some same handles marks m rest is lea
     goes_on m (Run left ∷ rest) (Run (left - 1) ∷ rest) mid new told _ same g (marks.goes a (Run (left - 1) ∷ rest) g.stands next)
 
 -- what was taken with what a mark tells
-pub takes_mark : (setup : Setup) (old mid new : Option (List ℕ)) (told more : List (ℕ × Said)) →
+pub takes_mark : (setup : Setup) (old mid new : Option (List ℕ)) (told more : List (ℕ × Report)) →
     Takes old mid (lines_of setup told) → Takes mid new (lines_of setup more) → Takes old new (lines_of setup (told ++ more))
 takes_mark setup old mid new told more before after = rw lines_of-append (takes_more old mid new _ _ before after)
 
-pub cuts_mark : (setup : Setup) (old mid new : Option (List ℕ)) (told : List (ℕ × Said)) (moment : ℕ) (event : Option Event) →
+pub cuts_mark : (setup : Setup) (old mid new : Option (List ℕ)) (told : List (ℕ × Report)) (moment : ℕ) (event : Option Event) →
     Takes old mid (lines_of setup told) → TakesFront mid new (lines_of setup (told_by moment event)) → IsCutOff setup old new (told ++ told_by moment event)
 cuts_mark setup old mid new told moment None before after = absurd (omega (arith, after.1))
 cuts_mark setup old mid new told moment (Some event) before after =
-    let line : lines_of setup ((moment, Happened event) ∷ []) ≡ said_line setup (moment, Happened event) = append-nil _ in
+    let line : lines_of setup ((moment, Happened event) ∷ []) ≡ report_line setup (moment, Happened event) = append-nil _ in
     record {
       before = told;
       last = (moment, Happened event);
@@ -92,12 +92,12 @@ cuts_mark setup old mid new told moment (Some event) before after =
     }
 
 -- of lines that are cut off a front was taken
-pub cut_front : (setup : Setup) (old new : Option (List ℕ)) (told : List (ℕ × Said)) → IsCutOff setup old new told → TakesFront old new (lines_of setup told)
+pub cut_front : (setup : Setup) (old new : Option (List ℕ)) (told : List (ℕ × Report)) → IsCutOff setup old new told → TakesFront old new (lines_of setup told)
 cut_front setup old new told cut =
-    let lines : lines_of setup told ≡ lines_of setup cut.before ++ said_line setup cut.last = ap (lines_of setup) cut.all ∙ lines_of-next setup cut.before cut.last in
+    let lines : lines_of setup told ≡ lines_of setup cut.before ++ report_line setup cut.last = ap (lines_of setup) cut.all ∙ lines_of-next setup cut.before cut.last in
     rw lines (
       length (lines_of setup cut.before) + cut.count,
-      omega (arith, cut.short, length-append (lines_of setup cut.before) (said_line setup cut.last)),
+      omega (arith, cut.short, length-append (lines_of setup cut.before) (report_line setup cut.last)),
       rw take-append-add cut.taken,
     )
 

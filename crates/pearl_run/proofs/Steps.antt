@@ -10,11 +10,11 @@ use Rattle.pearl_rules.specs.declared.row.Mode.{Mode}
 use Rattle.pearl_rules.specs.declared.row.Mode.TheVariants.{Dormant, Active}
 use Rattle.pearl_value.specs.declared.cell.Cell.{Cell}
 use Rattle.pearl_value.specs.declared.trap.Trap.{Trap}
-use Rattle.pearl_rules.specs.Core.{Core, Said, Happened, value_at}
+use Rattle.pearl_rules.specs.Core.{Core, Report, Happened, value_at}
 use Rattle.pearl_rules.specs.Effect.{effect}
 use Rattle.pearl_rules.specs.Runs.{Engine, Running, Machine, Silent, Offers, Acts, stepped, machine_next, machine_step, machine_mark_by, machine_after}
 use Rattle.pearl_code.specs.declared.object.Object.{Object}
-use Rattle.pearl_code.specs.Rows.{Stack, row, row_after, fetched, engine}
+use Rattle.pearl_code.specs.Rows.{Stack, executed, continued, fetched, engine}
 use Rattle.pearl_run.specs.Frame.{Silently, Settles}
 
 -- steps after steps
@@ -23,7 +23,7 @@ after-add e m a zero = rw add-zero refl
 after-add e m a (suc b) = rw add-suc (ap (machine_step e) (after-add e m a b))
 
 -- a core of one task
-abbrev pub core_at : ℕ → Mode → List Cell → Option ℕ → List (ℕ × Said) → Core
+abbrev pub core_at : ℕ → Mode → List Cell → Option ℕ → List (ℕ × Report) → Core
 core_at moment mode slots last told =
     record { moment = moment; tasks = record { mode = mode } ∷ []; slots = slots; last = last; told = told }
 
@@ -39,12 +39,12 @@ abbrev pub offering : Stack → Action → Option (Running Stack)
 offering stack action = Some (record { stack = stack; offer = Some action })
 
 module _ (o : Object) where
-  silent_step : (core : Core) (entries : List Entry) (stack after : Stack) → row o (fetched o 0 stack) stack ≡ Silent after →
+  silent_step : (core : Core) (entries : List Entry) (stack after : Stack) → executed o (fetched o 0 stack) stack ≡ Silent after →
       machine_step (engine o) (one core (going stack) entries) ≡ one core (going after) entries
   unfolding machine_step
   silent_step core entries stack after e = ap (λ s. one core (Some (stepped stack s)) entries) e
 
-  offer_step : (core : Core) (entries : List Entry) (stack : Stack) (action : Action) → row o (fetched o 0 stack) stack ≡ Offers action →
+  offer_step : (core : Core) (entries : List Entry) (stack : Stack) (action : Action) → executed o (fetched o 0 stack) stack ≡ Offers action →
       machine_step (engine o) (one core (going stack) entries) ≡ one core (offering stack action) entries
   unfolding machine_step
   offer_step core entries stack action e = ap (λ s. one core (Some (stepped stack s)) entries) e
@@ -71,31 +71,31 @@ module _ (o : Object) where
   mark_step core entries rest stack action e = ap (machine_mark_by (engine o) (one core (offering stack action) entries)) e
 
   -- what each action does
-  pub read_mark : (moment priority : ℕ) (suspended : Bool) (slots : List Cell) (last : Option ℕ) (told : List (ℕ × Said)) (entries rest : List Entry) (stack : Stack) (slot : ℕ) →
+  pub read_mark : (moment priority : ℕ) (suspended : Bool) (slots : List Cell) (last : Option ℕ) (told : List (ℕ × Report)) (entries rest : List Entry) (stack : Stack) (slot : ℕ) →
       machine_mark_by (engine o) (one (core_at moment (Active priority suspended) slots last told) (offering stack (action.Read slot)) entries) (Some (record { mark = Acts 0; rest = rest }))
-      ≡ one (core_at moment (Active priority suspended) slots (Some 0) told) (going (row_after o (fetched o 0 stack) stack (One (value_at slots slot)))) rest
+      ≡ one (core_at moment (Active priority suspended) slots (Some 0) told) (going (continued o (fetched o 0 stack) stack (One (value_at slots slot)))) rest
   unfolding effect
   read_mark moment priority suspended slots last told entries rest stack slot = refl
 
-  pub write_mark : (moment priority : ℕ) (suspended : Bool) (slots : List Cell) (last : Option ℕ) (told : List (ℕ × Said)) (entries rest : List Entry) (stack : Stack) (slot : ℕ) (value : Cell) →
+  pub write_mark : (moment priority : ℕ) (suspended : Bool) (slots : List Cell) (last : Option ℕ) (told : List (ℕ × Report)) (entries rest : List Entry) (stack : Stack) (slot : ℕ) (value : Cell) →
       machine_mark_by (engine o) (one (core_at moment (Active priority suspended) slots last told) (offering stack (action.Write slot value)) entries) (Some (record { mark = Acts 0; rest = rest }))
-      ≡ one (core_at moment (Active priority suspended) (slice_set slots slot value) (Some 0) told) (going (row_after o (fetched o 0 stack) stack Nothing)) rest
+      ≡ one (core_at moment (Active priority suspended) (slice_set slots slot value) (Some 0) told) (going (continued o (fetched o 0 stack) stack Nothing)) rest
   unfolding effect
   write_mark moment priority suspended slots last told entries rest stack slot value = refl
 
-  pub put_mark : (moment priority : ℕ) (suspended : Bool) (slots : List Cell) (last : Option ℕ) (told : List (ℕ × Said)) (entries rest : List Entry) (stack : Stack) (device : ℕ) (text : _) →
+  pub put_mark : (moment priority : ℕ) (suspended : Bool) (slots : List Cell) (last : Option ℕ) (told : List (ℕ × Report)) (entries rest : List Entry) (stack : Stack) (device : ℕ) (text : _) →
       machine_mark_by (engine o) (one (core_at moment (Active priority suspended) slots last told) (offering stack (action.Put device text)) entries) (Some (record { mark = Acts 0; rest = rest }))
-      ≡ one (core_at moment (Active priority suspended) slots (Some 0) (told ++ (moment, Happened (event.Out device text)) ∷ [])) (going (row_after o (fetched o 0 stack) stack Nothing)) rest
+      ≡ one (core_at moment (Active priority suspended) slots (Some 0) (told ++ (moment, Happened (event.Out device text)) ∷ [])) (going (continued o (fetched o 0 stack) stack Nothing)) rest
   unfolding effect
   put_mark moment priority suspended slots last told entries rest stack device text = refl
 
-  end_mark : (moment priority : ℕ) (suspended : Bool) (slots : List Cell) (last : Option ℕ) (told : List (ℕ × Said)) (entries rest : List Entry) (stack : Stack) →
+  end_mark : (moment priority : ℕ) (suspended : Bool) (slots : List Cell) (last : Option ℕ) (told : List (ℕ × Report)) (entries rest : List Entry) (stack : Stack) →
       machine_mark_by (engine o) (one (core_at moment (Active priority suspended) slots last told) (offering stack action.End) entries) (Some (record { mark = Acts 0; rest = rest }))
       ≡ one (core_at moment Dormant slots (Some 0) (told ++ (moment, Happened (event.End 0)) ∷ [])) None rest
   unfolding effect
   end_mark moment priority suspended slots last told entries rest stack = refl
 
-  trap_mark : (moment priority : ℕ) (suspended : Bool) (slots : List Cell) (last : Option ℕ) (told : List (ℕ × Said)) (entries rest : List Entry) (stack : Stack) (trap : Trap) →
+  trap_mark : (moment priority : ℕ) (suspended : Bool) (slots : List Cell) (last : Option ℕ) (told : List (ℕ × Report)) (entries rest : List Entry) (stack : Stack) (trap : Trap) →
       machine_mark_by (engine o) (one (core_at moment (Active priority suspended) slots last told) (offering stack (action.Trap trap)) entries) (Some (record { mark = Acts 0; rest = rest }))
       ≡ one (core_at moment Dormant slots (Some 0) (told ++ (moment, Happened (event.Trap 0 trap)) ∷ [])) None rest
   unfolding effect
@@ -104,23 +104,23 @@ module _ (o : Object) where
   -- an action that the task hears an answer to, and on to the next action
   pub heard_steps : (from to : Core) (entries rest : List Entry) (stack after : Stack) (action next : Action) (answer : Answer) →
       machine_next (one from (offering stack action) entries) ≡ Some (record { mark = Acts 0; rest = rest }) →
-      machine_mark_by (engine o) (one from (offering stack action) entries) (Some (record { mark = Acts 0; rest = rest })) ≡ one to (going (row_after o (fetched o 0 stack) stack answer)) rest →
-      (s : Settles o (row_after o (fetched o 0 stack) stack answer) after next) →
+      machine_mark_by (engine o) (one from (offering stack action) entries) (Some (record { mark = Acts 0; rest = rest })) ≡ one to (going (continued o (fetched o 0 stack) stack answer)) rest →
+      (s : Settles o (continued o (fetched o 0 stack) stack answer) after next) →
       machine_after (engine o) (one from (offering stack action) entries) (1 + suc s.steps) ≡ one to (offering after next) rest
   heard_steps from to entries rest stack after action next answer e mark s =
       sym (after-add (engine o) (one from (offering stack action) entries) 1 (suc s.steps))
       ∙ (ap (λ m. machine_after (engine o) m (suc s.steps)) (mark_step from entries rest stack action e ∙ mark)
-      ∙ settle_steps to rest (row_after o (fetched o 0 stack) stack answer) after next s)
+      ∙ settle_steps to rest (continued o (fetched o 0 stack) stack answer) after next s)
 
   -- the end, and a trap
-  pub end_steps : (moment priority : ℕ) (suspended : Bool) (slots : List Cell) (last : Option ℕ) (told : List (ℕ × Said)) (entries rest : List Entry) (stack : Stack) →
+  pub end_steps : (moment priority : ℕ) (suspended : Bool) (slots : List Cell) (last : Option ℕ) (told : List (ℕ × Report)) (entries rest : List Entry) (stack : Stack) →
       machine_next (one (core_at moment (Active priority suspended) slots last told) (offering stack action.End) entries) ≡ Some (record { mark = Acts 0; rest = rest }) →
       machine_after (engine o) (one (core_at moment (Active priority suspended) slots last told) (offering stack action.End) entries) 1
       ≡ one (core_at moment Dormant slots (Some 0) (told ++ (moment, Happened (event.End 0)) ∷ [])) None rest
   end_steps moment priority suspended slots last told entries rest stack e =
       mark_step _ entries rest stack action.End e ∙ end_mark moment priority suspended slots last told entries rest stack
 
-  pub trap_steps : (moment priority : ℕ) (suspended : Bool) (slots : List Cell) (last : Option ℕ) (told : List (ℕ × Said)) (entries rest : List Entry) (stack : Stack) (trap : Trap) →
+  pub trap_steps : (moment priority : ℕ) (suspended : Bool) (slots : List Cell) (last : Option ℕ) (told : List (ℕ × Report)) (entries rest : List Entry) (stack : Stack) (trap : Trap) →
       machine_next (one (core_at moment (Active priority suspended) slots last told) (offering stack (action.Trap trap)) entries) ≡ Some (record { mark = Acts 0; rest = rest }) →
       machine_after (engine o) (one (core_at moment (Active priority suspended) slots last told) (offering stack (action.Trap trap)) entries) 1
       ≡ one (core_at moment Dormant slots (Some 0) (told ++ (moment, Happened (event.Trap 0 trap)) ∷ [])) None rest

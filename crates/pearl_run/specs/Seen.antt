@@ -4,7 +4,7 @@ use Rattle.pearl_value.specs.declared.cell.Cell.{Cell}
 use Rattle.pearl_rules.specs.declared.entry.Entry.{Entry}
 use Rattle.pearl_rules.specs.declared.event.Event.{Event}
 use Rattle.pearl_rules.specs.declared.row.TaskRow.{TaskRow}
-use Rattle.pearl_rules.specs.Core.{Said, Happened}
+use Rattle.pearl_rules.specs.Core.{Report, Happened}
 use Rattle.pearl_rules.specs.Pick.{pick}
 use Rattle.pearl_rules.specs.Runs.{Running, Machine, Acts, machine_offers, machine_next, machine_after, next_mark, unsettled}
 use Rattle.pearl_code.specs.declared.object.Object.{Object}
@@ -35,7 +35,7 @@ Leads m entries = machine_next m ≡ next_mark (pick m.core (machine_offers m)) 
 
 -- From m the run goes, in some number of steps, to where the machine that is seen stands, with these entries left and every
 -- active task's action offered, and tells this on the way.
-pub record Goes (m : Machine Stack) (rest : List Entry) (seen : Seen) (told : List (ℕ × Said)) : Type 0 where
+pub record Goes (m : Machine Stack) (rest : List Entry) (seen : Seen) (told : List (ℕ × Report)) : Type 0 where
   pub steps : ℕ
   pub stands : IsAt seen (machine_after (engine seen.object) m steps)
   pub leads : Leads (machine_after (engine seen.object) m steps) rest
@@ -44,7 +44,7 @@ pub record Goes (m : Machine Stack) (rest : List Entry) (seen : Seen) (told : Li
 
 -- from every state where the one machine stands and this entry comes next the run goes to where the other one stands, with
 -- these entries left of it, and tells this on the way
-abbrev pub Handles : Seen → Entry → List Entry → Seen → List (ℕ × Said) → Type 0
+abbrev pub Handles : Seen → Entry → List Entry → Seen → List (ℕ × Report) → Type 0
 Handles old entry left new told = (m : Machine Stack) (rest : List Entry) → IsAt old m → Leads m (entry ∷ rest) → Goes m (left ++ rest) new told
 
 -- the task that acts next from where the machine stands
@@ -52,7 +52,7 @@ abbrev pub Picks : Seen → Option ℕ → Type 0
 Picks seen task = (m : Machine Stack) → IsAt seen m → pick m.core (machine_offers m) ≡ task
 
 -- what a mark tells at this moment: an event, or nothing
-abbrev pub told_by : ℕ → Option Event → List (ℕ × Said)
+abbrev pub told_by : ℕ → Option Event → List (ℕ × Report)
 told_by moment None = []
 told_by moment (Some event) = (moment, Happened event) ∷ []
 

@@ -15,7 +15,7 @@ use Rattle.pearl_rules.specs.Core.{first_mode, value_at}
 use Rattle.pearl_rules.specs.Slots.{IsLike}
 use Rattle.pearl_rules.specs.Runs.{Running}
 use Rattle.pearl_code.specs.declared.object.Object.{Object}
-use Rattle.pearl_code.specs.Rows.{Stack, fetched, row_after}
+use Rattle.pearl_code.specs.Rows.{Stack, fetched, continued}
 use Rattle.pearl_code.specs.Valid.{IsValid}
 use Rattle.pearl_run.specs.declared.task.Task.{Task}
 use Rattle.pearl_run.specs.Frame.{stack_of, IsReady, Settles, IsOffer}
@@ -57,7 +57,7 @@ Begins o (Active priority suspended) stack offer =
 -- after this answer to its action the task goes on to its next one
 pub record Resumes (o : Object) (old : Task) (answer : Answer) (new : Task) : Type 0 where
   pub next : Action
-  pub settles : Settles o (row_after o (fetched o 0 (stack_of old.frame)) (stack_of old.frame) answer) (stack_of new.frame) next
+  pub settles : Settles o (continued o (fetched o 0 (stack_of old.frame)) (stack_of old.frame) answer) (stack_of new.frame) next
   pub offer : new.offer ≡ Some next
   pub row : new.row ≡ old.row
 

@@ -1,14 +1,15 @@
 //! A task's stack, and what its code does between two actions.
 
-ghost use Rattle.std.specs.Prelude.{◌≡◌, ◌+◌, ◌-◌, ◌≤◌, ◌<◌, ◌^◌, [], ◌∷◌, ◌++◌, List, Some, None, IfSome, MatchOption, length, map, slice_get, vec_len, vec_capacity};
-ghost use Rattle.pearl_value.specs.declared.kind.Kind.{Kind};
-ghost use Rattle.pearl_value.specs.Cells.{kind_of};
+ghost use Rattle.std.specs.Prelude.{All, ◌≡◌, ◌+◌, ◌-◌, ◌≤◌, ◌<◌, ◌^◌, [], ◌∷◌, ◌++◌, List, Some, None, IfSome, MatchOption, length, map, slice_get, vec_len, vec_capacity};
+ghost use Rattle.pearl_value.specs.declared.kind.CellKind.{CellKind};
+ghost use Rattle.pearl_value.specs.Cells.{cell_kind_of};
+ghost use Rattle.pearl_value.specs.WellFormed.{IsWellFormed};
 ghost use Rattle.pearl_format.specs.Items.{data_here, data_count as count_of};
 ghost use Rattle.pearl_format.specs.Texts.{text_of};
 ghost use Rattle.pearl_rules.specs.Tables.{format_of};
 ghost use Rattle.pearl_rules.specs.Core.{value_at};
 ghost use Rattle.pearl_rules.specs.Slots.{heard_value};
-ghost use Rattle.pearl_code.specs.Rows.{code_of, fetched, row, row_after, pushes, next_with, put_action as put_action_of, top, below};
+ghost use Rattle.pearl_code.specs.Rows.{code_of, fetched, executed, continued, pushes, next_with, put_action as put_action_of, top, below};
 ghost use Rattle.pearl_code.specs.Valid.{FitsPut};
 ghost use Rattle.pearl_run.specs.Frame.{stack_of, depth_of, IsReady, CanHear, Does, Settles, IsOffer, IsLawful};
 
@@ -100,7 +101,8 @@ fn data_count(items: &[Item]) -> usize
 
 // The action of PUT over these operands.
 fn put_action(setup: &Setup, device: u32, format: u32, operands: &[Cell]) -> Action
-    requires fits { (left : List Kind) × FitsPut setup.now device format (map kind_of operands.now) left }
+    requires fits { (left : List CellKind) × FitsPut setup.now device format (map cell_kind_of operands.now) left }
+    requires cells { All IsWellFormed operands.now }
     ensures { let items = format_of setup.now format in
         result ≡ put_action_of device (text_of items (top (count_of items) operands.now)) }
 {
@@ -159,7 +161,7 @@ fn step(object: &Object, instr: &Instr, frame: &mut Frame) -> Option<Action>
     requires here { fetched object.now 0 (stack_of frame.old) ≡ Some instr.now }
     requires next { frame.old.place + 1 < 2 ^ 64 }
     requires ready { IsReady object.now frame.old }
-    ensures does { Does (row object.now (Some instr.now) (stack_of frame.old)) (stack_of frame.old) (stack_of frame.new) result }
+    ensures does { Does (executed object.now (Some instr.now) (stack_of frame.old)) (stack_of frame.old) (stack_of frame.new) result }
     ensures next { result ≡ None → frame.new.place ≡ frame.old.place + 1 }
     ensures ready { IsReady object.now frame.new }
     ensures lawful { IfSome result (IsLawful object.now.setup) }
@@ -216,7 +218,7 @@ pub fn go_on(object: &Object, frame: &mut Frame, answer: Answer)
     requires ready { IsReady object.now frame.old }
     requires suits { CanHear object.now (stack_of frame.old) answer }
     ensures stack { stack_of frame.new
-        ≡ row_after object.now (fetched object.now 0 (stack_of frame.old)) (stack_of frame.old) answer }
+        ≡ continued object.now (fetched object.now 0 (stack_of frame.old)) (stack_of frame.old) answer }
     ensures ready { IsReady object.now frame.new }
 {
     let Some(instr) = instruction_at(object, frame.place) else {

@@ -1,7 +1,7 @@
 //! The machine, from the start of a run to its end.
 
 ghost use Rattle.std.specs.Prelude.{◌≡◌, ℕ, ◌≤◌, ◌⊎◌, List, [], ◌∷◌, ◌++◌, Option, Some, None, IfOk, IfSome, MatchOption, OnOk, OnErr, length};
-ghost use Rattle.pearl_rules.specs.Core.{Said, Happened, first_events};
+ghost use Rattle.pearl_rules.specs.Core.{Report, Happened, first_events};
 ghost use Rattle.pearl_rules.specs.Pick.{states, shown_of};
 ghost use Rattle.pearl_rules.specs.declared.entry.Entry.{Entry};
 ghost use Rattle.pearl_rules.specs.declared.entry.Entry.TheVariants.{Run};
@@ -120,9 +120,9 @@ impl Machine {
     /// After [`WriteFault`] the machine stands after the mark whose line was not taken whole.
     pub fn entry<K: Sink>(&mut self, entry: &Entry, sink: &mut K) -> Result<(), WriteFault>
         ensures object { self.new.object ≡ self.old.object }
-        ensures ok { OnOk result ((told : List (ℕ × Said)) × Handles self.old entry.now [] self.new told
+        ensures ok { OnOk result ((told : List (ℕ × Report)) × Handles self.old entry.now [] self.new told
             × Takes (K.taken sink.old) (K.taken sink.new) (lines_of self.old.object.setup told)) }
-        ensures err { OnErr result ((told : List (ℕ × Said)) × (left : List Entry) × Handles self.old entry.now left self.new told
+        ensures err { OnErr result ((told : List (ℕ × Report)) × (left : List Entry) × Handles self.old entry.now left self.new told
             × IsCutOff self.old.object.setup (K.taken sink.old) (K.taken sink.new) told) }
         ensures cause { OnErr result (Rose (K.faults sink.old) (K.faults sink.new) ⊎ K.full sink.new) }
         ensures later { K.faults sink.old ≤ K.faults sink.new }
@@ -174,9 +174,9 @@ impl Machine {
     // Up to so many marks, with the line of each that tells something.
     fn run<K: Sink>(&mut self, count: u64, sink: &mut K) -> Result<(), WriteFault>
         ensures object { self.new.object ≡ self.old.object }
-        ensures ok { OnOk result ((told : List (ℕ × Said)) × Handles self.old (Run count) [] self.new told
+        ensures ok { OnOk result ((told : List (ℕ × Report)) × Handles self.old (Run count) [] self.new told
             × Takes (K.taken sink.old) (K.taken sink.new) (lines_of self.old.object.setup told)) }
-        ensures err { OnErr result ((told : List (ℕ × Said)) × (left : List Entry) × Handles self.old (Run count) left self.new told
+        ensures err { OnErr result ((told : List (ℕ × Report)) × (left : List Entry) × Handles self.old (Run count) left self.new told
             × IsCutOff self.old.object.setup (K.taken sink.old) (K.taken sink.new) told) }
         ensures cause { OnErr result (Rose (K.faults sink.old) (K.faults sink.new) ⊎ K.full sink.new) }
         ensures later { K.faults sink.old ≤ K.faults sink.new }

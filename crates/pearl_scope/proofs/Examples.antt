@@ -6,14 +6,13 @@ use Rattle.pearl_value.specs.declared.kind.Kind.TheVariants as kind
 use Rattle.pearl_tree.specs.declared.fault.RuleFault.{RuleFault}
 use Rattle.pearl_tree.specs.declared.name.Name.{Name}
 use Rattle.pearl_tree.specs.declared.name.Number.{Number}
-use Rattle.pearl_tree.specs.declared.literal.Const.{Const}
 use Rattle.pearl_tree.specs.declared.literal.Sign.TheVariants.{Plus}
 use Rattle.pearl_tree.specs.declared.literal.Duration.TheVariants.{Hours}
-use Rattle.pearl_tree.specs.declared.literal.Literal.TheVariants as literal
 use Rattle.pearl_tree.specs.declared.typing.Bound.{Bound}
 use Rattle.pearl_tree.specs.declared.typing.Sort.TheVariants.{Fixed, Bit, Char}
 use Rattle.pearl_tree.specs.declared.typing.Basic.TheVariants.{Sized, Duration}
 use Rattle.pearl_tree.specs.declared.tree.TaskHead.TheVariants.{PrioFirst}
+use Rattle.pearl_tree.specs.ShownLiterals.{OfNumber, OfBits, OfText, OfDuration, ShownConst}
 use Rattle.pearl_tree.specs.ShownExpressions.{ShownExpr, OfOperand, OfRef, NoSelectors}
 use Rattle.pearl_tree.specs.ShownDeclarations.{ShownNames, OfOne, OfSeveral, ShownTyping, OfBasic, OfStruct, OfNamed, NoFields, MoreFields, ShownItem, OfItem, OfSema}
 use Rattle.pearl_tree.specs.ShownStatements.{ShownStmt, OfRepeat, NoStmts}
@@ -35,7 +34,7 @@ fault place rule = record { place = place; rule = rule }
 
 abbrev source : List ShownDecl → ShownTree
 source declarations =
-    record { name = None; system = None; declarations = declarations; semicolon = true; place = 0 }
+    record { name = None; system = None; declarations = declarations; modend = 0; semicolon = true; place = 0 }
 
 -- a bound with one number
 abbrev upto : ℕ → ℕ → Bound
@@ -53,15 +52,15 @@ between low high place = record {
 abbrev fixed : ℕ → ShownTyping
 fixed place = OfBasic (Sized Fixed None place)
 
-abbrev item : ShownNames → List Bound → ShownTyping → List Const → ShownItem
+abbrev item : ShownNames → List Bound → ShownTyping → List ShownConst → ShownItem
 item names bounds part init =
     record { names = names; bounds = bounds; inv = false; part = part; init = init; place = 22 }
 
 abbrev declare : ShownItem → ShownDecl
 declare item = OfDeclare (OfItem item ∷ []) 18
 
-abbrev constant : ℕ → ℕ → Const
-constant value place = record { sign = None; literal = literal.Number (number value place); place = place }
+abbrev constant : ℕ → ℕ → ShownConst
+constant value place = record { sign = None; literal = OfNumber (number value place); place = place }
 
 abbrev task : List ShownStmt → ShownDecl
 task statements =
@@ -105,7 +104,7 @@ lengths_hold = refl
 -- DCL d DURATION INIT(305420 HRS); is above 2^40 milliseconds, and breaks S4 alone
 too_long :
     broken (source (declare (item (OfOne (name "d" 22)) [] (OfBasic (Duration 24))
-    (record { sign = None; literal = literal.Duration (Hours (number 305420 38) None None 38); place = 38 } ∷ [])) ∷ [])) ≡ fault 38 4 ∷ []
+    (record { sign = None; literal = OfDuration (Hours (number 305420 38) None None 38); place = 38 } ∷ [])) ∷ [])) ≡ fault 38 4 ∷ []
 unfolding faults_in names_of_scopes sorted_names
 too_long = refl
 
@@ -154,7 +153,7 @@ more_than_slots = refl
 -- DCL c CHAR INIT(+'a');
 signed_text :
     broken (source (declare (item (OfOne (name "c" 22)) [] (OfBasic (Sized Char None 24))
-    (record { sign = Some Plus; literal = literal.Text (record { items = codes "a" }) 35; place = 34 } ∷ [])) ∷ [])) ≡ fault 34 7 ∷ []
+    (record { sign = Some Plus; literal = OfText (codes "a") 35; place = 34 } ∷ [])) ∷ [])) ≡ fault 34 7 ∷ []
 unfolding faults_in names_of_scopes sorted_names
 signed_text = refl
 
@@ -207,7 +206,7 @@ abbrev tabled : ShownTree
 tabled = source (
     OfLength Bit (number 3 29) 18 ∷
     OfType (name "u" 37) (OfBasic (Sized Bit None 39)) 32 ∷
-    declare (record (item (OfOne (name "x" 47)) [] (OfNamed (name "u" 53)) (record { sign = None; literal = literal.Bits 1 1 60; place = 60 } ∷ [])) { inv = true }) ∷
+    declare (record (item (OfOne (name "x" 47)) [] (OfNamed (name "u" 53)) (record { sign = None; literal = OfBits 1 1 60; place = 60 } ∷ [])) { inv = true }) ∷
     OfProc (name "p" 66) (record { names = OfOne (name "a" 73); basic = Sized Fixed None 75; ident = true; place = 73 } ∷ []) None (record {
       declarations = [];
       statements = OfRepeat (Some (name "i" 94)) None None None None [] NoStmts 103 90 ∷ [];

@@ -7,13 +7,13 @@ use Rattle.pearl_scope.specs.declared.scope.SortedName.{SortedName}
 use Rattle.pearl_scope.specs.declared.scope.ScopeNames.{ScopeNames}
 use Rattle.pearl_scope.specs.declared.scope.View.{View}
 use Rattle.pearl_scope.specs.declared.scope.View.TheVariants.{Within, WhileOf}
-use Rattle.pearl_scope.specs.Names.{text_of}
+use Rattle.pearl_scope.specs.Names.{name_text}
 
 -- the sort of the first of these names that has the text, or else this sort
 abbrev pub first_sort : List SortedName → List ℕ → Option NameSort → Option NameSort
 first_sort [] text around = around
 first_sort (entry ∷ rest) text around =
-    if bytes_eq (text_of entry.name) text then Some entry.sort else first_sort rest text around
+    if bytes_eq (name_text entry.name) text then Some entry.sort else first_sort rest text around
 
 -- a number that names no scope has no names, and none around it
 abbrev pub names_in : Option ScopeNames → List SortedName
@@ -44,7 +44,7 @@ is_control_sort sort = false
 abbrev pub first_control : List SortedName → List ℕ → Option NameSort → Option NameSort
 first_control [] text around = around
 first_control (entry ∷ rest) text around =
-    if is_control_sort entry.sort && bytes_eq (text_of entry.name) text then Some entry.sort else first_control rest text around
+    if is_control_sort entry.sort && bytes_eq (name_text entry.name) text then Some entry.sort else first_control rest text around
 
 -- the control variable, or else what the name means around the loop
 abbrev pub sort_in_while : List ScopeNames → ℕ → List ℕ → Option NameSort

@@ -5,15 +5,13 @@ use Rattle.std.specs.List.{flat_map}
 use Rattle.pearl_tree.specs.declared.name.Name.{Name}
 use Rattle.pearl_tree.specs.declared.name.Number.{Number}
 use Rattle.pearl_tree.specs.declared.literal.Duration.{Duration}
-use Rattle.pearl_tree.specs.declared.literal.Literal.{Literal}
-use Rattle.pearl_tree.specs.declared.literal.Literal.TheVariants as literal
-use Rattle.pearl_tree.specs.declared.literal.Const.{Const}
 use Rattle.pearl_tree.specs.declared.typing.Sort.{Sort}
 use Rattle.pearl_tree.specs.declared.typing.Bound.{Bound}
 use Rattle.pearl_tree.specs.declared.typing.Basic.{Basic}
 use Rattle.pearl_tree.specs.declared.typing.Basic.TheVariants as basic
 use Rattle.pearl_tree.specs.declared.declaration.Class.{Class}
 use Rattle.pearl_tree.specs.declared.declaration.Class.TheVariants as class
+use Rattle.pearl_tree.specs.ShownLiterals.{ShownLiteral, OfDuration, ShownConst}
 use Rattle.pearl_tree.specs.ShownExpressions.{ShownExpr, OfOperand, OfDyadic, ShownPrimary, OfLiteral, OfRef, OfGroup, OfNow, OfTry, OfLimit, ShownSelectors, NoSelectors, MoreSelectors, ShownSelector, OfSubscripts, OfComponent, ShownExprs, NoExprs, MoreExprs, ShownRef}
 use Rattle.pearl_tree.specs.ShownDeclarations.{ShownTyping, OfBasic, OfStruct, OfNamed, ShownFields, NoFields, MoreFields, ShownItem, ShownSema, ShownDeclared, OfItem, OfSema, ShownSpec, OfInterrupt, OfDation, ShownParam}
 use Rattle.pearl_tree.specs.ShownStatements.{ShownPeriodEnd, OfUntil, OfDuring, ShownPeriod, ShownStart, OfAt, OfAfter, OfWhen, OfAll, ShownOnce, OnceAt, OnceAfter, OnceWhen, ShownBodyDecl, ShownStmt, OfAssign, OfCall, OfIf, OfCase, OfRepeat, OfBegin, OfReturn, OfActivate, OfContinue, OfResume, OfOnTask, OfOnSemas, OfOnInterrupt, OfPut, OfGet, OfSend, OfTake, ShownStmts, NoStmts, MoreStmts, ShownBranches, NoBranches, MoreBranches, ShownOtherwise, NoOtherwise, OfOtherwise}
@@ -36,8 +34,8 @@ pub data Part : Type 0 where
   Item : (scope types : ℕ) (item : ShownItem) → Part
   Sema : (sema : ShownSema) → Part
 
-abbrev pub literal_parts : Literal → List Part
-literal_parts (literal.Duration duration) = Lasts duration ∷ []
+abbrev pub literal_parts : ShownLiteral → List Part
+literal_parts (OfDuration duration) = Lasts duration ∷ []
 literal_parts part = []
 
 abbrev mutual
@@ -89,7 +87,7 @@ abbrev mutual
   fields_parts scope types (MoreFields names bounds part place rest) =
       map Bounds bounds ++ (typing_parts scope types part ++ fields_parts scope types rest)
 
-abbrev pub const_parts : Const → List Part
+abbrev pub const_parts : ShownConst → List Part
 const_parts constant = literal_parts constant.literal
 
 abbrev pub item_parts : (scope types : ℕ) → ShownItem → List Part

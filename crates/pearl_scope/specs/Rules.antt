@@ -5,13 +5,13 @@ use Rattle.pearl_value.specs.declared.kind.Kind.{Kind}
 use Rattle.pearl_tree.specs.declared.fault.RuleFault.{RuleFault}
 use Rattle.pearl_tree.specs.declared.name.Name.{Name}
 use Rattle.pearl_tree.specs.declared.name.Number.{Number}
-use Rattle.pearl_tree.specs.declared.literal.Const.{Const}
+use Rattle.pearl_tree.specs.ShownLiterals.{ShownConst}
 use Rattle.pearl_tree.specs.ShownModules.{ShownTree}
 use Rattle.pearl_scope.specs.declared.length.DefaultLength.{DefaultLength}
 use Rattle.pearl_scope.specs.FaultLists.{fault_if}
 use Rattle.pearl_scope.specs.Lengths.{is_length, lengths_set}
 use Rattle.pearl_scope.specs.Durations.{is_too_long, place_of_duration}
-use Rattle.pearl_scope.specs.Names.{text_of, names_of, repeats}
+use Rattle.pearl_scope.specs.Names.{name_text, names_of, repeats}
 use Rattle.pearl_scope.specs.declared.scope.NameSort.{NameSort}
 use Rattle.pearl_scope.specs.declared.scope.NameSort.TheVariants.{NewType as TypeNumber}
 use Rattle.pearl_scope.specs.declared.scope.ScopeNames.{ScopeNames}
@@ -48,7 +48,7 @@ s1 scope = repeats 1 [] (map (λ entry. entry.name) scope.names)
 
 -- S2: a name is used that no visible scope declares
 abbrev pub s2 : Known → Part → List RuleFault
-s2 known (Used view name) = fault_if (is_none (sort_from known.scopes view (text_of name))) name.place 2
+s2 known (Used view name) = fault_if (is_none (sort_from known.scopes view (name_text name))) name.place 2
 s2 known part = []
 
 abbrev pub is_later_or_no_type : ℕ → Option NameSort → Bool
@@ -59,7 +59,7 @@ is_later_or_no_type types (Some sort) = true
 -- S3: a type name is used before its TYPE, or names something else
 abbrev pub s3 : Known → Part → List RuleFault
 s3 known (UsedAsType scope types name) =
-    fault_if (is_later_or_no_type types (sort_within known.scopes scope (text_of name))) name.place 3
+    fault_if (is_later_or_no_type types (sort_within known.scopes scope (name_text name))) name.place 3
 s3 known part = []
 
 -- S4: a length is outside its range, or a duration literal is too long
@@ -94,7 +94,7 @@ s6 part = []
 abbrev pub slots_of_names : List Name → List Leaf → List Kind
 slots_of_names names leaves = flat_map (λ name. slots_of leaves) names
 
-abbrev pub missing_of : List Name → List Const → Option (List Leaf) → List RuleFault
+abbrev pub missing_of : List Name → List ShownConst → Option (List Leaf) → List RuleFault
 missing_of names init None = []
 missing_of names init (Some leaves) =
     if_sound (list_all is_sound_leaf leaves) (missing_slots (slots_of_names names leaves) init)
@@ -110,7 +110,7 @@ s7 known (Item scope types item) =
     wrong_signs item.init ++ missing_of (names_of item.names) item.init (item_leaves (around known scope types) item)
 s7 known part = []
 
-abbrev pub has_no_constant : List Const → Bool
+abbrev pub has_no_constant : List ShownConst → Bool
 has_no_constant [] = true
 has_no_constant (constant ∷ rest) = false
 

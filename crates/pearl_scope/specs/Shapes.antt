@@ -9,7 +9,7 @@ use Rattle.pearl_tree.specs.ShownDeclarations.{ShownTyping, OfBasic, OfStruct, O
 use Rattle.pearl_tree.specs.ShownModules.{ShownDecl, OfType}
 use Rattle.pearl_scope.specs.declared.length.DefaultLength.{DefaultLength}
 use Rattle.pearl_scope.specs.Lengths.{kind_of_basic}
-use Rattle.pearl_scope.specs.Names.{text_of, names_of, has_repeats}
+use Rattle.pearl_scope.specs.Names.{name_text, names_of, has_repeats}
 use Rattle.pearl_scope.specs.declared.scope.NameSort.{NameSort}
 use Rattle.pearl_scope.specs.declared.scope.NameSort.TheVariants.{NewType as TypeNumber}
 use Rattle.pearl_scope.specs.declared.scope.ScopeNames.{ScopeNames}
@@ -75,7 +75,7 @@ field_names (MoreFields names bounds part place rest) = names_of names ++ field_
 -- each of these names is a field of this shape
 abbrev pub with_fields : List Name → List (ℤ × ℤ) → Shape → Fields → Fields
 with_fields [] bounds shape rest = rest
-with_fields (name ∷ names) bounds shape rest = MoreField (text_of name) bounds shape (with_fields names bounds shape rest)
+with_fields (name ∷ names) bounds shape rest = MoreField (name_text name) bounds shape (with_fields names bounds shape rest)
 
 -- where each part has one
 abbrev pub with_parts : List Name → Option (List (ℤ × ℤ)) → Option Shape → Option Fields → Option Fields
@@ -89,7 +89,7 @@ abbrev mutual
   shape_of around (OfStruct fields place) =
       if has_repeats [] (field_names fields) then None else option_map OfFields (fields_of around fields)
   shape_of around (OfNamed name) =
-      meant_shape around.shapes (sort_within around.scopes around.scope (text_of name))
+      meant_shape around.shapes (sort_within around.scopes around.scope (name_text name))
 
   pub fields_of : Around → ShownFields → Option Fields
   fields_of around NoFields = Some NoField

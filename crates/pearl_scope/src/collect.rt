@@ -15,7 +15,7 @@ use crate::scope::{NameSort, ScopeNames, SortedName};
 use pearl_tree::declaration::{Declared, Item, Param, Spec};
 use pearl_tree::name::{Name, Names};
 use pearl_tree::parts::Parts;
-use pearl_tree::statement::{Body, BodyDecl, Branch, Stmt};
+use pearl_tree::statement::{Body, BodyDecl, Branch, Repeat, Stmt};
 use pearl_tree::tree::{Decl, Tree};
 use pearl_value::listing::Listing;
 use std::alloc::{AllocError as NoMemory, Global};
@@ -132,46 +132,33 @@ fn collect_stmt(
         scopes.new.items ≡ scopes.old.items ++ names_of_scopes within) }
 {
     match stmt {
-        Stmt::If {
-            statements,
-            otherwise,
-            ..
-        } => {
-            collect_stmts(alloc, scopes, scope, statements)?;
-            collect_otherwise(alloc, scopes, scope, otherwise)?;
+        Stmt::If(part) => {
+            collect_stmts(alloc, scopes, scope, &part.statements)?;
+            collect_otherwise(alloc, scopes, scope, &part.otherwise)?;
             Ok(())
         }
-        Stmt::Case {
-            alternatives,
-            otherwise,
-            ..
-        } => {
-            collect_branches(alloc, scopes, scope, alternatives)?;
-            collect_otherwise(alloc, scopes, scope, otherwise)?;
+        Stmt::Case(part) => {
+            collect_branches(alloc, scopes, scope, &part.alternatives)?;
+            collect_otherwise(alloc, scopes, scope, &part.otherwise)?;
             Ok(())
         }
-        Stmt::Repeat {
-            control,
-            body,
-            place,
-            ..
-        } => collect_loop(alloc, scopes, scope, *place, control, body),
-        Stmt::Begin { body, .. } => collect_body(alloc, scopes, scope, Vec::new(alloc), body),
+        Stmt::Repeat(part) => collect_loop(alloc, scopes, scope, part),
+        Stmt::Begin(part) => collect_body(alloc, scopes, scope, Vec::new(alloc), &part.body),
         Stmt::Empty { .. } => Ok(()),
-        Stmt::Assign { .. } => Ok(()),
-        Stmt::Call { .. } => Ok(()),
+        Stmt::Assign(_) => Ok(()),
+        Stmt::Call(_) => Ok(()),
         Stmt::Exit { .. } => Ok(()),
-        Stmt::Return { .. } => Ok(()),
-        Stmt::Activate { .. } => Ok(()),
-        Stmt::Continue { .. } => Ok(()),
-        Stmt::Resume { .. } => Ok(()),
-        Stmt::OnTask { .. } => Ok(()),
-        Stmt::OnSemas { .. } => Ok(()),
-        Stmt::OnInterrupt { .. } => Ok(()),
-        Stmt::Put { .. } => Ok(()),
-        Stmt::Get { .. } => Ok(()),
-        Stmt::Send { .. } => Ok(()),
-        Stmt::Take { .. } => Ok(()),
+        Stmt::Return(_) => Ok(()),
+        Stmt::Activate(_) => Ok(()),
+        Stmt::Continue(_) => Ok(()),
+        Stmt::Resume(_) => Ok(()),
+        Stmt::OnTask(_) => Ok(()),
+        Stmt::OnSemas(_) => Ok(()),
+        Stmt::OnInterrupt(_) => Ok(()),
+        Stmt::Put(_) => Ok(()),
+        Stmt::Get(_) => Ok(()),
+        Stmt::Send(_) => Ok(()),
+        Stmt::Take(_) => Ok(()),
     }
 }
 
@@ -232,18 +219,18 @@ fn collect_loop(
     alloc: Global,
     scopes: &mut Vec<ScopeNames>,
     scope: u32,
-    place: u32,
-    control: &Option<Name>,
-    body: &Body,
+    part: &Repeat,
 ) -> Result<(), NoMemory>
     ensures { OnOk result
-        (scopes.new.items ≡ scopes.old.items ++
-        body_scopes scope (sorted_names (spec.control_entries place control.now)) (length scopes.old.items)
-        (map shown_body_decl body.now.declarations.items.items) (stmts_shown body.now.statements.items.items)) }
+        (let names = sorted_names (spec.control_entries part.now.place part.now.control) in
+        let body = part.now.body in
+        scopes.new.items ≡ scopes.old.items ++
+        body_scopes scope names (length scopes.old.items)
+        (map shown_body_decl body.declarations.items.items) (stmts_shown body.statements.items.items)) }
 {
     let mut names = Vec::new(alloc);
-    declare_control(&mut names, place, control)?;
-    collect_body(alloc, scopes, scope, names, body)
+    declare_control(&mut names, part.place, &part.control)?;
+    collect_body(alloc, scopes, scope, names, &part.body)
 }
 
 // A body that declares these names before its own.

@@ -7,20 +7,20 @@ use Rattle.pearl_rules.specs.declared.event.Event.TheVariants.{Start, End, Trap,
 use Rattle.pearl_rules.specs.declared.event.Shown.{Shown}
 use Rattle.pearl_rules.specs.declared.event.Shown.TheVariants.{Dormant, Suspended, Blocked, Running, Runnable}
 use Rattle.pearl_rules.specs.declared.setup.Setup.{Setup}
-use Rattle.pearl_rules.specs.Core.{Said, Happened, Shows}
+use Rattle.pearl_rules.specs.Core.{Report, Happened, Shows}
 use Rattle.pearl_script.specs.declared.refusal.Refusal.{Refusal}
 use Rattle.pearl_script.specs.declared.refusal.Refusal.TheVariants.{Usage, Syntax, Source, Journal, Read, Memory, TooLong}
 use Rattle.pearl_script.specs.Words.{task_name}
-use Rattle.pearl_script.specs.Lines.{event_line, state_line, close_line, said_line, lines_of}
+use Rattle.pearl_script.specs.Lines.{event_line, state_line, close_line, report_line, lines_of}
 use Rattle.pearl_script.specs.Refusals.{refusal_line}
 
-pub lines_of-append : (setup : Setup) (before after : List (ℕ × Said)) → lines_of setup (before ++ after) ≡ lines_of setup before ++ lines_of setup after
-lines_of-append setup before after = flat_map-append (said_line setup) before after
+pub lines_of-append : (setup : Setup) (before after : List (ℕ × Report)) → lines_of setup (before ++ after) ≡ lines_of setup before ++ lines_of setup after
+lines_of-append setup before after = flat_map-append (report_line setup) before after
 
 -- one more thing is told
-pub lines_of-next : (setup : Setup) (before : List (ℕ × Said)) (said : ℕ × Said) → lines_of setup (before ++ said ∷ []) ≡ lines_of setup before ++ said_line setup said
-lines_of-next setup before said =
-    lines_of-append setup before (said ∷ []) ∙ ap (λ (line : List ℕ). lines_of setup before ++ line) (append-nil (said_line setup said))
+pub lines_of-next : (setup : Setup) (before : List (ℕ × Report)) (report : ℕ × Report) → lines_of setup (before ++ report ∷ []) ≡ lines_of setup before ++ report_line setup report
+lines_of-next setup before report =
+    lines_of-append setup before (report ∷ []) ∙ ap (λ (line : List ℕ). lines_of setup before ++ line) (append-nil (report_line setup report))
 
 -- what ends with something is not empty
 ended_nonempty : (front end : List ℕ) → 0 < length end → 0 < length (front ++ end)
@@ -39,9 +39,9 @@ state_line_nonempty moment name (Blocked priority) = ended_nonempty _ (codes "\n
 state_line_nonempty moment name (Running priority) = ended_nonempty _ (codes "\n") (omega arith)
 state_line_nonempty moment name (Runnable priority) = ended_nonempty _ (codes "\n") (omega arith)
 
-pub said_line_nonempty : (setup : Setup) (said : ℕ × Said) → 0 < length (said_line setup said)
-said_line_nonempty setup (moment, Happened event) = event_line_nonempty moment event setup
-said_line_nonempty setup (moment, Shows task shown) = state_line_nonempty moment (task_name setup task) shown
+pub report_line_nonempty : (setup : Setup) (report : ℕ × Report) → 0 < length (report_line setup report)
+report_line_nonempty setup (moment, Happened event) = event_line_nonempty moment event setup
+report_line_nonempty setup (moment, Shows task shown) = state_line_nonempty moment (task_name setup task) shown
 
 pub close_line_nonempty : (moment : ℕ) → 0 < length (close_line moment)
 close_line_nonempty moment = ended_nonempty _ (codes " close\n") (omega arith)

@@ -7,7 +7,7 @@ use Rattle.pearl_rules.specs.declared.event.Event.TheVariants.{Start, End, Trap,
 use Rattle.pearl_rules.specs.declared.event.Shown.{Shown}
 use Rattle.pearl_rules.specs.declared.event.Shown.TheVariants.{Dormant, Suspended, Blocked, Running, Runnable}
 use Rattle.pearl_rules.specs.declared.setup.Setup.{Setup}
-use Rattle.pearl_rules.specs.Core.{Said, Happened, Shows}
+use Rattle.pearl_rules.specs.Core.{Report, Happened, Shows}
 use Rattle.pearl_script.specs.Words.{trap_word, task_name, device_number, spelled}
 
 -- the numbers in the event name what is there
@@ -37,10 +37,10 @@ abbrev pub close_line : ℕ → List ℕ
 close_line moment = decimal moment ++ codes " close\n"
 
 -- the line of what a run tells
-abbrev pub said_line : Setup → ℕ × Said → List ℕ
-said_line setup (moment, Happened event) = event_line moment event setup
-said_line setup (moment, Shows task shown) = state_line moment (task_name setup task) shown
+abbrev pub report_line : Setup → ℕ × Report → List ℕ
+report_line setup (moment, Happened event) = event_line moment event setup
+report_line setup (moment, Shows task shown) = state_line moment (task_name setup task) shown
 
 -- all lines, one after the other
-abbrev pub lines_of : Setup → List (ℕ × Said) → List ℕ
-lines_of setup told = flat_map (said_line setup) told
+abbrev pub lines_of : Setup → List (ℕ × Report) → List ℕ
+lines_of setup told = flat_map (report_line setup) told

@@ -20,7 +20,7 @@ use Rattle.pearl_system.proofs.Adding.{adds_then}
 contains_get : {X : Type 0} (xs : List X) (x : X) → Contains xs x → (k : ℕ) × (slice_get xs k ≡ Some x)
 contains_get xs x (k, below, is) = (k, slice_get-get_or xs k x below ∙ ap Some is)
 
-get_contains : {X : Type 0} (xs : List X) (k : ℕ) (x : X) → slice_get xs k ≡ Some x → Contains xs x
+pub get_contains : {X : Type 0} (xs : List X) (k : ℕ) (x : X) → slice_get xs k ≡ Some x → Contains xs x
 get_contains xs k x read = (k, slice_get_within xs k x read, get_or_from_slice_get xs k x x read)
 
 -- one of the first n that passes

@@ -10,7 +10,7 @@ use Rattle.pearl_system.specs.Devices.{rank, device_key, has_key, IsFirstIn}
 use Rattle.pearl_system.specs.Rising.{IsRising, Joins, JoinsSome, Lists}
 use Rattle.pearl_system.proofs.Lists.{some_same}
 
-find_passes : {X : Type 0} (p : X → Bool) (xs : List X) (x : X) → find p xs ≡ Some x → p x ≡ true
+pub find_passes : {X : Type 0} (p : X → Bool) (xs : List X) (x : X) → find p xs ≡ Some x → p x ≡ true
 find_passes p [] x h = cc
 find_passes p (y ∷ ys) x h = by p y ys x (p y) refl h (find_passes p ys x)
   where
@@ -19,14 +19,14 @@ find_passes p (y ∷ ys) x h = by p y ys x (p y) refl h (find_passes p ys x)
     by p y ys x true f h further = subst (λ z. p z ≡ true) (some_same y x h) f
     by p y ys x false f h further = further h
 
-has_key_is : (key : ℕ × ℕ) (device : SpecifiedDevice) → has_key key device ≡ true → device_key device ≡ key
+pub has_key_is : (key : ℕ × ℕ) (device : SpecifiedDevice) → has_key key device ≡ true → device_key device ≡ key
 has_key_is key device h =
     let both = (Decides-and _ _ (Decides-eqb (rank device.role) key.0) (Decides-eqb device.number key.1)).0 h in
     let pair : ℕ → ℕ → ℕ × ℕ = λ a b. (a, b) in
     let ranked : pair (rank device.role) device.number ≡ pair key.0 device.number = ap (λ a. pair a device.number) both.0 in
     ranked ∙ ap (λ b. pair key.0 b) both.1
 
-has_key_of : (key : ℕ × ℕ) (device : SpecifiedDevice) → device_key device ≡ key → has_key key device ≡ true
+pub has_key_of : (key : ℕ × ℕ) (device : SpecifiedDevice) → device_key device ≡ key → has_key key device ≡ true
 has_key_of key device e =
     (Decides-and _ _ (Decides-eqb (rank device.role) key.0) (Decides-eqb device.number key.1)).1
     (ap (λ (p : ℕ × ℕ). p.0) e, ap (λ (p : ℕ × ℕ). p.1) e)

@@ -3,3 +3,5 @@ pub mod Broken
 pub mod Found
 pub mod Lists
 pub mod Once
+pub mod Said
+pub mod DeviceLaws

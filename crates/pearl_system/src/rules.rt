@@ -14,15 +14,20 @@ use pearl_tree::declaration::{Class, Device, Direction};
 use pearl_tree::fault::RuleFault;
 use std::alloc::AllocError as NoMemory;
 
-const NAME_TWICE: u8 = 10;
+// A name of the system part that an earlier device has.
+const S10: u8 = 10;
 
-const NO_DEVICE: u8 = 11;
+// A word that is none of the four, or a number that isn't 1 to 99.
+const S11: u8 = 11;
 
-const DEVICE_TWICE: u8 = 12;
+// A word and number that an earlier device has.
+const S12: u8 = 12;
 
-const NOT_SPECIFIABLE: u8 = 13;
+// A specified name that no device has, or that is specified as what its device isn't.
+const S13: u8 = 13;
 
-const UNSUITED: u8 = 14;
+// A dation that its device can't be.
+const S14: u8 = 14;
 
 fn is_alphic(class: Class) -> bool
     ensures { result ≡ spec.is_alphic class }
@@ -157,9 +162,9 @@ fn add_of_device(
     let named_before = has_name(before, device.name.text.as_slice());
     let no_device = is_no_device(device);
     let twin_before = has_twin(before, device);
-    add_if(faults, named_before, device.name.place, NAME_TWICE)?;
-    add_if(faults, no_device, word_place(&device.word), NO_DEVICE)?;
-    add_if(faults, twin_before, device.name.place, DEVICE_TWICE)?;
+    add_if(faults, named_before, device.name.place, S10)?;
+    add_if(faults, no_device, word_place(&device.word), S11)?;
+    add_if(faults, twin_before, device.name.place, S12)?;
     Ok(())
 }
 
@@ -185,8 +190,8 @@ fn add_of_name(
     let device = named(devices, name.text.as_slice());
     let missed = is_missed(name.form, device);
     let unsuited = is_unsuited(name.form, device);
-    add_if(faults, missed, name.place, NOT_SPECIFIABLE)?;
-    add_if(faults, unsuited, name.place, UNSUITED)?;
+    add_if(faults, missed, name.place, S13)?;
+    add_if(faults, unsuited, name.place, S14)?;
     Ok(())
 }
 

@@ -29,6 +29,7 @@ use Rattle.pearl_tree.specs.declared.token.What.TheVariants as what
 use Rattle.pearl_tree.specs.declared.token.Token.{Token}
 use Rattle.pearl_tree.specs.Standing.{Spelling, IsAt, HasWord, HasSymbol, IsName, IsNumber, SpellsEach, SpellsMaybe, SpellsNumber, what_at}
 use Rattle.pearl_tables.specs.declared.symbol.TheConstants as s
+pub use Rattle.pearl_tables.specs.Operators.{rank}
 use Rattle.pearl_tables.specs.declared.word_code.TheConstants as w
 
 -- secs = number | decimal
@@ -117,27 +118,6 @@ dyad_of _ = None
 
 abbrev pub HasDyad : List Token → ℕ → Dyad → Type 0
 HasDyad tokens k operator = option_and_then dyad_of (what_at tokens k) ≡ Some operator
-
--- a smaller rank binds closer
-abbrev pub rank : Dyad → ℕ
-rank dyad.Pow = 1
-rank dyad.Mul = 2
-rank dyad.Div = 2
-rank dyad.Rem = 2
-rank dyad.Cat = 2
-rank dyad.Add = 3
-rank dyad.Sub = 3
-rank dyad.Cshift = 3
-rank dyad.Shift = 3
-rank dyad.Lt = 4
-rank dyad.Gt = 4
-rank dyad.Le = 4
-rank dyad.Ge = 4
-rank dyad.Eq = 5
-rank dyad.Ne = 5
-rank dyad.And = 6
-rank dyad.Or = 7
-rank dyad.Exor = 7
 
 -- the rank of the operator that an expression applies last; 0 for an operand
 abbrev pub rank_of : Expr → ℕ

@@ -1,5 +1,5 @@
 -- Why the operators on BIT do to numbers what they do to lists of truth values.
-use Rattle.std.proofs.Common.{◌≡◌, ℕ, zero, suc, ◌+◌, ◌-◌, ◌*◌, ◌/◌, ◌%◌, ◌^◌, ◌<◌, ◌≤◌, ◌⊎◌, inl, inr, min, max, ℤ, pos, negsuc, neg_ℤ, unsigned_abs, Bool, true, false, not, ◌&&◌, ◌||◌, if◌then◌else◌, IsTrue, ◌↔◌, List, [], ◌∷◌, ◌++◌, length, map, take, drop, replicate, Ok, refl, sym, ap, ◌∙◌, subst, arith, length-append}
+use Rattle.std.proofs.Common.{◌≡◌, ℕ, zero, suc, ◌+◌, ◌-◌, ◌*◌, ◌/◌, ◌%◌, ◌^◌, ◌<◌, ◌≤◌, ◌⊎◌, inl, inr, min, max, ℤ, pos, negsuc, neg_ℤ, unsigned_abs, Bool, true, false, not, ◌&&◌, ◌||◌, if◌then◌else◌, IsTrue, ◌↔◌, List, [], ◌∷◌, ◌++◌, length, map, take, drop, replicate, nat_le, Result, Ok, Err, refl, sym, ap, ◌∙◌, subst, arith, length-append}
 use Rattle.std.specs.Prelude.{bit_and, bit_or, bit_xor}
 use Rattle.std.specs.Int.{int_rem_euclid}
 use Rattle.std.specs.declared.cmp.Ordering.{Ordering}
@@ -8,11 +8,13 @@ use Rattle.std.specs.Ordering.{MatchOrdering, nat_cmp, is_eq, is_ne}
 use Rattle.std.specs.Cmp.{nat_cmp_is}
 use Rattle.std.proofs.lemmas.Cmp.{ranked}
 use Rattle.std.proofs.lemmas.Bool.{cases_lt}
+use Rattle.std.proofs.lemmas.Bool.Decides.{nat_tests}
 use Rattle.std.proofs.lemmas.Nat.{pow_pos, pow-add, div-mul-add, mod-mul-add, div_below, and_block, or_block, xor_block}
 use Rattle.std.proofs.lemmas.List.{length-replicate, length-map, length-drop, length-take, take-append-drop, append-nil, take-append-le}
 use Rattle.std.proofs.Math.Pow.{pow_mono}
 use Rattle.pearl_value.specs.declared.cell.Cell.{Cell}
 use Rattle.pearl_value.specs.declared.cell.Cell.TheVariants.{Bits}
+use Rattle.pearl_value.specs.declared.trap.Trap.TheVariants.{Range}
 use Rattle.pearl_value.specs.Strings.{turned, shifted}
 use Rattle.pearl_value.specs.BitLists.{number_of, bits_of, bit_of, zeros_to, left_by, right_by, turned_by, zipped, bit_by_bit, differs}
 use Rattle.pearl_value.specs.BitLaws.{IsListOfBits, IsOneList, TurnsEach, Appends, MovesLeft, MovesRight, Turns, JoinsBits, TellsWhether, ComparesLists, FillsWithZeros}
@@ -33,13 +35,21 @@ pub turns_each : TurnsEach
 turns_each bits =
     ap Ok (is_bit (length bits) (2 ^ length bits - 1 - number_of bits) (map not bits) (length-map bits not) (omega (arith, number-not bits)))
 
+-- a test of room that holds
+fits : (a b : ℕ) → a ≤ b → nat_le a b ≡ true
+fits a b room = grind (arith, nat_tests)
+
 pub appends : Appends
-appends bits others =
-    ap Ok (is_bit (length bits + length others) (number_of bits * 2 ^ length others + number_of others) (bits ++ others) (length-append bits others) (number-append bits others))
+appends bits others room =
+    let n = length bits + length others in
+    let value = number_of bits * 2 ^ length others + number_of others in
+    ap (λ test. if test then Ok (Bits n value) else Err Range) (fits n 64 room)
+    ∙ ap Ok (is_bit n value (bits ++ others) (length-append bits others) (number-append bits others))
 
 pub fills_with_zeros : FillsWithZeros
 fills_with_zeros bits len room =
-    ap Ok (is_bit len (number_of bits * 2 ^ (len - length bits)) (zeros_to len bits) (omega (arith, length-zeros_to len bits)) (number-zeros_to len bits))
+    ap (λ test. Ok (if test then Bits len (number_of bits * 2 ^ (len - length bits)) else Bits len 0)) (fits (length bits) len room)
+    ∙ ap Ok (is_bit len (number_of bits * 2 ^ (len - length bits)) (zeros_to len bits) (omega (arith, length-zeros_to len bits)) (number-zeros_to len bits))
 
 -- MOVED AND TURNED
 

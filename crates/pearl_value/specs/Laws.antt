@@ -1,11 +1,12 @@
 -- Laws of the operators, in the words of those who write them.
-use Rattle.std.specs.Prelude.{◌≡◌, ℕ, zero, suc, ◌<◌, ◌≤◌, ◌%◌, ◌^◌, max, ℤ, pos, unsigned_abs, ◌≤ℤ◌, List, length, Some, Result, Ok, Err}
+use Rattle.std.specs.Prelude.{◌≡◌, ℕ, zero, suc, ◌<◌, ◌≤◌, ◌%◌, ◌^◌, max, ℤ, pos, unsigned_abs, ◌≤ℤ◌, List, length, Some, None, Result, Ok, Err}
 use Rattle.std.specs.Ordering.{nat_cmp}
 use Rattle.std.specs.Cmp.Lexicographic.{slice_cmp}
 use Rattle.pearl_value.specs.declared.kind.Kind.{Kind}
 use Rattle.pearl_value.specs.declared.cell.Cell.{Cell}
 use Rattle.pearl_value.specs.declared.cell.Cell.TheVariants.{Fixed, Bits, Chars, Clock, Span}
 use Rattle.pearl_value.specs.declared.trap.Trap.{Trap}
+use Rattle.pearl_value.specs.declared.trap.Trap.TheVariants.{Range}
 use Rattle.pearl_value.specs.declared.operator.Monad.{Monad}
 use Rattle.pearl_value.specs.declared.operator.Dyad.{Dyad}
 use Rattle.pearl_value.specs.declared.operator.Dyad.TheVariants.{Mul, Div, Rem, Add, Sub, Cshift}
@@ -15,7 +16,7 @@ use Rattle.pearl_value.specs.WellFormed.{IsValue, IsValueOf}
 use Rattle.pearl_value.specs.Conversions.{SuitsKind, converted}
 use Rattle.pearl_value.specs.Rows.{row1, row2}
 use Rattle.pearl_value.specs.Applied.{applied1, applied2}
-use Rattle.pearl_value.specs.Blanks.{filled_to}
+use Rattle.pearl_value.specs.Blanks.{filled_to, blank_of}
 use Rattle.pearl_value.specs.Comparisons.{order_between}
 
 -- a trap, or a value of this kind
@@ -30,9 +31,20 @@ KeepsRows1 = (op : Monad) (x : Cell) (kind : Kind) → IsValue x → row1 op (ki
 abbrev pub KeepsRows2 : Type 0
 KeepsRows2 = (op : Dyad) (x y : Cell) (kind : Kind) → IsValue x → IsValue y → row2 op (kind_of x) (kind_of y) ≡ Some kind → Gives kind (applied2 op x y)
 
--- and so does a conversion to a kind that the value suits
+-- where it has none, Range stands
+abbrev pub TrapsWithoutRow1 : Type 0
+TrapsWithoutRow1 = (op : Monad) (x : Cell) → IsValue x → row1 op (kind_of x) ≡ None → applied1 op x ≡ Err Range
+
+abbrev pub TrapsWithoutRow2 : Type 0
+TrapsWithoutRow2 = (op : Dyad) (x y : Cell) → IsValue x → IsValue y → row2 op (kind_of x) (kind_of y) ≡ None → applied2 op x y ≡ Err Range
+
+-- a conversion gives a trap or a value of the kind
 abbrev pub KeepsKinds : Type 0
-KeepsKinds = (x : Cell) (to : Kind) → IsValue x → IsKind to → SuitsKind (kind_of x) to → Gives to (converted x to)
+KeepsKinds = (x : Cell) (to : Kind) → IsValue x → IsKind to → Gives to (converted x to)
+
+-- where the value does not suit the kind, it is what is unset of the kind
+abbrev pub UnsetWhereUnsuited : Type 0
+UnsetWhereUnsuited = (x : Cell) (to : Kind) → (SuitsKind (kind_of x) to → ⊥) → converted x to ≡ Ok (blank_of to)
 
 -- a // b * b + a REM b = a, where nothing traps
 abbrev pub GivesBack : Type 0

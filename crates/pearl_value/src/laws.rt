@@ -1,13 +1,20 @@
 // What the operators keep.
 
-ghost use Rattle.pearl_value.specs.Laws.{KeepsRows1, KeepsRows2, KeepsKinds, GivesBack, LeavesRest, TurnsRound, TakesBack, ComparesFilled};
+ghost use Rattle.pearl_value.specs.Laws.{KeepsRows1, KeepsRows2, TrapsWithoutRow1, TrapsWithoutRow2, KeepsKinds, UnsetWhereUnsuited, GivesBack, LeavesRest, TurnsRound, TakesBack, ComparesFilled};
 ghost use Rattle.pearl_value.specs.BitLaws.{IsListOfBits, IsOneList, TurnsEach, Appends, MovesLeft, MovesRight, Turns, JoinsBits, ComparesLists, FillsWithZeros};
 
-/// Operators and conversions make values of values, each of the kind that its row or its target names, or trap.
+/// An operator makes of values of its rows' kinds a value of the row's kind, or traps; of others it traps Range.
 pub fn results_are_values()
     ensures one { KeepsRows1 }
     ensures two { KeepsRows2 }
-    ensures converted { KeepsKinds }
+    ensures no_row_of_one { TrapsWithoutRow1 }
+    ensures no_row_of_two { TrapsWithoutRow2 }
+{}
+
+/// A conversion gives a value of the kind, or traps; where the value doesn't suit, it gives what is unset of the kind.
+pub fn conversions_give_values()
+    ensures kind { KeepsKinds }
+    ensures unset { UnsetWhereUnsuited }
 {}
 
 /// `a // b * b + a REM b` is a, where nothing traps.

@@ -1,6 +1,6 @@
 use Rattle.std.proofs.Common.{subst}
 use Rattle.std.specs.List.{AllZip}
-use Rattle.pearl_gen.specs.Plain.{IsCodeOf}
+use Rattle.pearl_gen.specs.TaskCode.{IsCodeOf}
 use Rattle.pearl_gen.proofs.Valid.{valid}
 use Rattle.pearl_gen.proofs.Whole.{faithful_to, means_alone}
 use Rattle.pearl_gen.proofs.generate.Goals as goal

@@ -40,7 +40,7 @@ new-requires-6 c =
         slots = (((omega arith, omega arith), record { low = search rules; high = search rules }), tt);
         devices = ((omega arith, omega arith), tt);
         rising = tt;
-        formats = (record { items = ((omega arith, omega arith), ((omega arith, omega arith), (tt, tt))); few = omega arith; short = omega arith }, tt);
+        formats = (((omega arith, omega arith), ((omega arith, omega arith), ((tt, omega arith), tt))), tt);
         few_tasks = omega arith;
         few_slots = omega arith;
         few_devices = omega arith;

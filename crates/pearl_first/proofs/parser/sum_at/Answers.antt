@@ -1,11 +1,11 @@
 use Rattle.std.proofs.Common.{◌≡◌, ◌+◌, ◌++◌, ◌∷◌, [], length, length-append, vec_len, lit≤, refl, subst, sym, ap, ◌∙◌, arith}
 use Rattle.pearl_first.specs.declared.tree.Term.{Term}
 use Rattle.pearl_first.specs.declared.tree.Sum.{Sum}
-use Rattle.pearl_first.specs.declared.tree.Part.TheVariants as part
-use Rattle.pearl_first.specs.Grammar.{MarkAt, Stand, part_mark, sum_marks, terms_marks}
+use Rattle.pearl_first.specs.declared.tree.Operand.TheVariants as operand
+use Rattle.pearl_first.specs.Grammar.{MarkAt, Stand, operand_mark, sum_marks, terms_marks}
 use Rattle.pearl_first.specs.Stops.{IsSumAt}
 use Rattle.pearl_first.proofs.Marks.{none_begun}
-use Rattle.pearl_first.proofs.Parsing.{no_sum, no_sign, no_part}
+use Rattle.pearl_first.proofs.Parsing.{no_sum, no_sign, no_operand}
 use Rattle.pearl_first.proofs.Completion.{sum_stands, sum_begun, longer, more_terms}
 use Rattle.pearl_first.proofs.Statements.{sum_full}
 use Rattle.pearl_first.proofs.parser.sum_at.Goals as goal
@@ -13,9 +13,9 @@ use Rattle.pearl_first.proofs.parser.sum_at.Goals as goal
 pub returns-in-None-clause-refused : goal.returns-in-None-clause-refused
 returns-in-None-clause-refused c = record {
   none = no_sum c.args.tokens.now c.args.from (c.in-None.ensures.none refl);
-  sum = record { first = part.Number 0; rest = [] };
+  sum = record { first = operand.Number 0; rest = [] };
   few = lit≤ tt;
-  begun = none_begun c.args.tokens.now c.args.from (sum_marks (record { first = part.Number 0; rest = [] }));
+  begun = none_begun c.args.tokens.now c.args.from (sum_marks (record { first = operand.Number 0; rest = [] }));
   after = omega arith;
   inside = c.requires;
 }
@@ -24,7 +24,7 @@ pub loop-sign-init : goal.loop-sign-init
 loop-sign-init c =
     let empty : c.new-rest.result.items ≡ [] = c.new-rest.ensures.items in
     let zeroth : c.args.from ≡ c.args.from + 0 = omega arith in
-    let first : MarkAt c.args.tokens.now (c.args.from + 0) (part_mark c.in-Some.part) = subst (λ n. MarkAt c.args.tokens.now n (part_mark c.in-Some.part)) zeroth c.in-Some.ensures.part in
+    let first : MarkAt c.args.tokens.now (c.args.from + 0) (operand_mark c.in-Some.operand) = subst (λ n. MarkAt c.args.tokens.now n (operand_mark c.in-Some.operand)) zeroth c.in-Some.ensures.operand in
     let size : length (terms_marks c.new-rest.result.items) ≡ 0 = ap (λ terms. length (terms_marks terms)) empty in
     let few : length c.new-rest.result.items ≡ 0 = ap length empty in
     record {
@@ -37,7 +37,7 @@ loop-sign-init c =
 pub returns-then-len-eq-SIGNS_MAX-clause-refused :
     goal.returns-then-len-eq-SIGNS_MAX-clause-refused
 returns-then-len-eq-SIGNS_MAX-clause-refused c =
-    let sum : Sum = record { first = c.in-Some.part; rest = c.loop-sign.rest.items } in
+    let sum : Sum = record { first = c.in-Some.operand; rest = c.loop-sign.rest.items } in
     let end = c.loop-sign.invariant.end_is in
     let known : vec_len c.loop-sign.rest ≡ length c.loop-sign.rest.items = omega (arith, c.loop-sign.rest.ok.0) in
     record {
@@ -52,10 +52,10 @@ returns-then-len-eq-SIGNS_MAX-clause-refused c =
 
 pub loop-sign-preserved : goal.loop-sign-preserved
 loop-sign-preserved c =
-    let sum : Sum = record { first = c.in-Some.part; rest = c.loop-sign.rest.items } in
-    let term : Term = record { sign = c.in-Some-sign_at.sign; part = c.in-Some-part_at.part } in
-    let more : c.append_term.new.terms.items ≡ c.loop-sign.rest.items ++ term ∷ [] = c.in_ok-append_term-in-Some-part_at.ensures.more in
-    let stands = sum_stands c.args.tokens.now c.args.from c.loop-sign.end sum term c.loop-sign.invariant.marks c.loop-sign.invariant.end_is (c.in-Some-sign_at.ensures.sign, tt) c.in-Some-part_at.ensures.part in
+    let sum : Sum = record { first = c.in-Some.operand; rest = c.loop-sign.rest.items } in
+    let term : Term = record { sign = c.in-Some-sign_at.sign; operand = c.in-Some-operand_at.operand } in
+    let more : c.append_term.new.terms.items ≡ c.loop-sign.rest.items ++ term ∷ [] = c.in_ok-append_term-in-Some-operand_at.ensures.more in
+    let stands = sum_stands c.args.tokens.now c.args.from c.loop-sign.end sum term c.loop-sign.invariant.marks c.loop-sign.invariant.end_is (c.in-Some-sign_at.ensures.sign, tt) c.in-Some-operand_at.ensures.operand in
     let size : length (terms_marks c.append_term.new.terms.items) ≡ length (terms_marks c.loop-sign.rest.items) + 2 =
     ap (λ terms. length (terms_marks terms)) more ∙ ap length (more_terms c.loop-sign.rest.items term) ∙ length-append (terms_marks c.loop-sign.rest.items) (terms_marks (term ∷ [])) in
     let many : length c.append_term.new.terms.items ≡ length c.loop-sign.rest.items + 1 = ap length more ∙ length-append _ _ in
@@ -63,23 +63,23 @@ loop-sign-preserved c =
     let known : vec_len c.loop-sign.rest ≡ length c.loop-sign.rest.items = omega (arith, c.loop-sign.rest.ok.0) in
     let held : c.len.result ≡ length c.loop-sign.rest.items = c.len.ensures ∙ known in
     record {
-      marks = subst (λ terms. Stand c.args.tokens.now c.args.from 0 (sum_marks (record { first = c.in-Some.part; rest = terms }))) (sym more) stands;
+      marks = subst (λ terms. Stand c.args.tokens.now c.args.from 0 (sum_marks (record { first = c.in-Some.operand; rest = terms }))) (sym more) stands;
       end_is = omega (arith, end, size);
       few = omega (arith, many, held, c.if-len-eq-SIGNS_MAX.false, c.loop-sign.invariant.few);
-      inside = omega (arith, c.in-Some-part_at.ensures.within);
+      inside = omega (arith, c.in-Some-operand_at.ensures.within);
     }
 
-pub returns-in-None-part_at-clause-refused : goal.returns-in-None-part_at-clause-refused
-returns-in-None-part_at-clause-refused c =
-    let sum : Sum = record { first = c.in-Some.part; rest = c.loop-sign.rest.items } in
+pub returns-in-None-operand_at-clause-refused : goal.returns-in-None-operand_at-clause-refused
+returns-in-None-operand_at-clause-refused c =
+    let sum : Sum = record { first = c.in-Some.operand; rest = c.loop-sign.rest.items } in
     let found = c.in-Some-sign_at.sign in
     let known : vec_len c.loop-sign.rest ≡ length c.loop-sign.rest.items = omega (arith, c.loop-sign.rest.ok.0) in
     let held : c.len.result ≡ length c.loop-sign.rest.items = c.len.ensures ∙ known in
-    let many = length-append c.loop-sign.rest.items ((record { sign = found; part = part.Number 0 }) ∷ []) in
+    let many = length-append c.loop-sign.rest.items ((record { sign = found; operand = operand.Number 0 }) ∷ []) in
     let end = c.loop-sign.invariant.end_is in
     record {
-      none = no_part c.args.tokens.now c.args.from sum c.loop-sign.end c.loop-sign.invariant.marks c.loop-sign.invariant.end_is (found, c.in-Some-sign_at.ensures.sign) (c.in-None-part_at.ensures.none refl);
-      sum = longer sum (record { sign = found; part = part.Number 0 });
+      none = no_operand c.args.tokens.now c.args.from sum c.loop-sign.end c.loop-sign.invariant.marks c.loop-sign.invariant.end_is (found, c.in-Some-sign_at.ensures.sign) (c.in-None-operand_at.ensures.none refl);
+      sum = longer sum (record { sign = found; operand = operand.Number 0 });
       few = omega (arith, many, held, c.if-len-eq-SIGNS_MAX.false, c.loop-sign.invariant.few);
       begun = sum_begun c.args.tokens.now c.args.from c.loop-sign.end sum found c.loop-sign.invariant.marks c.loop-sign.invariant.end_is c.in-Some-sign_at.ensures.sign;
       after = omega (arith, end);
@@ -88,5 +88,5 @@ returns-in-None-part_at-clause-refused c =
 
 pub returns-clause-sum : goal.returns-clause-sum
 returns-clause-sum c =
-    subst (λ terms. IsSumAt c.args.tokens.now c.args.from (record { first = c.in-Some.part; rest = terms }) c.loop-sign.end) (sym c.new.ensures)
+    subst (λ terms. IsSumAt c.args.tokens.now c.args.from (record { first = c.in-Some.operand; rest = terms }) c.loop-sign.end) (sym c.new.ensures)
     (record { marks = c.loop-sign.invariant.marks; end_is = c.loop-sign.invariant.end_is; few = c.loop-sign.invariant.few; stops = c.in_default.ensures.none refl })

@@ -1,6 +1,6 @@
 use Rattle.std.proofs.Common.{take}
 use Rattle.std.specs.List.{flat_map}
-use Rattle.pearl_gen.specs.Plain.{expr_code, Appends}
+use Rattle.pearl_gen.specs.TaskCode.{expr_code, Appends}
 use Rattle.pearl_gen.proofs.expressions.emit_values.Given as goal
 
 abbrev pub invariant-loop-value : goal.invariant-loop-value

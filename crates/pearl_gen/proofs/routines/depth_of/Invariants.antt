@@ -1,5 +1,5 @@
 use Rattle.std.proofs.Common.{◌≡◌, drop, max}
-use Rattle.pearl_gen.specs.Plain.{most_operands}
+use Rattle.pearl_gen.specs.TaskCode.{most_operands}
 use Rattle.pearl_gen.proofs.routines.depth_of.Given as goal
 
 abbrev pub invariant-loop-statement : goal.invariant-loop-statement

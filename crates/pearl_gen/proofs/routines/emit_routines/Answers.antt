@@ -1,4 +1,4 @@
-use Rattle.pearl_gen.specs.Plain.{IsCodeOf}
+use Rattle.pearl_gen.specs.TaskCode.{IsCodeOf}
 use Rattle.pearl_gen.proofs.Zips.{zip_more}
 use Rattle.pearl_gen.proofs.routines.emit_routines.Goals as goal
 

@@ -1,6 +1,6 @@
 use Rattle.std.proofs.Common.{take}
 use Rattle.std.specs.List.{AllZip}
-use Rattle.pearl_gen.specs.Plain.{IsCodeOf}
+use Rattle.pearl_gen.specs.TaskCode.{IsCodeOf}
 use Rattle.pearl_gen.proofs.routines.emit_routines.Given as goal
 
 abbrev pub invariant-loop-routine : goal.invariant-loop-routine

@@ -1,6 +1,6 @@
 use Rattle.std.proofs.Common.{take}
 use Rattle.std.specs.List.{flat_map}
-use Rattle.pearl_gen.specs.Plain.{statement_code, Appends}
+use Rattle.pearl_gen.specs.TaskCode.{statement_code, Appends}
 use Rattle.pearl_gen.proofs.routines.emit_statements.Given as goal
 
 abbrev pub invariant-loop-statement : goal.invariant-loop-statement

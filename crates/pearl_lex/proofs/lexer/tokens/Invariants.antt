@@ -1,5 +1,4 @@
-use Rattle.std.proofs.Common.{◌≡◌, ◌-◌, ◌≤◌, length, drop, All}
-use Rattle.pearl_tree.specs.Tokens.{IsLawfulWhat, PlacesRise}
+use Rattle.std.proofs.Common.{◌≡◌, ◌-◌, ◌≤◌, length, drop}
 use Rattle.pearl_lex.specs.Spelling.{space_len}
 use Rattle.pearl_lex.specs.Lexes.{AreTokens, IsSpace}
 use Rattle.pearl_lex.proofs.lexer.tokens.Given as goal
@@ -9,9 +8,6 @@ invariant-loop-place l = record {
   tokens_are : AreTokens l.bytes 0 l.tokens.items l.end;
   here : IsSpace l.bytes l.end l.place;
   no_space : space_len (drop l.place l.bytes) ≡ 0;
-  spelled : All (λ token. IsLawfulWhat token.what) l.tokens.items;
-  placed : PlacesRise 0 l.end l.tokens.items;
-  on : l.end ≤ l.place;
   inside : l.place ≤ length l.bytes;
 }
 

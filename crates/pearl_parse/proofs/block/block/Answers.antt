@@ -14,53 +14,53 @@ pub returns-in_err-symbol-clause-refused : goal.returns-in_err-symbol-clause-ref
 returns-in_err-symbol-clause-refused c =
     let tokens = c.args.tokens.now in
     let from = c.args.from in
-    let low = c.args.low in
+    let least_stop = c.args.least_stop in
     err_told _ _ c.in_err-symbol.field-0.0 c.from_residual.result c.from_residual.ensures (λ e is. is)
-    (missing_behind SpellsBlock tokens from low (is_symbol s.SEMICOLON) opened_rest from low from c.in_err-symbol.field-0.0 (opened_goes tokens from low)
-    (λ others to h. ap (is_symbol s.SEMICOLON) h.0) c.requires.low.0 (omega arith) (omega (arith, c.requires.low)) c.requires.low.1 c.in_err-symbol.ensures.missing)
+    (missing_behind SpellsBlock tokens from least_stop (is_symbol s.SEMICOLON) opened_rest from least_stop from c.in_err-symbol.field-0.0 (opened_goes tokens from least_stop)
+    (λ others to h. ap (is_symbol s.SEMICOLON) h.0) c.requires.least_stop.0 (omega arith) (omega (arith, c.requires.least_stop)) c.requires.least_stop.1 c.in_err-symbol.ensures.missing)
 
 pub returns-in-Err-clause-refused : goal.returns-in-Err-clause-refused
 returns-in-Err-clause-refused c =
     let tokens = c.args.tokens.now in
     let from = c.args.from in
-    let low = c.args.low in
-    subst (λ halt. IsStopped SpellsBlock tokens from low halt) (sym c.behind.ensures.same)
-    (no_part_behind SpellsBlock tokens from low SpellsWholeBody end_rest (from + 1) low (behind c.in-Err.halt low) (body_goes tokens from low) c.requires.low.0 (omega arith)
-    (behind_is_stopped SpellsWholeBody tokens (from + 1) low c.in-Err.halt c.requires.low.1 c.in-Err.ensures.refused))
+    let least_stop = c.args.least_stop in
+    subst (λ halt. IsStopped SpellsBlock tokens from least_stop halt) (sym c.behind.ensures.same)
+    (no_part_behind SpellsBlock tokens from least_stop SpellsWholeBody end_rest (from + 1) least_stop (behind c.in-Err.halt least_stop) (body_goes tokens from least_stop) c.requires.least_stop.0 (omega arith)
+    (behind_is_stopped SpellsWholeBody tokens (from + 1) least_stop c.in-Err.halt c.requires.least_stop.1 c.in-Err.ensures.refused))
 
 pub returns-in_err-word-clause-refused : goal.returns-in_err-word-clause-refused
 returns-in_err-word-clause-refused c =
     let tokens = c.args.tokens.now in
     let from = c.args.from in
-    let low = c.args.low in
+    let least_stop = c.args.least_stop in
     let body = c.in-Ok.body in
     let read = c.in-Ok.ensures in
     let stop = c.max-stop.result in
-    let go = end_goes tokens from low body.end body.stop stop (omega (arith, c.max-stop.ensures)) (omega (arith, c.max-stop.ensures)) read.sure in
+    let go = end_goes tokens from least_stop body.end body.stop stop (omega (arith, c.max-stop.ensures)) (omega (arith, c.max-stop.ensures)) read.longest in
     err_told _ _ c.in_err-word.field-0.0 c.from_residual-in_err-word.result c.from_residual-in_err-word.ensures (λ e is. is)
-    (missing_behind SpellsBlock tokens from low (is_word w.END) end_rest body.end stop body.end c.in_err-word.field-0.0 go (λ others to h. ap (is_word w.END) h.0)
-    (omega (arith, read.on, c.max-stop.ensures)) (omega (arith, c.max-stop.ensures)) (omega (arith, read.on)) (omega (arith, read.on, c.max-stop.ensures, c.requires.low)) c.in_err-word.ensures.missing)
+    (missing_behind SpellsBlock tokens from least_stop (is_word w.END) end_rest body.end stop body.end c.in_err-word.field-0.0 go (λ others to h. ap (is_word w.END) h.0)
+    (omega (arith, read.bounds, c.max-stop.ensures)) (omega (arith, c.max-stop.ensures)) (omega (arith, read.bounds)) (omega (arith, read.bounds, c.max-stop.ensures, c.requires.least_stop)) c.in_err-word.ensures.missing)
 
 pub returns-in_err-symbol-2-clause-refused : goal.returns-in_err-symbol-2-clause-refused
 returns-in_err-symbol-2-clause-refused c =
     let tokens = c.args.tokens.now in
     let from = c.args.from in
-    let low = c.args.low in
+    let least_stop = c.args.least_stop in
     let body = c.in-Ok.body in
     let read = c.in-Ok.ensures in
     let stop = c.max-stop.result in
-    let go = end_goes tokens from low body.end body.stop stop (omega (arith, c.max-stop.ensures)) (omega (arith, c.max-stop.ensures)) read.sure in
+    let go = end_goes tokens from least_stop body.end body.stop stop (omega (arith, c.max-stop.ensures)) (omega (arith, c.max-stop.ensures)) read.longest in
     err_told _ _ c.in_err-symbol-2.field-0.0 c.from_residual-in_err-symbol-2.result c.from_residual-in_err-symbol-2.ensures (λ e is. is)
-    (missing_behind SpellsBlock tokens from low (is_symbol s.SEMICOLON) end_rest body.end stop (body.end + 1) c.in_err-symbol-2.field-0.0 go (λ others to h. ap (is_symbol s.SEMICOLON) h.1)
-    (omega (arith, read.on, c.max-stop.ensures)) (omega (arith, c.max-stop.ensures)) (omega (arith, c.in_ok-word.ensures.within)) (omega (arith, read.on, c.max-stop.ensures, c.requires.low)) c.in_err-symbol-2.ensures.missing)
+    (missing_behind SpellsBlock tokens from least_stop (is_symbol s.SEMICOLON) end_rest body.end stop (body.end + 1) c.in_err-symbol-2.field-0.0 go (λ others to h. ap (is_symbol s.SEMICOLON) h.1)
+    (omega (arith, read.bounds, c.max-stop.ensures)) (omega (arith, c.max-stop.ensures)) (omega (arith, c.in_ok-word.ensures.within)) (omega (arith, read.bounds, c.max-stop.ensures, c.requires.least_stop)) c.in_err-symbol-2.ensures.missing)
 
-pub returns-clause-sure : goal.returns-clause-sure
-returns-clause-sure c =
+pub returns-clause-longest : goal.returns-clause-longest
+returns-clause-longest c =
     let tokens = c.args.tokens.now in
     let from = c.args.from in
-    let low = c.args.low in
+    let least_stop = c.args.least_stop in
     let body = c.in-Ok.body in
     let read = c.in-Ok.ensures in
     let stop = c.max-stop.result in
-    let go = end_goes tokens from low body.end body.stop stop (omega (arith, c.max-stop.ensures)) (omega (arith, c.max-stop.ensures)) read.sure in
+    let go = end_goes tokens from least_stop body.end body.stop stop (omega (arith, c.max-stop.ensures)) (omega (arith, c.max-stop.ensures)) read.longest in
     ends SpellsBlock tokens from end_rest body.end stop c.max.result (body.end + 2) go (omega (arith, c.max.ensures)) (λ others to h. h.2)

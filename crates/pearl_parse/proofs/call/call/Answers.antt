@@ -1,7 +1,7 @@
 use Rattle.std.proofs.Common.{◌+◌, arith}
 use Rattle.pearl_parse_expr.specs.Stops.{is_name}
 use Rattle.pearl_parse.specs.Calls.{SpellsArguments}
-use Rattle.pearl_parse.proofs.Steps.{Ends, err_told, past_exact, missing, no_part}
+use Rattle.pearl_parse.proofs.Steps.{Ends, err_told, past_only, missing, no_part}
 use Rattle.pearl_parse.proofs.LeafRests.{Spelled}
 use Rattle.pearl_parse.proofs.CallRests.{call_rest, call_goes, call_goes_on}
 use Rattle.pearl_parse.proofs.call.call.Goals as goal
@@ -21,10 +21,10 @@ returns-in_err-arguments-clause-refused c =
     err_told _ _ c.in_err-arguments.field-0.0 c.from_residual-in_err-arguments.result c.from_residual-in_err-arguments.ensures (λ e is. is)
     (λ depth. no_part (Spelled depth) tokens from SpellsArguments Ends (from + 2) from c.in_err-arguments.field-0.0 (call_goes_on tokens depth from c.requires.word) (omega arith) c.in_err-arguments.ensures.refused)
 
-pub returns-clause-sure : goal.returns-clause-sure
-returns-clause-sure c = λ depth.
+pub returns-clause-longest : goal.returns-clause-longest
+returns-clause-longest c = λ depth.
     let tokens = c.args.tokens.now in
     let from = c.args.from in
     let arguments = c.in_ok-arguments.arguments in
     let last = c.in_ok-arguments.ensures in
-    past_exact (Spelled depth) tokens from SpellsArguments Ends (from + 2) from arguments.end arguments.stop (call_goes_on tokens depth from c.requires.word) last.on.2 last.sure
+    past_only (Spelled depth) tokens from SpellsArguments Ends (from + 2) from arguments.end arguments.stop (call_goes_on tokens depth from c.requires.word) last.bounds.2 last.longest

@@ -2,7 +2,7 @@ use Rattle.std.proofs.Common.{◌+◌, ap, arith}
 use Rattle.pearl_tables.specs.declared.symbol.TheConstants as s
 use Rattle.pearl_parse_expr.specs.Stops.{is_symbol}
 use Rattle.pearl_parse.specs.Calls.{SpellsOptionalValue}
-use Rattle.pearl_parse.proofs.Steps.{err_told, past_exact, missing, no_first, ends}
+use Rattle.pearl_parse.proofs.Steps.{err_told, past_only, missing, no_first, ends}
 use Rattle.pearl_parse.proofs.LeafRests.{Spelled, exit_rest}
 use Rattle.pearl_parse.proofs.CallRests.{return_goes}
 use Rattle.pearl_parse.proofs.call.return_.Goals as goal
@@ -23,15 +23,15 @@ returns-in_err-symbol-clause-refused c =
     let read = c.in_ok-value.ensures in
     err_told _ _ c.in_err-symbol.field-0.0 c.from_residual-in_err-symbol.result c.from_residual-in_err-symbol.ensures (λ e is. is)
     (λ depth.
-    let go = past_exact (Spelled depth) tokens from SpellsOptionalValue exit_rest (from + 1) from value.end value.stop (return_goes tokens depth from c.requires.word) (omega (arith, read.on)) read.sure in
+    let go = past_only (Spelled depth) tokens from SpellsOptionalValue exit_rest (from + 1) from value.end value.stop (return_goes tokens depth from c.requires.word) (omega (arith, read.bounds)) read.longest in
     missing (Spelled depth) tokens from (is_symbol s.SEMICOLON) exit_rest value.end value.stop value.end c.in_err-symbol.field-0.0 go
-    (λ others to h. ap (is_symbol s.SEMICOLON) h.0) (omega (arith, read.on)) (omega (arith, read.on)) (omega (arith, read.on)) c.in_err-symbol.ensures.missing)
+    (λ others to h. ap (is_symbol s.SEMICOLON) h.0) (omega (arith, read.bounds)) (omega (arith, read.bounds)) (omega (arith, read.bounds)) c.in_err-symbol.ensures.missing)
 
-pub returns-clause-sure : goal.returns-clause-sure
-returns-clause-sure c = λ depth.
+pub returns-clause-longest : goal.returns-clause-longest
+returns-clause-longest c = λ depth.
     let tokens = c.args.tokens.now in
     let from = c.args.from in
     let value = c.in_ok-value.value in
     let read = c.in_ok-value.ensures in
-    let go = past_exact (Spelled depth) tokens from SpellsOptionalValue exit_rest (from + 1) from value.end value.stop (return_goes tokens depth from c.requires.word) (omega (arith, read.on)) read.sure in
+    let go = past_only (Spelled depth) tokens from SpellsOptionalValue exit_rest (from + 1) from value.end value.stop (return_goes tokens depth from c.requires.word) (omega (arith, read.bounds)) read.longest in
     ends (Spelled depth) tokens from exit_rest value.end value.stop c.max.result (value.end + 1) go (omega (arith, c.max.ensures)) (λ others to h. h.1)

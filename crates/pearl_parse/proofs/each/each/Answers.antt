@@ -10,20 +10,20 @@ each-preserved g c =
     let tokens = c.args.tokens.now in
     let next = c.in-Ok.next in
     let read = c.in-Ok.ensures in
-    let near : c.each.end ≤ c.each.stop = omega (arith, c.each.invariant.on) in
+    let near : c.each.end ≤ c.each.stop = omega (arith, c.each.invariant.bounds) in
     let ahead : c.each.end < next.end = omega (arith, read.ahead) in
     let below : c.each.stop ≤ c.max-stop.result = omega (arith, c.max-stop.ensures) in
     let reach : next.stop ≤ c.max-stop.result = omega (arith, c.max-stop.ensures) in
     record {
-      spells = subst (λ xs. SpellsEach (g.P.Repeated.spelling tokens) c.args.from xs next.end) (sym c.in_ok-append-in-Ok.ensures.more)
+      spells = subst (λ xs. SpellsEach (g.P.Repeated.spelling tokens) c.args.from xs next.end) (sym c.in_ok-append-in-Ok.ensures.appended)
           (each_one_more (g.P.Repeated.spelling tokens) c.each.list.items c.args.from c.each.end next.end next.part c.each.invariant.spells read.spells);
       goes = each_next g.P.Repeated.spelling g.P.Repeated.begins tokens c.args.from c.each.end c.each.stop next.end next.stop c.max-stop.result c.each.invariant.goes near ahead below reach
-          (g.met.P.Repeated.first tokens c.each.end next.part next.end read.spells) read.sure;
-      on = (omega (arith, c.each.invariant.on, read.ahead), omega (arith, read.ahead, c.max-stop.ensures), omega (arith, c.each.invariant.on, c.max-stop.ensures), omega (arith, c.each.invariant.on, read.ahead, c.max-stop.ensures));
+          (g.met.P.Repeated.first tokens c.each.end next.part next.end read.spells) read.longest;
+      bounds = (omega (arith, c.each.invariant.bounds, read.ahead), omega (arith, read.ahead, c.max-stop.ensures), omega (arith, c.each.invariant.bounds, c.max-stop.ensures), omega (arith, c.each.invariant.bounds, read.ahead, c.max-stop.ensures));
     }
 
-pub returns-in-Refused-clause-sure : goal.returns-in-Refused-clause-sure
-returns-in-Refused-clause-sure g c =
+pub returns-in-Refused-clause-longest : goal.returns-in-Refused-clause-longest
+returns-in-Refused-clause-longest g c =
     let stuck = stuck_of g.P.Repeated.spelling c.args.tokens.now c.each.end c.in-Refused.at c.in-Err.halt c.in-Refused.is c.in-Err.ensures.refused in
     let below : c.each.stop ≤ c.max.result = omega (arith, c.max.ensures) in
     let reach : c.in-Refused.at ≤ c.max.result = omega (arith, c.max.ensures) in

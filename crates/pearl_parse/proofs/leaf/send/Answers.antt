@@ -23,9 +23,9 @@ returns-in_err-word-clause-refused c =
     let read = c.in_ok-value.ensures in
     err_told _ _ c.in_err-word.field-0.0 c.from_residual-in_err-word.result c.from_residual-in_err-word.ensures (λ e is. is)
     (λ depth.
-    let go = past (Spelled depth) tokens from SpellsWhole extends_expression (station_rest w.TO) (from + 1) from value.end value.stop (send_goes tokens depth from c.requires.word) read.on.2 read.sure (λ others at to h. ap extends_expression h.0) in
+    let go = past (Spelled depth) tokens from SpellsWhole extends_expression (station_rest w.TO) (from + 1) from value.end value.stop (send_goes tokens depth from c.requires.word) read.bounds.2 read.longest (λ others at to h. ap extends_expression h.0) in
     missing (Spelled depth) tokens from (is_word w.TO) (station_rest w.TO) value.end value.stop value.end c.in_err-word.field-0.0 go
-    (λ others to h. ap (is_word w.TO) h.0) (omega (arith, read.on)) (omega (arith, read.on)) (omega (arith, read.on)) c.in_err-word.ensures.missing)
+    (λ others to h. ap (is_word w.TO) h.0) (omega (arith, read.bounds)) (omega (arith, read.bounds)) (omega (arith, read.bounds)) c.in_err-word.ensures.missing)
 
 pub returns-in_err-dation-clause-refused : goal.returns-in_err-dation-clause-refused
 returns-in_err-dation-clause-refused c =
@@ -35,9 +35,9 @@ returns-in_err-dation-clause-refused c =
     let read = c.in_ok-value.ensures in
     err_told _ _ c.in_err-dation.field-0.0 c.from_residual-in_err-dation.result c.from_residual-in_err-dation.ensures (λ e is. is)
     (λ depth.
-    let go = past (Spelled depth) tokens from SpellsWhole extends_expression (station_rest w.TO) (from + 1) from value.end value.stop (send_goes tokens depth from c.requires.word) read.on.2 read.sure (λ others at to h. ap extends_expression h.0) in
+    let go = past (Spelled depth) tokens from SpellsWhole extends_expression (station_rest w.TO) (from + 1) from value.end value.stop (send_goes tokens depth from c.requires.word) read.bounds.2 read.longest (λ others at to h. ap extends_expression h.0) in
     missing (Spelled depth) tokens from is_name (station_rest w.TO) value.end value.stop (value.end + 1) c.in_err-dation.field-0.0 go
-    (λ others to h. h.1) (omega (arith, read.on)) (omega (arith, c.in_ok-word.ensures.within)) (omega (arith, read.on)) c.in_err-dation.ensures.missing)
+    (λ others to h. h.1) (omega (arith, read.bounds)) (omega (arith, c.in_ok-word.ensures.within)) (omega (arith, read.bounds)) c.in_err-dation.ensures.missing)
 
 pub returns-in_err-symbol-clause-refused : goal.returns-in_err-symbol-clause-refused
 returns-in_err-symbol-clause-refused c =
@@ -47,15 +47,15 @@ returns-in_err-symbol-clause-refused c =
     let read = c.in_ok-value.ensures in
     err_told _ _ c.in_err-symbol.field-0.0 c.from_residual-in_err-symbol.result c.from_residual-in_err-symbol.ensures (λ e is. is)
     (λ depth.
-    let go = past (Spelled depth) tokens from SpellsWhole extends_expression (station_rest w.TO) (from + 1) from value.end value.stop (send_goes tokens depth from c.requires.word) read.on.2 read.sure (λ others at to h. ap extends_expression h.0) in
+    let go = past (Spelled depth) tokens from SpellsWhole extends_expression (station_rest w.TO) (from + 1) from value.end value.stop (send_goes tokens depth from c.requires.word) read.bounds.2 read.longest (λ others at to h. ap extends_expression h.0) in
     missing (Spelled depth) tokens from (is_symbol s.SEMICOLON) (station_rest w.TO) value.end value.stop (value.end + 2) c.in_err-symbol.field-0.0 go
-    (λ others to h. ap (is_symbol s.SEMICOLON) h.2) (omega (arith, read.on)) (omega (arith, c.in_ok-dation.ensures.within)) (omega (arith, read.on)) c.in_err-symbol.ensures.missing)
+    (λ others to h. ap (is_symbol s.SEMICOLON) h.2) (omega (arith, read.bounds)) (omega (arith, c.in_ok-dation.ensures.within)) (omega (arith, read.bounds)) c.in_err-symbol.ensures.missing)
 
-pub returns-clause-sure : goal.returns-clause-sure
-returns-clause-sure c = λ depth.
+pub returns-clause-longest : goal.returns-clause-longest
+returns-clause-longest c = λ depth.
     let tokens = c.args.tokens.now in
     let from = c.args.from in
     let value = c.in_ok-value.value in
     let read = c.in_ok-value.ensures in
-    let go = past (Spelled depth) tokens from SpellsWhole extends_expression (station_rest w.TO) (from + 1) from value.end value.stop (send_goes tokens depth from c.requires.word) read.on.2 read.sure (λ others at to h. ap extends_expression h.0) in
+    let go = past (Spelled depth) tokens from SpellsWhole extends_expression (station_rest w.TO) (from + 1) from value.end value.stop (send_goes tokens depth from c.requires.word) read.bounds.2 read.longest (λ others at to h. ap extends_expression h.0) in
     ends (Spelled depth) tokens from (station_rest w.TO) value.end value.stop c.max.result (value.end + 3) go (omega (arith, c.max.ensures)) (λ others to h. h.3)

@@ -5,22 +5,22 @@ use Rattle.pearl_parse.proofs.list.before.Goals as goal
 
 pub returns-in-Err-clause-refused : goal.returns-in-Err-clause-refused
 returns-in-Err-clause-refused g c =
-    no_list g.P.Part.spelling g.P.Part.extends c.args.word c.requires.begins c.requires.stops c.args.tokens.now c.args.from c.in-Err.halt (itself c.args.word)
+    no_list g.P.Readable.spelling g.P.Readable.extends c.args.word c.requires.begins c.requires.stops c.args.tokens.now c.args.from c.in-Err.halt (itself c.args.word)
     (sym c.if-is_word.ensures.value) c.in-Err.ensures.refused
 
 pub returns-then-not-is_word-clause-refused : goal.returns-then-not-is_word-clause-refused
 returns-then-not-is_word-clause-refused g c =
     let list = c.in-Ok.list in
     let read = c.in-Ok.ensures in (
-      no_word_behind g.P.Part.spelling g.P.Part.extends c.args.word c.requires.begins c.requires.stops c.args.tokens.now c.args.from list.end list.stop (itself c.args.word)
-          (sym c.if-is_word.ensures.value) (omega (arith, read.ahead)) (omega (arith, read.ahead)) read.sure (sym c.if-not-is_word.ensures.value),
+      no_word_behind g.P.Readable.spelling g.P.Readable.extends c.args.word c.requires.begins c.requires.stops c.args.tokens.now c.args.from list.end list.stop (itself c.args.word)
+          (sym c.if-is_word.ensures.value) (omega (arith, read.ahead)) (omega (arith, read.ahead)) read.longest (sym c.if-not-is_word.ensures.value),
       omega (arith, read.ahead),
       omega (arith, read.ahead),
     )
 
-pub returns-clause-sure : goal.returns-clause-sure
-returns-clause-sure g c =
+pub returns-clause-longest : goal.returns-clause-longest
+returns-clause-longest g c =
     let list = c.in-Ok.list in
     let read = c.in-Ok.ensures in
-    behind_list g.P.Part.spelling g.P.Part.extends c.args.word c.requires.begins c.requires.stops c.args.tokens.now c.args.from list.end list.stop c.max.result (itself c.args.word)
-    (sym c.if-is_word.ensures.value) (omega (arith, read.ahead, c.max.ensures)) (omega (arith, c.max.ensures)) read.sure
+    behind_list g.P.Readable.spelling g.P.Readable.extends c.args.word c.requires.begins c.requires.stops c.args.tokens.now c.args.from list.end list.stop c.max.result (itself c.args.word)
+    (sym c.if-is_word.ensures.value) (omega (arith, read.ahead, c.max.ensures)) (omega (arith, c.max.ensures)) read.longest

@@ -1,6 +1,6 @@
 use Rattle.std.proofs.Common.{sym, subst, arith}
 use Rattle.pearl_parse.specs.Modules.{SpellsHead, SpellsOpening, SpellsEnding, SpellsSource}
-use Rattle.pearl_parse.proofs.Steps.{Ends, err_told, past_exact, no_part, no_first}
+use Rattle.pearl_parse.proofs.Steps.{Ends, err_told, past_only, no_part, no_first}
 use Rattle.pearl_parse.proofs.ModuleRests.{problems_rest, list_rest, source_goes, last_goes, Declarations, as_tree}
 use Rattle.pearl_parse.proofs.module.module.Goals as goal
 
@@ -15,7 +15,7 @@ returns-in_err-opening-clause-refused c =
     let tokens = c.args.tokens.now in
     let head = c.in_ok-head.head in
     let first = c.in_ok-head.ensures in
-    let go = past_exact SpellsSource tokens 0 SpellsHead problems_rest 0 0 head.end head.stop (source_goes tokens) (omega arith) first.sure in
+    let go = past_only SpellsSource tokens 0 SpellsHead problems_rest 0 0 head.end head.stop (source_goes tokens) (omega arith) first.longest in
     err_told _ _ c.in_err-opening.field-0.0 c.from_residual-in_err-opening.result c.from_residual-in_err-opening.ensures (λ e is. is)
     (no_first SpellsSource tokens 0 SpellsOpening list_rest head.end head.stop c.in_err-opening.field-0.0 go (omega arith) (omega (arith, first.close)) c.in_err-opening.ensures.refused)
 
@@ -30,7 +30,7 @@ returns-in_err-semicolon-clause-refused c =
     let third = c.in-Ok.ensures in
     let stop = c.max.result in
     let go = last_goes tokens head.end head.stop opening.end opening.stop list.end list.stop stop (omega (arith, first.close, second.ahead)) (omega (arith, c.max.ensures))
-    (omega (arith, c.max.ensures)) first.sure second.sure third.sure in
+    (omega (arith, c.max.ensures)) first.longest second.longest third.longest in
     err_told _ _ c.in_err-semicolon.field-0.0 c.from_residual-in_err-semicolon.result c.from_residual-in_err-semicolon.ensures (λ e is. is)
     (no_part SpellsSource tokens 0 SpellsEnding Ends list.end stop c.in_err-semicolon.field-0.0 go (omega arith) c.in_err-semicolon.ensures.refused)
 
@@ -39,5 +39,5 @@ returns-clause-spells c =
     let tokens = c.args.tokens.now in
     let opening = c.in_ok-opening.opening in
     let list = c.in-Ok.list in
-    as_tree tokens _ c.in_ok-head.head.end opening.end list.end c.place_at.ensures c.in_ok-head.ensures.spells c.in_ok-opening.ensures.spells
-    (subst (λ parts. Declarations tokens opening.end parts.items list.end) (sym c.new.ensures) c.in-Ok.ensures.spells) c.in_ok-semicolon.ensures.spells
+    as_tree tokens _ c.in_ok-head.head.end opening.end list.end c.place_at-2.ensures c.place_at.ensures c.in_ok-head.ensures.spells c.in_ok-opening.ensures.spells
+    (subst (λ xs. Declarations tokens opening.end xs list.end) (sym c.new.ensures) c.in-Ok.ensures.spells) c.in_ok-semicolon.ensures.spells

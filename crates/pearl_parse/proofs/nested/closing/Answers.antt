@@ -8,8 +8,8 @@ use Rattle.pearl_parse.proofs.nested.closing.Goals as goal
 pub returns-in_err-word-clause-memory : goal.returns-in_err-word-clause-memory
 returns-in_err-word-clause-memory c =
     err_told _ _ c.in_err-word.field-0.0 c.from_residual.result c.from_residual.ensures (λ e is. is)
-    (missing_is_refused c.args.tokens.now (is_word c.args.word) c.args.from c.args.low c.in_err-word.field-0.0 c.in_err-word.ensures.missing)
+    (missing_is_refused c.args.tokens.now (is_word c.args.word) c.args.from c.args.least_stop c.in_err-word.field-0.0 c.in_err-word.ensures.missing)
 
 pub returns-clause-memory : goal.returns-clause-memory
 returns-clause-memory c =
-    err_map _ _ c.symbol.result (λ halt missing. missing_is_refused c.args.tokens.now (is_symbol s.SEMICOLON) (c.args.from + 1) c.args.low halt missing) c.symbol.ensures.missing
+    err_map _ _ c.symbol.result (λ halt missing. missing_is_refused c.args.tokens.now (is_symbol s.SEMICOLON) (c.args.from + 1) c.args.least_stop halt missing) c.symbol.ensures.missing

@@ -22,15 +22,15 @@ returns-in_err-word-clause-refused c =
     let condition = c.in_ok-condition.condition in
     let read = c.in_ok-condition.ensures in
     err_told _ _ c.in_err-word.field-0.0 c.from_residual-in_err-word.result c.from_residual-in_err-word.ensures (λ e is. is)
-    (let go = past SpellsCondition tokens from (λ tokens. SpellsAfter tokens w.IF) extends_expression then_word from from condition.end condition.stop (condition_goes tokens from) read.on.2 read.sure (λ others at to h. ap extends_expression h.0) in
+    (let go = past SpellsCondition tokens from (λ tokens. SpellsAfter tokens w.IF) extends_expression then_word from from condition.end condition.stop (condition_goes tokens from) read.bounds.2 read.longest (λ others at to h. ap extends_expression h.0) in
     missing SpellsCondition tokens from (is_word w.THEN) then_word condition.end condition.stop condition.end c.in_err-word.field-0.0 go
-    (λ others to h. ap (is_word w.THEN) h.0) (omega (arith, read.on)) (omega (arith, read.on)) (omega (arith, read.on)) c.in_err-word.ensures.missing)
+    (λ others to h. ap (is_word w.THEN) h.0) (omega (arith, read.bounds)) (omega (arith, read.bounds)) (omega (arith, read.bounds)) c.in_err-word.ensures.missing)
 
-pub returns-clause-sure : goal.returns-clause-sure
-returns-clause-sure c =
+pub returns-clause-longest : goal.returns-clause-longest
+returns-clause-longest c =
     let tokens = c.args.tokens.now in
     let from = c.args.from in
     let condition = c.in_ok-condition.condition in
     let read = c.in_ok-condition.ensures in
-    let go = past SpellsCondition tokens from (λ tokens. SpellsAfter tokens w.IF) extends_expression then_word from from condition.end condition.stop (condition_goes tokens from) read.on.2 read.sure (λ others at to h. ap extends_expression h.0) in
+    let go = past SpellsCondition tokens from (λ tokens. SpellsAfter tokens w.IF) extends_expression then_word from from condition.end condition.stop (condition_goes tokens from) read.bounds.2 read.longest (λ others at to h. ap extends_expression h.0) in
     ends SpellsCondition tokens from then_word condition.end condition.stop c.max.result (condition.end + 1) go (omega (arith, c.max.ensures)) (λ others to h. h.1)

@@ -11,28 +11,28 @@ pub returns-in_err-priority-clause-refused : goal.returns-in_err-priority-clause
 returns-in_err-priority-clause-refused c =
     let tokens = c.args.tokens.now in
     let from = c.args.from in
-    let low = c.args.low in
+    let least_stop = c.args.least_stop in
     err_told _ _ c.in_err-priority.field-0.0 c.from_residual-in_err-priority.result c.from_residual-in_err-priority.ensures (λ e is. is)
-    (no_part_behind SpellsActivation tokens from low SpellsOptionalPriority exit_rest (from + 2) low c.in_err-priority.field-0.0 (activation_goes tokens from low) c.requires.low.0 (omega arith) c.in_err-priority.ensures.refused)
+    (no_part_behind SpellsActivation tokens from least_stop SpellsOptionalPriority exit_rest (from + 2) least_stop c.in_err-priority.field-0.0 (activation_goes tokens from least_stop) c.requires.least_stop.0 (omega arith) c.in_err-priority.ensures.refused)
 
 pub returns-in_err-symbol-clause-refused : goal.returns-in_err-symbol-clause-refused
 returns-in_err-symbol-clause-refused c =
     let tokens = c.args.tokens.now in
     let from = c.args.from in
-    let low = c.args.low in
+    let least_stop = c.args.least_stop in
     let priority = c.in_ok-priority.priority in
     let read = c.in_ok-priority.ensures in
-    let go = past SpellsActivation tokens from SpellsOptionalPriority extends_expression exit_rest (from + 2) low priority.end priority.stop (activation_goes tokens from low) read.on.2 read.sure (λ others at to h. ap extends_expression h.0) in
+    let go = past SpellsActivation tokens from SpellsOptionalPriority extends_expression exit_rest (from + 2) least_stop priority.end priority.stop (activation_goes tokens from least_stop) read.bounds.2 read.longest (λ others at to h. ap extends_expression h.0) in
     err_told _ _ c.in_err-symbol.field-0.0 c.from_residual-in_err-symbol.result c.from_residual-in_err-symbol.ensures (λ e is. is)
-    (missing_behind SpellsActivation tokens from low (is_symbol s.SEMICOLON) exit_rest priority.end priority.stop priority.end c.in_err-symbol.field-0.0 go
-    (λ others to h. ap (is_symbol s.SEMICOLON) h.0) (omega (arith, read.on)) read.on.2 (omega (arith, read.on)) (omega (arith, read.on)) c.in_err-symbol.ensures.missing)
+    (missing_behind SpellsActivation tokens from least_stop (is_symbol s.SEMICOLON) exit_rest priority.end priority.stop priority.end c.in_err-symbol.field-0.0 go
+    (λ others to h. ap (is_symbol s.SEMICOLON) h.0) (omega (arith, read.bounds)) read.bounds.2 (omega (arith, read.bounds)) (omega (arith, read.bounds)) c.in_err-symbol.ensures.missing)
 
-pub returns-clause-sure : goal.returns-clause-sure
-returns-clause-sure c =
+pub returns-clause-longest : goal.returns-clause-longest
+returns-clause-longest c =
     let tokens = c.args.tokens.now in
     let from = c.args.from in
-    let low = c.args.low in
+    let least_stop = c.args.least_stop in
     let priority = c.in_ok-priority.priority in
     let read = c.in_ok-priority.ensures in
-    let go = past SpellsActivation tokens from SpellsOptionalPriority extends_expression exit_rest (from + 2) low priority.end priority.stop (activation_goes tokens from low) read.on.2 read.sure (λ others at to h. ap extends_expression h.0) in
+    let go = past SpellsActivation tokens from SpellsOptionalPriority extends_expression exit_rest (from + 2) least_stop priority.end priority.stop (activation_goes tokens from least_stop) read.bounds.2 read.longest (λ others at to h. ap extends_expression h.0) in
     ends SpellsActivation tokens from exit_rest priority.end priority.stop c.max.result (priority.end + 1) go (omega (arith, c.max.ensures)) (λ others to h. h.1)

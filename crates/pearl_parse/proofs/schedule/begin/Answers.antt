@@ -1,7 +1,7 @@
 use Rattle.std.proofs.Common.{ap, arith}
 use Rattle.pearl_parse_expr.specs.Stops.{extends_expression}
 use Rattle.pearl_parse.specs.Schedules.{SpellsOptionalPeriod, SpellsActivation, SpellsBegun}
-use Rattle.pearl_parse.proofs.Steps.{Ends, err_told, past, past_exact, no_part_behind}
+use Rattle.pearl_parse.proofs.Steps.{Ends, err_told, past, past_only, no_part_behind}
 use Rattle.pearl_parse.proofs.ScheduleRests.{activation_rest, begun_goes}
 use Rattle.pearl_parse.proofs.schedule.begin.Goals as goal
 
@@ -9,29 +9,29 @@ pub returns-in_err-period-clause-refused : goal.returns-in_err-period-clause-ref
 returns-in_err-period-clause-refused c =
     let tokens = c.args.tokens.now in
     let from = c.args.from in
-    let low = c.args.low in
+    let least_stop = c.args.least_stop in
     err_told _ _ c.in_err-period.field-0.0 c.from_residual.result c.from_residual.ensures (λ e is. is)
-    (no_part_behind SpellsBegun tokens from low SpellsOptionalPeriod activation_rest from low c.in_err-period.field-0.0 (begun_goes tokens from low) c.requires.low.0 (omega arith) c.in_err-period.ensures.refused)
+    (no_part_behind SpellsBegun tokens from least_stop SpellsOptionalPeriod activation_rest from least_stop c.in_err-period.field-0.0 (begun_goes tokens from least_stop) c.requires.least_stop.0 (omega arith) c.in_err-period.ensures.refused)
 
 pub returns-in_err-activation-clause-refused : goal.returns-in_err-activation-clause-refused
 returns-in_err-activation-clause-refused c =
     let tokens = c.args.tokens.now in
     let from = c.args.from in
-    let low = c.args.low in
+    let least_stop = c.args.least_stop in
     let period = c.in_ok-period.period in
     let read = c.in_ok-period.ensures in
-    let go = past SpellsBegun tokens from SpellsOptionalPeriod extends_expression activation_rest from low period.end period.stop (begun_goes tokens from low) read.on.2 read.sure (λ others at to h. ap extends_expression h.2.1) in
+    let go = past SpellsBegun tokens from SpellsOptionalPeriod extends_expression activation_rest from least_stop period.end period.stop (begun_goes tokens from least_stop) read.bounds.2 read.longest (λ others at to h. ap extends_expression h.2.1) in
     err_told _ _ c.in_err-activation.field-0.0 c.from_residual-in_err-activation.result c.from_residual-in_err-activation.ensures (λ e is. is)
-    (no_part_behind SpellsBegun tokens from low SpellsActivation Ends period.end period.stop c.in_err-activation.field-0.0 go (omega (arith, read.on)) read.on.2 c.in_err-activation.ensures.refused)
+    (no_part_behind SpellsBegun tokens from least_stop SpellsActivation Ends period.end period.stop c.in_err-activation.field-0.0 go (omega (arith, read.bounds)) read.bounds.2 c.in_err-activation.ensures.refused)
 
-pub returns-clause-sure : goal.returns-clause-sure
-returns-clause-sure c =
+pub returns-clause-longest : goal.returns-clause-longest
+returns-clause-longest c =
     let tokens = c.args.tokens.now in
     let from = c.args.from in
-    let low = c.args.low in
+    let least_stop = c.args.least_stop in
     let period = c.in_ok-period.period in
     let read = c.in_ok-period.ensures in
     let activation = c.in_ok-activation.activation in
     let last = c.in_ok-activation.ensures in
-    let go = past SpellsBegun tokens from SpellsOptionalPeriod extends_expression activation_rest from low period.end period.stop (begun_goes tokens from low) read.on.2 read.sure (λ others at to h. ap extends_expression h.2.1) in
-    past_exact SpellsBegun tokens from SpellsActivation Ends period.end period.stop activation.end activation.stop go last.on.2 last.sure
+    let go = past SpellsBegun tokens from SpellsOptionalPeriod extends_expression activation_rest from least_stop period.end period.stop (begun_goes tokens from least_stop) read.bounds.2 read.longest (λ others at to h. ap extends_expression h.2.1) in
+    past_only SpellsBegun tokens from SpellsActivation Ends period.end period.stop activation.end activation.stop go last.bounds.2 last.longest

@@ -1,7 +1,7 @@
 use Rattle.std.proofs.Common.{ap, arith}
 use Rattle.pearl_parse_expr.specs.Stops.{extends_expression}
 use Rattle.pearl_parse.specs.Schedules.{SpellsLongPeriod, SpellsActivation}
-use Rattle.pearl_parse.proofs.Steps.{Ends, err_told, past, past_exact, no_part}
+use Rattle.pearl_parse.proofs.Steps.{Ends, err_told, past, past_only, no_part}
 use Rattle.pearl_parse.proofs.LeafRests.{Spelled}
 use Rattle.pearl_parse.proofs.ScheduleRests.{activation_rest}
 use Rattle.pearl_parse.proofs.TimedRests.{periodic_goes}
@@ -22,16 +22,16 @@ returns-in_err-activation-clause-refused c =
     let read = c.in_ok-period.ensures in
     err_told _ _ c.in_err-activation.field-0.0 c.from_residual-in_err-activation.result c.from_residual-in_err-activation.ensures (λ e is. is)
     (λ depth.
-    let go = past (Spelled depth) tokens from SpellsLongPeriod extends_expression activation_rest from from period.end period.stop (periodic_goes tokens depth from c.requires.word) read.on.2 read.sure (λ others at to h. ap extends_expression h.2.1) in
-    no_part (Spelled depth) tokens from SpellsActivation Ends period.end period.stop c.in_err-activation.field-0.0 go read.on.2 c.in_err-activation.ensures.refused)
+    let go = past (Spelled depth) tokens from SpellsLongPeriod extends_expression activation_rest from from period.end period.stop (periodic_goes tokens depth from c.requires.word) read.bounds.2 read.longest (λ others at to h. ap extends_expression h.2.1) in
+    no_part (Spelled depth) tokens from SpellsActivation Ends period.end period.stop c.in_err-activation.field-0.0 go read.bounds.2 c.in_err-activation.ensures.refused)
 
-pub returns-clause-sure : goal.returns-clause-sure
-returns-clause-sure c = λ depth.
+pub returns-clause-longest : goal.returns-clause-longest
+returns-clause-longest c = λ depth.
     let tokens = c.args.tokens.now in
     let from = c.args.from in
     let period = c.in_ok-period.period in
     let read = c.in_ok-period.ensures in
     let activation = c.in_ok-activation.activation in
     let last = c.in_ok-activation.ensures in
-    let go = past (Spelled depth) tokens from SpellsLongPeriod extends_expression activation_rest from from period.end period.stop (periodic_goes tokens depth from c.requires.word) read.on.2 read.sure (λ others at to h. ap extends_expression h.2.1) in
-    past_exact (Spelled depth) tokens from SpellsActivation Ends period.end period.stop activation.end activation.stop go last.on.2 last.sure
+    let go = past (Spelled depth) tokens from SpellsLongPeriod extends_expression activation_rest from from period.end period.stop (periodic_goes tokens depth from c.requires.word) read.bounds.2 read.longest (λ others at to h. ap extends_expression h.2.1) in
+    past_only (Spelled depth) tokens from SpellsActivation Ends period.end period.stop activation.end activation.stop go last.bounds.2 last.longest

@@ -7,12 +7,12 @@ use Rattle.pearl_parse_expr.proofs.Lists.{each_one_more}
 use Rattle.pearl_parse_expr.proofs.Halts.{stuck_of, at_depth, ok_map}
 use Rattle.pearl_parse.specs.Stops.{begins_statement}
 use Rattle.pearl_parse.specs.Bodies.{extends_body, extends_alternatives, SpellsStatements, SpellsHeaded, SpellsOptionalHeaded, SpellsChoices, SpellsBlock, SpellsClosing, SpellsCondition, SpellsHeads}
-use Rattle.pearl_parse.proofs.Steps.{Ends, Then, err_told, goes_longer, past, past_exact, no_first, no_part, ends, itself, optional_is_none, optional_is_sure, exact_is_sure}
+use Rattle.pearl_parse.proofs.Steps.{Ends, Then, err_told, goes_longer, past, past_only, no_first, no_part, ends, itself, optional_is_none, optional_is_longest, only_is_longest}
 use Rattle.pearl_parse.proofs.ByFirst.{stmt_begins}
 use Rattle.pearl_parse.proofs.LeafRests.{Spelled}
 use Rattle.pearl_parse.proofs.Repetitions.{each_next, each_ends}
 use Rattle.pearl_parse.proofs.Choices.{some_of, choices_next, choices_end, no_choice}
-use Rattle.pearl_parse.proofs.Blocks.{block_is_sure, no_block}
+use Rattle.pearl_parse.proofs.Blocks.{block_is_longest, no_block}
 use Rattle.pearl_parse.proofs.NestedRests.{closing_rest, otherwise_rest, then_rest, choices_rest, block_rest, avoids_closing, avoids_otherwise, avoids_choices, if_goes, case_goes, begin_goes, repeat_goes, if_spelled, case_spelled, begin_spelled, repeat_spelled, no_if, no_case, no_begin, no_repeat, no_statement, out_of_memory, out_of_memory_behind}
 use Rattle.pearl_parse.proofs.statement.+statement.Goals as goal
 
@@ -22,20 +22,20 @@ statements-each-preserved t c =
     let depth = c.args.depth in
     let next = c.in-Ok.next in
     let read = c.in-Ok.ensures in
-    let near : c.each.end ≤ c.each.stop = omega (arith, c.each.invariant.on) in
+    let near : c.each.end ≤ c.each.stop = omega (arith, c.each.invariant.bounds) in
     let ahead : c.each.end < next.end = omega (arith, read.ahead) in
     let below : c.each.stop ≤ c.max-stop.result = omega (arith, c.max-stop.ensures) in
     let reach : next.stop ≤ c.max-stop.result = omega (arith, c.max-stop.ensures) in
     record {
-      spells = subst (λ xs. SpellsStatements depth tokens c.args.from xs next.end) (sym c.in_ok-append-in-Ok.ensures.more)
+      spells = subst (λ xs. SpellsStatements depth tokens c.args.from xs next.end) (sym c.in_ok-append-in-Ok.ensures.appended)
           (each_one_more (SpellsStmt tokens depth) c.each.list.items c.args.from c.each.end next.end next.part c.each.invariant.spells read.spells);
       goes = each_next (λ tokens. SpellsStmt tokens depth) begins_statement tokens c.args.from c.each.end c.each.stop next.end next.stop c.max-stop.result c.each.invariant.goes near ahead below reach
-          (stmt_begins tokens depth c.each.end next.part next.end read.spells) read.sure;
-      on = (omega (arith, c.each.invariant.on, read.ahead), omega (arith, read.ahead, c.max-stop.ensures), omega (arith, c.each.invariant.on, c.max-stop.ensures), omega (arith, c.each.invariant.on, read.ahead, c.max-stop.ensures));
+          (stmt_begins tokens depth c.each.end next.part next.end read.spells) read.longest;
+      bounds = (omega (arith, c.each.invariant.bounds, read.ahead), omega (arith, read.ahead, c.max-stop.ensures), omega (arith, c.each.invariant.bounds, c.max-stop.ensures), omega (arith, c.each.invariant.bounds, read.ahead, c.max-stop.ensures));
     }
 
-pub statements-returns-in-Refused-clause-sure : goal.statements-returns-in-Refused-clause-sure
-statements-returns-in-Refused-clause-sure t c =
+pub statements-returns-in-Refused-clause-longest : goal.statements-returns-in-Refused-clause-longest
+statements-returns-in-Refused-clause-longest t c =
     let depth = c.args.depth in
     let stuck = stuck_of (λ tokens. SpellsStmt tokens depth) c.args.tokens.now c.each.end c.in-Refused.at c.in-Err.halt c.in-Refused.is c.in-Err.ensures.refused in
     let below : c.each.stop ≤ c.max.result = omega (arith, c.max.ensures) in
@@ -45,24 +45,24 @@ statements-returns-in-Refused-clause-sure t c =
 pub branch-returns-in-Ok-clause-spells : goal.branch-returns-in-Ok-clause-spells
 branch-returns-in-Ok-clause-spells t c =
     let statements = c.in-Ok.statements in
-    (c.place_at.ensures, c.requires.word, subst (λ xs. SpellsStatements c.args.depth c.args.tokens.now (c.args.from + 1) xs.items statements.end) (sym c.new.ensures) c.in-Ok.ensures.spells)
+    (c.place_at.ensures, c.requires.word, subst (λ xs. SpellsStatements c.args.depth c.args.tokens.now (c.args.from + 1) xs statements.end) (sym c.new.ensures) c.in-Ok.ensures.spells)
 
-pub branch-returns-in-Ok-clause-sure : goal.branch-returns-in-Ok-clause-sure
-branch-returns-in-Ok-clause-sure t c = λ others agree xs to h. c.in-Ok.ensures.sure others agree xs to h.1
+pub branch-returns-in-Ok-clause-longest : goal.branch-returns-in-Ok-clause-longest
+branch-returns-in-Ok-clause-longest t c = λ others agree xs to h. c.in-Ok.ensures.longest others agree xs to h.1
 
-pub maybe_branch-returns-then-not-is_word-clause-sure : goal.maybe_branch-returns-then-not-is_word-clause-sure
-maybe_branch-returns-then-not-is_word-clause-sure t c =
-    exact_is_sure (SpellsOptionalHeaded c.args.depth c.args.word) begins_statement c.args.tokens.now c.args.from c.args.from c.args.low
-    (optional_is_none (is_word c.args.word) (SpellsHeaded c.args.depth c.args.word) c.args.tokens.now c.args.from c.args.low (sym c.if-not-is_word.ensures.value) (omega (arith, c.requires))
+pub maybe_branch-returns-then-not-is_word-clause-longest : goal.maybe_branch-returns-then-not-is_word-clause-longest
+maybe_branch-returns-then-not-is_word-clause-longest t c =
+    only_is_longest (SpellsOptionalHeaded c.args.depth c.args.word) begins_statement c.args.tokens.now c.args.from c.args.from c.args.least_stop
+    (optional_is_none (is_word c.args.word) (SpellsHeaded c.args.depth c.args.word) c.args.tokens.now c.args.from c.args.least_stop (sym c.if-not-is_word.ensures.value) (omega (arith, c.requires))
     (λ others x to h. ap (is_word c.args.word) h.0 ∙ itself c.args.word))
 
-pub maybe_branch-returns-in_Ok-branch-clause-sure : goal.maybe_branch-returns-in_Ok-branch-clause-sure
-maybe_branch-returns-in_Ok-branch-clause-sure t c =
-    optional_is_sure (is_word c.args.word) (SpellsHeaded c.args.depth c.args.word) c.args.tokens.now c.args.from begins_statement c.in_Ok-branch.branch.end c.in_Ok-branch.branch.stop (sym c.if-not-is_word.ensures.value)
-    (omega (arith, c.in_Ok-branch.ensures.on)) c.in_Ok-branch.ensures.sure
+pub maybe_branch-returns-in_Ok-branch-clause-longest : goal.maybe_branch-returns-in_Ok-branch-clause-longest
+maybe_branch-returns-in_Ok-branch-clause-longest t c =
+    optional_is_longest (is_word c.args.word) (SpellsHeaded c.args.depth c.args.word) c.args.tokens.now c.args.from begins_statement c.in_Ok-branch.branch.end c.in_Ok-branch.branch.stop (sym c.if-not-is_word.ensures.value)
+    (omega (arith, c.in_Ok-branch.ensures.bounds)) c.in_Ok-branch.ensures.longest
 
 pub alternatives-returns-then-not-is_word-clause-refused : goal.alternatives-returns-then-not-is_word-clause-refused
-alternatives-returns-then-not-is_word-clause-refused t c = no_choice c.args.tokens.now c.args.depth c.args.from c.args.low c.requires.0 c.requires.1 (sym c.if-not-is_word.ensures.value)
+alternatives-returns-then-not-is_word-clause-refused t c = no_choice c.args.tokens.now c.args.depth c.args.from c.args.least_stop c.requires.0 c.requires.1 (sym c.if-not-is_word.ensures.value)
 
 pub alternatives-each-preserved : goal.alternatives-each-preserved
 alternatives-each-preserved t c =
@@ -71,23 +71,23 @@ alternatives-each-preserved t c =
     let next = c.in_Ok-next.next in
     let read = c.in_Ok-next.ensures in
     let here = c.each-test.ensures.stands refl in
-    let near : c.each.end ≤ c.each.stop = omega (arith, c.each.invariant.on) in
-    let ahead : c.each.end < next.end = omega (arith, read.on) in
+    let near : c.each.end ≤ c.each.stop = omega (arith, c.each.invariant.bounds) in
+    let ahead : c.each.end < next.end = omega (arith, read.bounds) in
     record {
-      spells = subst (λ xs. SpellsEach (SpellsBranch tokens depth w.ALT) c.args.from xs next.end) (sym c.in_ok-append-in_Ok-next.ensures.more)
+      spells = subst (λ xs. SpellsEach (SpellsBranch tokens depth w.ALT) c.args.from xs next.end) (sym c.in_ok-append-in_Ok-next.ensures.appended)
           (each_one_more (SpellsBranch tokens depth w.ALT) c.each.list.items c.args.from c.each.end next.end next.part c.each.invariant.spells read.spells);
-      goes = choices_next tokens depth c.args.from c.each.end c.each.stop next.end next.stop c.each.invariant.goes near ahead read.on.2 here read.sure;
-      on = (omega (arith, c.each.invariant.on, read.on), read.on.1, omega (arith, c.each.invariant.on, read.on), read.on.3);
+      goes = choices_next tokens depth c.args.from c.each.end c.each.stop next.end next.stop c.each.invariant.goes near ahead read.bounds.2 here read.longest;
+      bounds = (omega (arith, c.each.invariant.bounds, read.bounds), read.bounds.1, omega (arith, c.each.invariant.bounds, read.bounds), read.bounds.3);
     }
 
 pub alternatives-returns-in_Err-next-clause-refused : goal.alternatives-returns-in_Err-next-clause-refused
-alternatives-returns-in_Err-next-clause-refused t c = out_of_memory_behind (SpellsChoices c.args.depth) c.args.tokens.now c.args.from c.args.low c.in_Err-next.halt c.in_Err-next.ensures.refused
+alternatives-returns-in_Err-next-clause-refused t c = out_of_memory_behind (SpellsChoices c.args.depth) c.args.tokens.now c.args.from c.args.least_stop c.in_Err-next.halt c.in_Err-next.ensures.refused
 
 pub alternatives-returns-clause-spells : goal.alternatives-returns-clause-spells
 alternatives-returns-clause-spells t c = some_of c.args.tokens.now c.args.depth c.args.from c.each.list.items c.each.end (c.if-not-is_word.ensures.stands refl) (sym c.each-test.ensures.value) c.each.invariant.spells
 
-pub alternatives-returns-clause-sure : goal.alternatives-returns-clause-sure
-alternatives-returns-clause-sure t c = choices_end c.args.tokens.now c.args.depth c.args.from c.each.end c.each.stop c.each.invariant.goes (omega (arith, c.each.invariant.on)) (sym c.each-test.ensures.value)
+pub alternatives-returns-clause-longest : goal.alternatives-returns-clause-longest
+alternatives-returns-clause-longest t c = choices_end c.args.tokens.now c.args.depth c.args.from c.each.end c.each.stop c.each.invariant.goes (omega (arith, c.each.invariant.bounds)) (sym c.each-test.ensures.value)
 
 pub if_-returns-then-depth-eq0-clause-refused : goal.if_-returns-then-depth-eq0-clause-refused
 if_-returns-then-depth-eq0-clause-refused t c = no_if c.args.tokens.now c.args.depth c.args.from c.if-depth-eq0.true (omega (arith, c.requires.within)) c.requires.word
@@ -120,11 +120,11 @@ if_-returns-in_err-closing-clause-refused t c =
     let statements = c.in_ok-statements.statements in
     let otherwise = c.in_ok-otherwise.otherwise in
     let go_0 = if_goes tokens depth from c.requires.word in
-    let go_1 = past_exact (Spelled depth) tokens from SpellsCondition (then_rest (depth - 1)) from from condition.end condition.stop go_0 (omega (arith, c.in_ok-condition.ensures.ahead)) c.in_ok-condition.ensures.sure in
-    let go_2 = past (Spelled depth) tokens from (SpellsStatements (depth - 1)) begins_statement (otherwise_rest (depth - 1) w.ELSE) condition.end condition.stop statements.end statements.stop go_1 (omega (arith, c.in_ok-statements.ensures.on)) c.in_ok-statements.ensures.sure (avoids_otherwise begins_statement (depth - 1) w.ELSE refl refl) in
-    let go_3 = past (Spelled depth) tokens from (SpellsOptionalHeaded (depth - 1) w.ELSE) begins_statement (closing_rest w.FIN) statements.end statements.stop otherwise.end otherwise.stop go_2 (omega (arith, c.in_ok-otherwise.ensures.on)) c.in_ok-otherwise.ensures.sure (avoids_closing begins_statement w.FIN refl) in
+    let go_1 = past_only (Spelled depth) tokens from SpellsCondition (then_rest (depth - 1)) from from condition.end condition.stop go_0 (omega (arith, c.in_ok-condition.ensures.ahead)) c.in_ok-condition.ensures.longest in
+    let go_2 = past (Spelled depth) tokens from (SpellsStatements (depth - 1)) begins_statement (otherwise_rest (depth - 1) w.ELSE) condition.end condition.stop statements.end statements.stop go_1 (omega (arith, c.in_ok-statements.ensures.bounds)) c.in_ok-statements.ensures.longest (avoids_otherwise begins_statement (depth - 1) w.ELSE refl refl) in
+    let go_3 = past (Spelled depth) tokens from (SpellsOptionalHeaded (depth - 1) w.ELSE) begins_statement (closing_rest w.FIN) statements.end statements.stop otherwise.end otherwise.stop go_2 (omega (arith, c.in_ok-otherwise.ensures.bounds)) c.in_ok-otherwise.ensures.longest (avoids_closing begins_statement w.FIN refl) in
     err_told _ _ c.in_err-closing.field-0.0 c.from_residual-in_err-closing.result c.from_residual-in_err-closing.ensures (λ e is. is)
-    (no_part (Spelled depth) tokens from (SpellsClosing w.FIN) Ends otherwise.end otherwise.stop c.in_err-closing.field-0.0 go_3 (omega (arith, c.in_ok-condition.ensures.ahead, c.in_ok-statements.ensures.on, c.in_ok-otherwise.ensures.on)) c.in_err-closing.ensures.refused)
+    (no_part (Spelled depth) tokens from (SpellsClosing w.FIN) Ends otherwise.end otherwise.stop c.in_err-closing.field-0.0 go_3 (omega (arith, c.in_ok-condition.ensures.ahead, c.in_ok-statements.ensures.bounds, c.in_ok-otherwise.ensures.bounds)) c.in_err-closing.ensures.refused)
 
 pub if_-returns-clause-spells : goal.if_-returns-clause-spells
 if_-returns-clause-spells t c =
@@ -135,11 +135,11 @@ if_-returns-clause-spells t c =
     let statements = c.in_ok-statements.statements in
     let otherwise = c.in_ok-otherwise.otherwise in
     let deep : 0 < depth = omega (arith, c.if-depth-eq0.false) in
-    if_spelled tokens depth from c.place_at.result c.place_at.ensures deep condition.part c.new.result otherwise.part condition.end statements.end otherwise.end c.in_ok-condition.ensures.spells
-    (subst (λ xs. SpellsStatements (depth - 1) tokens condition.end xs.items statements.end) (sym c.new.ensures) c.in_ok-statements.ensures.spells) c.in_ok-otherwise.ensures.spells c.in_ok-closing.ensures.stands
+    if_spelled tokens depth from c.place_at.result c.place_at.ensures deep c.in_ok-boxed.field-0 condition.part c.new.result otherwise.part c.in_ok-boxed.ensures.value condition.end statements.end otherwise.end c.in_ok-condition.ensures.spells
+    (subst (λ xs. SpellsStatements (depth - 1) tokens condition.end xs statements.end) (sym c.new.ensures) c.in_ok-statements.ensures.spells) c.in_ok-otherwise.ensures.spells c.in_ok-closing.ensures.stands
 
-pub if_-returns-clause-sure : goal.if_-returns-clause-sure
-if_-returns-clause-sure t c =
+pub if_-returns-clause-longest : goal.if_-returns-clause-longest
+if_-returns-clause-longest t c =
     let tokens = c.args.tokens.now in
     let from = c.args.from in
     let depth = c.args.depth in
@@ -147,9 +147,9 @@ if_-returns-clause-sure t c =
     let statements = c.in_ok-statements.statements in
     let otherwise = c.in_ok-otherwise.otherwise in
     let go_0 = if_goes tokens depth from c.requires.word in
-    let go_1 = past_exact (Spelled depth) tokens from SpellsCondition (then_rest (depth - 1)) from from condition.end condition.stop go_0 (omega (arith, c.in_ok-condition.ensures.ahead)) c.in_ok-condition.ensures.sure in
-    let go_2 = past (Spelled depth) tokens from (SpellsStatements (depth - 1)) begins_statement (otherwise_rest (depth - 1) w.ELSE) condition.end condition.stop statements.end statements.stop go_1 (omega (arith, c.in_ok-statements.ensures.on)) c.in_ok-statements.ensures.sure (avoids_otherwise begins_statement (depth - 1) w.ELSE refl refl) in
-    let go_3 = past (Spelled depth) tokens from (SpellsOptionalHeaded (depth - 1) w.ELSE) begins_statement (closing_rest w.FIN) statements.end statements.stop otherwise.end otherwise.stop go_2 (omega (arith, c.in_ok-otherwise.ensures.on)) c.in_ok-otherwise.ensures.sure (avoids_closing begins_statement w.FIN refl) in
+    let go_1 = past_only (Spelled depth) tokens from SpellsCondition (then_rest (depth - 1)) from from condition.end condition.stop go_0 (omega (arith, c.in_ok-condition.ensures.ahead)) c.in_ok-condition.ensures.longest in
+    let go_2 = past (Spelled depth) tokens from (SpellsStatements (depth - 1)) begins_statement (otherwise_rest (depth - 1) w.ELSE) condition.end condition.stop statements.end statements.stop go_1 (omega (arith, c.in_ok-statements.ensures.bounds)) c.in_ok-statements.ensures.longest (avoids_otherwise begins_statement (depth - 1) w.ELSE refl refl) in
+    let go_3 = past (Spelled depth) tokens from (SpellsOptionalHeaded (depth - 1) w.ELSE) begins_statement (closing_rest w.FIN) statements.end statements.stop otherwise.end otherwise.stop go_2 (omega (arith, c.in_ok-otherwise.ensures.bounds)) c.in_ok-otherwise.ensures.longest (avoids_closing begins_statement w.FIN refl) in
     ends (Spelled depth) tokens from (closing_rest w.FIN) otherwise.end otherwise.stop c.max.result (otherwise.end + 2) go_3 (omega (arith, c.max.ensures)) (λ others to h. omega (arith, h.2.2, h.3))
 
 pub case-returns-then-depth-eq0-clause-refused : goal.case-returns-then-depth-eq0-clause-refused
@@ -171,9 +171,9 @@ case-returns-in_err-alternatives-clause-refused t c =
     let depth = c.args.depth in
     let selector = c.in_ok-selector.selector in
     let go_0 = case_goes tokens depth from c.requires.word in
-    let go_1 = past (Spelled depth) tokens from (λ tokens. SpellsAfter tokens w.CASE) extends_expression (choices_rest (depth - 1)) from from selector.end selector.stop go_0 (omega (arith, c.in_ok-selector.ensures.on)) c.in_ok-selector.ensures.sure (avoids_choices extends_expression (depth - 1) refl) in
+    let go_1 = past (Spelled depth) tokens from (λ tokens. SpellsAfter tokens w.CASE) extends_expression (choices_rest (depth - 1)) from from selector.end selector.stop go_0 (omega (arith, c.in_ok-selector.ensures.bounds)) c.in_ok-selector.ensures.longest (avoids_choices extends_expression (depth - 1) refl) in
     err_told _ _ c.in_err-alternatives.field-0.0 c.from_residual-in_err-alternatives.result c.from_residual-in_err-alternatives.ensures (λ e is. is)
-    (no_part (Spelled depth) tokens from (SpellsChoices (depth - 1)) (otherwise_rest (depth - 1) w.OUT) selector.end selector.stop c.in_err-alternatives.field-0.0 go_1 (omega (arith, c.in_ok-selector.ensures.on)) c.in_err-alternatives.ensures.refused)
+    (no_part (Spelled depth) tokens from (SpellsChoices (depth - 1)) (otherwise_rest (depth - 1) w.OUT) selector.end selector.stop c.in_err-alternatives.field-0.0 go_1 (omega (arith, c.in_ok-selector.ensures.bounds)) c.in_err-alternatives.ensures.refused)
 
 pub case-returns-in_err-otherwise-clause-refused : goal.case-returns-in_err-otherwise-clause-refused
 case-returns-in_err-otherwise-clause-refused t c =
@@ -189,11 +189,11 @@ case-returns-in_err-closing-clause-refused t c =
     let alternatives = c.in_ok-alternatives.alternatives in
     let otherwise = c.in_ok-otherwise.otherwise in
     let go_0 = case_goes tokens depth from c.requires.word in
-    let go_1 = past (Spelled depth) tokens from (λ tokens. SpellsAfter tokens w.CASE) extends_expression (choices_rest (depth - 1)) from from selector.end selector.stop go_0 (omega (arith, c.in_ok-selector.ensures.on)) c.in_ok-selector.ensures.sure (avoids_choices extends_expression (depth - 1) refl) in
-    let go_2 = past (Spelled depth) tokens from (SpellsChoices (depth - 1)) extends_alternatives (otherwise_rest (depth - 1) w.OUT) selector.end selector.stop alternatives.end alternatives.stop go_1 (omega (arith, c.in_ok-alternatives.ensures.on)) c.in_ok-alternatives.ensures.sure (avoids_otherwise extends_alternatives (depth - 1) w.OUT refl refl) in
-    let go_3 = past (Spelled depth) tokens from (SpellsOptionalHeaded (depth - 1) w.OUT) begins_statement (closing_rest w.FIN) alternatives.end alternatives.stop otherwise.end otherwise.stop go_2 (omega (arith, c.in_ok-otherwise.ensures.on)) c.in_ok-otherwise.ensures.sure (avoids_closing begins_statement w.FIN refl) in
+    let go_1 = past (Spelled depth) tokens from (λ tokens. SpellsAfter tokens w.CASE) extends_expression (choices_rest (depth - 1)) from from selector.end selector.stop go_0 (omega (arith, c.in_ok-selector.ensures.bounds)) c.in_ok-selector.ensures.longest (avoids_choices extends_expression (depth - 1) refl) in
+    let go_2 = past (Spelled depth) tokens from (SpellsChoices (depth - 1)) extends_alternatives (otherwise_rest (depth - 1) w.OUT) selector.end selector.stop alternatives.end alternatives.stop go_1 (omega (arith, c.in_ok-alternatives.ensures.bounds)) c.in_ok-alternatives.ensures.longest (avoids_otherwise extends_alternatives (depth - 1) w.OUT refl refl) in
+    let go_3 = past (Spelled depth) tokens from (SpellsOptionalHeaded (depth - 1) w.OUT) begins_statement (closing_rest w.FIN) alternatives.end alternatives.stop otherwise.end otherwise.stop go_2 (omega (arith, c.in_ok-otherwise.ensures.bounds)) c.in_ok-otherwise.ensures.longest (avoids_closing begins_statement w.FIN refl) in
     err_told _ _ c.in_err-closing.field-0.0 c.from_residual-in_err-closing.result c.from_residual-in_err-closing.ensures (λ e is. is)
-    (no_part (Spelled depth) tokens from (SpellsClosing w.FIN) Ends otherwise.end otherwise.stop c.in_err-closing.field-0.0 go_3 (omega (arith, c.in_ok-selector.ensures.on, c.in_ok-alternatives.ensures.on, c.in_ok-otherwise.ensures.on)) c.in_err-closing.ensures.refused)
+    (no_part (Spelled depth) tokens from (SpellsClosing w.FIN) Ends otherwise.end otherwise.stop c.in_err-closing.field-0.0 go_3 (omega (arith, c.in_ok-selector.ensures.bounds, c.in_ok-alternatives.ensures.bounds, c.in_ok-otherwise.ensures.bounds)) c.in_err-closing.ensures.refused)
 
 pub case-returns-clause-spells : goal.case-returns-clause-spells
 case-returns-clause-spells t c =
@@ -204,11 +204,11 @@ case-returns-clause-spells t c =
     let alternatives = c.in_ok-alternatives.alternatives in
     let otherwise = c.in_ok-otherwise.otherwise in
     let deep : 0 < depth = omega (arith, c.if-depth-eq0.false) in
-    case_spelled tokens depth from c.place_at.result c.place_at.ensures deep selector.part c.new.result otherwise.part selector.end alternatives.end otherwise.end c.in_ok-selector.ensures.spells
-    (subst (λ xs. SpellsSome (SpellsBranch tokens (depth - 1) w.ALT) selector.end xs.items alternatives.end) (sym c.new.ensures) c.in_ok-alternatives.ensures.spells) c.in_ok-otherwise.ensures.spells c.in_ok-closing.ensures.stands
+    case_spelled tokens depth from c.place_at.result c.place_at.ensures deep c.in_ok-boxed.field-0 selector.part c.new.result otherwise.part c.in_ok-boxed.ensures.value selector.end alternatives.end otherwise.end c.in_ok-selector.ensures.spells
+    (subst (λ xs. SpellsSome (SpellsBranch tokens (depth - 1) w.ALT) selector.end xs alternatives.end) (sym c.new.ensures) c.in_ok-alternatives.ensures.spells) c.in_ok-otherwise.ensures.spells c.in_ok-closing.ensures.stands
 
-pub case-returns-clause-sure : goal.case-returns-clause-sure
-case-returns-clause-sure t c =
+pub case-returns-clause-longest : goal.case-returns-clause-longest
+case-returns-clause-longest t c =
     let tokens = c.args.tokens.now in
     let from = c.args.from in
     let depth = c.args.depth in
@@ -216,9 +216,9 @@ case-returns-clause-sure t c =
     let alternatives = c.in_ok-alternatives.alternatives in
     let otherwise = c.in_ok-otherwise.otherwise in
     let go_0 = case_goes tokens depth from c.requires.word in
-    let go_1 = past (Spelled depth) tokens from (λ tokens. SpellsAfter tokens w.CASE) extends_expression (choices_rest (depth - 1)) from from selector.end selector.stop go_0 (omega (arith, c.in_ok-selector.ensures.on)) c.in_ok-selector.ensures.sure (avoids_choices extends_expression (depth - 1) refl) in
-    let go_2 = past (Spelled depth) tokens from (SpellsChoices (depth - 1)) extends_alternatives (otherwise_rest (depth - 1) w.OUT) selector.end selector.stop alternatives.end alternatives.stop go_1 (omega (arith, c.in_ok-alternatives.ensures.on)) c.in_ok-alternatives.ensures.sure (avoids_otherwise extends_alternatives (depth - 1) w.OUT refl refl) in
-    let go_3 = past (Spelled depth) tokens from (SpellsOptionalHeaded (depth - 1) w.OUT) begins_statement (closing_rest w.FIN) alternatives.end alternatives.stop otherwise.end otherwise.stop go_2 (omega (arith, c.in_ok-otherwise.ensures.on)) c.in_ok-otherwise.ensures.sure (avoids_closing begins_statement w.FIN refl) in
+    let go_1 = past (Spelled depth) tokens from (λ tokens. SpellsAfter tokens w.CASE) extends_expression (choices_rest (depth - 1)) from from selector.end selector.stop go_0 (omega (arith, c.in_ok-selector.ensures.bounds)) c.in_ok-selector.ensures.longest (avoids_choices extends_expression (depth - 1) refl) in
+    let go_2 = past (Spelled depth) tokens from (SpellsChoices (depth - 1)) extends_alternatives (otherwise_rest (depth - 1) w.OUT) selector.end selector.stop alternatives.end alternatives.stop go_1 (omega (arith, c.in_ok-alternatives.ensures.bounds)) c.in_ok-alternatives.ensures.longest (avoids_otherwise extends_alternatives (depth - 1) w.OUT refl refl) in
+    let go_3 = past (Spelled depth) tokens from (SpellsOptionalHeaded (depth - 1) w.OUT) begins_statement (closing_rest w.FIN) alternatives.end alternatives.stop otherwise.end otherwise.stop go_2 (omega (arith, c.in_ok-otherwise.ensures.bounds)) c.in_ok-otherwise.ensures.longest (avoids_closing begins_statement w.FIN refl) in
     ends (Spelled depth) tokens from (closing_rest w.FIN) otherwise.end otherwise.stop c.max.result (otherwise.end + 2) go_3 (omega (arith, c.max.ensures)) (λ others to h. omega (arith, h.2.2, h.3))
 
 pub repeat-returns-then-depth-eq0-clause-refused : goal.repeat-returns-then-depth-eq0-clause-refused
@@ -240,7 +240,7 @@ repeat-returns-in_err-body-clause-refused t c =
     let depth = c.args.depth in
     let heads = c.in_ok-heads.heads in
     let go_0 = repeat_goes tokens depth from c.requires.word in
-    let go_1 = past_exact (Spelled depth) tokens from SpellsHeads (block_rest (depth - 1)) from from heads.end heads.stop go_0 (omega (arith, c.in_ok-heads.ensures.ahead)) c.in_ok-heads.ensures.sure in
+    let go_1 = past_only (Spelled depth) tokens from SpellsHeads (block_rest (depth - 1)) from from heads.end heads.stop go_0 (omega (arith, c.in_ok-heads.ensures.ahead)) c.in_ok-heads.ensures.longest in
     err_told _ _ c.in_err-body.field-0.0 c.from_residual-in_err-body.result c.from_residual-in_err-body.ensures (λ e is. is)
     (no_part (Spelled depth) tokens from (SpellsBlock (depth - 1)) (closing_rest w.END) heads.end heads.stop c.in_err-body.field-0.0 go_1 (omega (arith, c.in_ok-heads.ensures.ahead)) c.in_err-body.ensures.refused)
 
@@ -252,10 +252,10 @@ repeat-returns-in_err-closing-clause-refused t c =
     let heads = c.in_ok-heads.heads in
     let body = c.in_ok-body.body in
     let go_0 = repeat_goes tokens depth from c.requires.word in
-    let go_1 = past_exact (Spelled depth) tokens from SpellsHeads (block_rest (depth - 1)) from from heads.end heads.stop go_0 (omega (arith, c.in_ok-heads.ensures.ahead)) c.in_ok-heads.ensures.sure in
-    let go_2 = past (Spelled depth) tokens from (SpellsBlock (depth - 1)) extends_body (closing_rest w.END) heads.end heads.stop body.end body.stop go_1 (omega (arith, c.in_ok-body.ensures.on)) c.in_ok-body.ensures.sure (avoids_closing extends_body w.END refl) in
+    let go_1 = past_only (Spelled depth) tokens from SpellsHeads (block_rest (depth - 1)) from from heads.end heads.stop go_0 (omega (arith, c.in_ok-heads.ensures.ahead)) c.in_ok-heads.ensures.longest in
+    let go_2 = past (Spelled depth) tokens from (SpellsBlock (depth - 1)) extends_body (closing_rest w.END) heads.end heads.stop body.end body.stop go_1 (omega (arith, c.in_ok-body.ensures.bounds)) c.in_ok-body.ensures.longest (avoids_closing extends_body w.END refl) in
     err_told _ _ c.in_err-closing.field-0.0 c.from_residual-in_err-closing.result c.from_residual-in_err-closing.ensures (λ e is. is)
-    (no_part (Spelled depth) tokens from (SpellsClosing w.END) Ends body.end body.stop c.in_err-closing.field-0.0 go_2 (omega (arith, c.in_ok-heads.ensures.ahead, c.in_ok-body.ensures.on)) c.in_err-closing.ensures.refused)
+    (no_part (Spelled depth) tokens from (SpellsClosing w.END) Ends body.end body.stop c.in_err-closing.field-0.0 go_2 (omega (arith, c.in_ok-heads.ensures.ahead, c.in_ok-body.ensures.bounds)) c.in_err-closing.ensures.refused)
 
 pub repeat-returns-clause-spells : goal.repeat-returns-clause-spells
 repeat-returns-clause-spells t c =
@@ -265,18 +265,18 @@ repeat-returns-clause-spells t c =
     let heads = c.in_ok-heads.heads in
     let body = c.in_ok-body.body in
     let deep : 0 < depth = omega (arith, c.if-depth-eq0.false) in
-    repeat_spelled tokens depth from c.place_at.result c.place_at.ensures deep heads.part body.part heads.end body.end c.in_ok-heads.ensures.spells c.in_ok-body.ensures.spells c.in_ok-closing.ensures.stands
+    repeat_spelled tokens depth from c.place_at.result c.place_at.ensures deep c.in_ok-boxed.field-0 heads.part body.part c.in_ok-boxed.ensures.value heads.end body.end c.in_ok-heads.ensures.spells c.in_ok-body.ensures.spells c.in_ok-closing.ensures.stands
 
-pub repeat-returns-clause-sure : goal.repeat-returns-clause-sure
-repeat-returns-clause-sure t c =
+pub repeat-returns-clause-longest : goal.repeat-returns-clause-longest
+repeat-returns-clause-longest t c =
     let tokens = c.args.tokens.now in
     let from = c.args.from in
     let depth = c.args.depth in
     let heads = c.in_ok-heads.heads in
     let body = c.in_ok-body.body in
     let go_0 = repeat_goes tokens depth from c.requires.word in
-    let go_1 = past_exact (Spelled depth) tokens from SpellsHeads (block_rest (depth - 1)) from from heads.end heads.stop go_0 (omega (arith, c.in_ok-heads.ensures.ahead)) c.in_ok-heads.ensures.sure in
-    let go_2 = past (Spelled depth) tokens from (SpellsBlock (depth - 1)) extends_body (closing_rest w.END) heads.end heads.stop body.end body.stop go_1 (omega (arith, c.in_ok-body.ensures.on)) c.in_ok-body.ensures.sure (avoids_closing extends_body w.END refl) in
+    let go_1 = past_only (Spelled depth) tokens from SpellsHeads (block_rest (depth - 1)) from from heads.end heads.stop go_0 (omega (arith, c.in_ok-heads.ensures.ahead)) c.in_ok-heads.ensures.longest in
+    let go_2 = past (Spelled depth) tokens from (SpellsBlock (depth - 1)) extends_body (closing_rest w.END) heads.end heads.stop body.end body.stop go_1 (omega (arith, c.in_ok-body.ensures.bounds)) c.in_ok-body.ensures.longest (avoids_closing extends_body w.END refl) in
     ends (Spelled depth) tokens from (closing_rest w.END) body.end body.stop c.max.result (body.end + 2) go_2 (omega (arith, c.max.ensures)) (λ others to h. omega (arith, h.2.2, h.3))
 
 pub begin-returns-then-depth-eq0-clause-refused : goal.begin-returns-then-depth-eq0-clause-refused
@@ -298,9 +298,9 @@ begin-returns-in_err-closing-clause-refused t c =
     let depth = c.args.depth in
     let body = c.in_ok-body.body in
     let go_0 = begin_goes tokens depth from c.requires.word in
-    let go_1 = past (Spelled depth) tokens from (SpellsBlock (depth - 1)) extends_body (closing_rest w.END) (from + 1) from body.end body.stop go_0 (omega (arith, c.in_ok-body.ensures.on)) c.in_ok-body.ensures.sure (avoids_closing extends_body w.END refl) in
+    let go_1 = past (Spelled depth) tokens from (SpellsBlock (depth - 1)) extends_body (closing_rest w.END) (from + 1) from body.end body.stop go_0 (omega (arith, c.in_ok-body.ensures.bounds)) c.in_ok-body.ensures.longest (avoids_closing extends_body w.END refl) in
     err_told _ _ c.in_err-closing.field-0.0 c.from_residual-in_err-closing.result c.from_residual-in_err-closing.ensures (λ e is. is)
-    (no_part (Spelled depth) tokens from (SpellsClosing w.END) Ends body.end body.stop c.in_err-closing.field-0.0 go_1 (omega (arith, c.in_ok-body.ensures.on)) c.in_err-closing.ensures.refused)
+    (no_part (Spelled depth) tokens from (SpellsClosing w.END) Ends body.end body.stop c.in_err-closing.field-0.0 go_1 (omega (arith, c.in_ok-body.ensures.bounds)) c.in_err-closing.ensures.refused)
 
 pub begin-returns-clause-spells : goal.begin-returns-clause-spells
 begin-returns-clause-spells t c =
@@ -309,30 +309,30 @@ begin-returns-clause-spells t c =
     let depth = c.args.depth in
     let body = c.in_ok-body.body in
     let deep : 0 < depth = omega (arith, c.if-depth-eq0.false) in
-    begin_spelled tokens depth from c.place_at.result c.place_at.ensures deep body.part body.end c.requires.word c.in_ok-body.ensures.spells c.in_ok-closing.ensures.stands
+    begin_spelled tokens depth from c.place_at.result c.place_at.ensures deep c.in_ok-boxed.field-0 body.part c.in_ok-boxed.ensures.value body.end c.requires.word c.in_ok-body.ensures.spells c.in_ok-closing.ensures.stands
 
-pub begin-returns-clause-sure : goal.begin-returns-clause-sure
-begin-returns-clause-sure t c =
+pub begin-returns-clause-longest : goal.begin-returns-clause-longest
+begin-returns-clause-longest t c =
     let tokens = c.args.tokens.now in
     let from = c.args.from in
     let depth = c.args.depth in
     let body = c.in_ok-body.body in
     let go_0 = begin_goes tokens depth from c.requires.word in
-    let go_1 = past (Spelled depth) tokens from (SpellsBlock (depth - 1)) extends_body (closing_rest w.END) (from + 1) from body.end body.stop go_0 (omega (arith, c.in_ok-body.ensures.on)) c.in_ok-body.ensures.sure (avoids_closing extends_body w.END refl) in
+    let go_1 = past (Spelled depth) tokens from (SpellsBlock (depth - 1)) extends_body (closing_rest w.END) (from + 1) from body.end body.stop go_0 (omega (arith, c.in_ok-body.ensures.bounds)) c.in_ok-body.ensures.longest (avoids_closing extends_body w.END refl) in
     ends (Spelled depth) tokens from (closing_rest w.END) body.end body.stop c.max.result (body.end + 2) go_1 (omega (arith, c.max.ensures)) (λ others to h. omega (arith, h.2.2, h.3))
 
 pub body-returns-then-from-tokens-clause-refused : goal.body-returns-then-from-tokens-clause-refused
-body-returns-then-from-tokens-clause-refused t c = no_block c.args.tokens.now c.args.depth c.args.from c.args.low (omega (arith, c.if-from-tokens.true)) c.requires.0 c.requires.1
+body-returns-then-from-tokens-clause-refused t c = no_block c.args.tokens.now c.args.depth c.args.from c.args.least_stop (omega (arith, c.if-from-tokens.true)) c.requires.0 c.requires.1
 
 pub body-returns-in_err-declarations-clause-refused : goal.body-returns-in_err-declarations-clause-refused
 body-returns-in_err-declarations-clause-refused t c =
     err_told _ _ c.in_err-declarations.field-0.0 c.from_residual.result c.from_residual.ensures (λ e is. is)
-    (out_of_memory_behind (SpellsBlock c.args.depth) c.args.tokens.now c.args.from c.args.low c.in_err-declarations.field-0.0 c.in_err-declarations.ensures.refused)
+    (out_of_memory_behind (SpellsBlock c.args.depth) c.args.tokens.now c.args.from c.args.least_stop c.in_err-declarations.field-0.0 c.in_err-declarations.ensures.refused)
 
 pub body-returns-in_err-statements-clause-refused : goal.body-returns-in_err-statements-clause-refused
 body-returns-in_err-statements-clause-refused t c =
     err_told _ _ c.in_err-statements.field-0.0 c.from_residual-in_err-statements.result c.from_residual-in_err-statements.ensures (λ e is. is)
-    (out_of_memory_behind (SpellsBlock c.args.depth) c.args.tokens.now c.args.from c.args.low c.in_err-statements.field-0.0 c.in_err-statements.ensures.refused)
+    (out_of_memory_behind (SpellsBlock c.args.depth) c.args.tokens.now c.args.from c.args.least_stop c.in_err-statements.field-0.0 c.in_err-statements.ensures.refused)
 
 pub body-returns-clause-spells : goal.body-returns-clause-spells
 body-returns-clause-spells t c =
@@ -341,25 +341,25 @@ body-returns-clause-spells t c =
     let statements = c.in_ok-statements.statements in (
       declarations.end,
       c.place_at.ensures,
-      subst (λ xs. SpellsEach (SpellsBodyDecl tokens) c.args.from xs.items declarations.end) (sym c.new.ensures) c.in_ok-declarations.ensures.spells,
-      subst (λ xs. SpellsStatements c.args.depth tokens declarations.end xs.items statements.end) (sym c.new-2.ensures) c.in_ok-statements.ensures.spells,
+      subst (λ xs. SpellsEach (SpellsBodyDecl tokens) c.args.from xs declarations.end) (sym c.new.ensures) c.in_ok-declarations.ensures.spells,
+      subst (λ xs. SpellsStatements c.args.depth tokens declarations.end xs statements.end) (sym c.new-2.ensures) c.in_ok-statements.ensures.spells,
     )
 
-pub body-returns-clause-sure : goal.body-returns-clause-sure
-body-returns-clause-sure t c =
+pub body-returns-clause-longest : goal.body-returns-clause-longest
+body-returns-clause-longest t c =
     let declarations = c.in_ok-declarations.declarations in
     let statements = c.in_ok-statements.statements in
-    block_is_sure c.args.tokens.now c.args.depth c.args.from declarations.end declarations.stop statements.end statements.stop
-    (omega (arith, c.max-low.ensures, c.in_ok-statements.ensures.on)) (omega (arith, c.in_ok-statements.ensures.on)) c.in_ok-declarations.ensures.sure c.in_ok-statements.ensures.sure
+    block_is_longest c.args.tokens.now c.args.depth c.args.from declarations.end declarations.stop statements.end statements.stop
+    (omega (arith, c.max-least_stop.ensures, c.in_ok-statements.ensures.bounds)) (omega (arith, c.in_ok-statements.ensures.bounds)) c.in_ok-declarations.ensures.longest c.in_ok-statements.ensures.longest
 
 pub statement-returns-in-None-clause-refused : goal.statement-returns-in-None-clause-refused
 statement-returns-in-None-clause-refused t c = no_statement c.args.tokens.now c.args.depth c.args.from c.requires (c.in-None.ensures.none refl)
 
-pub statement-returns-in-Plain-clause-spells : goal.statement-returns-in-Plain-clause-spells
-statement-returns-in-Plain-clause-spells t c = ok_map _ _ c.plain.result (λ reading h. h c.args.depth) c.plain.ensures.spells
+pub statement-returns-in-Simple-clause-spells : goal.statement-returns-in-Simple-clause-spells
+statement-returns-in-Simple-clause-spells t c = ok_map _ _ c.simple.result (λ reading h. h c.args.depth) c.simple.ensures.spells
 
-pub statement-returns-in-Plain-clause-sure : goal.statement-returns-in-Plain-clause-sure
-statement-returns-in-Plain-clause-sure t c = ok_map _ _ c.plain.result (λ reading h. h c.args.depth) c.plain.ensures.sure
+pub statement-returns-in-Simple-clause-longest : goal.statement-returns-in-Simple-clause-longest
+statement-returns-in-Simple-clause-longest t c = ok_map _ _ c.simple.result (λ reading h. h c.args.depth) c.simple.ensures.longest
 
-pub statement-returns-in-Plain-clause-refused : goal.statement-returns-in-Plain-clause-refused
-statement-returns-in-Plain-clause-refused t c = at_depth (λ depth halt. IsHalted (λ tokens. SpellsStmt tokens depth) c.args.tokens.now c.args.from halt) c.args.depth c.plain.result c.plain.ensures.refused
+pub statement-returns-in-Simple-clause-refused : goal.statement-returns-in-Simple-clause-refused
+statement-returns-in-Simple-clause-refused t c = at_depth (λ depth halt. IsHalted (λ tokens. SpellsStmt tokens depth) c.args.tokens.now c.args.from halt) c.args.depth c.simple.result c.simple.ensures.refused

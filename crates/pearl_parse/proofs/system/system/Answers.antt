@@ -3,7 +3,7 @@ use Rattle.pearl_tree.specs.Modules.{SpellsSystem}
 use Rattle.pearl_tables.specs.declared.symbol.TheConstants as s
 use Rattle.pearl_parse_expr.specs.Stops.{is_symbol}
 use Rattle.pearl_parse.proofs.Steps.{err_told, missing}
-use Rattle.pearl_parse.proofs.ModuleRests.{devices_rest, devices_go, system_is_sure}
+use Rattle.pearl_parse.proofs.ModuleRests.{devices_rest, devices_go, system_is_longest}
 use Rattle.pearl_parse.proofs.system.system.Goals as goal
 
 pub returns-in_err-symbol-clause-refused : goal.returns-in_err-symbol-clause-refused
@@ -14,6 +14,6 @@ returns-in_err-symbol-clause-refused c =
     (missing SpellsSystem tokens from (is_symbol s.SEMICOLON) devices_rest (from + 1) from (from + 1) c.in_err-symbol.field-0.0 (devices_go tokens from)
     (λ others to h. ap (is_symbol s.SEMICOLON) h.0) (omega arith) (omega (arith, c.requires.within)) (omega (arith, c.requires.within)) c.in_err-symbol.ensures.missing)
 
-pub returns-in-Ok-clause-sure : goal.returns-in-Ok-clause-sure
-returns-in-Ok-clause-sure c =
-    system_is_sure c.args.tokens.now c.args.from c.in-Ok.devices.end c.in-Ok.devices.stop c.in-Ok.ensures.sure
+pub returns-in-Ok-clause-longest : goal.returns-in-Ok-clause-longest
+returns-in-Ok-clause-longest c =
+    system_is_longest c.args.tokens.now c.args.from c.in-Ok.devices.end c.in-Ok.devices.stop c.in-Ok.ensures.longest

@@ -24,15 +24,15 @@ returns-in_err-symbol-clause-refused c =
     let read = c.in_ok-names.ensures in
     err_told _ _ c.in_err-symbol.field-0.0 c.from_residual-in_err-symbol.result c.from_residual-in_err-symbol.ensures (λ e is. is)
     (λ depth.
-    let go = past (Spelled depth) tokens from SpellsNameList (by_comma never) exit_rest (from + 1) from names.end names.stop (semas_goes tokens depth from c.args.word c.requires.word) (omega (arith, read.ahead)) read.sure (λ others at to h. ap (by_comma never) h.0) in
+    let go = past (Spelled depth) tokens from SpellsNameList (by_comma never) exit_rest (from + 1) from names.end names.stop (semas_goes tokens depth from c.args.word c.requires.word) (omega (arith, read.ahead)) read.longest (λ others at to h. ap (by_comma never) h.0) in
     missing (Spelled depth) tokens from (is_symbol s.SEMICOLON) exit_rest names.end names.stop names.end c.in_err-symbol.field-0.0 go
     (λ others to h. ap (is_symbol s.SEMICOLON) h.0) (omega (arith, read.ahead)) (omega (arith, read.ahead)) (omega (arith, read.ahead)) c.in_err-symbol.ensures.missing)
 
-pub returns-clause-sure : goal.returns-clause-sure
-returns-clause-sure c = λ depth.
+pub returns-clause-longest : goal.returns-clause-longest
+returns-clause-longest c = λ depth.
     let tokens = c.args.tokens.now in
     let from = c.args.from in
     let names = c.in_ok-names.names in
     let read = c.in_ok-names.ensures in
-    let go = past (Spelled depth) tokens from SpellsNameList (by_comma never) exit_rest (from + 1) from names.end names.stop (semas_goes tokens depth from c.args.word c.requires.word) (omega (arith, read.ahead)) read.sure (λ others at to h. ap (by_comma never) h.0) in
+    let go = past (Spelled depth) tokens from SpellsNameList (by_comma never) exit_rest (from + 1) from names.end names.stop (semas_goes tokens depth from c.args.word c.requires.word) (omega (arith, read.ahead)) read.longest (λ others at to h. ap (by_comma never) h.0) in
     ends (Spelled depth) tokens from exit_rest names.end names.stop c.max.result (names.end + 1) go (omega (arith, c.max.ensures)) (λ others to h. h.1)

@@ -1,7 +1,7 @@
 use Rattle.std.proofs.Common.{ap, arith}
 use Rattle.pearl_tree.specs.Modules.{SpellsBlock, SpellsDecl}
 use Rattle.pearl_parse_expr.specs.Stops.{is_name}
-use Rattle.pearl_parse.proofs.Steps.{Ends, err_told, past_exact, no_part}
+use Rattle.pearl_parse.proofs.Steps.{Ends, err_told, past_only, no_part}
 use Rattle.pearl_parse.proofs.UnitRests.{block_goes}
 use Rattle.pearl_parse.proofs.unit.procedure.Goals as goal
 
@@ -15,12 +15,12 @@ returns-in_err-block-clause-refused c =
     let second = c.returns-returns.ensures in
     let stop = c.max.result in
     let go = block_goes tokens from (ap is_name c.requires.name.0) c.requires.word params.end params.stop returns.end returns.stop stop (omega (arith, first.ahead))
-    (omega (arith, c.max.ensures)) (omega (arith, c.max.ensures)) first.sure second.sure in
+    (omega (arith, c.max.ensures)) (omega (arith, c.max.ensures)) first.longest second.longest in
     err_told _ _ c.in_err-block.field-0.0 c.from_residual.result c.from_residual.ensures (λ e is. is)
     (no_part SpellsDecl tokens from SpellsBlock Ends returns.end stop c.in_err-block.field-0.0 go (omega (arith, c.max.ensures, first.ahead)) c.in_err-block.ensures.refused)
 
-pub returns-clause-sure : goal.returns-clause-sure
-returns-clause-sure c =
+pub returns-clause-longest : goal.returns-clause-longest
+returns-clause-longest c =
     let tokens = c.args.tokens.now in
     let from = c.args.from in
     let params = c.in-Ok.params in
@@ -31,5 +31,5 @@ returns-clause-sure c =
     let block = c.in_ok-block.block in
     let last = c.in_ok-block.ensures in
     let go = block_goes tokens from (ap is_name c.requires.name.0) c.requires.word params.end params.stop returns.end returns.stop stop (omega (arith, first.ahead))
-    (omega (arith, c.max.ensures)) (omega (arith, c.max.ensures)) first.sure second.sure in
-    past_exact SpellsDecl tokens from SpellsBlock Ends returns.end stop block.end block.stop go last.on.2 last.sure
+    (omega (arith, c.max.ensures)) (omega (arith, c.max.ensures)) first.longest second.longest in
+    past_only SpellsDecl tokens from SpellsBlock Ends returns.end stop block.end block.stop go last.bounds.2 last.longest

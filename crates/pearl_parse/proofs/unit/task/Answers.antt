@@ -2,7 +2,7 @@ use Rattle.std.proofs.Common.{◌+◌, ap, arith}
 use Rattle.pearl_tree.specs.Modules.{SpellsTaskHead, SpellsBlock, SpellsDecl}
 use Rattle.pearl_parse_decl.specs.Readings.{extends_head}
 use Rattle.pearl_parse_expr.specs.Stops.{is_name}
-use Rattle.pearl_parse.proofs.Steps.{Ends, err_told, past, past_exact, no_part}
+use Rattle.pearl_parse.proofs.Steps.{Ends, err_told, past, past_only, no_part}
 use Rattle.pearl_parse.proofs.BlockRests.{block_rest, head_stops}
 use Rattle.pearl_parse.proofs.UnitRests.{task_goes}
 use Rattle.pearl_parse.proofs.unit.task.Goals as goal
@@ -14,12 +14,12 @@ returns-in_err-block-clause-refused c =
     let head = c.task_head-head.result in
     let read = c.task_head-head.ensures in
     let go = past SpellsDecl tokens from SpellsTaskHead extends_head block_rest (from + 3) (from + 2) head.end head.stop
-    (task_goes tokens from (ap is_name c.requires.name.0) c.requires.word) (omega (arith, read.ahead)) read.sure head_stops in
+    (task_goes tokens from (ap is_name c.requires.name.0) c.requires.word) (omega (arith, read.ahead)) read.longest head_stops in
     err_told _ _ c.in_err-block.field-0.0 c.from_residual.result c.from_residual.ensures (λ e is. is)
     (no_part SpellsDecl tokens from SpellsBlock Ends head.end head.stop c.in_err-block.field-0.0 go (omega (arith, read.ahead)) c.in_err-block.ensures.refused)
 
-pub returns-clause-sure : goal.returns-clause-sure
-returns-clause-sure c =
+pub returns-clause-longest : goal.returns-clause-longest
+returns-clause-longest c =
     let tokens = c.args.tokens.now in
     let from = c.args.from in
     let head = c.task_head-head.result in
@@ -27,5 +27,5 @@ returns-clause-sure c =
     let block = c.in_ok-block.block in
     let last = c.in_ok-block.ensures in
     let go = past SpellsDecl tokens from SpellsTaskHead extends_head block_rest (from + 3) (from + 2) head.end head.stop
-    (task_goes tokens from (ap is_name c.requires.name.0) c.requires.word) (omega (arith, read.ahead)) read.sure head_stops in
-    past_exact SpellsDecl tokens from SpellsBlock Ends head.end head.stop block.end block.stop go last.on.2 last.sure
+    (task_goes tokens from (ap is_name c.requires.name.0) c.requires.word) (omega (arith, read.ahead)) read.longest head_stops in
+    past_only SpellsDecl tokens from SpellsBlock Ends head.end head.stop block.end block.stop go last.bounds.2 last.longest

@@ -4,5 +4,5 @@ use Rattle.pearl_parse_expr.specs.Stops.{is_word}
 use Rattle.pearl_parse_decl.proofs.Behind.{maybe_is_none}
 use Rattle.pearl_parse_decl.proofs.head.returns.Goals as goal
 
-pub returns-in-Err-clause-sure : goal.returns-in-Err-clause-sure
-returns-in-Err-clause-sure c = maybe_is_none SpellsReturns (is_word w.RETURNS) c.args.tokens.now c.args.from c.in-Err.stop c.in-Err.ensures.refused
+pub returns-in-Err-clause-longest : goal.returns-in-Err-clause-longest
+returns-in-Err-clause-longest c = maybe_is_none SpellsReturns (is_word w.RETURNS) c.args.tokens.now c.args.from c.in-Err.stop c.in-Err.ensures.refused

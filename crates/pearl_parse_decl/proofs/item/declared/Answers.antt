@@ -8,17 +8,17 @@ use Rattle.pearl_parse_decl.proofs.Behind.{halted_past, ends_as}
 use Rattle.pearl_parse_decl.proofs.Items.{only_sema, only_item}
 use Rattle.pearl_parse_decl.proofs.item.declared.Goals as goal
 
-pub returns-in-Ok-sema_behind-clause-sure : goal.returns-in-Ok-sema_behind-clause-sure
-returns-in-Ok-sema_behind-clause-sure c = λ others agree x to h.
+pub returns-in-Ok-sema_behind-clause-longest : goal.returns-in-Ok-sema_behind-clause-longest
+returns-in-Ok-sema_behind-clause-longest c = λ others agree x to h.
     let tokens = c.args.tokens.now in
     let names = c.in-Ok.names in
     let sema = c.in-Ok-sema_behind.sema in
     let far : names.stop ≤ sema.stop = c.in-Ok-sema_behind.ensures.far in
     let near : names.end ≤ sema.stop = omega (arith, far, c.in-Ok.ensures.ahead) in
     let read = only_sema others c.args.from names.end (ap (stops.is_word w.SEMA) (sym (agree names.end near)) ∙ sym c.if-is_word.ensures.value)
-    (λ x to h. c.in-Ok.ensures.sure others (shorter tokens others names.stop sema.stop far agree) x to h) x to h in
+    (λ x to h. c.in-Ok.ensures.longest others (shorter tokens others names.stop sema.stop far agree) x to h) x to h in
     ends_as extends_sema extends_declared others sema.end to (λ token h. or_second (extends_item token) (extends_sema token) h)
-    (subst (λ k. (k ≡ sema.end) ⊎ stops.EndsEarly extends_sema others sema.end k) read.3 (c.in-Ok-sema_behind.ensures.sure others agree read.0 read.1 read.2))
+    (subst (λ k. (k ≡ sema.end) ⊎ stops.EndsEarly extends_sema others sema.end k) read.3 (c.in-Ok-sema_behind.ensures.longest others agree read.0 read.1 read.2))
 
 pub returns-in-Err-sema_behind-clause-refused : goal.returns-in-Err-sema_behind-clause-refused
 returns-in-Err-sema_behind-clause-refused c =
@@ -28,21 +28,21 @@ returns-in-Err-sema_behind-clause-refused c =
     halted_past grammar.SpellsSema grammar.SpellsDeclared tokens c.args.from names.stop c.in-Err-sema_behind.halt c.in-Err-sema_behind.ensures.past
     (λ others agree x to h.
     let read = only_sema others c.args.from names.end (ap (stops.is_word w.SEMA) (sym (agree names.end near)) ∙ sym c.if-is_word.ensures.value)
-    (λ x to h. c.in-Ok.ensures.sure others agree x to h) x to h in
+    (λ x to h. c.in-Ok.ensures.longest others agree x to h) x to h in
     (read.0, read.1, read.2))
     c.in-Err-sema_behind.ensures.refused
 
-pub returns-in-Ok-item_behind-clause-sure : goal.returns-in-Ok-item_behind-clause-sure
-returns-in-Ok-item_behind-clause-sure c = λ others agree x to h.
+pub returns-in-Ok-item_behind-clause-longest : goal.returns-in-Ok-item_behind-clause-longest
+returns-in-Ok-item_behind-clause-longest c = λ others agree x to h.
     let tokens = c.args.tokens.now in
     let names = c.in-Ok.names in
     let item = c.in-Ok-item_behind.item in
     let far : names.stop ≤ item.stop = c.in-Ok-item_behind.ensures.far in
     let near : names.end ≤ item.stop = omega (arith, far, c.in-Ok.ensures.ahead) in
     let read = only_item others c.args.from names.end (ap (stops.is_word w.SEMA) (sym (agree names.end near)) ∙ sym c.if-is_word.ensures.value)
-    (λ x to h. c.in-Ok.ensures.sure others (shorter tokens others names.stop item.stop far agree) x to h) x to h in
+    (λ x to h. c.in-Ok.ensures.longest others (shorter tokens others names.stop item.stop far agree) x to h) x to h in
     ends_as extends_item extends_declared others item.end to (λ token h. or_first (extends_item token) (extends_sema token) h)
-    (subst (λ k. (k ≡ item.end) ⊎ stops.EndsEarly extends_item others item.end k) read.3 (c.in-Ok-item_behind.ensures.sure others agree read.0 read.1 read.2))
+    (subst (λ k. (k ≡ item.end) ⊎ stops.EndsEarly extends_item others item.end k) read.3 (c.in-Ok-item_behind.ensures.longest others agree read.0 read.1 read.2))
 
 pub returns-in-Err-item_behind-clause-refused : goal.returns-in-Err-item_behind-clause-refused
 returns-in-Err-item_behind-clause-refused c =
@@ -52,6 +52,6 @@ returns-in-Err-item_behind-clause-refused c =
     halted_past grammar.SpellsItem grammar.SpellsDeclared tokens c.args.from names.stop c.in-Err-item_behind.halt c.in-Err-item_behind.ensures.past
     (λ others agree x to h.
     let read = only_item others c.args.from names.end (ap (stops.is_word w.SEMA) (sym (agree names.end near)) ∙ sym c.if-is_word.ensures.value)
-    (λ x to h. c.in-Ok.ensures.sure others agree x to h) x to h in
+    (λ x to h. c.in-Ok.ensures.longest others agree x to h) x to h in
     (read.0, read.1, read.2))
     c.in-Err-item_behind.ensures.refused

@@ -23,12 +23,12 @@ returns-in-Err-typing-clause-refused c =
     (halted_behind (λ tokens. SpellsTyping tokens 8) grammar.SpellsItem tokens c.args.from inv.end stop c.in-Err-typing.halt on within
     (λ others agree x to h.
     let read = item_typing tokens others c.args.from names.end bounds.end inv.end names.stop bounds.stop inv.stop stop below reach last
-    c.requires.sure c.in-Ok.ensures.sure c.flag-inv.ensures.sure agree x to h in
+    c.requires.longest c.in-Ok.ensures.longest c.flag-inv.ensures.longest agree x to h in
     (x.typing, read.0, read.1))
     c.in-Err-typing.ensures.refused)
 
-pub returns-clause-sure : goal.returns-clause-sure
-returns-clause-sure c = λ others agree x to h.
+pub returns-clause-longest : goal.returns-clause-longest
+returns-clause-longest c = λ others agree x to h.
     let tokens = c.args.tokens.now in
     let names = c.args.names in
     let bounds = c.in-Ok.bounds in
@@ -43,7 +43,7 @@ returns-clause-sure c = λ others agree x to h.
     let fifth : init.stop ≤ stop = omega (arith, c.max-3.ensures) in
     let near : typing.end ≤ init.end = omega (arith, c.in-Ok-maybe_headed.ensures.ahead) in
     let read = item_typing tokens others c.args.from names.end bounds.end inv.end names.stop bounds.stop inv.stop stop below reach third
-    c.requires.sure c.in-Ok.ensures.sure c.flag-inv.ensures.sure agree x to h in
+    c.requires.longest c.in-Ok.ensures.longest c.flag-inv.ensures.longest agree x to h in
     init_last others read.0 typing.end init.end x.init.items.items to near read.2
-    (c.in-Ok-typing.ensures.sure others (shorter tokens others typing.stop stop fourth agree) x.typing read.0 read.1)
-    (λ xs to h. c.in-Ok-maybe_headed.ensures.sure others (shorter tokens others init.stop stop fifth agree) xs to h)
+    (c.in-Ok-typing.ensures.longest others (shorter tokens others typing.stop stop fourth agree) x.typing read.0 read.1)
+    (λ xs to h. c.in-Ok-maybe_headed.ensures.longest others (shorter tokens others init.stop stop fifth agree) xs to h)

@@ -9,10 +9,10 @@ pub each-init : goal.each-init
 each-init g c =
     let first = c.in-Ok.first in
     record {
-      spells = subst (λ xs. SpellsList c.args.tokens.now (g.P.Part.spelling c.args.tokens.now) c.args.from xs first.end)
-          (sym (c.in_ok-append.ensures.more ∙ ap (λ xs. xs ++ first.part ∷ []) c.new-list.ensures.items))
+      spells = subst (λ xs. SpellsList c.args.tokens.now (g.P.Readable.spelling c.args.tokens.now) c.args.from xs first.end)
+          (sym (c.in_ok-append.ensures.appended ∙ ap (λ xs. xs ++ first.part ∷ []) c.new-list.ensures.items))
           (first.end, c.in-Ok.ensures.spells, refl);
-      goes = list_begins g.P.Part.spelling g.P.Part.extends g.met.P.Part.stops_at_comma c.args.tokens.now c.args.from first.end first.stop c.in-Ok.ensures.sure;
+      goes = list_begins g.P.Readable.spelling g.P.Readable.extends g.met.P.Readable.stops_at_comma c.args.tokens.now c.args.from first.end first.stop c.in-Ok.ensures.longest;
       ahead = c.in-Ok.ensures.ahead;
     }
 
@@ -27,20 +27,20 @@ each-preserved g c =
     let below : c.each.stop ≤ c.max-stop.result = omega (arith, c.max-stop.ensures) in
     let reach : next.stop ≤ c.max-stop.result = omega (arith, c.max-stop.ensures) in
     record {
-      spells = subst (λ xs. SpellsList tokens (g.P.Part.spelling tokens) c.args.from xs next.end) (sym c.in_ok-append-in-Ok-read.ensures.more)
-          (list_one_more tokens (g.P.Part.spelling tokens) c.each.list.items c.args.from c.each.end next.end next.part c.each.invariant.spells comma read.spells);
-      goes = list_next g.P.Part.spelling g.P.Part.extends g.met.P.Part.stops_at_comma tokens c.args.from c.each.end c.each.stop next.end next.stop c.max-stop.result c.each.invariant.goes near ahead below reach comma read.sure;
+      spells = subst (λ xs. SpellsList tokens (g.P.Readable.spelling tokens) c.args.from xs next.end) (sym c.in_ok-append-in-Ok-read.ensures.appended)
+          (list_one_more tokens (g.P.Readable.spelling tokens) c.each.list.items c.args.from c.each.end next.end next.part c.each.invariant.spells comma read.spells);
+      goes = list_next g.P.Readable.spelling g.P.Readable.extends g.met.P.Readable.stops_at_comma tokens c.args.from c.each.end c.each.stop next.end next.stop c.max-stop.result c.each.invariant.goes near ahead below reach comma read.longest;
       ahead = (omega (arith, c.each.invariant.ahead, read.ahead), omega (arith, read.ahead), omega (arith, c.each.invariant.ahead, read.ahead, c.max-stop.ensures));
     }
 
-pub returns-in-Refused-clause-sure : goal.returns-in-Refused-clause-sure
-returns-in-Refused-clause-sure g c =
-    let stuck = stuck_of g.P.Part.spelling c.args.tokens.now (c.each.end + 1) c.in-Refused.at c.in-Err-read.halt c.in-Refused.is c.in-Err-read.ensures.refused in
+pub returns-in-Refused-clause-longest : goal.returns-in-Refused-clause-longest
+returns-in-Refused-clause-longest g c =
+    let stuck = stuck_of g.P.Readable.spelling c.args.tokens.now (c.each.end + 1) c.in-Refused.at c.in-Err-read.halt c.in-Refused.is c.in-Err-read.ensures.refused in
     let below : c.each.stop ≤ c.max.result = omega (arith, c.max.ensures) in
     let reach : c.in-Refused.at ≤ c.max.result = omega (arith, c.max.ensures) in
-    list_is_stuck g.P.Part.spelling g.P.Part.extends c.args.tokens.now c.args.from c.each.end c.each.stop c.in-Refused.at c.max.result c.each.invariant.goes below reach stuck.0
+    list_is_stuck g.P.Readable.spelling g.P.Readable.extends c.args.tokens.now c.args.from c.each.end c.each.stop c.in-Refused.at c.max.result c.each.invariant.goes below reach stuck.0
 
-pub returns-clause-sure : goal.returns-clause-sure
-returns-clause-sure g c =
+pub returns-clause-longest : goal.returns-clause-longest
+returns-clause-longest g c =
     let near : c.each.end ≤ c.each.stop = omega (arith, c.each.invariant.ahead) in
-    list_ends g.P.Part.spelling g.P.Part.extends c.args.tokens.now c.args.from c.each.end c.each.stop c.each.invariant.goes near (sym c.each-test.ensures.value)
+    list_ends g.P.Readable.spelling g.P.Readable.extends c.args.tokens.now c.args.from c.each.end c.each.stop c.each.invariant.goes near (sym c.each-test.ensures.value)

@@ -6,8 +6,8 @@ use Rattle.pearl_parse_decl.proofs.list.list.Given as goal
 
 abbrev pub invariant-each : goal.invariant-each
 invariant-each g l = record {
-  spells : SpellsList l.tokens (g.P.Part.spelling l.tokens) l.from l.list.items l.end;
-  goes : ListGoes g.P.Part.spelling g.P.Part.extends l.tokens l.from l.end l.stop;
+  spells : SpellsList l.tokens (g.P.Readable.spelling l.tokens) l.from l.list.items l.end;
+  goes : ListGoes g.P.Readable.spelling g.P.Readable.extends l.tokens l.from l.end l.stop;
   ahead : IsAhead l.tokens l.from l.end l.stop;
 }
 

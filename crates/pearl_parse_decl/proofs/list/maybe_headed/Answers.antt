@@ -1,17 +1,17 @@
 use Rattle.std.proofs.Common.{◌+◌, ◌<◌, ◌≤◌, sym, arith}
 use Rattle.pearl_tree.specs.Standing.{SpellsBracketed}
 use Rattle.pearl_parse_expr.proofs.Halts.{stuck_of}
-use Rattle.pearl_parse_decl.proofs.Lists.{headed_is_sure, headed_is_none}
+use Rattle.pearl_parse_decl.proofs.Lists.{headed_is_longest, headed_is_none}
 use Rattle.pearl_parse_decl.proofs.list.maybe_headed.Goals as goal
 
-pub returns-in-Ok-clause-sure : goal.returns-in-Ok-clause-sure
-returns-in-Ok-clause-sure g c =
+pub returns-in-Ok-clause-longest : goal.returns-in-Ok-clause-longest
+returns-in-Ok-clause-longest g c =
     let list = c.in-Ok.list in
     let near : c.args.from ≤ list.stop = omega (arith, c.in-Ok.ensures.ahead) in
     let ahead : c.args.from < list.end = omega (arith, c.in-Ok.ensures.ahead) in
-    headed_is_sure g.P.Part.spelling g.P.Part.extends c.args.tokens.now c.args.from c.args.word list.end list.stop ahead near (sym c.if-not-is_word.ensures.value) c.in-Ok.ensures.sure
+    headed_is_longest g.P.Readable.spelling g.P.Readable.extends c.args.tokens.now c.args.from c.args.word list.end list.stop ahead near (sym c.if-not-is_word.ensures.value) c.in-Ok.ensures.longest
 
-pub returns-in-Refused-clause-sure : goal.returns-in-Refused-clause-sure
-returns-in-Refused-clause-sure g c =
-    headed_is_none g.P.Part.spelling g.P.Part.extends c.args.tokens.now c.args.from c.args.word c.in-Refused.stop
-    (stuck_of (λ tokens. SpellsBracketed tokens (g.P.Part.spelling tokens)) c.args.tokens.now (c.args.from + 1) c.in-Refused.stop c.in-Err.halt c.in-Refused.is c.in-Err.ensures.refused).0
+pub returns-in-Refused-clause-longest : goal.returns-in-Refused-clause-longest
+returns-in-Refused-clause-longest g c =
+    headed_is_none g.P.Readable.spelling g.P.Readable.extends c.args.tokens.now c.args.from c.args.word c.in-Refused.stop
+    (stuck_of (λ tokens. SpellsBracketed tokens (g.P.Readable.spelling tokens)) c.args.tokens.now (c.args.from + 1) c.in-Refused.stop c.in-Err.halt c.in-Refused.is c.in-Err.ensures.refused).0

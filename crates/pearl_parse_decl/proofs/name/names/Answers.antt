@@ -6,11 +6,11 @@ use Rattle.pearl_parse_expr.proofs.Halts.{halted}
 use Rattle.pearl_parse_decl.proofs.Types.{only_several}
 use Rattle.pearl_parse_decl.proofs.name.names.Goals as goal
 
-pub returns-in-Ok-clause-sure : goal.returns-in-Ok-clause-sure
-returns-in-Ok-clause-sure c = λ others agree x to h.
+pub returns-in-Ok-clause-longest : goal.returns-in-Ok-clause-longest
+returns-in-Ok-clause-longest c = λ others agree x to h.
     let near : c.args.from ≤ c.in-Ok.list.stop = omega (arith, c.in-Ok.ensures.ahead) in
     let read = only_several others c.args.from (ap is_name (sym (agree c.args.from near)) ∙ c.in-None.ensures.none refl) x to h in
-    c.in-Ok.ensures.sure others agree read.0 to read.1
+    c.in-Ok.ensures.longest others agree read.0 to read.1
 
 pub returns-in-Err-clause-refused : goal.returns-in-Err-clause-refused
 returns-in-Err-clause-refused c =

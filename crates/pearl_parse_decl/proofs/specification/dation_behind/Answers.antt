@@ -5,8 +5,8 @@ use Rattle.pearl_parse_expr.proofs.Parts.{shorter}
 use Rattle.pearl_parse_decl.proofs.Specifications.{only_dation, control_last}
 use Rattle.pearl_parse_decl.proofs.specification.dation_behind.Goals as goal
 
-pub returns-clause-sure : goal.returns-clause-sure
-returns-clause-sure c = λ others agree x to h.
+pub returns-clause-longest : goal.returns-clause-longest
+returns-clause-longest c = λ others agree x to h.
     let tokens = c.args.tokens.now in
     let names = c.args.names in
     let class = c.in-Ok.class in
@@ -18,7 +18,7 @@ returns-clause-sure c = λ others agree x to h.
     let third : control.stop ≤ stop = omega (arith, c.max-3.ensures) in
     let near : class.end ≤ control.end = omega (arith, c.control-control.ensures.ahead) in
     let read = only_dation others c.args.from names.end (ap (is_word w.DATION) (sym (agree names.end here) ∙ c.requires.word))
-    (λ x to h. c.requires.sure others (shorter tokens others names.stop stop below agree) x to h) x to h in
+    (λ x to h. c.requires.longest others (shorter tokens others names.stop stop below agree) x to h) x to h in
     control_last others read.1 class.end control.end read.2 to near read.4
-    (c.in-Ok.ensures.sure others (shorter tokens others class.stop stop reach agree) read.0 read.1 read.3)
-    (λ x to h. c.control-control.ensures.sure others (shorter tokens others control.stop stop third agree) x to h)
+    (c.in-Ok.ensures.longest others (shorter tokens others class.stop stop reach agree) read.0 read.1 read.3)
+    (λ x to h. c.control-control.ensures.longest others (shorter tokens others control.stop stop third agree) x to h)

@@ -12,7 +12,7 @@ use Rattle.pearl_parse_expr.proofs.Parts.{shorter}
 use Rattle.pearl_parse_decl.specs.Readings.{by_bracket}
 use Rattle.pearl_parse_decl.proofs.Behind.{halted_behind}
 use Rattle.pearl_parse_decl.proofs.Lists.{list_begins, list_next, list_ends, list_is_stuck, first_of}
-use Rattle.pearl_parse_decl.proofs.Types.{only_basic, only_struct, only_name, struct_is_sure, struct_is_open, field_typing}
+use Rattle.pearl_parse_decl.proofs.Types.{only_basic, only_struct, only_name, struct_is_longest, struct_is_open, field_typing}
 use Rattle.pearl_parse_decl.proofs.typing.+typing.Goals as goal
 
 pub field-returns-in-Err-typing-clause-refused : goal.field-returns-in-Err-typing-clause-refused
@@ -32,12 +32,12 @@ field-returns-in-Err-typing-clause-refused t c =
       x.typing,
       to,
       field_typing tokens others depth c.args.from names.end bounds.end names.stop bounds.stop stop below reach
-          c.in-Ok.ensures.sure c.in-Ok-bounds.ensures.sure agree x to h,
+          c.in-Ok.ensures.longest c.in-Ok-bounds.ensures.longest agree x to h,
     ))
     c.in-Err-typing.ensures.refused)
 
-pub field-returns-clause-sure : goal.field-returns-clause-sure
-field-returns-clause-sure t c = λ others agree x to h.
+pub field-returns-clause-longest : goal.field-returns-clause-longest
+field-returns-clause-longest t c = λ others agree x to h.
     let tokens = c.args.tokens.now in
     let depth = c.args.depth in
     let names = c.in-Ok.names in
@@ -47,8 +47,8 @@ field-returns-clause-sure t c = λ others agree x to h.
     let below : names.stop ≤ stop = omega (arith, c.max.ensures, c.max-stop.ensures) in
     let reach : bounds.stop ≤ stop = omega (arith, c.max.ensures, c.max-stop.ensures) in
     let last : typing.stop ≤ stop = omega (arith, c.max.ensures) in
-    c.in-Ok-typing.ensures.sure others (shorter tokens others typing.stop stop last agree) x.typing to
-    (field_typing tokens others depth c.args.from names.end bounds.end names.stop bounds.stop stop below reach c.in-Ok.ensures.sure c.in-Ok-bounds.ensures.sure agree x to h)
+    c.in-Ok-typing.ensures.longest others (shorter tokens others typing.stop stop last agree) x.typing to
+    (field_typing tokens others depth c.args.from names.end bounds.end names.stop bounds.stop stop below reach c.in-Ok.ensures.longest c.in-Ok-bounds.ensures.longest agree x to h)
 
 pub fields-returns-in-Err-clause-refused : goal.fields-returns-in-Err-clause-refused
 fields-returns-in-Err-clause-refused t c =
@@ -62,9 +62,9 @@ fields-each-init t c =
     let first = c.in-Ok.first in
     record {
       spells = subst (λ xs. SpellsList c.args.tokens.now (grammar.SpellsField c.args.tokens.now c.args.depth) c.args.from xs first.end)
-          (sym (c.in_ok-append.ensures.more ∙ ap (λ xs. xs ++ first.part ∷ []) c.new-list.ensures.items))
+          (sym (c.in_ok-append.ensures.appended ∙ ap (λ xs. xs ++ first.part ∷ []) c.new-list.ensures.items))
           (first.end, c.in-Ok.ensures.spells, refl);
-      goes = list_begins (λ tokens. grammar.SpellsField tokens c.args.depth) by_bracket refl c.args.tokens.now c.args.from first.end first.stop c.in-Ok.ensures.sure;
+      goes = list_begins (λ tokens. grammar.SpellsField tokens c.args.depth) by_bracket refl c.args.tokens.now c.args.from first.end first.stop c.in-Ok.ensures.longest;
       ahead = c.in-Ok.ensures.ahead;
     }
 
@@ -80,21 +80,21 @@ fields-each-preserved t c =
     let below : c.each.stop ≤ c.max-stop.result = omega (arith, c.max-stop.ensures) in
     let reach : next.stop ≤ c.max-stop.result = omega (arith, c.max-stop.ensures) in
     record {
-      spells = subst (λ xs. SpellsList tokens (grammar.SpellsField tokens depth) c.args.from xs next.end) (sym c.in_ok-append-in-Ok-field.ensures.more)
+      spells = subst (λ xs. SpellsList tokens (grammar.SpellsField tokens depth) c.args.from xs next.end) (sym c.in_ok-append-in-Ok-field.ensures.appended)
           (list_one_more tokens (grammar.SpellsField tokens depth) c.each.list.items c.args.from c.each.end next.end next.part c.each.invariant.spells comma read.spells);
-      goes = list_next (λ tokens. grammar.SpellsField tokens depth) by_bracket refl tokens c.args.from c.each.end c.each.stop next.end next.stop c.max-stop.result c.each.invariant.goes near ahead below reach comma read.sure;
+      goes = list_next (λ tokens. grammar.SpellsField tokens depth) by_bracket refl tokens c.args.from c.each.end c.each.stop next.end next.stop c.max-stop.result c.each.invariant.goes near ahead below reach comma read.longest;
       ahead = (omega (arith, c.each.invariant.ahead, read.ahead), omega (arith, read.ahead), omega (arith, c.each.invariant.ahead, read.ahead, c.max-stop.ensures));
     }
 
-pub fields-returns-in-Refused-clause-sure : goal.fields-returns-in-Refused-clause-sure
-fields-returns-in-Refused-clause-sure t c =
+pub fields-returns-in-Refused-clause-longest : goal.fields-returns-in-Refused-clause-longest
+fields-returns-in-Refused-clause-longest t c =
     let stuck = stuck_of (λ tokens. grammar.SpellsField tokens c.args.depth) c.args.tokens.now (c.each.end + 1) c.in-Refused.at c.in-Err-field.halt c.in-Refused.is c.in-Err-field.ensures.refused in
     let below : c.each.stop ≤ c.max.result = omega (arith, c.max.ensures) in
     let reach : c.in-Refused.at ≤ c.max.result = omega (arith, c.max.ensures) in
     list_is_stuck (λ tokens. grammar.SpellsField tokens c.args.depth) by_bracket c.args.tokens.now c.args.from c.each.end c.each.stop c.in-Refused.at c.max.result c.each.invariant.goes below reach stuck.0
 
-pub fields-returns-clause-sure : goal.fields-returns-clause-sure
-fields-returns-clause-sure t c =
+pub fields-returns-clause-longest : goal.fields-returns-clause-longest
+fields-returns-clause-longest t c =
     let near : c.each.end ≤ c.each.stop = omega (arith, c.each.invariant.ahead) in
     list_ends (λ tokens. grammar.SpellsField tokens c.args.depth) by_bracket c.args.tokens.now c.args.from c.each.end c.each.stop c.each.invariant.goes near (sym c.each-test.ensures.value)
 
@@ -128,7 +128,7 @@ structure-returns-then-not-is_symbol-2-clause-refused t c =
     let inner = c.in-Ok.inner in
     let near : c.args.from ≤ inner.stop = omega (arith, c.in-Ok.ensures.ahead) in
     let below : inner.end ≤ inner.stop = omega (arith, c.in-Ok.ensures.ahead) in (
-      struct_is_open c.args.tokens.now c.args.depth c.args.from inner.end inner.stop c.requires.word near c.in-Ok.ensures.sure below (sym c.if-not-is_symbol-2.ensures.value),
+      struct_is_open c.args.tokens.now c.args.depth c.args.from inner.end inner.stop c.requires.word near c.in-Ok.ensures.longest below (sym c.if-not-is_symbol-2.ensures.value),
       near,
       omega (arith, c.in-Ok.ensures.ahead),
     )
@@ -146,28 +146,28 @@ structure-returns-clause-spells t c =
       c.requires.word,
       deep,
       c.if-not-is_symbol.ensures.stands refl,
-      subst (λ xs. SpellsList tokens (grammar.SpellsField tokens (depth - 1)) (from + 2) xs.items inner.end) (sym c.new.ensures) c.in-Ok.ensures.spells,
+      subst (λ xs. SpellsList tokens (grammar.SpellsField tokens (depth - 1)) (from + 2) xs inner.end) (sym c.new.ensures) c.in-Ok.ensures.spells,
       c.if-not-is_symbol-2.ensures.stands refl,
       refl,
     )
 
-pub structure-returns-clause-sure : goal.structure-returns-clause-sure
-structure-returns-clause-sure t c =
+pub structure-returns-clause-longest : goal.structure-returns-clause-longest
+structure-returns-clause-longest t c =
     let inner = c.in-Ok.inner in
     let near : c.args.from ≤ inner.stop = omega (arith, c.in-Ok.ensures.ahead) in
     let below : inner.stop ≤ c.max.result = omega (arith, c.max.ensures) in
-    struct_is_sure c.args.tokens.now c.args.depth c.args.from inner.end inner.stop c.requires.word near c.in-Ok.ensures.sure c.max.result below
+    struct_is_longest c.args.tokens.now c.args.depth c.args.from inner.end inner.stop c.requires.word near c.in-Ok.ensures.longest c.max.result below
 
-pub typing-returns-in-Some-clause-sure : goal.typing-returns-in-Some-clause-sure
-typing-returns-in-Some-clause-sure t c = λ others agree x to h.
+pub typing-returns-in-Some-clause-longest : goal.typing-returns-in-Some-clause-longest
+typing-returns-in-Some-clause-longest t c = λ others agree x to h.
     inl (only_name others c.args.depth c.args.from (ap stops.is_name (sym (agree c.args.from (omega arith)) ∙ c.in-Some.ensures.some.0)) x to h)
 
-pub typing-returns-in-Ok-clause-sure : goal.typing-returns-in-Ok-clause-sure
-typing-returns-in-Ok-clause-sure t c = λ others agree x to h.
+pub typing-returns-in-Ok-clause-longest : goal.typing-returns-in-Ok-clause-longest
+typing-returns-in-Ok-clause-longest t c = λ others agree x to h.
     let near : c.args.from ≤ c.in-Ok.basic.stop = omega (arith, c.in-Ok.ensures.ahead) in
     let here = sym (agree c.args.from near) in
     let read = only_basic others c.args.depth c.args.from (ap stops.is_name here ∙ c.in-None.ensures.none refl) (ap (stops.is_word w.STRUCT) here ∙ sym c.if-is_word.ensures.value) x to h in
-    c.in-Ok.ensures.sure others agree read.0 to read.1
+    c.in-Ok.ensures.longest others agree read.0 to read.1
 
 pub typing-returns-in-Err-clause-refused : goal.typing-returns-in-Err-clause-refused
 typing-returns-in-Err-clause-refused t c =

@@ -11,13 +11,13 @@ returns-in-Err-clause-refused c = (
   c.in-Err.ensures.held.1,
 )
 
-pub returns-clause-sure : goal.returns-clause-sure
-returns-clause-sure c = λ others agree x to h.
+pub returns-clause-longest : goal.returns-clause-longest
+returns-clause-longest c = λ others agree x to h.
     let tokens = c.args.tokens.now in
     let first = c.in-Ok.first in
     let second = c.upper-second.result in
     let near : first.stop ≤ c.max.result = omega (arith, c.max.ensures) in
     let below : second.stop ≤ c.max.result = omega (arith, c.max.ensures) in
-    let same = c.in-Ok.ensures.sure others (shorter tokens others first.stop c.max.result near agree) x.first h.0 h.2 in
-    c.upper-second.ensures.sure others (shorter tokens others second.stop c.max.result below agree) x.second to
+    let same = c.in-Ok.ensures.longest others (shorter tokens others first.stop c.max.result near agree) x.first h.0 h.2 in
+    c.upper-second.ensures.longest others (shorter tokens others second.stop c.max.result below agree) x.second to
     (subst (λ k. SpellsMaybe (SpellsUpper others) k x.second to) same h.3)

@@ -9,7 +9,7 @@ use Rattle.pearl_parse_expr.proofs.Parts.{selectors_next, selectors_end, subscri
 use Rattle.pearl_parse_expr.proofs.Chains.{chain_begins, chain_goes_on, chain_ends, chain_is_stuck, chain_is_full, no_chain_halted}
 use Rattle.pearl_parse_expr.proofs.Halts.{halted, ok_map, err_map, stuck_of}
 use Rattle.pearl_parse_expr.proofs.Limits.{same_monadics, with_array}
-use Rattle.pearl_parse_expr.proofs.Closings.{group_is_sure, group_is_open, list_is_exact, list_is_open}
+use Rattle.pearl_parse_expr.proofs.Closings.{group_is_longest, group_is_open, list_is_only, list_is_open}
 use Rattle.pearl_parse_expr.proofs.expression.+expression.Goals as goal
 use Rattle.pearl_parse_expr.proofs.expression.+expression.Goals.{selector-else-depth-gt0-via-then-depth-gt0+else-is_symbol-2, selector-else-depth-gt0-via-else-depth-gt0}
 
@@ -27,7 +27,7 @@ bracketed-returns-then-not-is_symbol-clause-refused t c =
     let inner = c.in-Ok.inner in
     let near : c.args.from ≤ inner.stop = omega (arith, c.in-Ok.ensures.ahead) in
     let below : inner.end ≤ inner.stop = omega (arith, c.in-Ok.ensures.ahead) in (
-      λ others agree x to h. list_is_open c.args.tokens.now others c.args.depth c.args.from inner.end inner.stop c.requires.bracket near below c.in-Ok.ensures.sure (sym c.if-not-is_symbol.ensures.value) agree x to h,
+      λ others agree x to h. list_is_open c.args.tokens.now others c.args.depth c.args.from inner.end inner.stop c.requires.bracket near below c.in-Ok.ensures.longest (sym c.if-not-is_symbol.ensures.value) agree x to h,
       near,
       omega (arith, c.in-Ok.ensures.ahead),
     )
@@ -43,15 +43,15 @@ bracketed-returns-clause-spells t c =
       c.place_at.ensures,
       c.requires.bracket,
       c.requires.deep,
-      subst (λ xs. spec.SpellsSubscriptsList tokens (depth - 1) (from + 1) xs.items inner.end) (sym c.new.ensures) c.in-Ok.ensures.spells,
+      subst (λ xs. spec.SpellsSubscriptsList tokens (depth - 1) (from + 1) xs inner.end) (sym c.new.ensures) c.in-Ok.ensures.spells,
       c.if-not-is_symbol.ensures.stands refl,
       refl,
     )
 
-pub bracketed-returns-clause-sure : goal.bracketed-returns-clause-sure
-bracketed-returns-clause-sure t c = λ others agree x to h.
+pub bracketed-returns-clause-longest : goal.bracketed-returns-clause-longest
+bracketed-returns-clause-longest t c = λ others agree x to h.
     let inner = c.in-Ok.inner in
-    list_is_exact c.args.tokens.now others c.args.depth c.args.from inner.end inner.stop c.max.result c.requires.bracket (omega (arith, c.max.ensures, c.in-Ok.ensures.ahead)) (omega (arith, c.max.ensures)) c.in-Ok.ensures.sure agree x to h
+    list_is_only c.args.tokens.now others c.args.depth c.args.from inner.end inner.stop c.max.result c.requires.bracket (omega (arith, c.max.ensures, c.in-Ok.ensures.ahead)) (omega (arith, c.max.ensures)) c.in-Ok.ensures.longest agree x to h
 
 pub group-returns-then-depth-eq0-clause-refused : goal.group-returns-then-depth-eq0-clause-refused
 group-returns-then-depth-eq0-clause-refused t c = (
@@ -62,8 +62,8 @@ group-returns-then-depth-eq0-clause-refused t c = (
   c.requires.within,
 )
 
-pub group-level-requires : goal.group-level-requires
-group-level-requires t c =
+pub group-expression_at_depth-requires : goal.group-expression_at_depth-requires
+group-expression_at_depth-requires t c =
     let deep : 0 < c.args.depth = omega (arith, c.if-depth-eq0.false) in
     (search rules, omega (arith, symbol_within c.args.tokens.now c.args.from s.LEFT_ROUND c.requires.bracket))
 
@@ -81,38 +81,38 @@ group-returns-then-not-is_symbol-clause-refused t c =
     let inner = c.in-Ok.inner in
     let near : c.args.from ≤ inner.stop = omega (arith, c.in-Ok.ensures.ahead) in
     let below : inner.end ≤ inner.stop = omega (arith, c.in-Ok.ensures.ahead) in (
-      λ others agree x to h. group_is_open c.args.tokens.now others c.args.depth c.args.from inner.end inner.stop c.requires.bracket near below c.in-Ok.ensures.sure (sym c.if-not-is_symbol.ensures.value) agree x to h,
+      λ others agree x to h. group_is_open c.args.tokens.now others c.args.depth c.args.from inner.end inner.stop c.requires.bracket near below c.in-Ok.ensures.longest (sym c.if-not-is_symbol.ensures.value) agree x to h,
       near,
       omega (arith, c.in-Ok.ensures.ahead),
     )
 
-pub group-returns-in-Ok-new-clause-sure : goal.group-returns-in-Ok-new-clause-sure
-group-returns-in-Ok-new-clause-sure t c = λ others agree x to h.
+pub group-returns-clause-longest : goal.group-returns-clause-longest
+group-returns-clause-longest t c = λ others agree x to h.
     let inner = c.in-Ok.inner in
-    inl (group_is_sure c.args.tokens.now others c.args.depth c.args.from inner.end inner.stop c.max.result c.requires.bracket (omega (arith, c.max.ensures, c.in-Ok.ensures.ahead)) (omega (arith, c.max.ensures)) c.in-Ok.ensures.sure agree x to h)
+    inl (group_is_longest c.args.tokens.now others c.args.depth c.args.from inner.end inner.stop c.max.result c.requires.bracket (omega (arith, c.max.ensures, c.in-Ok.ensures.ahead)) (omega (arith, c.max.ensures)) c.in-Ok.ensures.longest agree x to h)
 
-pub level-returns-in-Err-clause-refused : goal.level-returns-in-Err-clause-refused
-level-returns-in-Err-clause-refused t c = no_chain_halted c.args.tokens.now c.args.depth c.args.from c.in-Err.halt c.in-Err.ensures.refused
+pub expression_at_depth-returns-in-Err-clause-refused : goal.expression_at_depth-returns-in-Err-clause-refused
+expression_at_depth-returns-in-Err-clause-refused t c = no_chain_halted c.args.tokens.now c.args.depth c.args.from c.in-Err.halt c.in-Err.ensures.refused
 
-pub level-each-init : goal.level-each-init
-level-each-init t c = record {
+pub expression_at_depth-each-init : goal.expression_at_depth-each-init
+expression_at_depth-each-init t c = record {
   spells = c.in-Ok.ensures.spells;
   count = refl;
-  goes = chain_begins c.args.tokens.now c.args.depth c.args.from c.in-Ok.first.end c.in-Ok.first.stop c.in-Ok.ensures.sure;
+  goes = chain_begins c.args.tokens.now c.args.depth c.args.from c.in-Ok.first.end c.in-Ok.first.stop c.in-Ok.ensures.longest;
   ahead = c.in-Ok.ensures.ahead;
   few = omega arith;
 }
 
-pub level-returns-in-None-clause-sure : goal.level-returns-in-None-clause-sure
-level-returns-in-None-clause-sure t c =
+pub expression_at_depth-returns-in-None-clause-longest : goal.expression_at_depth-returns-in-None-clause-longest
+expression_at_depth-returns-in-None-clause-longest t c =
     let near : c.each.end ≤ c.each.stop = omega (arith, c.each.invariant.ahead) in
     chain_ends c.args.tokens.now c.args.depth c.args.from c.each.end c.each.stop c.each.count c.each.invariant.goes near (c.in-None.ensures.none refl)
 
-pub level-each-preserved : goal.level-each-preserved
-level-each-preserved t c =
+pub expression_at_depth-each-preserved : goal.expression_at_depth-each-preserved
+expression_at_depth-each-preserved t c =
     let next = c.in-Ok-operand.next in
     let read = c.in-Ok-operand.ensures in
-    let whole = c.in_ok-expr-in-Ok-operand.ensures in
+    let whole = c.in_ok-part-in-Ok-operand.ensures in
     let near : c.each.end ≤ c.each.stop = omega (arith, c.each.invariant.ahead) in
     let ahead : c.each.end < next.end = omega (arith, read.ahead) in
     let below : c.each.stop ≤ c.max-stop.result = omega (arith, c.max-stop.ensures) in
@@ -121,34 +121,40 @@ level-each-preserved t c =
       spells = whole.spells c.args.tokens.now c.args.depth c.args.from c.each.end next.end c.each.invariant.spells c.in-Some.ensures.some c.in-Some.ensures.place read.spells;
       count = whole.count ∙ ap (λ n. n + 1) c.each.invariant.count;
       goes = chain_goes_on c.args.tokens.now c.args.depth c.args.from c.each.end c.each.stop next.end next.stop c.max-stop.result c.each.count c.in-Some.dyadic.operator
-          c.each.invariant.goes near ahead below reach c.in-Some.ensures.some read.sure;
+          c.each.invariant.goes near ahead below reach c.in-Some.ensures.some read.longest;
       ahead = (omega (arith, c.each.invariant.ahead, read.ahead), omega (arith, read.ahead), omega (arith, c.each.invariant.ahead, read.ahead, c.max-stop.ensures));
       few = omega (arith, c.each-test.true);
     }
 
-pub level-returns-in-Refused-clause-sure : goal.level-returns-in-Refused-clause-sure
-level-returns-in-Refused-clause-sure t c =
+pub expression_at_depth-returns-in-Refused-clause-longest : goal.expression_at_depth-returns-in-Refused-clause-longest
+expression_at_depth-returns-in-Refused-clause-longest t c =
     let stuck = stuck_of (λ tokens. spec.SpellsSigned tokens c.args.depth) c.args.tokens.now (c.each.end + 1) c.in-Refused.at c.in-Err-operand.halt c.in-Refused.is c.in-Err-operand.ensures.refused in
     let below : c.each.stop ≤ c.max.result = omega (arith, c.max.ensures) in
     let reach : c.in-Refused.at ≤ c.max.result = omega (arith, c.max.ensures) in
     chain_is_stuck c.args.tokens.now c.args.depth c.args.from c.each.end c.each.stop c.in-Refused.at c.max.result c.each.count c.each.invariant.goes below reach stuck.0
 
-pub level-returns-clause-sure : goal.level-returns-clause-sure
-level-returns-clause-sure t c =
+pub expression_at_depth-returns-clause-longest : goal.expression_at_depth-returns-clause-longest
+expression_at_depth-returns-clause-longest t c =
     let full : 100 ≤ c.each.count = omega (arith, c.each-test.false) in
     chain_is_full c.args.tokens.now c.args.depth c.args.from c.each.end c.each.stop c.each.count c.each.invariant.goes full
 
-pub limit-returns-in-Ok-clause-spells : goal.limit-returns-in-Ok-clause-spells
-limit-returns-in-Ok-clause-spells t c =
+pub limit-returns-in_ok-array-in-Ok-clause-spells : goal.limit-returns-in_ok-array-in-Ok-clause-spells
+limit-returns-in_ok-array-in-Ok-clause-spells t c =
     let head = c.args.head in
-    subst (λ X. X) (sym (spells_limit c.args.tokens.now c.args.depth c.args.from head.dimension head.side c.in-Ok.array.part c.place_at.result c.in-Ok.array.end))
-    (head.word, c.place_at.ensures, c.requires.dimension, c.requires.word, c.in-Ok.ensures.spells)
+    let array = c.in_ok-array-in-Ok.array in
+    subst (λ X. X) (sym (spells_limit c.args.tokens.now c.args.depth c.args.from head.dimension head.side array c.place_at.result c.in-Ok.read.end)) (
+      head.word,
+      c.place_at.ensures,
+      c.requires.dimension,
+      c.requires.word,
+      subst (λ part. grammar.SpellsRef c.args.tokens.now c.args.depth (head.word + 1) part c.in-Ok.read.end) (sym c.in_ok-array-in-Ok.ensures.value) c.in-Ok.ensures.spells,
+    )
 
-pub limit-returns-in-Ok-clause-sure : goal.limit-returns-in-Ok-clause-sure
-limit-returns-in-Ok-clause-sure t c = λ others agree x to h.
+pub limit-returns-in_ok-array-in-Ok-clause-longest : goal.limit-returns-in_ok-array-in-Ok-clause-longest
+limit-returns-in_ok-array-in-Ok-clause-longest t c = λ others agree x to h.
     let head = c.args.head in
-    with_array c.args.tokens.now others c.args.depth c.args.from head.word c.in-Ok.array.end c.in-Ok.array.stop head.dimension head.side c.requires.dimension c.requires.word
-    (omega (arith, c.in-Ok.ensures.ahead)) (omega (arith, c.in-Ok.ensures.ahead)) c.in-Ok.ensures.sure agree x to h
+    with_array c.args.tokens.now others c.args.depth c.args.from head.word c.in-Ok.read.end c.in-Ok.read.stop head.dimension head.side c.requires.dimension c.requires.word
+    (omega (arith, c.in-Ok.ensures.ahead)) (omega (arith, c.in-Ok.ensures.ahead)) c.in-Ok.ensures.longest agree x to h
 
 limit_stuck : (t : ℕ) (c : goal.limit-After-without_array t) → spec.Stuck (λ tokens. spec.SpellsNamed tokens c.args.depth) c.args.tokens.now (c.args.head.word + 1) c.in-Refused.stop
 limit_stuck t c = (stuck_of (λ tokens. spec.SpellsNamed tokens c.args.depth) c.args.tokens.now (c.args.head.word + 1) c.in-Refused.stop c.in-Err.halt c.in-Refused.is c.in-Err.ensures.refused).0
@@ -156,8 +162,8 @@ limit_stuck t c = (stuck_of (λ tokens. spec.SpellsNamed tokens c.args.depth) c.
 pub limit-returns-in-Refused-clause-spells : goal.limit-returns-in-Refused-clause-spells
 limit-returns-in-Refused-clause-spells t c = ok_map _ _ c.without_array.result (λ reading h. h c.args.depth) c.without_array.ensures.spells
 
-pub limit-returns-in-Refused-clause-sure : goal.limit-returns-in-Refused-clause-sure
-limit-returns-in-Refused-clause-sure t c = ok_map _ _ c.without_array.result (λ reading h. h c.args.depth (limit_stuck t c)) c.without_array.ensures.sure
+pub limit-returns-in-Refused-clause-longest : goal.limit-returns-in-Refused-clause-longest
+limit-returns-in-Refused-clause-longest t c = ok_map _ _ c.without_array.result (λ reading h. h c.args.depth (limit_stuck t c)) c.without_array.ensures.longest
 
 pub limit-returns-in-Refused-clause-refused : goal.limit-returns-in-Refused-clause-refused
 limit-returns-in-Refused-clause-refused t c = err_map _ _ c.without_array.result (λ halt h. h c.args.depth (limit_stuck t c)) c.without_array.ensures.refused
@@ -172,13 +178,13 @@ operand-returns-in-Err-clause-refused t c =
     (x, to, same_monadics c.args.tokens.now others c.args.depth c.args.from stop list.items agree near c.in_ok-monadics.ensures.each c.in_ok-monadics.ensures.all x to h))
     (subst (λ k. spec.IsHalted (λ tokens. grammar.SpellsPrimary tokens c.args.depth) c.args.tokens.now (c.args.from + k) c.in-Err.halt) size c.in-Err.ensures.refused)
 
-pub operand-returns-in-Ok-clause-sure : goal.operand-returns-in-Ok-clause-sure
-operand-returns-in-Ok-clause-sure t c = λ others agree x to h.
+pub operand-returns-in-Ok-clause-longest : goal.operand-returns-in-Ok-clause-longest
+operand-returns-in-Ok-clause-longest t c = λ others agree x to h.
     let list = c.in_ok-monadics.monadics in
     let size : c.len.result ≡ length list.items = omega (arith, c.len.ensures, list.ok.0) in
     let near : c.args.from + length list.items ≤ c.in-Ok.primary.stop = omega (arith, size, c.in-Ok.ensures.ahead) in
     let read = same_monadics c.args.tokens.now others c.args.depth c.args.from c.in-Ok.primary.stop list.items agree near c.in_ok-monadics.ensures.each c.in_ok-monadics.ensures.all x to h in
-    c.in-Ok.ensures.sure others agree x to (subst (λ k. grammar.SpellsPrimary others c.args.depth (c.args.from + k) x to) (sym size) read)
+    c.in-Ok.ensures.longest others agree x to (subst (λ k. grammar.SpellsPrimary others c.args.depth (c.args.from + k) x to) (sym size) read)
 
 pub primary-returns-in-Err-clause-refused : goal.primary-returns-in-Err-clause-refused
 primary-returns-in-Err-clause-refused t c =
@@ -193,14 +199,14 @@ pub primary-returns-in-Ok-clause-spells : goal.primary-returns-in-Ok-clause-spel
 primary-returns-in-Ok-clause-spells t c =
     subst (λ X. X) (sym (spells_ref c.args.tokens.now c.args.depth c.args.from c.in-Ok.reference.part c.in-Ok.reference.end)) c.in-Ok.ensures.spells
 
-pub primary-returns-in-Ok-clause-sure : goal.primary-returns-in-Ok-clause-sure
-primary-returns-in-Ok-clause-sure t c = λ others agree x to h.
+pub primary-returns-in-Ok-clause-longest : goal.primary-returns-in-Ok-clause-longest
+primary-returns-in-Ok-clause-longest t c = λ others agree x to h.
     let near : c.args.from ≤ c.in-Ok.reference.stop = omega (arith, c.in-Ok.ensures.ahead) in
     let read = only_named others c.args.depth c.args.from (ap spec.is_name (sym (agree c.args.from near)) ∙ sym c.if-is_name.ensures) x to h in
-    c.in-Ok.ensures.sure others agree read.0 to read.1
+    c.in-Ok.ensures.longest others agree read.0 to read.1
 
-pub primary-returns-then-is_word-clause-sure : goal.primary-returns-then-is_word-clause-sure
-primary-returns-then-is_word-clause-sure t c = λ others agree x to h.
+pub primary-returns-then-is_word-clause-longest : goal.primary-returns-then-is_word-clause-longest
+primary-returns-then-is_word-clause-longest t c = λ others agree x to h.
     inl (only_now others c.args.depth c.args.from (sym (agree c.args.from (omega arith)) ∙ c.if-is_word.ensures.stands refl) x to h)
 
 pub primary-returns-then-is_word-2-clause-refused : goal.primary-returns-then-is_word-2-clause-refused
@@ -232,15 +238,15 @@ selectors-each-preserved t c =
     let below : c.each.stop ≤ c.max-stop.result = omega (arith, c.max-stop.ensures) in
     let reach : next.stop ≤ c.max-stop.result = omega (arith, c.max-stop.ensures) in
     record {
-      spells = subst (λ xs. spec.SpellsSelectorsList tokens depth c.args.from xs next.end) (sym c.in_ok-append-in-Ok.ensures.more)
+      spells = subst (λ xs. spec.SpellsSelectorsList tokens depth c.args.from xs next.end) (sym c.in_ok-append-in-Ok.ensures.appended)
           (each_one_more (grammar.SpellsSelector tokens depth) c.each.list.items c.args.from c.each.end next.end next.part c.each.invariant.spells read.spells);
       goes = selectors_next tokens depth c.args.from c.each.end c.each.stop next.end next.stop c.max-stop.result c.each.invariant.goes near ahead below reach
-          (selector_extends tokens depth c.each.end next.part next.end read.spells) read.sure;
+          (selector_extends tokens depth c.each.end next.part next.end read.spells) read.longest;
       ahead = (omega (arith, c.each.invariant.ahead, read.ahead), omega (arith, read.ahead), omega (arith, c.each.invariant.ahead, read.ahead, c.max-stop.ensures));
     }
 
-pub selectors-returns-in-Refused-clause-sure : goal.selectors-returns-in-Refused-clause-sure
-selectors-returns-in-Refused-clause-sure t c =
+pub selectors-returns-in-Refused-clause-longest : goal.selectors-returns-in-Refused-clause-longest
+selectors-returns-in-Refused-clause-longest t c =
     let stuck = stuck_of (λ tokens. grammar.SpellsSelector tokens c.args.depth) c.args.tokens.now c.each.end c.in-Refused.at c.in-Err.halt c.in-Refused.is c.in-Err.ensures.refused in
     let below : c.each.stop ≤ c.max.result = omega (arith, c.max.ensures) in
     let reach : c.in-Refused.at ≤ c.max.result = omega (arith, c.max.ensures) in
@@ -251,9 +257,9 @@ subscripts-each-init t c =
     let first = c.in_ok-first.first in
     record {
       spells = subst (λ xs. spec.SpellsSubscriptsList c.args.tokens.now c.args.depth c.args.from xs first.end)
-          (sym (c.in_ok-append.ensures.more ∙ ap (λ xs. xs ++ first.part ∷ []) c.new-list.ensures.items))
+          (sym (c.in_ok-append.ensures.appended ∙ ap (λ xs. xs ++ first.part ∷ []) c.new-list.ensures.items))
           (first.end, c.in_ok-first.ensures.spells, refl);
-      goes = subscripts_begin c.args.tokens.now c.args.depth c.args.from first.end first.stop c.in_ok-first.ensures.sure;
+      goes = subscripts_begin c.args.tokens.now c.args.depth c.args.from first.end first.stop c.in_ok-first.ensures.longest;
       ahead = c.in_ok-first.ensures.ahead;
     }
 
@@ -269,20 +275,20 @@ subscripts-each-preserved t c =
     let below : c.each.stop ≤ c.max-stop.result = omega (arith, c.max-stop.ensures) in
     let reach : next.stop ≤ c.max-stop.result = omega (arith, c.max-stop.ensures) in
     record {
-      spells = subst (λ xs. spec.SpellsSubscriptsList tokens depth c.args.from xs next.end) (sym c.in_ok-append-in-Ok.ensures.more)
+      spells = subst (λ xs. spec.SpellsSubscriptsList tokens depth c.args.from xs next.end) (sym c.in_ok-append-in-Ok.ensures.appended)
           (list_one_more tokens (grammar.SpellsExpr tokens depth) c.each.list.items c.args.from c.each.end next.end next.part c.each.invariant.spells comma read.spells);
-      goes = subscripts_next tokens depth c.args.from c.each.end c.each.stop next.end next.stop c.max-stop.result c.each.invariant.goes near ahead below reach comma read.sure;
+      goes = subscripts_next tokens depth c.args.from c.each.end c.each.stop next.end next.stop c.max-stop.result c.each.invariant.goes near ahead below reach comma read.longest;
       ahead = (omega (arith, c.each.invariant.ahead, read.ahead), omega (arith, read.ahead), omega (arith, c.each.invariant.ahead, read.ahead, c.max-stop.ensures));
     }
 
-pub subscripts-returns-in-Refused-clause-sure : goal.subscripts-returns-in-Refused-clause-sure
-subscripts-returns-in-Refused-clause-sure t c =
+pub subscripts-returns-in-Refused-clause-longest : goal.subscripts-returns-in-Refused-clause-longest
+subscripts-returns-in-Refused-clause-longest t c =
     let stuck = stuck_of (λ tokens. grammar.SpellsExpr tokens c.args.depth) c.args.tokens.now (c.each.end + 1) c.in-Refused.at c.in-Err.halt c.in-Refused.is c.in-Err.ensures.refused in
     let below : c.each.stop ≤ c.max.result = omega (arith, c.max.ensures) in
     let reach : c.in-Refused.at ≤ c.max.result = omega (arith, c.max.ensures) in
     subscripts_stuck c.args.tokens.now c.args.depth c.args.from c.each.end c.each.stop c.in-Refused.at c.max.result c.each.invariant.goes below reach stuck.0
 
-pub subscripts-returns-clause-sure : goal.subscripts-returns-clause-sure
-subscripts-returns-clause-sure t c =
+pub subscripts-returns-clause-longest : goal.subscripts-returns-clause-longest
+subscripts-returns-clause-longest t c =
     let near : c.each.end ≤ c.each.stop = omega (arith, c.each.invariant.ahead) in
     subscripts_end c.args.tokens.now c.args.depth c.args.from c.each.end c.each.stop c.each.invariant.goes near (sym c.each-test.ensures.value)

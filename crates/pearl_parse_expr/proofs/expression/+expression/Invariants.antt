@@ -8,8 +8,8 @@ use Rattle.pearl_parse_expr.proofs.expression.+expression.Given as goal
 abbrev pub decreases-subscripts : goal.decreases-subscripts
 decreases-subscripts l = 9 * l.depth + 8
 
-abbrev pub decreases-level : goal.decreases-level
-decreases-level l = 9 * l.depth + 7
+abbrev pub decreases-expression_at_depth : goal.decreases-expression_at_depth
+decreases-expression_at_depth l = 9 * l.depth + 7
 
 abbrev pub decreases-operand : goal.decreases-operand
 decreases-operand l = 9 * l.depth + 6
@@ -35,17 +35,17 @@ decreases-selector l = 9 * l.depth + 1
 abbrev pub decreases-bracketed : goal.decreases-bracketed
 decreases-bracketed l = 9 * l.depth
 
-abbrev pub invariant-level-each : goal.invariant-level-each
-invariant-level-each l = record {
-  spells : SpellsTerms l.tokens l.depth l.from l.expr l.end;
-  count : dyad_count l.expr ≡ l.count;
+abbrev pub invariant-expression_at_depth-each : goal.invariant-expression_at_depth-each
+invariant-expression_at_depth-each l = record {
+  spells : SpellsTerms l.tokens l.depth l.from l.part l.end;
+  count : dyad_count l.part ≡ l.count;
   goes : ChainGoes l.tokens l.depth l.from l.end l.stop l.count;
   ahead : IsAhead l.tokens l.from l.end l.stop;
   few : l.count ≤ 100;
 }
 
-abbrev pub decreases-level-each : goal.decreases-level-each
-decreases-level-each l = 100 - l.count
+abbrev pub decreases-expression_at_depth-each : goal.decreases-expression_at_depth-each
+decreases-expression_at_depth-each l = 100 - l.count
 
 abbrev pub invariant-selectors-each : goal.invariant-selectors-each
 invariant-selectors-each l = record {

@@ -4,8 +4,8 @@ use Rattle.pearl_parse_expr.specs.Stops.{is_name}
 use Rattle.pearl_parse_expr.proofs.Primaries.{clash, symbol_within, only_component}
 use Rattle.pearl_parse_expr.proofs.leaf.component.Goals as goal
 
-pub returns-in-Some-clause-sure : goal.returns-in-Some-clause-sure
-returns-in-Some-clause-sure c = λ depth others agree x to h.
+pub returns-in-Some-clause-longest : goal.returns-in-Some-clause-longest
+returns-in-Some-clause-longest c = λ depth others agree x to h.
     (only_component others depth c.args.from (sym (agree c.args.from (omega arith)) ∙ c.requires.period) x to h).1
 
 pub returns-in-None-clause-refused : goal.returns-in-None-clause-refused

@@ -4,7 +4,7 @@ use Rattle.pearl_parse_expr.proofs.leaf.monadics.Goals as goal
 
 pub loop-list-preserved : goal.loop-list-preserved
 loop-list-preserved c =
-    let more = c.in_ok-append-in-Some.ensures.more in
+    let more = c.in_ok-append-in-Some.ensures.appended in
     let list = c.loop-list.list.items in
     let size : c.len-in-loop-list.result ≡ length list = omega (arith, c.len-in-loop-list.ensures, c.loop-list.list.ok.0) in (
       monadics_one_more c.args.tokens.now c.args.from c.len-in-loop-list.result list c.append.new.list.items c.in-Some.monadic size c.loop-list.invariant.0 c.in-Some.ensures.some more,

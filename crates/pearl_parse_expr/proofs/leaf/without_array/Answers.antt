@@ -2,8 +2,8 @@ use Rattle.std.proofs.Common.{arith}
 use Rattle.pearl_parse_expr.proofs.Limits.{without_array, without_number, number_before}
 use Rattle.pearl_parse_expr.proofs.leaf.without_array.Goals as goal
 
-pub returns-in-Some-clause-sure : goal.returns-in-Some-clause-sure
-returns-in-Some-clause-sure c = λ depth stuck others agree x to h.
+pub returns-in-Some-clause-longest : goal.returns-in-Some-clause-longest
+returns-in-Some-clause-longest c = λ depth stuck others agree x to h.
     without_array c.args.tokens.now others depth c.args.from c.args.head.word c.args.stop c.args.head.dimension c.args.head.side
     c.requires.dimension c.requires.word c.requires.after stuck agree x to h
 

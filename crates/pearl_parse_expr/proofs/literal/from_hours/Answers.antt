@@ -7,8 +7,8 @@ use Rattle.pearl_parse_expr.specs.Stops.{is_number}
 use Rattle.pearl_parse_expr.proofs.Literals.{after_minutes}
 use Rattle.pearl_parse_expr.proofs.literal.from_hours.Goals as goal
 
-pub returns-in-Some-clause-sure : goal.returns-in-Some-clause-sure
-returns-in-Some-clause-sure c = λ others agree x to h.
+pub returns-in-Some-clause-longest : goal.returns-in-Some-clause-longest
+returns-in-Some-clause-longest c = λ others agree x to h.
     let tokens = c.args.tokens.now in
     let from = c.args.from in
     let seconds = c.seconds_at in
@@ -21,4 +21,4 @@ returns-in-Some-clause-sure c = λ others agree x to h.
     sym (agreed (from + 3) (omega arith)) ∙ subst (λ k. what_at tokens k ≡ Some (what.Word w.MIN)) (omega arith) c.in-Some.ensures.some.1 in
     rw c.hours_of.ensures.end
     (after_minutes others from seconds.result.end ends hours_word number minutes_word
-    (λ x to h. seconds.ensures.sure others agreed x to h) x to h)
+    (λ x to h. seconds.ensures.longest others agreed x to h) x to h)

@@ -1,6 +1,6 @@
 use Rattle.std.proofs.Common.{◌≡◌, ℕ, ◌≤◌, List, [], ◌∷◌}
 use Rattle.pearl_rules.specs.declared.entry.Entry.TheVariants.{Run}
-use Rattle.pearl_rules.specs.Core.{Said}
+use Rattle.pearl_rules.specs.Core.{Report}
 use Rattle.pearl_io.specs.Outside.{Takes}
 use Rattle.pearl_script.specs.Lines.{lines_of}
 use Rattle.pearl_run.specs.Seen.{Handles}
@@ -11,7 +11,7 @@ abbrev pub invariant-loop-left : goal.invariant-loop-left
 invariant-loop-left g l = record {
   object : l.self.object ≡ l.initial.self.object;
   moment : l.moment ≡ l.self.moment;
-  goes : (told : List (ℕ × Said)) × Handles l.initial.self (Run l.count) (Run l.left ∷ []) l.self told
+  goes : (told : List (ℕ × Report)) × Handles l.initial.self (Run l.count) (Run l.left ∷ []) l.self told
       × Takes (g.K.Sink.taken l.initial.sink) (g.K.Sink.taken l.sink) (lines_of l.initial.self.object.setup told);
   later : g.K.Sink.faults l.initial.sink ≤ g.K.Sink.faults l.sink;
 }

@@ -1,0 +1,19 @@
+use Rattle.std.proofs.Common.{◌≤◌, length, sym, subst, arith}
+use Rattle.pearl_tree.specs.Expressions.{SpellsLiteral, SpellsConst}
+use Rattle.pearl_parse_expr.specs.Stops.{IsHalted}
+use Rattle.pearl_parse_decl.proofs.Behind.{halted_behind}
+use Rattle.pearl_parse_decl.proofs.Constants.{sign_ends}
+use Rattle.pearl_parse_decl.proofs.constant.constant.Goals as goal
+
+pub returns-in-Err-clause-refused : goal.returns-in-Err-clause-refused
+returns-in-Err-clause-refused c =
+    let tokens = c.args.tokens.now in
+    let sign = c.sign-sign.result in
+    let on : c.args.from ≤ sign.end = omega (arith, c.sign-sign.ensures.ahead) in
+    let within : sign.stop ≤ length tokens = omega (arith, c.sign-sign.ensures.ahead) in
+    subst (λ halt. IsHalted SpellsConst tokens c.args.from halt) (sym c.behind.ensures.same)
+    (halted_behind SpellsLiteral SpellsConst tokens c.args.from sign.end sign.stop c.in-Err.halt on within
+    (λ others agree x to h.
+    let same = sign_ends others sign.end h.0 x.literal to h.3 (c.sign-sign.ensures.longest others agree x.sign h.0 h.2) in
+    (x.literal, to, subst (λ k. SpellsLiteral others k x.literal to) same h.3))
+    c.in-Err.ensures.refused)

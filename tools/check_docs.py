@@ -1,0 +1,190 @@
+#!/usr/bin/env python3
+"""Checks that the documents lead to what is there.
+
+usage: tools/check_docs.py [--write]
+
+- docs/architecture.md has one line for each file of definitions of each crate, and none for another; where the
+  crate's specs/Lib.antt has a comment above the file's name, it is that line.
+- Each crate of crates.txt has a row in docs/architecture.md.
+- Each name in backquotes that is written like one of the code's stands somewhere in crates/.
+- Each file in backquotes is there, and so is each file of definitions that is named behind its crate, as in
+  `CRATE` specs/FILE, FILE (`name`).
+- In the column of contracts of docs/definitions.md each name stands in the file that is named before it.
+- README.md has at most 80 lines of at most 110 columns.
+
+Prints what doesn't hold, and ends with status 1 if there is something. With --write the files of definitions are first
+told anew in docs/architecture.md, each by the comment above its name in specs/Lib.antt, or else by the line that it has.
+"""
+
+import os
+import re
+import sys
+
+TOP = os.path.dirname(os.path.dirname(os.path.abspath(__file__)))
+# Where docs/architecture.md begins to tell the files of definitions.
+LIST = "## Every file of definitions"
+
+# Names of examples.
+EXAMPLES = {"pump_2"}
+
+DOCS = ["README.md"] + sorted("docs/" + name for name in os.listdir(os.path.join(TOP, "docs")) if name.endswith(".md"))
+
+
+def read(path):
+    with open(os.path.join(TOP, path), encoding="utf-8") as file:
+        return file.read()
+
+
+def crates():
+    lines = (line.split("#")[0] for line in read("crates.txt").splitlines())
+    return [line.split(":")[0].split()[0] for line in lines if line.strip()]
+
+
+def told_files(text):
+    """For each crate the files that architecture.md tells, with their lines."""
+    told, crate = {}, None
+    for line in text[text.index(LIST):].splitlines():
+        head = re.fullmatch(r"### `(\w+)`", line)
+        entry = re.fullmatch(r"- `(\w+)`: (.*)", line)
+        if head:
+            crate = told.setdefault(head[1], {})
+        elif entry:
+            crate[entry[1]] = entry[2]
+        elif line.startswith("  ") and crate:
+            last = list(crate)[-1]
+            crate[last] += " " + line.strip()
+    return told
+
+
+def modules(crate):
+    """The files of definitions that the crate's Lib.antt names, in order, each with the comment above its name."""
+    path = f"crates/{crate}/specs/Lib.antt"
+    found, comment = {}, None
+    for line in read(path).splitlines() if os.path.exists(os.path.join(TOP, path)) else []:
+        module = re.match(r"pub mod (\w+)", line)
+        if line.startswith("-- "):
+            comment = line[3:]
+        elif module:
+            found[module[1]] = comment
+            comment = None
+    return found
+
+
+def definitions():
+    wrong = []
+    told = told_files(read("docs/architecture.md"))
+    for crate in crates():
+        there, lines = modules(crate), told.get(crate, {})
+        wrong += [f"docs/architecture.md has no line for {crate} specs/{name}" for name in there if name not in lines]
+        wrong += [f"{crate} has no specs/{name}" for name in lines if name not in there]
+        for name, comment in there.items():
+            if comment and lines.get(name, comment) != comment:
+                wrong.append(f"{crate} specs/Lib.antt says of {name}: {comment}")
+    return wrong
+
+
+def write():
+    text = read("docs/architecture.md")
+    told = told_files(text)
+    head = text[:text.index(LIST)] + LIST + text[text.index(LIST) + len(LIST):].split("\n### ")[0].rstrip("\n")
+    parts = [head + "\n"]
+    for crate in crates():
+        there = modules(crate)
+        if there:
+            lines = [f"- `{name}`: {comment or told.get(crate, {}).get(name, '')}" for name, comment in there.items()]
+            parts.append("\n".join([f"\n### `{crate}`\n"] + lines) + "\n")
+    with open(os.path.join(TOP, "docs/architecture.md"), "w", encoding="utf-8") as file:
+        file.write("".join(parts))
+
+
+def rows():
+    text = read("docs/architecture.md")
+    return [f"docs/architecture.md has no row for {crate}" for crate in crates() if f"| `{crate}` |" not in text]
+
+
+def known_names():
+    names = set(crates())
+    for folder, folders, files in os.walk(os.path.join(TOP, "crates")):
+        folders[:] = [name for name in folders if name != "out"]
+        for name in files:
+            if name.endswith((".rt", ".antt")):
+                names.add(name.rsplit(".", 1)[0])
+                with open(os.path.join(folder, name), encoding="utf-8") as file:
+                    names.update(re.findall(r"[A-Za-z_][A-Za-z_0-9]*'?", file.read()))
+    return names
+
+
+def names_and_files():
+    wrong = []
+    known = known_names()
+    for path in DOCS:
+        text = re.sub(r"```.*?```", "", read(path), flags=re.S)
+        for quoted in re.findall(r"`([^`\n]+)`", text):
+            if "NAME" in quoted or "CRATE" in quoted or quoted in EXAMPLES:
+                continue
+            if re.fullmatch(r"(docs|tools|crates)/[\w/.-]+", quoted):
+                if not os.path.exists(os.path.join(TOP, quoted)):
+                    wrong.append(f"{path}: there is no {quoted}")
+            elif re.fullmatch(r"\w+\.md", quoted):
+                if not os.path.exists(os.path.join(TOP, os.path.dirname(path), quoted)):
+                    wrong.append(f"{path}: there is no {quoted}")
+            elif re.fullmatch(r"pearl_\w+/src/(\w+\.rt)?", quoted):
+                if not os.path.exists(os.path.join(TOP, "crates", quoted)):
+                    wrong.append(f"{path}: there is no crates/{quoted}")
+            elif re.fullmatch(r"\w*[a-z]_\w+|[A-Z][a-z]\w*'?|\w+(::\w+)+", quoted):
+                wrong += [f"{path}: nothing is called {name}" for name in quoted.split("::") if name not in known]
+    return wrong
+
+
+def cited_files():
+    wrong = []
+    one = r"[A-Z]\w*(?: \([^)]*\))?"
+    for path in DOCS:
+        text = " ".join(read(path).split())
+        for crate, files in re.findall(rf"`(pearl_\w+)`(?:'s)? specs/({one}(?:, {one})*)", text):
+            names = re.findall(r"(?:^|, )([A-Z]\w*)", re.sub(r" \([^)]*\)", "", files))
+            wrong += [f"{path}: {crate} has no specs/{name}" for name in names if name not in modules(crate)]
+    return wrong
+
+
+def contracts():
+    wrong, homes = [], {}
+    for row in read("docs/definitions.md").splitlines():
+        cells = [cell.strip() for cell in row.strip("|").split(" | ")]
+        if not row.startswith("| ") or len(cells) != 3:
+            continue
+        crate, file = None, None
+        for quoted in re.findall(r"`([^`]+)`", cells[1]):
+            path = re.fullmatch(r"(?:(pearl_\w+)/src/)?(\w+\.rt)?", quoted)
+            if path and (path[1] or path[2]):
+                crate = path[1] or crate
+                file = path[2] and f"crates/{crate}/src/{path[2]}"
+                if file and not os.path.exists(os.path.join(TOP, file)):
+                    wrong.append(f"docs/definitions.md: there is no {file}")
+                    file = None
+                continue
+            name = quoted.split("::")[-1]
+            file = file or homes.get(name)
+            if file and not re.search(rf"\b{name}\b", read(file)):
+                wrong.append(f"docs/definitions.md: {file} has no {name}")
+            homes.setdefault(name, file)
+    return wrong
+
+
+def readme():
+    lines = read("README.md").splitlines()
+    wrong = [f"README.md has {len(lines)} lines"] if len(lines) > 80 else []
+    return wrong + [f"README.md: line {at} is too long" for at, line in enumerate(lines, 1) if len(line) > 110]
+
+
+def main():
+    if "--write" in sys.argv[1:]:
+        write()
+    wrong = definitions() + rows() + names_and_files() + cited_files() + contracts() + readme()
+    for line in wrong:
+        print(line)
+    sys.exit(1 if wrong else 0)
+
+
+if __name__ == "__main__":
+    main()
