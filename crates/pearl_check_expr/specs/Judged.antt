@@ -191,15 +191,15 @@ abbrev mutual
   arguments table view [] (MoreExprs expr rest) =
       record { well = false; faults = (judged table view expr).faults } ∷ arguments table view [] rest
   arguments table view (parameter ∷ parameters) (MoreExprs expr rest) =
-      (if parameter.ident then ident_argument table view parameter.kind expr
+      (if parameter.ident then ident_argument table view parameter.kind (judged table view expr) expr
       else value_argument (expr_place expr) parameter.kind (judged table view expr)) ∷
       arguments table view parameters rest
 
-  -- S21: the argument is no variable
-  pub ident_argument : Table → View → Option Kind → ShownExpr → Argument
-  ident_argument table view to (OfOperand [] (OfRef name selectors ref_place) place) =
+  -- an argument for an IDENT parameter, and what it is as an expression. S21: it is no variable
+  pub ident_argument : Table → View → Option Kind → Judged → ShownExpr → Argument
+  ident_argument table view to value (OfOperand [] (OfRef name selectors ref_place) place) =
       if is_some (callee_of (sense_from table.scopes view (text_of name)))
-      then no_variable place (judged_primary table view (OfRef name selectors ref_place))
+      then no_variable place value
       else variable_argument place (is_fixed (sense_from table.scopes view (text_of name))) to
       (as_value name (along table view name (variable_start name (sense_from table.scopes view (text_of name))) selectors))
-  ident_argument table view to expr = no_variable (expr_place expr) (judged table view expr)
+  ident_argument table view to value expr = no_variable (expr_place expr) value
