@@ -17,6 +17,8 @@ mod expressions;
 #[cfg(test)]
 mod modules;
 #[cfg(test)]
+mod rules;
+#[cfg(test)]
 mod scopes;
 #[cfg(test)]
 mod statements;

@@ -1,10 +1,11 @@
 // What the names of a module mean, scope by scope, and its default lengths.
 
 use crate::cases::{STOP, places_of, source_of, tokens_of};
+use arrayvec::ArrayVec;
 use pearl_parse::parse::parse;
 use pearl_scope::collect::names_of_module;
 use pearl_scope::duration::is_too_long;
-use pearl_scope::length::{is_length, kind_of_basic, length_at, lengths_set};
+use pearl_scope::length::{is_length, kind_of_basic, lengths_set};
 use pearl_scope::meaning::sort_from;
 use pearl_scope::scope::{NameSort, View};
 use pearl_tree::literal::{Duration, Secs};
@@ -39,6 +40,16 @@ fn meanings() -> &'static [(View, &'static [u8], Option<NameSort>)] {
     ]
 }
 
+fn text_of(letters: &[u8]) -> ArrayVec<u8, 63> {
+    let mut text = ArrayVec::new();
+    for &letter in letters {
+        if text.len() < 63 {
+            text.push(letter);
+        }
+    }
+    text
+}
+
 fn tree_of(alloc: Global, case: &[u8]) -> Option<Tree> {
     let source = source_of(alloc, case).ok()?;
     let (tokens, end) = tokens_of(alloc, source.as_slice())?;
@@ -54,10 +65,14 @@ fn names_mean_their_innermost_declaration(rt: HostRuntime) -> Result<(), Fail> {
     let found = names_of_module(rt.alloc(), &tree)?;
     assert_eq!(rt; found.len(), scopes().len());
     for (scope, want) in found.iter().zip(scopes()) {
-        assert_eq!(rt; (scope.outer, scope.names.as_slice().len()), *want);
+        assert_eq!(rt; (scope.outer(), scope.names().len()), *want);
     }
     for &(view, name, want) in meanings() {
-        assert_eq!(rt; sort_from(found.as_slice(), view, name), want, "{name:?}");
+        assert_eq!(rt;
+            sort_from(found.as_slice(), view, &text_of(name)),
+            want,
+            "{name:?}"
+        );
     }
     Ok(())
 }
@@ -69,23 +84,22 @@ fn lengths_hold_from_their_place_on(rt: HostRuntime) -> Result<(), Fail> {
         return Ok(());
     };
     let lengths = lengths_set(rt.alloc(), &tree)?;
-    assert_eq!(rt; lengths.len(), 1);
-    let lengths = lengths.as_slice();
+    assert_eq!(rt; lengths.as_slice().len(), 1);
     let places = places_of(rt.alloc(), MODULE, STOP)?;
     let &[before, at, behind] = places.as_slice() else {
         assert!(rt; false, "three marks");
         return Ok(());
     };
-    assert_eq!(rt; length_at(lengths, Sort::Fixed, before), 31);
-    assert_eq!(rt; length_at(lengths, Sort::Fixed, at), 15);
-    assert_eq!(rt; length_at(lengths, Sort::Fixed, behind), 15);
-    assert_eq!(rt; length_at(lengths, Sort::Bit, behind), 1);
+    assert_eq!(rt; lengths.at(Sort::Fixed, before), 31);
+    assert_eq!(rt; lengths.at(Sort::Fixed, at), 15);
+    assert_eq!(rt; lengths.at(Sort::Fixed, behind), 15);
+    assert_eq!(rt; lengths.at(Sort::Bit, behind), 1);
     let basic = Basic::Sized {
         sort: Sort::Fixed,
         number: None,
         place: behind,
     };
-    assert_eq!(rt; kind_of_basic(lengths, &basic), Some(Kind::Fixed(15)));
+    assert_eq!(rt; kind_of_basic(&lengths, &basic), Some(Kind::Fixed(15)));
     assert!(rt; is_length(Sort::Char, 255));
     assert!(rt; !is_length(Sort::Bit, 65));
     Ok(())

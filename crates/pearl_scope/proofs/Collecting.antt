@@ -7,7 +7,7 @@ use Rattle.pearl_tree.specs.ShownExpressions.{ShownExpr}
 use Rattle.pearl_tree.specs.ShownStatements.{ShownBodyDecl, shown_stmt, ShownStmt, OfIf, OfCase, OfRepeat, OfBegin, ShownStmts, NoStmts, MoreStmts, ShownBranches, NoBranches, MoreBranches, ShownOtherwise, NoOtherwise, OfOtherwise}
 use Rattle.pearl_scope.specs.Listed.{stmts_shown, branches_shown}
 use Rattle.pearl_tree.specs.declared.name.Name.{Name}
-use Rattle.pearl_scope.specs.declared.scope.ScopeNames.{ScopeNames}
+use Rattle.pearl_scope.specs.ScopeNames.{ScopeNames}
 use Rattle.pearl_scope.specs.Scopes.{Meaning, Entry, Scope, entries_as, as_stmts, scopes_in, scopes_in_all, scopes_in_branches, scopes_in_otherwise, stmt_scopes, all_scopes, branch_scopes, otherwise_scopes, control_entries, body_entries}
 use Rattle.pearl_scope.specs.Sorts.{sort_of, sorted_name, sorted_names, names_as, scope_names, names_of_scopes, body_scopes}
 

@@ -4,7 +4,7 @@ use Rattle.std.proofs.lemmas.List.{append-nil, map-append}
 use Rattle.pearl_tree.specs.declared.tree.Decl.{Decl}
 use Rattle.pearl_tree.specs.ShownModules.{ShownDecl, OfTask, OfProc, shown_decl}
 use Rattle.pearl_scope.specs.declared.scope.SortedName.{SortedName}
-use Rattle.pearl_scope.specs.declared.scope.ScopeNames.{ScopeNames}
+use Rattle.pearl_scope.specs.ScopeNames.{ScopeNames}
 use Rattle.pearl_scope.specs.Scopes.{types_in, scopes_in_decl, decl_entries, decls_entries, decl_scopes, decls_scopes, as_stmts}
 use Rattle.pearl_scope.specs.Sorts.{sorted_names, names_of_scopes}
 use Rattle.pearl_scope.proofs.Collecting.{sorted_names-append, length-all_scopes, adds_scopes, taken}

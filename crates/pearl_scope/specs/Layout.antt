@@ -32,13 +32,14 @@ elements (pair ∷ rest) = (unsigned_abs (pair.1 -ℤ pair.0) + 1) * elements re
 abbrev pub is_sound_leaf : Leaf → Bool
 is_sound_leaf leaf = nat_le (length leaf.bounds) 3 && nat_le (elements leaf.bounds) 65536
 
+-- where there are bounds and a shape
+abbrev pub leaves_within : Option (List (ℤ × ℤ)) → Option Shape → Option (List Leaf)
+leaves_within (Some bounds) (Some shape) = Some (leaves_of [] bounds shape)
+leaves_within bounds shape = None
+
 -- the leaves of a variable of an item, where no rule is broken in its bounds and type
 abbrev pub item_leaves : Around → ShownItem → Option (List Leaf)
 item_leaves around item = leaves_within (sound_bounds item.bounds) (shape_of around item.part)
-  where
-    leaves_within : Option (List (ℤ × ℤ)) → Option Shape → Option (List Leaf)
-    leaves_within (Some bounds) (Some shape) = Some (leaves_of [] bounds shape)
-    leaves_within bounds shape = None
 
 -- the kinds of a leaf's elements, in order
 abbrev pub leaf_slots : Leaf → List Kind

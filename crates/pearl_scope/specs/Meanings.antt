@@ -4,7 +4,7 @@ use Rattle.std.specs.Str.{bytes_eq}
 use Rattle.pearl_scope.specs.declared.scope.NameSort.{NameSort}
 use Rattle.pearl_scope.specs.declared.scope.NameSort.TheVariants.{Control}
 use Rattle.pearl_scope.specs.declared.scope.SortedName.{SortedName}
-use Rattle.pearl_scope.specs.declared.scope.ScopeNames.{ScopeNames}
+use Rattle.pearl_scope.specs.ScopeNames.{ScopeNames}
 use Rattle.pearl_scope.specs.declared.scope.View.{View}
 use Rattle.pearl_scope.specs.declared.scope.View.TheVariants.{Within, WhileOf}
 use Rattle.pearl_tree.specs.Names.{text_of as name_text}
@@ -40,17 +40,16 @@ abbrev pub is_control_sort : NameSort → Bool
 is_control_sort Control = true
 is_control_sort sort = false
 
--- of these names the control variables alone
-abbrev pub first_control : List SortedName → List ℕ → Option NameSort → Option NameSort
-first_control [] text around = around
-first_control (entry ∷ rest) text around =
-    if is_control_sort entry.sort && bytes_eq (name_text entry.name) text then Some entry.sort else first_control rest text around
+-- a control variable is the first name of the body of its loop
+abbrev pub is_control : List SortedName → List ℕ → Bool
+is_control [] text = false
+is_control (entry ∷ rest) text = is_control_sort entry.sort && bytes_eq (name_text entry.name) text
 
 -- the control variable, or else what the name means around the loop
 abbrev pub sort_in_while : List ScopeNames → ℕ → List ℕ → Option NameSort
 sort_in_while scopes number text =
-    first_control (names_in (slice_get scopes number)) text
-    (sort_through number scopes text (outer_of (slice_get scopes number)))
+    if is_control (names_in (slice_get scopes number)) text then Some Control else
+    sort_through number scopes text (outer_of (slice_get scopes number))
 
 abbrev pub sort_from : List ScopeNames → View → List ℕ → Option NameSort
 sort_from scopes (Within number) text = sort_within scopes number text

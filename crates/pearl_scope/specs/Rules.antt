@@ -15,7 +15,7 @@ use Rattle.pearl_scope.specs.Durations.{is_too_long}
 use Rattle.pearl_tree.specs.Names.{text_of as name_text, names_of, repeats}
 use Rattle.pearl_scope.specs.declared.scope.NameSort.{NameSort}
 use Rattle.pearl_scope.specs.declared.scope.NameSort.TheVariants.{NewType as TypeNumber}
-use Rattle.pearl_scope.specs.declared.scope.ScopeNames.{ScopeNames}
+use Rattle.pearl_scope.specs.ScopeNames.{ScopeNames}
 use Rattle.pearl_scope.specs.Scopes.{scopes_of}
 use Rattle.pearl_scope.specs.Sorts.{names_of_scopes}
 use Rattle.pearl_scope.specs.Meanings.{sort_from, sort_within}
@@ -48,9 +48,9 @@ abbrev pub s1 : ScopeNames → List RuleFault
 s1 scope = repeats 1 [] (map (λ entry. entry.name) scope.names)
 
 -- S2: a name is used that no visible scope declares
-abbrev pub s2 : Known → Part → List RuleFault
-s2 known (Used view name) = fault_if (is_none (sort_from known.scopes view (name_text name))) name.place 2
-s2 known part = []
+abbrev pub s2 : List ScopeNames → Part → List RuleFault
+s2 scopes (Used view name) = fault_if (is_none (sort_from scopes view (name_text name))) name.place 2
+s2 scopes part = []
 
 abbrev pub is_later_or_no_type : ℕ → Option NameSort → Bool
 is_later_or_no_type types None = false
@@ -58,10 +58,10 @@ is_later_or_no_type types (Some (TypeNumber number)) = nat_le types number
 is_later_or_no_type types (Some sort) = true
 
 -- S3: a type name is used before its TYPE, or names something else
-abbrev pub s3 : Known → Part → List RuleFault
-s3 known (UsedAsType scope types name) =
-    fault_if (is_later_or_no_type types (sort_within known.scopes scope (name_text name))) name.place 3
-s3 known part = []
+abbrev pub s3 : List ScopeNames → Part → List RuleFault
+s3 scopes (UsedAsType scope types name) =
+    fault_if (is_later_or_no_type types (sort_within scopes scope (name_text name))) name.place 3
+s3 scopes part = []
 
 -- S4: a length is outside its range, or a duration literal is too long
 abbrev pub s4 : Part → List RuleFault
@@ -135,9 +135,14 @@ abbrev pub s9 : Part → List RuleFault
 s9 (Sema sema) = unfit_presets (length (names_of sema.names)) sema.preset
 s9 part = []
 
+-- the rules other than S1 and S7
+abbrev pub but_s7 : Known → Part → List RuleFault
+but_s7 known part =
+    s2 known.scopes part ++
+    (s3 known.scopes part ++ (s4 part ++ (s5 known part ++ (s6 part ++ (s8 part ++ s9 part)))))
+
 abbrev pub part_faults : Known → Part → List RuleFault
-part_faults known part =
-    s2 known part ++ (s3 known part ++ (s4 part ++ (s5 known part ++ (s6 part ++ (s7 known part ++ (s8 part ++ s9 part))))))
+part_faults known part = but_s7 known part ++ s7 known part
 
 -- what is broken in these parts
 unfoldable pub faults_in : Known → List Part → List RuleFault
@@ -146,3 +151,7 @@ faults_in known parts = flat_map (part_faults known) parts
 -- the rules S1 to S9 that a module breaks, in no order and perhaps more than once
 abbrev pub broken : ShownTree → List RuleFault
 broken tree = flat_map s1 (known_of tree).scopes ++ faults_in (known_of tree) (parts_of tree)
+
+-- those of them that are other than S7
+abbrev pub broken_but_s7 : ShownTree → List RuleFault
+broken_but_s7 tree = flat_map s1 (known_of tree).scopes ++ flat_map (but_s7 (known_of tree)) (parts_of tree)

@@ -4,7 +4,7 @@ use Rattle.pearl_tree.specs.declared.name.Name.{Name}
 use Rattle.pearl_scope.specs.declared.scope.NameSort.{NameSort}
 use Rattle.pearl_scope.specs.declared.scope.NameSort.TheVariants as sort
 use Rattle.pearl_scope.specs.declared.scope.SortedName.{SortedName}
-use Rattle.pearl_scope.specs.declared.scope.ScopeNames.{ScopeNames}
+use Rattle.pearl_scope.specs.ScopeNames.{ScopeNames}
 use Rattle.pearl_scope.specs.Scopes.{Meaning, Variable, Control, Parameter, NewType, Semaphore, Interrupt, Dation, Task, Procedure, Entry, Scope, body_entries, all_scopes}
 use Rattle.pearl_tree.specs.ShownStatements.{ShownBodyDecl, ShownStmts}
 

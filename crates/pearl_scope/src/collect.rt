@@ -11,13 +11,13 @@ ghost use Rattle.pearl_scope.specs.Listed.{stmts_shown, branches_shown, otherwis
 ghost use Rattle.pearl_scope.specs.Scopes as spec;
 ghost use Rattle.pearl_scope.specs.Sorts.{names_as, sorted_names, names_of_scopes, body_scopes};
 
-use crate::scope::{NameSort, ScopeNames, SortedName};
+use crate::names::ScopeTable;
+use crate::scope::{NameSort, SortedName};
 use pearl_tree::declaration::{Declared, Item, Param, Spec};
 use pearl_tree::name::{Name, Names};
 use pearl_tree::parts::Parts;
 use pearl_tree::statement::{Body, BodyDecl, Branch, Repeat, Stmt};
 use pearl_tree::tree::{Decl, Tree};
-use pearl_value::listing::Listing;
 use std::alloc::{AllocError as NoMemory, Global};
 
 fn declare_name(into: &mut Vec<SortedName>, name: &Name, sort: NameSort) -> Result<(), NoMemory>
@@ -92,7 +92,7 @@ fn declare_control(
 }
 
 /// The number of the next scope.
-fn next_number(scopes: &[ScopeNames]) -> Result<u32, NoMemory>
+fn next_number(scopes: &[ScopeTable]) -> Result<u32, NoMemory>
     ensures { IfOk result (λ number. number ≡ length scopes.now) }
 {
     match u32::try_from(scopes.len()) {
@@ -103,7 +103,8 @@ fn next_number(scopes: &[ScopeNames]) -> Result<u32, NoMemory>
 
 /// Adds a scope, and answers its number.
 fn begin_scope(
-    scopes: &mut Vec<ScopeNames>,
+    alloc: Global,
+    scopes: &mut Vec<ScopeTable>,
     outer: Option<u32>,
     names: Vec<SortedName>,
 ) -> Result<u32, NoMemory>
@@ -112,15 +113,14 @@ fn begin_scope(
     ensures number { IfOk result (λ number. number ≡ length scopes.old.items) }
 {
     let number = next_number(scopes.as_slice())?;
-    let names = Listing::new(names);
-    scopes.push(ScopeNames { outer, names })?;
+    scopes.push(ScopeTable::new(alloc, outer, names)?)?;
     Ok(number)
 }
 
 #[cycle(statement)]
 fn collect_stmt(
     alloc: Global,
-    scopes: &mut Vec<ScopeNames>,
+    scopes: &mut Vec<ScopeTable>,
     scope: u32,
     stmt: &Stmt,
 ) -> Result<(), NoMemory>
@@ -162,7 +162,7 @@ fn collect_stmt(
 #[cycle(statement)]
 fn collect_stmts(
     alloc: Global,
-    scopes: &mut Vec<ScopeNames>,
+    scopes: &mut Vec<ScopeTable>,
     scope: u32,
     stmts: &Parts<Stmt>,
 ) -> Result<(), NoMemory>
@@ -179,7 +179,7 @@ fn collect_stmts(
 #[cycle(statement)]
 fn collect_branches(
     alloc: Global,
-    scopes: &mut Vec<ScopeNames>,
+    scopes: &mut Vec<ScopeTable>,
     scope: u32,
     branches: &Parts<Branch>,
 ) -> Result<(), NoMemory>
@@ -196,7 +196,7 @@ fn collect_branches(
 #[cycle(statement)]
 fn collect_otherwise(
     alloc: Global,
-    scopes: &mut Vec<ScopeNames>,
+    scopes: &mut Vec<ScopeTable>,
     scope: u32,
     otherwise: &Option<Branch>,
 ) -> Result<(), NoMemory>
@@ -214,7 +214,7 @@ fn collect_otherwise(
 #[cycle(statement)]
 fn collect_loop(
     alloc: Global,
-    scopes: &mut Vec<ScopeNames>,
+    scopes: &mut Vec<ScopeTable>,
     scope: u32,
     part: &Repeat,
 ) -> Result<(), NoMemory>
@@ -234,7 +234,7 @@ fn collect_loop(
 #[cycle(statement)]
 fn collect_body(
     alloc: Global,
-    scopes: &mut Vec<ScopeNames>,
+    scopes: &mut Vec<ScopeTable>,
     outer: u32,
     names: Vec<SortedName>,
     body: &Body,
@@ -246,7 +246,7 @@ fn collect_body(
 {
     let mut names = names;
     declare_body(&mut names, body.declarations.as_slice())?;
-    let scope = begin_scope(scopes, Some(outer), names)?;
+    let scope = begin_scope(alloc, scopes, Some(outer), names)?;
     collect_stmts(alloc, scopes, scope, &body.statements)?;
     Ok(())
 }
@@ -308,7 +308,7 @@ fn declare_decl(into: &mut Vec<SortedName>, types: u32, decl: &Decl) -> Result<(
 }
 
 /// How many TYPEs there are after a declaration.
-fn types_after(types: u32, decl: &Decl) -> Result<u32, NoMemory>
+pub(crate) fn types_after(types: u32, decl: &Decl) -> Result<u32, NoMemory>
     ensures { IfOk result (λ after. after ≡ types + spec.types_in (shown_decl decl.now)) }
 {
     match decl {
@@ -337,7 +337,7 @@ fn declare_decls(into: &mut Vec<SortedName>, decls: &[Decl]) -> Result<(), NoMem
 }
 
 // The scopes of a task or a procedure, in any number of TYPEs.
-fn collect_decl(alloc: Global, scopes: &mut Vec<ScopeNames>, decl: &Decl) -> Result<(), NoMemory>
+fn collect_decl(alloc: Global, scopes: &mut Vec<ScopeTable>, decl: &Decl) -> Result<(), NoMemory>
     ensures { (types : ℕ) → OnOk result
         (let within = spec.decl_scopes types (length scopes.old.items) (shown_decl decl.now) in
         scopes.new.items ≡ scopes.old.items ++ names_of_scopes within) }
@@ -358,7 +358,7 @@ fn collect_decl(alloc: Global, scopes: &mut Vec<ScopeNames>, decl: &Decl) -> Res
 
 fn collect_decls(
     alloc: Global,
-    scopes: &mut Vec<ScopeNames>,
+    scopes: &mut Vec<ScopeTable>,
     decls: &[Decl],
 ) -> Result<(), NoMemory>
     ensures { OnOk result
@@ -373,14 +373,14 @@ fn collect_decls(
 
 /// The names of all scopes of a module, by the scopes' numbers: each name with its sort, in order, also where a rule is
 /// broken.
-pub fn names_of_module(alloc: Global, tree: &Tree) -> Result<Vec<ScopeNames>, NoMemory>
+pub fn names_of_module(alloc: Global, tree: &Tree) -> Result<Vec<ScopeTable>, NoMemory>
     ensures { IfOk result (λ scopes. scopes.items ≡ names_of_scopes (spec.scopes_of (shown_tree tree.now))) }
 {
     let decls = tree.declarations.as_slice();
     let mut names = Vec::new(alloc);
     declare_decls(&mut names, decls)?;
     let mut scopes = Vec::new(alloc);
-    begin_scope(&mut scopes, None, names)?;
+    begin_scope(alloc, &mut scopes, None, names)?;
     collect_decls(alloc, &mut scopes, decls)?;
     Ok(scopes)
 }

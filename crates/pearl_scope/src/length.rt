@@ -1,7 +1,11 @@
 // The lengths of FIXED, BIT and CHAR.
 #![tactic(auto, using(crate::proofs::Lists::list_steps, std::proofs::lemmas::Grind::common_steps))]
 
-ghost use Rattle.std.specs.Prelude.{◌≡◌, IfOk};
+ghost use Rattle.std.specs.Prelude.{◌≡◌, ℕ, nat_le, if◌then◌else◌, List, [], ◌∷◌, ◌++◌, IfOk, OnOk};
+ghost use Rattle.std.specs.List.Sorted.{IsNonDecreasingBy};
+ghost use Rattle.pearl_scope.specs.declared.length.Step.{Step as StepOf};
+ghost use Rattle.pearl_scope.specs.declared.length.DefaultLength.{DefaultLength as DefaultOf};
+ghost use Rattle.pearl_scope.specs.Steps.{last_step, HasSteps};
 ghost use Rattle.std.specs.Option.{option_to_list};
 ghost use Rattle.pearl_tree.specs.ShownModules.{shown_decl, shown_tree};
 ghost use Rattle.pearl_scope.specs.Lengths as spec;
@@ -10,6 +14,7 @@ use pearl_tree::tree::{Decl, Tree};
 use pearl_tree::typing::{Basic, Sort};
 use pearl_value::kind::Kind;
 use std::alloc::{AllocError as NoMemory, Global};
+use std::marker::Model;
 
 /// From a place on, FIXED, BIT or CHAR without a number has this length.
 #[derive(Clone, Copy, PartialEq, Eq, Debug)]
@@ -67,22 +72,124 @@ fn first_length(sort: Sort) -> u8
     }
 }
 
-/// The default length at a place.
-pub fn length_at(mut lengths: &[DefaultLength], sort: Sort, place: u32) -> u8
-    ensures { result ≡ spec.length_at lengths.entry.now sort place }
+/// From a place on, a length.
+#[derive(Clone, Copy)]
+pub(crate) struct Step {
+    place: u32,
+    len: u8,
+}
+
+fn step_at(steps: &[Step], len: u8, place: u32) -> u8
+    requires { IsNonDecreasingBy (λ (step : StepOf). step.place) steps.now }
+    ensures { result ≡ last_step len steps.now place }
 {
-    let mut len = first_length(sort);
-    while let [default, rest @ ..] = lengths {
-        if is_same_sort(default.sort, sort) && default.place <= place {
-            len = default.len;
-        }
-        lengths = rest;
+    let count = steps.partition_point(|step| step.place <= place);
+    if count == 0 {
+        len
+    } else {
+        steps[count - 1].len
     }
-    len
+}
+
+// Adds a step, in place of those with later places.
+fn add_step(steps: &mut Vec<Step>, step: Step) -> Result<(), NoMemory>
+    requires { IsNonDecreasingBy (λ (step : StepOf). step.place) steps.now.items }
+    ensures rising { OnOk result (IsNonDecreasingBy (λ (step : StepOf). step.place) steps.new.items) }
+    ensures tells { OnOk result ((len place : ℕ) → last_step len steps.new.items place ≡
+        (if nat_le step.place place then step.len else last_step len steps.old.items place)) }
+{
+    let last = step.place;
+    let count = steps
+        .as_slice()
+        .partition_point(|earlier| earlier.place <= last);
+    steps.truncate(count);
+    steps.push(step)?;
+    Ok(())
+}
+
+// Adds the step of a length, where it is of this sort.
+fn add_default(steps: &mut Vec<Step>, default: &DefaultLength, sort: Sort) -> Result<(), NoMemory>
+    requires { IsNonDecreasingBy (λ (step : StepOf). step.place) steps.now.items }
+    ensures { OnOk result ((lengths : List DefaultOf) → HasSteps lengths sort steps.old.items →
+        HasSteps (lengths ++ default.now ∷ []) sort steps.new.items) }
+{
+    if !is_same_sort(default.sort, sort) {
+        return Ok(());
+    }
+    let step = Step {
+        place: default.place,
+        len: default.len,
+    };
+    add_step(steps, step)?;
+    Ok(())
+}
+
+fn steps_of(alloc: Global, set: &[DefaultLength], sort: Sort) -> Result<Vec<Step>, NoMemory>
+    ensures { IfOk result (λ steps. HasSteps set.now sort steps.items) }
+{
+    let mut steps = Vec::new(alloc);
+    for default in set {
+        add_default(&mut steps, default, sort)?;
+    }
+    Ok(steps)
+}
+
+/// The default lengths that a module sets, in order of their places.
+#[derive(Drop)]
+pub struct Lengths {
+    set: Vec<DefaultLength>,
+    fixed: Vec<Step>,
+    bit: Vec<Step>,
+    char: Vec<Step>,
+}
+
+impl Model for Lengths {
+    ghost use Rattle.std.specs.Prelude.{List};
+    ghost use Rattle.pearl_scope.specs.declared.length.DefaultLength.{DefaultLength};
+    ghost use Rattle.pearl_scope.specs.Steps.{HasAllSteps};
+
+    ghost Value = { List DefaultLength };
+
+    ghost view = { λ l. l.set.items };
+
+    ghost invariant = { λ l. HasAllSteps l.set.items l.fixed.items l.bit.items l.char.items };
+}
+
+impl Lengths {
+    pub fn new(alloc: Global, set: Vec<DefaultLength>) -> Result<Lengths, NoMemory>
+        ensures { IfOk result (λ lengths. lengths ≡ set.items) }
+    {
+        let fixed = steps_of(alloc, set.as_slice(), Sort::Fixed)?;
+        let bit = steps_of(alloc, set.as_slice(), Sort::Bit)?;
+        let char = steps_of(alloc, set.as_slice(), Sort::Char)?;
+        Ok(Lengths {
+            set,
+            fixed,
+            bit,
+            char,
+        })
+    }
+
+    pub fn as_slice(&self) -> &[DefaultLength]
+        ensures { result.now ≡ self.now }
+    {
+        self.set.as_slice()
+    }
+
+    /// The default length at a place.
+    pub fn at(&self, sort: Sort, place: u32) -> u8
+        ensures { result ≡ spec.length_at self.now sort place }
+    {
+        match sort {
+            Sort::Fixed => step_at(self.fixed.as_slice(), first_length(Sort::Fixed), place),
+            Sort::Bit => step_at(self.bit.as_slice(), first_length(Sort::Bit), place),
+            Sort::Char => step_at(self.char.as_slice(), first_length(Sort::Char), place),
+        }
+    }
 }
 
 /// The kind of a basic type. A length that is out of range gives none.
-pub fn kind_of_basic(lengths: &[DefaultLength], basic: &Basic) -> Option<Kind>
+pub fn kind_of_basic(lengths: &Lengths, basic: &Basic) -> Option<Kind>
     ensures { result ≡ spec.kind_of_basic lengths.now basic.now }
 {
     match *basic {
@@ -90,7 +197,7 @@ pub fn kind_of_basic(lengths: &[DefaultLength], basic: &Basic) -> Option<Kind>
             sort,
             number: None,
             place,
-        } => Some(kind_of_length(sort, length_at(lengths, sort, place))),
+        } => Some(kind_of_length(sort, lengths.at(sort, place))),
         Basic::Sized {
             sort,
             number: Some(number),
@@ -135,14 +242,15 @@ fn length_set(decl: &Decl) -> Option<DefaultLength>
 }
 
 /// The default lengths that a module sets, in order of their places. LENGTH with a number that is no length sets none.
-pub fn lengths_set(alloc: Global, tree: &Tree) -> Result<Vec<DefaultLength>, NoMemory>
-    ensures { IfOk result (λ lengths. lengths.items ≡ spec.lengths_set (shown_tree tree.now).declarations) }
+pub fn lengths_set(alloc: Global, tree: &Tree) -> Result<Lengths, NoMemory>
+    ensures { IfOk result (λ lengths. lengths ≡ spec.lengths_set (shown_tree tree.now).declarations) }
 {
-    let mut lengths = Vec::new(alloc);
+    let mut set = Vec::new(alloc);
     for decl in tree.declarations.as_slice() {
         if let Some(default) = length_set(decl) {
-            lengths.push(default)?;
+            set.push(default)?;
         }
     }
+    let lengths = Lengths::new(alloc, set)?;
     Ok(lengths)
 }

@@ -4,7 +4,16 @@
 
 pub mod collect;
 pub mod duration;
+pub mod forms;
 pub mod laws;
+pub mod layout;
 pub mod length;
 pub mod meaning;
+pub mod module_part;
+pub mod names;
+pub mod part;
+pub mod places;
+pub mod rules;
 pub mod scope;
+pub mod statement_part;
+pub mod types;

@@ -1,7 +1,6 @@
-// The names of scopes.
+// What names are, and from where they are seen.
 
 use pearl_tree::name::Name;
-use pearl_value::listing::Listing;
 
 /// What sort of thing a name means.
 #[derive(Clone, Copy, PartialEq, Eq, Debug)]
@@ -24,13 +23,6 @@ pub enum NameSort {
 pub struct SortedName {
     pub name: Name,
     pub sort: NameSort,
-}
-
-/// The names of a scope in order, and the number of the scope around it. The module has none around it.
-#[derive(Drop)]
-pub struct ScopeNames {
-    pub outer: Option<u32>,
-    pub names: Listing<SortedName>,
 }
 
 /// From where a name is seen.

@@ -6,4 +6,4 @@ use Rattle.pearl_scope.proofs.length.lengths_set.Given as goal
 
 abbrev pub invariant-loop-decl : goal.invariant-loop-decl
 invariant-loop-decl l =
-    l.lengths.items ≡ flat_map (λ decl. length_set (shown_decl decl)) (take l.decl-index l.tree.declarations.items.items)
+    l.set.items ≡ flat_map (λ decl. length_set (shown_decl decl)) (take l.decl-index l.tree.declarations.items.items)

@@ -1,0 +1,77 @@
+// Names, types and declarations of small modules, worked out by hand: the rules that are broken at their marks.
+
+use crate::cases::{STOP, places_of, source_of, tokens_of};
+use pearl_parse::parse::parse;
+use pearl_scope::rules::faults_but_s7;
+use std::alloc::{AllocError, Global};
+use std::test::Fail;
+
+// Each module with the rules that are broken at its marks. A module of one fault is followed by one at its edge.
+fn modules() -> &'static [(&'static str, &'static str)] {
+    table![
+        "MODULE;PROBLEM;MODEND" => "";
+        "MODULE;PROBLEM;DCL (a,^a) FIXED;MODEND" => "S1 ";
+        "MODULE;PROBLEM;DCL a FIXED;p:PROC(a FIXED);END;MODEND" => "";
+        "MODULE;PROBLEM;p:PROC(a FIXED);DCL ^a BIT;END;MODEND" => "S1 ";
+        "MODULE;PROBLEM;p:PROC;^a:=1;END;MODEND" => "S2 ";
+        "MODULE;PROBLEM;p:PROC;a:=1;END;DCL a FIXED;MODEND" => "";
+        "MODULE;PROBLEM;p:PROC;FOR i WHILE i<1 REPEAT END;END;MODEND" => "";
+        "MODULE;PROBLEM;p:PROC;FOR i FROM ^i REPEAT END;END;MODEND" => "S2 ";
+        "MODULE;PROBLEM;p:PROC;WHILE ^a<1 REPEAT DCL a FIXED;END;END;MODEND" => "S2 ";
+        "MODULE;PROBLEM;DCL a ^t;TYPE t FIXED;MODEND" => "S3 ";
+        "MODULE;PROBLEM;TYPE t FIXED;DCL a t;MODEND" => "";
+        "MODULE;PROBLEM;DCL (b,c) FIXED,a ^b;MODEND" => "S3 ";
+        "MODULE;PROBLEM;TYPE t FIXED;p:PROC;DCL t FIXED,a ^t;END;MODEND" => "S3 ";
+        "MODULE;PROBLEM;LENGTH FIXED(^64);LENGTH BIT(64);LENGTH CHAR(255);MODEND" => "S4 ";
+        "MODULE;PROBLEM;DCL a FIXED(^0),b BIT(^65),c CHAR(^256),d FIXED(63);MODEND" => "S4 S4 S4 ";
+        "MODULE;PROBLEM;DCL a DURATION INIT(^305420 HRS),b DURATION INIT(305419 HRS);MODEND" => "S4 ";
+        "MODULE;PROBLEM;DCL a(^2:1) FIXED,b(2:2) FIXED;MODEND" => "S5 ";
+        "MODULE;PROBLEM;DCL a(-2147483648:-2147483648) FIXED,b(^2147483648:2147483648) FIXED;MODEND" => "S5 ";
+        "MODULE;PROBLEM;DCL ^a(256,257) FIXED,b(256,256) FIXED,^c(2,2,2,2) FIXED,d(2,2,2) FIXED;MODEND"
+            => "S5 S5 ";
+        "MODULE;PROBLEM;TYPE t STRUCT[(a,b)(256) FIXED];DCL ^c(257) t,d(256) t;MODEND" => "S5 ";
+        "MODULE;PROBLEM;TYPE t STRUCT[a FIXED,^a BIT];MODEND" => "S6 ";
+        "MODULE;PROBLEM;TYPE t STRUCT[a FIXED,b STRUCT[a FIXED]];DCL a t;MODEND" => "";
+        "MODULE;PROBLEM;DCL (^a,b) INV FIXED;MODEND" => "S8 ";
+        "MODULE;PROBLEM;DCL (a,b) INV FIXED INIT(1);MODEND" => "";
+        "MODULE;PROBLEM;DCL (a,b) SEMA PRESET(1,2,^3);MODEND" => "S9 ";
+        "MODULE;PROBLEM;DCL (a,b) SEMA PRESET(2147483647,^2147483648);MODEND" => "S9 ";
+    ]
+}
+
+// The broken rules of a module, each with a blank behind it, or what it has in place of them. A rule that isn't told at its
+// mark has its place in front.
+fn shown(alloc: Global, case: &[u8]) -> Result<String, AllocError> {
+    let mut text = String::new(alloc);
+    let source = source_of(alloc, case)?;
+    let places = places_of(alloc, case, STOP)?;
+    let Some((tokens, end)) = tokens_of(alloc, source.as_slice()) else {
+        text.push_str("no tokens")?;
+        return Ok(text);
+    };
+    let Ok(tree) = parse(alloc, tokens.as_slice(), end) else {
+        text.push_str("no tree")?;
+        return Ok(text);
+    };
+    let faults = faults_but_s7(alloc, &tree)?;
+    let mut marks = places.as_slice().iter();
+    for fault in faults.as_slice() {
+        if marks.next() != Some(&fault.place) {
+            write!(text, "{}:", fault.place)?;
+        }
+        write!(text, "S{} ", fault.rule)?;
+    }
+    if marks.next().is_some() {
+        text.push_str("a mark too many ")?;
+    }
+    Ok(text)
+}
+
+#[test]
+fn modules_break_the_rules_at_their_marks(rt: HostRuntime) -> Result<(), Fail> {
+    for &(case, expected) in modules() {
+        let found = shown(rt.alloc(), case.as_bytes())?;
+        assert_eq!(rt; found.as_str(), expected, "{case}");
+    }
+    Ok(())
+}

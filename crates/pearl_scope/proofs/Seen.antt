@@ -1,0 +1,101 @@
+-- Names that were seen, by their texts, and those that repeat one before.
+use Rattle.std.proofs.Common.{◌≡◌, ℕ, suc, ◌+◌, ◌<◌, Bool, true, false, cond, ◌||◌, List, [], ◌∷◌, ◌++◌, map, Option, Some, None, is_some, bytes_eq, refl, sym, ap, subst, ◌∙◌, append_assoc, append-nil, length, take, get_or}
+use Rattle.arrayvec.specs.ArrayVec.{ArrayVec}
+use Rattle.pearl_tree.specs.declared.fault.RuleFault.{RuleFault}
+use Rattle.pearl_tree.specs.declared.name.Name.{Name}
+use Rattle.pearl_tree.specs.declared.typing.Field.{Field}
+use Rattle.pearl_tree.specs.ShownDeclarations.{shown_names}
+use Rattle.pearl_tree.specs.Faults.{fault_if}
+use Rattle.pearl_tree.specs.Names.{text_of, names_of, is_among, repeats}
+use Rattle.pearl_scope.specs.Shapes.{field_names}
+use Rattle.pearl_scope.specs.FirstNames.{number_of, or_else, HasNoted}
+use Rattle.pearl_scope.specs.Forming.{fields_shown}
+use Rattle.pearl_scope.specs.Seen.{Sees}
+use Rattle.pearl_scope.proofs.FirstNames.{bytes_symm}
+use Rattle.pearl_scope.proofs.Lists.{one_taken}
+
+repeats_append : (rule : ℕ) (before a b : List Name) → repeats rule before (a ++ b) ≡ repeats rule before a ++ repeats rule (before ++ a) b
+repeats_append rule before [] b = ap (λ l. repeats rule l b) (sym (append-nil before))
+repeats_append rule before (name ∷ a) b =
+    ap (λ t. fault_if (is_among before (text_of name)) name.place rule ++ t) (repeats_append rule (before ++ name ∷ []) a b)
+    ∙ sym (append_assoc (fault_if (is_among before (text_of name)) name.place rule) (repeats rule (before ++ name ∷ []) a) _)
+    ∙ ap (λ l. (fault_if (is_among before (text_of name)) name.place rule ++ repeats rule (before ++ name ∷ []) a) ++ repeats rule l b)
+    (append_assoc before (name ∷ []) a)
+
+among_push : (before : List Name) (name : Name) (q : List ℕ) → is_among (before ++ name ∷ []) q ≡ is_among before q || bytes_eq q (text_of name)
+among_push [] name q = by (bytes_eq q (text_of name)) refl
+  where
+    by : (b : Bool) → bytes_eq q (text_of name) ≡ b → (bytes_eq (text_of name) q || false) ≡ b
+    by true e = ap (λ c. c || false) (bytes_symm q (text_of name) true e)
+    by false e = ap (λ c. c || false) (bytes_symm q (text_of name) false e)
+among_push (first ∷ before) name q = by (bytes_eq (text_of first) q) (among_push before name q)
+  where
+    by : (b : Bool) → is_among (before ++ name ∷ []) q ≡ is_among before q || bytes_eq q (text_of name) →
+        (b || is_among (before ++ name ∷ []) q) ≡ (b || is_among before q) || bytes_eq q (text_of name)
+    by true rest = refl
+    by false rest = rest
+
+sees_more : (old new : List (ArrayVec ℕ × ℕ)) (before : List Name) (name : Name) (number : ℕ) → Sees old before → HasNoted old (text_of name) number new →
+    Sees new (before ++ name ∷ [])
+sees_more old new before name number sees noted q =
+    ap is_some (noted q) ∙ by (number_of old q) (bytes_eq q (text_of name))
+    ∙ ap (λ b. b || bytes_eq q (text_of name)) (sees q) ∙ sym (among_push before name q)
+  where
+    by : (o : Option ℕ) (b : Bool) → is_some (or_else o (cond b (Some number) None)) ≡ is_some o || b
+    by None true = refl
+    by None false = refl
+    by (Some n) b = refl
+
+-- what a loop over names has told
+abbrev pub Told : (old new : List (ArrayVec ℕ × ℕ)) (before after : List RuleFault) → List Name → Type 0
+Told old new before after names =
+    (earlier : List Name) → Sees old earlier → Sees new (earlier ++ names) × (after ≡ before ++ repeats 6 earlier names)
+
+pub told_none : (seen : List (ArrayVec ℕ × ℕ)) (faults : List RuleFault) → Told seen seen faults faults []
+told_none seen faults earlier sees = (subst (Sees seen) (sym (append-nil earlier)) sees, sym (append-nil faults))
+
+pub told_more : (old now new : List (ArrayVec ℕ × ℕ)) (a b c : List RuleFault) (xs : List Name) (i : ℕ) (x : Name) (number : ℕ) (again : Bool) →
+    i < length xs → x ≡ get_or xs i x → Told old now a b (take i xs) → again ≡ is_some (number_of now (text_of x)) → HasNoted now (text_of x) number new →
+    c ≡ b ++ fault_if again x.place 6 → Told old new a c (take (i + 1) xs)
+told_more old now new a b c xs i x number again inside is told twice noted more earlier sees =
+    let so = told earlier sees in
+    let here : again ≡ is_among (earlier ++ take i xs) (text_of x) = twice ∙ so.0 (text_of x) in
+    let taken = one_taken xs i x inside is in (
+      subst (Sees new) (append_assoc earlier (take i xs) (x ∷ []) ∙ ap (λ t. earlier ++ t) (sym taken)) (sees_more now new (earlier ++ take i xs) x number so.0 noted),
+      more ∙ (λ j. so.1 j ++ fault_if (here j) x.place 6)
+          ∙ append_assoc a (repeats 6 earlier (take i xs)) _
+          ∙ ap (λ t. a ++ (repeats 6 earlier (take i xs) ++ t)) (append-nil' (fault_if (is_among (earlier ++ take i xs) (text_of x)) x.place 6))
+          ∙ ap (λ t. a ++ t) (sym (repeats_append 6 earlier (take i xs) (x ∷ [])))
+          ∙ ap (λ l. a ++ repeats 6 earlier l) (sym taken),
+    )
+  where
+    append-nil' : (l : List RuleFault) → l ≡ l ++ []
+    append-nil' l = sym (append-nil l)
+
+-- what a loop over fields has told
+pub record ToldFields (seen : List (ArrayVec ℕ × ℕ)) (before after : List RuleFault) (fields : List Field) : Type 0 where
+  pub sees : Sees seen (field_names (fields_shown fields))
+  pub told : after ≡ before ++ repeats 6 [] (field_names (fields_shown fields))
+
+pub told_no_field : (seen : List (ArrayVec ℕ × ℕ)) (faults : List RuleFault) → seen ≡ [] → ToldFields seen faults faults []
+told_no_field seen faults none = record {
+  sees = λ q. ap (λ entries. is_some (number_of entries q)) none;
+  told = sym (append-nil faults);
+}
+
+names_more : (xs : List Field) (x : Field) → field_names (fields_shown (xs ++ x ∷ [])) ≡ field_names (fields_shown xs) ++ names_of (shown_names x.names)
+names_more [] x = append-nil (names_of (shown_names x.names))
+names_more (y ∷ ys) x = ap (λ t. names_of (shown_names y.names) ++ t) (names_more ys x) ∙ sym (append_assoc (names_of (shown_names y.names)) _ _)
+
+pub told_field : (now new : List (ArrayVec ℕ × ℕ)) (a b c : List RuleFault) (xs : List Field) (i : ℕ) (x : Field) (names : List Name) → i < length xs → x ≡ get_or xs i x →
+    names ≡ names_of (shown_names x.names) → ToldFields now a b (take i xs) → Told now new b c names → ToldFields new a c (take (i + 1) xs)
+told_field now new a b c xs i x names inside is same so told =
+    let earlier = field_names (fields_shown (take i xs)) in
+    let more = told earlier so.sees in
+    let e : field_names (fields_shown (take (i + 1) xs)) ≡ earlier ++ names =
+    ap (λ l. field_names (fields_shown l)) (one_taken xs i x inside is) ∙ names_more (take i xs) x ∙ ap (λ t. earlier ++ t) (sym same) in
+    record {
+      sees = subst (Sees new) (sym e) more.0;
+      told = more.1 ∙ ap (λ t. t ++ repeats 6 earlier names) so.told ∙ append_assoc a (repeats 6 [] earlier) _
+          ∙ ap (λ t. a ++ t) (sym (repeats_append 6 [] earlier names) ∙ ap (repeats 6 []) (sym e));
+    }

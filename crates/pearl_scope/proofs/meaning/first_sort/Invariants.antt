@@ -1,9 +1,0 @@
-use Rattle.std.proofs.Common.{◌≡◌, length}
-use Rattle.pearl_scope.specs.Meanings.{first_sort}
-use Rattle.pearl_scope.proofs.meaning.first_sort.Given as goal
-
-abbrev pub invariant-loop-names : goal.invariant-loop-names
-invariant-loop-names l = first_sort l.initial.names l.text l.around ≡ first_sort l.names l.text l.around
-
-abbrev pub decreases-loop-names : goal.decreases-loop-names
-decreases-loop-names l = length l.names
