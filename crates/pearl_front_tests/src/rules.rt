@@ -39,6 +39,60 @@ fn modules() -> &'static [(&'static str, &'static str)] {
     ]
 }
 
+// Statements in which nothing declares the marked names. Each place at which a statement or an expression has a name stands
+// once.
+fn statements() -> &'static [&'static str] {
+    &[
+        "^a:=^b;",
+        "^a(^i,^j).c:=^b(^k).c(^l);",
+        "CALL ^f(^a,^b(^c));^g;",
+        "IF ^a THEN ^b:=1;ELSE ^c:=1;FIN;",
+        "CASE ^a ALT ^b:=1;ALT ^c:=1;OUT ^d:=1;FIN;",
+        "FROM ^a BY ^b TO ^c WHILE ^d REPEAT ^e:=1;END;",
+        "BEGIN ^a:=1;END;",
+        "RETURN(^a);",
+        "AT ^a ALL ^b UNTIL ^c ACTIVATE ^d PRIO ^e;",
+        "AFTER ^a ALL ^b DURING ^c ACTIVATE ^d;",
+        "WHEN ^a AFTER ^b ALL ^c ACTIVATE ^d;",
+        "ALL ^a ACTIVATE ^b;",
+        "AT ^a CONTINUE ^b;AFTER ^c CONTINUE ^d;WHEN ^e CONTINUE ^f;",
+        "AT ^a RESUME;AFTER ^b RESUME;WHEN ^c RESUME;",
+        "SUSPEND ^a;TERMINATE ^b;PREVENT ^c;",
+        "REQUEST ^a,^b;RELEASE ^c,^d;",
+        "ENABLE ^a;DISABLE ^b;TRIGGER ^c;",
+        "PUT ^a,^b TO ^c BY F(1);",
+        "GET ^a,^b(^c) FROM ^d BY F(1);",
+        "SEND ^a TO ^b;",
+        "TAKE ^a(^b).c FROM ^d;",
+        "^a:=-^b+NOT(^c*ABS ^d);",
+        "^a:=TRY ^b;",
+        "^a:=LWB ^b+2 UPB ^c(^d).e;",
+    ]
+}
+
+// Whether a task of these statements alone breaks S2 at the marks and no other rule.
+fn breaks_s2(alloc: Global, case: &str) -> Result<bool, AllocError> {
+    let mut module = String::new(alloc);
+    write!(module, "MODULE;PROBLEM;t:TASK;{case}END;MODEND")?;
+    let found = shown(alloc, module.as_bytes())?;
+    let wanted = case.as_bytes().iter().filter(|byte| **byte == STOP).count();
+    let mut left = found.as_str();
+    let mut told: usize = 0;
+    while let Some(rest) = left.strip_prefix("S2 ") {
+        told = told.saturating_add(1);
+        left = rest;
+    }
+    Ok(left.is_empty() && told == wanted)
+}
+
+#[test]
+fn names_are_asked_wherever_they_stand(rt: HostRuntime) -> Result<(), Fail> {
+    for &case in statements() {
+        assert!(rt; breaks_s2(rt.alloc(), case)?, "{case}");
+    }
+    Ok(())
+}
+
 // The broken rules of a module, each with a blank behind it, or what it has in place of them. A rule that isn't told at its
 // mark has its place in front.
 fn shown(alloc: Global, case: &[u8]) -> Result<String, AllocError> {
