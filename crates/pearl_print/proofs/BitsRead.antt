@@ -1,11 +1,12 @@
 -- Bits are read back as they are written, and written in their order.
-use Rattle.std.proofs.Common.{◌≡◌, ◌<◌, ◌≤◌, ◌+◌, ◌-◌, ◌*◌, ◌/◌, ◌%◌, ◌^◌, ℕ, zero, suc, Bool, true, false, ◌&&◌, ◌==◌, if◌then◌else◌, List, [], ◌∷◌, ◌++◌, length, map, take, drop, fold, slice_index, Some, refl, sym, ap, ◌∙◌, append_assoc, arith, length-append}
+use Rattle.std.proofs.Common.{◌≡◌, ◌<◌, ◌≤◌, ◌+◌, ◌-◌, ◌*◌, ◌/◌, ◌%◌, ◌^◌, ℕ, zero, suc, Bool, true, false, ◌&&◌, ◌==◌, if◌then◌else◌, List, [], ◌∷◌, ◌++◌, length, map, take, drop, fold, slice_index, Some, refl, sym, ap, ◌∙◌, append_assoc, arith, length-append, codes}
 use Rattle.std.proofs.lemmas.Grind.{common_steps}
 use Rattle.std.proofs.lemmas.Bool.Decides.{nat_tests}
 use Rattle.std.proofs.Math.Nat.{div-eq_of_lt, div-div-eq-div-mul}
 use Rattle.std.specs.List.{list_all}
 use Rattle.pearl_tree.specs.declared.token.What.TheVariants as what
 use Rattle.pearl_tree.specs.Tokens.{IsBits}
+use Rattle.pearl_value.specs.BitLists.{bits_of as truth_values}
 use Rattle.pearl_lex.specs.Spelling.{sized}
 use Rattle.pearl_lex.specs.Quoted.{is_char, chars_len, digit_value, is_digit_of, bits_value, bits_of, quoted}
 use Rattle.pearl_lex.specs.Front.{front}
@@ -97,9 +98,14 @@ bit_of_digit zero small = refl
 bit_of_digit (suc zero) small = refl
 bit_of_digit (suc (suc n)) small = absurd (omega (arith, small))
 
--- the digits of bits are their truth values in order
-pub digits_are_the_bits : DigitsAreTheBits
-digits_are_the_bits zero value = refl
-digits_are_the_bits (suc n) value =
+-- the digits of a number are its truth values in order
+digits_in_order : (len value : ℕ) → binary len value ≡ map (λ bit. if bit then 49 else 48) (truth_values len value)
+digits_in_order zero value = refl
+digits_in_order (suc n) value =
     ap (λ digit. digit ∷ binary n value) (bit_of_digit (value / 2 ^ n % 2) (omega arith))
-    ∙ ap (λ digits. (if value / 2 ^ n % 2 == 1 then 49 else 48) ∷ digits) (digits_are_the_bits n value)
+    ∙ ap (λ digits. (if value / 2 ^ n % 2 == 1 then 49 else 48) ∷ digits) (digits_in_order n value)
+
+-- bits are written as their truth values in order
+pub digits_are_the_bits : DigitsAreTheBits
+unfolding spelled
+digits_are_the_bits len value = ap (λ digits. codes "'" ++ digits ++ codes "'B") (digits_in_order len value)

@@ -1,6 +1,7 @@
 -- What the text of tokens is read as, and in which order it has bits.
 use Rattle.std.specs.Prelude.{◌≡◌, ℕ, ◌/◌, if◌then◌else◌, List, ◌++◌, length, map, Some, All}
 use Rattle.pearl_tree.specs.declared.token.What.{What}
+use Rattle.pearl_tree.specs.declared.token.What.TheVariants as what
 use Rattle.pearl_tree.specs.declared.literal.Literal.{Literal}
 use Rattle.pearl_tree.specs.declared.literal.Literal.TheVariants as literal
 use Rattle.pearl_tree.specs.declared.token.Token.{Token}
@@ -12,7 +13,7 @@ use Rattle.pearl_value.specs.BitLists.{bits_of}
 use Rattle.pearl_lex.specs.Spelling.{space_len}
 use Rattle.pearl_lex.specs.Front.{front}
 use Rattle.pearl_lex.specs.Lexes.{Lexes}
-use Rattle.pearl_print.specs.Spelled.{binary, spelled, gap, text_of_tokens}
+use Rattle.pearl_print.specs.Spelled.{spelled, gap, text_of_tokens}
 use Rattle.pearl_print.specs.Modules.{tokens_of}
 use Rattle.pearl_print.specs.Literals.{EachLiteral}
 
@@ -48,6 +49,7 @@ FitsHours tree = EachLiteral HasFittingHours tree
 abbrev pub LawfulTokens : Type 0
 LawfulTokens = (tree : Tree) → IsLawful tree → FitsHours tree → All IsLawfulWhat (tokens_of tree)
 
--- the digits of bits are their truth values in order, 1 for true and 0 for false
+-- bits are written as their truth values in order, 1 for true and 0 for false
 abbrev pub DigitsAreTheBits : Type 0
-DigitsAreTheBits = (len value : ℕ) → binary len value ≡ map (λ bit. if bit then 49 else 48) (bits_of len value)
+DigitsAreTheBits =
+    (len value : ℕ) → spelled (what.Bits len value) ≡ codes "'" ++ map (λ bit. if bit then 49 else 48) (bits_of len value) ++ codes "'B"
