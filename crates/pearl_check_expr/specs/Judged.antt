@@ -15,8 +15,8 @@ use Rattle.pearl_tree.specs.declared.rule.TheConstants as rule
 use Rattle.pearl_tree.specs.Faults.{fault_if}
 use Rattle.pearl_tree.specs.Names.{text_of}
 use Rattle.pearl_tree.specs.ShownExpressions.{ShownExpr, OfOperand, OfDyadic, ShownPrimary, OfLiteral, OfRef, OfGroup, OfNow, OfTry, OfLimit, ShownSelectors, NoSelectors, MoreSelectors, ShownSelector, OfSubscripts, OfComponent, ShownExprs, NoExprs, MoreExprs, ShownRef}
-use Rattle.pearl_scope.specs.declared.scope.View.{View}
-use Rattle.pearl_scope.specs.Tables.{Parameter, Sense, Semaphore, Table}
+use Rattle.pearl_names.specs.declared.scope.View.{View}
+use Rattle.pearl_names.specs.Tables.{Parameter, Sense, Semaphore, Table}
 use Rattle.pearl_check_expr.specs.Senses.{sense_from, Callee, callee_of, is_fixed}
 use Rattle.pearl_check_expr.specs.Literals.{literal_kind}
 use Rattle.pearl_check_expr.specs.Kinds.{suits_kind, is_kind}

@@ -2,9 +2,9 @@
 use Rattle.std.specs.Prelude.{ℕ, zero, suc, Bool, true, false, ◌&&◌, if◌then◌else◌, List, [], ◌∷◌, Option, Some, None, slice_get}
 use Rattle.std.specs.Str.{bytes_eq}
 use Rattle.pearl_value.specs.declared.kind.Kind.{Kind}
-use Rattle.pearl_scope.specs.declared.scope.View.{View}
-use Rattle.pearl_scope.specs.declared.scope.View.TheVariants.{Within, WhileOf}
-use Rattle.pearl_scope.specs.Tables.{Parameter, Sense, Variable, Control, Procedure, NamedSense, SenseScope}
+use Rattle.pearl_names.specs.declared.scope.View.{View}
+use Rattle.pearl_names.specs.declared.scope.View.TheVariants.{Within, WhileOf}
+use Rattle.pearl_names.specs.Tables.{Parameter, Sense, Variable, Control, Procedure, NamedSense, SenseScope}
 
 -- the first of these names that has the text, or else this
 abbrev pub first_sense : List NamedSense → List ℕ → Option Sense → Option Sense

@@ -5,9 +5,9 @@ use Rattle.pearl_tree.specs.declared.name.Name.{Name}
 use Rattle.pearl_tree.specs.declared.rule.TheConstants as rule
 use Rattle.pearl_tree.specs.Names.{text_of}
 use Rattle.pearl_tree.specs.ShownExpressions.{ShownExpr, ShownExprs, NoExprs, MoreExprs, ShownSelectors, ShownRef}
-use Rattle.pearl_scope.specs.declared.scope.View.{View}
-use Rattle.pearl_scope.specs.declared.scope.View.TheVariants.{Within, WhileOf}
-use Rattle.pearl_scope.specs.Tables.{Sense, Table}
+use Rattle.pearl_names.specs.declared.scope.View.{View}
+use Rattle.pearl_names.specs.declared.scope.View.TheVariants.{Within, WhileOf}
+use Rattle.pearl_names.specs.Tables.{Sense, Table}
 use Rattle.pearl_check_expr.specs.Senses.{sense_from, Callee, callee_of}
 use Rattle.pearl_check_expr.specs.Standings.{Judged, faulty, variable_start, as_value, faults_of}
 use Rattle.pearl_check_expr.specs.Judged.{judged, judged_all, along, arguments, call_faults, is_well_called, if_well}
