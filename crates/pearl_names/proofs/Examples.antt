@@ -1,27 +1,23 @@
 -- Small modules and what their names stand for.
 use Prim.Native.String.{String}
-use Rattle.std.specs.Prelude.{◌≡◌, ℕ, ◌+◌, pos, false, true, List, [], ◌∷◌, Some, None, codes}
+use Rattle.std.specs.Prelude.{◌≡◌, ℕ, ◌+◌, pos, false, true, List, [], ◌∷◌, Some, None, is_some, map, codes}
 use Rattle.std.proofs.Common.{refl}
 use Rattle.pearl_value.specs.declared.kind.Kind.TheVariants as kind
-use Rattle.pearl_tree.specs.declared.fault.RuleFault.{RuleFault}
 use Rattle.pearl_tree.specs.declared.name.Name.{Name}
 use Rattle.pearl_tree.specs.declared.name.Number.{Number}
-use Rattle.pearl_tree.specs.declared.literal.Sign.TheVariants.{Plus}
-use Rattle.pearl_tree.specs.declared.literal.Duration.TheVariants.{Hours}
 use Rattle.pearl_tree.specs.declared.typing.Bound.{Bound}
 use Rattle.pearl_tree.specs.declared.typing.Sort.TheVariants.{Fixed, Bit, Char}
-use Rattle.pearl_tree.specs.declared.typing.Basic.TheVariants.{Sized, Duration}
-use Rattle.pearl_tree.specs.declared.tree.TaskHead.TheVariants.{PrioFirst}
-use Rattle.pearl_tree.specs.ShownLiterals.{OfNumber, OfBits, OfText, OfDuration, ShownConst}
-use Rattle.pearl_tree.specs.ShownExpressions.{ShownExpr, OfOperand, OfRef, NoSelectors}
-use Rattle.pearl_tree.specs.ShownDeclarations.{ShownNames, OfOne, OfSeveral, ShownTyping, OfBasic, OfStruct, OfNamed, NoFields, MoreFields, ShownItem, OfItem, OfSema}
-use Rattle.pearl_tree.specs.ShownStatements.{ShownStmt, OfRepeat, NoStmts}
-use Rattle.pearl_tree.specs.ShownModules.{ShownDecl, OfLength, OfType, OfDeclare, OfTask, OfProc, ShownTree}
+use Rattle.pearl_tree.specs.declared.typing.Basic.TheVariants.{Sized}
+use Rattle.pearl_tree.specs.ShownLiterals.{OfNumber, OfBits, ShownConst}
+use Rattle.pearl_tree.specs.ShownDeclarations.{ShownNames, OfOne, ShownTyping, OfBasic, OfStruct, OfNamed, NoFields, MoreFields, ShownItem, OfItem}
+use Rattle.pearl_tree.specs.ShownStatements.{OfRepeat, NoStmts}
+use Rattle.pearl_tree.specs.ShownModules.{ShownDecl, OfLength, OfType, OfDeclare, OfProc, ShownTree}
 use Rattle.pearl_names.specs.Sorts.{sorted_names, names_of_scopes}
+use Rattle.pearl_names.specs.declared.scope.View.TheVariants.{Within, WhileOf}
 use Rattle.pearl_names.specs.Layout.{item_leaves}
 use Rattle.pearl_names.specs.Known.{known_of, around}
 use Rattle.pearl_names.specs.Shapes.{OfKind}
-use Rattle.pearl_names.specs.Tables.{table_of, NewType, Variable, Procedure, OwnParameter, Control}
+use Rattle.pearl_names.specs.Tables.{table_of, sense_from, NewType, Variable, Procedure, OwnParameter, Control}
 
 abbrev pub name : String → ℕ → Name
 name text place = record { text = record { items = codes text }; place = place }
@@ -88,18 +84,19 @@ tabled = source (
 
 -- what its names stand for, scope by scope
 stands_for :
-    (table_of tabled).scopes ≡
-    record {
-      outer = None;
-      names =
-          record { name = codes "u"; sense = NewType } ∷
-          record { name = codes "x"; sense = Variable (Some (record { bounds = []; shape = OfKind (kind.Bits 3) })) true } ∷
-          record { name = codes "p"; sense = Procedure (record { kind = Some (kind.Fixed 31); ident = true } ∷ []) None } ∷ [];
-    } ∷
-    record {
-      outer = Some 0;
-      names = record { name = codes "a"; sense = OwnParameter (record { kind = Some (kind.Fixed 31); ident = true }) } ∷ [];
-    } ∷
-    record { outer = Some 1; names = record { name = codes "i"; sense = Control (kind.Fixed 31) } ∷ [] } ∷ []
+    (table_of tabled).senses ≡
+    (NewType ∷ Variable (Some (record { bounds = []; shape = OfKind (kind.Bits 3) })) true ∷
+    Procedure (record { kind = Some (kind.Fixed 31); ident = true } ∷ []) None ∷ []) ∷
+    (OwnParameter (record { kind = Some (kind.Fixed 31); ident = true }) ∷ []) ∷
+    (Control (kind.Fixed 31) ∷ []) ∷ []
 unfolding names_of_scopes sorted_names
 stands_for = refl
+
+-- in the body of its procedure p is seen, and a; in its loop i, also in a WHILE
+seen : map (λ text. is_some (sense_from (table_of tabled) (Within 1) (codes text))) ("p" ∷ "a" ∷ "i" ∷ []) ≡ true ∷ true ∷ false ∷ []
+unfolding names_of_scopes sorted_names
+seen = refl
+
+seen_in_while : sense_from (table_of tabled) (WhileOf 2) (codes "i") ≡ Some (Control (kind.Fixed 31))
+unfolding names_of_scopes sorted_names
+seen_in_while = refl

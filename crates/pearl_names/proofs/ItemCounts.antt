@@ -1,16 +1,16 @@
 -- The counts of the variables of an item.
-use Rattle.std.proofs.Common.{◌≡◌, ℕ, zero, suc, ℤ, Bool, true, false, cond, not, List, [], ◌∷◌, take, Option, Some, None, option_map, is_some, refl, sym, ap, ◌∙◌}
+use Rattle.std.proofs.Common.{◌≡◌, ℕ, zero, suc, ℤ, Bool, true, false, cond, List, [], ◌∷◌, take, Option, Some, None, option_map, is_some, refl, sym, ap, ◌∙◌}
 use Rattle.std.proofs.lemmas.Option.{none-some, same_Some}
 use Rattle.pearl_names.specs.declared.types.Counts.{Counts}
 use Rattle.pearl_names.specs.declared.types.Sizes.{Sizes}
 use Rattle.pearl_names.specs.declared.types.TypeRef.{TypeRef}
 use Rattle.pearl_names.specs.declared.types.StructForm.{StructForm}
-use Rattle.pearl_names.specs.Counts.{cut, within, counts, counts_of, has_sound_leaves}
+use Rattle.pearl_names.specs.Counts.{within, counts, counts_of}
 use Rattle.pearl_names.specs.Forms.{StandsFor, Matches}
 use Rattle.pearl_names.specs.Forming.{AllMatch, sizes_of}
-use Rattle.pearl_names.specs.Layout.{Leaf, leaves_within}
+use Rattle.pearl_names.specs.Layout.{leaves_within}
 use Rattle.pearl_names.specs.Shapes.{Shape}
-use Rattle.pearl_names.proofs.Counting.{counts_of_variable, sound_counts}
+use Rattle.pearl_names.proofs.Counting.{counts_of_variable}
 
 pub within_counted : (forms : List StructForm) (part : TypeRef) (sizes : Sizes) (bounds : List (ℤ × ℤ)) (shape : Option Shape) (each : Counts) → sizes ≡ sizes_of bounds →
     Matches forms (Some part) shape → ((s : Shape) → StandsFor forms part s → each ≡ counts_of s) →

@@ -6,6 +6,7 @@ pub mod DeclLists
 pub mod FirstNames
 pub mod Repeating
 pub mod Found
+pub mod HeldAt
 pub mod Counting
 pub mod Standing
 pub mod Building

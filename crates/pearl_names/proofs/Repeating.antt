@@ -4,7 +4,6 @@ use Rattle.std.proofs.lemmas.List.{map-append}
 use Rattle.pearl_tree.specs.declared.fault.RuleFault.{RuleFault}
 use Rattle.pearl_tree.specs.declared.name.Name.{Name}
 use Rattle.pearl_names.specs.declared.scope.SortedName.{SortedName}
-use Rattle.pearl_names.specs.ScopeNames.{ScopeNames}
 use Rattle.pearl_tree.specs.Faults.{fault_if}
 use Rattle.pearl_tree.specs.Names.{text_of, is_among, repeats}
 use Rattle.arrayvec.specs.ArrayVec.{ArrayVec}

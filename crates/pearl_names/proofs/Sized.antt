@@ -9,7 +9,7 @@ use Rattle.pearl_names.specs.Counts.{cut}
 use Rattle.pearl_names.specs.declared.types.Sizes.{Sizes}
 use Rattle.pearl_names.specs.Forming.{sizes_of}
 use Rattle.pearl_names.proofs.Counting.{cut_mul, elements-append}
-use Rattle.pearl_names.proofs.Lists.{one_taken, cut_at, all_taken}
+use Rattle.pearl_names.proofs.Lists.{one_taken, cut_at}
 
 -- what a loop over bounds has found: all so far are sound
 pub record SizedSo (sizes : Sizes) (bounds : List Bound) : Type 0 where

@@ -32,5 +32,7 @@ pub mod Forming
 pub mod Known
 -- what each name of a scope stands for, with all that is asked of it where it is used
 pub mod Tables
+-- which table in memory holds which table of names
+pub mod Holding
 -- a scope stands within an earlier one
 pub mod Laws

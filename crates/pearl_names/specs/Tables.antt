@@ -1,7 +1,8 @@
--- The table of scopes: what each name stands for, with all that is asked of it where it is used. A kind or form is
+-- The table of names: what each name stands for, with all that is asked of it where it is used. A kind or form is
 -- missing where a rule is broken in it, so that the name counts as one with a fault.
-use Rattle.std.specs.Prelude.{ℕ, ◌+◌, ℤ, Bool, if◌then◌else◌, List, [], ◌∷◌, map, Option, Some, None, option_map}
+use Rattle.std.specs.Prelude.{ℕ, ◌+◌, ℤ, Bool, if◌then◌else◌, List, [], ◌∷◌, map, Option, Some, None, option_map, slice_get}
 use Rattle.std.specs.List.{list_all, flat_map}
+use Rattle.std.specs.Option.{option_and_then}
 use Rattle.pearl_value.specs.declared.kind.Kind.{Kind}
 use Rattle.pearl_value.specs.declared.kind.Kind.TheVariants as kind
 use Rattle.pearl_tree.specs.declared.typing.Sort.TheVariants.{Fixed}
@@ -15,6 +16,10 @@ use Rattle.pearl_names.specs.Lengths.{length_at, kind_of_basic}
 use Rattle.pearl_tree.specs.Names.{names_of}
 use Rattle.pearl_names.specs.Scopes.{Meaning, Entry, Scope, scopes_of}
 use Rattle.pearl_names.specs.Scopes as scopes
+use Rattle.pearl_names.specs.declared.meaning.Found.{Found}
+use Rattle.pearl_names.specs.declared.scope.View.{View}
+use Rattle.pearl_names.specs.Found.{found_from}
+use Rattle.pearl_names.specs.ScopeNames.{ScopeNames}
 use Rattle.pearl_names.specs.Shapes.{Shape, Around, shape_of, sound_bounds}
 use Rattle.pearl_names.specs.Layout.{leaves_of, is_sound_leaf}
 use Rattle.pearl_names.specs.Known.{Known, known_of, around}
@@ -74,28 +79,32 @@ sense_of known scope scopes.Task = Task
 sense_of known scope (scopes.Procedure params returns) =
     Procedure (flat_map (parameters_of known.lengths) params) (option_map (kind_of_basic known.lengths) returns)
 
-pub record NamedSense : Type 0 where
-  pub name : List ℕ
-  pub sense : Sense
+-- what the names of a scope of this number stand for
+abbrev pub senses_of : Known → ℕ → List Entry → List Sense
+senses_of known scope entries = map (λ entry. sense_of known scope entry.meaning) entries
 
-pub record SenseScope : Type 0 where
-  pub outer : Option ℕ
-  pub names : List NamedSense
-
-abbrev pub named_sense : Known → ℕ → Entry → NamedSense
-named_sense known scope entry = record { name = entry.name.text.items; sense = sense_of known scope entry.meaning }
-
--- the scopes with what their names stand for, where the first of them has this number
-abbrev pub sense_scopes : Known → ℕ → List Scope → List SenseScope
-sense_scopes known number [] = []
-sense_scopes known number (scope ∷ rest) =
-    record { outer = scope.outer; names = map (named_sense known number) scope.entries } ∷
-    sense_scopes known (number + 1) rest
+-- scope by scope, where the first of them has this number
+abbrev pub senses_in : Known → ℕ → List Scope → List (List Sense)
+senses_in known number [] = []
+senses_in known number (scope ∷ rest) = senses_of known number scope.entries ∷ senses_in known (number + 1) rest
 
 pub record Table : Type 0 where
-  pub scopes : List SenseScope
+  -- the scopes with their names, and in the same order what these stand for
+  pub names : List ScopeNames
+  pub senses : List (List Sense)
   pub lengths : List DefaultLength
 
 abbrev pub table_of : ShownTree → Table
-table_of tree =
-    record { scopes = sense_scopes (known_of tree) 0 (scopes_of tree); lengths = (known_of tree).lengths }
+table_of tree = record {
+  names = (known_of tree).scopes;
+  senses = senses_in (known_of tree) 0 (scopes_of tree);
+  lengths = (known_of tree).lengths;
+}
+
+-- what an entry stands for
+abbrev pub sense_at : List (List Sense) → Found → Option Sense
+sense_at senses found = option_and_then (λ names. slice_get names found.entry) (slice_get senses found.scope)
+
+-- what a name stands for where it is seen, if a visible scope declares it
+abbrev pub sense_from : Table → View → List ℕ → Option Sense
+sense_from table view text = option_and_then (sense_at table.senses) (found_from table.names view text)

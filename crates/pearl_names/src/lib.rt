@@ -11,4 +11,6 @@ pub mod length;
 pub mod meaning;
 pub mod names;
 pub mod scope;
+pub mod sense;
+pub mod table;
 pub mod types;

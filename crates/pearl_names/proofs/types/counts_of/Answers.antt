@@ -1,4 +1,4 @@
-use Rattle.std.proofs.Common.{sym, ◌∙◌, ap, subst}
+use Rattle.std.proofs.Common.{subst}
 use Rattle.pearl_names.specs.Forms.{StandsFor}
 use Rattle.pearl_names.proofs.Standing.{basic_counts, struct_counts}
 use Rattle.pearl_names.proofs.types.counts_of.Goals as goal
