@@ -1,7 +1,7 @@
 pub mod Lists
 pub mod StatementRows
 pub mod Collecting
-pub mod AnyTypes
+pub mod Sorting
 pub mod DeclLists
 pub mod FirstNames
 pub mod Repeating

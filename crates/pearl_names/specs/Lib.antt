@@ -10,6 +10,8 @@ pub mod Scopes
 pub mod Listed
 -- a scope's names as contracts see them
 pub mod ScopeNames
+-- what the scopes in memory show, whose names stand in groups that are declared together
+pub mod Groups
 -- what sort of thing each name of a scope is
 pub mod Sorts
 -- what a name means where it is seen
