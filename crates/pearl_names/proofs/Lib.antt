@@ -7,6 +7,8 @@ pub mod FirstNames
 pub mod Repeating
 pub mod Found
 pub mod HeldAt
+pub mod Holding
+pub mod Laid
 pub mod Counting
 pub mod Standing
 pub mod Building

@@ -13,6 +13,7 @@ pub mod meaning;
 pub mod names;
 pub mod scope;
 pub mod sense;
+pub mod senses;
 pub mod sorted;
 pub mod table;
 pub mod types;
