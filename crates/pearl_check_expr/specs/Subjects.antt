@@ -1,16 +1,18 @@
 -- What is asked for its kind, and what it is found to be.
-use Rattle.std.specs.Prelude.{ℕ, List, [], ◌∷◌, ◌++◌, Option, Some, None}
-use Rattle.std.specs.Option.{option_and_then}
+use Rattle.std.specs.Prelude.{ℕ, Bool, List, ◌++◌, Option, Some, None, is_some}
 use Rattle.pearl_tree.specs.declared.name.Name.{Name}
 use Rattle.pearl_tree.specs.declared.rule.TheConstants as rule
+use Rattle.pearl_tree.specs.Faults.{fault_if}
 use Rattle.pearl_tree.specs.Names.{text_of}
-use Rattle.pearl_tree.specs.ShownExpressions.{ShownExpr, ShownExprs, NoExprs, MoreExprs, ShownSelectors, ShownRef}
+use Rattle.pearl_tree.specs.ShownExpressions.{ShownExpr, ShownExprs, ShownRef, shown_expr, shown_expr_list, shown_ref}
 use Rattle.pearl_names.specs.declared.scope.View.{View}
 use Rattle.pearl_names.specs.declared.scope.View.TheVariants.{Within, WhileOf}
 use Rattle.pearl_names.specs.Tables.{Sense, Table, sense_from}
+use Rattle.pearl_check_expr.specs.declared.subject.Subject.{Subject}
+use Rattle.pearl_check_expr.specs.declared.subject.Subject.TheVariants as subject
 use Rattle.pearl_check_expr.specs.Senses.{Callee, callee_of}
-use Rattle.pearl_check_expr.specs.Standings.{Judged, faulty, variable_start, as_value, faults_of}
-use Rattle.pearl_check_expr.specs.Judged.{judged, judged_all, along, arguments, call_faults, is_well_called, if_well}
+use Rattle.pearl_check_expr.specs.Standings.{Judged, faults_of}
+use Rattle.pearl_check_expr.specs.Judged.{judged, judged_all, judged_variable, Argument, called, if_well, result_kind}
 
 pub data ShownSubject : Type 0 where
   OfValue : (expr : ShownExpr) → ShownSubject
@@ -18,31 +20,31 @@ pub data ShownSubject : Type 0 where
   OfTarget : (target : ShownRef) → ShownSubject
   OfCallStatement : (name : Name) (arguments : ShownExprs) → ShownSubject
 
-abbrev pub target_judged : Table → View → ShownRef → Judged
-target_judged table view target =
-    as_value target.name
-    (along table view target.name (variable_start target.name (sense_from table view (text_of target.name))) target.selectors)
+abbrev pub shown_subject : Subject → ShownSubject
+shown_subject (subject.Value expr) = OfValue (shown_expr expr.now)
+shown_subject (subject.While expr) = OfWhile (shown_expr expr.now)
+shown_subject (subject.Target target) = OfTarget (shown_ref target.now)
+shown_subject (subject.Call call) = OfCallStatement call.now.name (shown_expr_list call.now.arguments.items.items)
 
 -- a call statement needs no result
-abbrev pub statement_called : Table → View → Name → ShownExprs → Callee → Judged
-statement_called table view name exprs callee =
-    let all = arguments table view callee.parameters exprs in
-    record {
-      kind = if_well (is_well_called callee all) (option_and_then (λ result. result) callee.result);
-      faults = call_faults name callee all;
-    }
+abbrev pub statement_called : Callee → Argument → Judged
+statement_called callee call = record { kind = if_well call.well (result_kind callee); faults = call.faults }
 
--- S16: it is no procedure
-abbrev pub call_judged : Table → View → Name → ShownExprs → Option Sense → Option Callee → Judged
-call_judged table view name exprs sense (Some callee) = statement_called table view name exprs callee
-call_judged table view name exprs (Some sense) None = faulty name.place rule.S16 (faults_of (judged_all table view exprs))
-call_judged table view name exprs None None = record { kind = None; faults = faults_of (judged_all table view exprs) }
+-- S16: it is declared as something else than a procedure
+abbrev pub uncalled : Name → Bool → List Judged → Judged
+uncalled name declared parts = record { kind = None; faults = faults_of parts ++ fault_if declared name.place rule.S16 }
+
+abbrev pub called_or_not : Table → View → Name → ShownExprs → Option Sense → Option Callee → Judged
+called_or_not table view name exprs sense (Some callee) = statement_called callee (called table view name callee exprs)
+called_or_not table view name exprs sense None = uncalled name (is_some sense) (judged_all table view exprs)
+
+abbrev pub call_judged : Table → View → Name → ShownExprs → Judged
+call_judged table view name exprs =
+    called_or_not table view name exprs (sense_from table view (text_of name)) (callee_of (sense_from table view (text_of name)))
 
 -- in a scope of this number; that of a WHILE is the scope of its loop's body
 abbrev pub subject_judged : Table → ℕ → ShownSubject → Judged
 subject_judged table scope (OfValue expr) = judged table (Within scope) expr
 subject_judged table scope (OfWhile expr) = judged table (WhileOf scope) expr
-subject_judged table scope (OfTarget target) = target_judged table (Within scope) target
-subject_judged table scope (OfCallStatement name exprs) =
-    call_judged table (Within scope) name exprs (sense_from table (Within scope) (text_of name))
-    (callee_of (sense_from table (Within scope) (text_of name)))
+subject_judged table scope (OfTarget target) = judged_variable table (Within scope) target
+subject_judged table scope (OfCallStatement name exprs) = call_judged table (Within scope) name exprs
