@@ -1,4 +1,4 @@
-// Tests of values, tables, lists, formats, and files and sinks in memory.
+// Tests of values, tables, lists, stacks, formats, and files and sinks in memory.
 #![tactic(auto)]
 
 #[cfg(test)]
@@ -9,6 +9,8 @@ mod lists;
 mod operands;
 #[cfg(test)]
 mod outside;
+#[cfg(test)]
+mod stacks;
 #[cfg(test)]
 mod tables;
 #[cfg(test)]

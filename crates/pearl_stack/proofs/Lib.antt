@@ -1,0 +1,5 @@
+pub mod Heads
+pub mod Shown
+pub mod Spots
+pub mod Holds
+pub mod StackLaws
