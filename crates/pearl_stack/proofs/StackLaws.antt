@@ -1,13 +1,13 @@
 -- Laws of the definitions of a stack.
-use Rattle.std.proofs.Common.{◌≡◌, ◌≢◌, ◌↔◌, ℕ, zero, suc, ◌+◌, ◌-◌, ◌<◌, ◌≤◌, List, [], ◌∷◌, ◌++◌, Option, Some, None, length, take, drop, reverse, replicate, slice_set, refl, sym, ap, ◌∙◌, subst, arith, Bool, true, false, cond, eqb, eq-eqb, ne_eqb, inl, inr, append_assoc, length-append, length-drop, length-take-le, length-set, take_at}
+use Rattle.std.proofs.Common.{◌≡◌, ◌≢◌, ◌↔◌, ℕ, zero, suc, ◌+◌, ◌-◌, ◌<◌, ◌≤◌, List, [], ◌∷◌, ◌++◌, Option, Some, None, length, take, drop, reverse, replicate, get_or, slice_set, refl, sym, ap, ◌∙◌, subst, arith, Bool, true, false, cond, eqb, eq-eqb, ne_eqb, inl, inr, append_assoc, length-append, length-drop, length-take-le, length-set, take_at}
 use Rattle.std.specs.Prelude.{IsSome, option_map, option_and_then, slice_get}
-use Rattle.std.proofs.lemmas.List.{reverse-append, reverse-reverse, length-reverse, length-replicate, drop_at}
+use Rattle.std.proofs.lemmas.List.{reverse-append, reverse-reverse, length-reverse, length-replicate, get_or-reverse, drop_at}
 use Rattle.std.proofs.lemmas.Bool.{cases_eq}
-use Rattle.std.proofs.lemmas.Option.{same_Some}
+use Rattle.std.proofs.lemmas.Option.{same_Some, slice_get-get_or}
 use Rattle.pearl_value.specs.declared.cell.Cell.{Cell}
 use Rattle.pearl_stack.specs.declared.stack.Frame as size
-use Rattle.pearl_stack.specs.Frames.{Frame, frame_at, sizes, top_operands, used, unset, pushed, popped, moved, with_cell, entered}
-use Rattle.pearl_stack.specs.Laws.{NumbersFrames, NumbersValues, PopsThePushed, all_pushed, PassesArguments, WritesOneCell, CountsValues}
+use Rattle.pearl_stack.specs.Frames.{Frame, frame_at, operand_at, sizes, top_operands, used, unset, pushed, popped, moved, with_cell, entered}
+use Rattle.pearl_stack.specs.Laws.{NumbersFrames, NumbersValues, ReadsFromTheTop, PopsThePushed, all_pushed, PassesArguments, WritesOneCell, CountsValues}
 
 -- the numbers of frames
 
@@ -63,6 +63,22 @@ values_of (Some f) i size e =
 
 pub numbers_values : NumbersValues
 numbers_values = λ frames n i size e. let both = values_of (frame_at frames n) i size e in record { cells = both.0; operands = both.1 }
+
+pub reads_from_the_top : ReadsFromTheTop
+reads_from_the_top = λ f below n less. reads f below n (get_or f.operands n unset) less
+  where
+    reads : (f : Frame) (below : List Frame) (n : ℕ) (d : Cell) → n < length f.operands →
+        operand_at (f ∷ below) (length below) (length f.operands - 1 - n) ≡ slice_get f.operands n
+    reads f below n d less =
+        let xs : List Cell = f.operands in
+        let i : ℕ = length xs - 1 - n in
+        let t : eqb (length below) (length below) ≡ true = eq-eqb (length below) (length below) refl in
+        let long : length (reverse xs) ≡ length xs = length-reverse xs in
+        let back : get_or (reverse xs) i d ≡ get_or xs (length xs - 1 - i) d = get_or-reverse xs i d (omega (arith, less)) in
+        let same : length xs - 1 - i ≡ n = omega (arith, less) in
+        ap (λ b. option_and_then (λ (f : Frame). slice_get (reverse f.operands) i) (cond b (Some f) (frame_at below (length below)))) t
+        ∙ (slice_get-get_or (reverse xs) i d (omega (arith, less, long))
+        ∙ (ap Some (back ∙ ap (λ k. get_or xs k d) same) ∙ sym (slice_get-get_or xs n d less)))
 
 -- operands and arguments
 

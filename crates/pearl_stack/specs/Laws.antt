@@ -16,6 +16,11 @@ pub record NumbersOf (frames : List Frame) (n i : ℕ) (size : size.Frame) : Typ
 abbrev pub NumbersValues : Type 0
 NumbersValues = (frames : List Frame) (n i : ℕ) (size : size.Frame) → option_map sizes (frame_at frames n) ≡ Some size → NumbersOf frames n i size
 
+-- the operand with n above it, by its number
+abbrev pub ReadsFromTheTop : Type 0
+ReadsFromTheTop = (f : Frame) (below : List Frame) (n : ℕ) → n < length f.operands →
+    operand_at (f ∷ below) (length below) (length f.operands - 1 - n) ≡ slice_get f.operands n
+
 -- what was pushed is on top, and popping it leaves the stack as it was
 abbrev pub PopsThePushed : Type 0
 PopsThePushed = (x : Cell) (frames : List Frame) → frames ≢ [] →

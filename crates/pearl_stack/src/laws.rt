@@ -1,6 +1,6 @@
 // What the calls on a stack mean to one another.
 
-ghost use Rattle.pearl_stack.specs.Laws.{NumbersFrames, NumbersValues, PopsThePushed, PassesArguments, WritesOneCell, CountsValues};
+ghost use Rattle.pearl_stack.specs.Laws.{NumbersFrames, NumbersValues, ReadsFromTheTop, PopsThePushed, PassesArguments, WritesOneCell, CountsValues};
 
 /// The numbers of frames are those below how many there are.
 pub fn frames_are_numbered()
@@ -10,6 +10,11 @@ pub fn frames_are_numbered()
 /// The numbers of a frame's cells and operands are those below how many it has.
 pub fn values_are_numbered()
     ensures { NumbersValues }
+{}
+
+/// The number of an operand of the top frame that has so many above it.
+pub fn operands_are_read_from_the_top()
+    ensures { ReadsFromTheTop }
 {}
 
 /// What was pushed is on top, and popping it leaves the stack as it was.
