@@ -2,7 +2,6 @@
 use Rattle.std.proofs.Common.{◌≡◌, ℕ, ◌+◌, ◌<◌, get_or, take, subst, List, [], ◌∷◌, ◌++◌, refl, sym, ap, ◌∙◌, map, length, length-append, append_assoc, arith}
 use Rattle.std.proofs.lemmas.List.{map-append, length-map, append-nil, take_more}
 use Rattle.std.proofs.lemmas.Grind.{flat_map-append}
-use Rattle.std.specs.List.{flat_map}
 use Rattle.pearl_tree.specs.declared.statement.Stmt.{Stmt}
 use Rattle.pearl_tree.specs.declared.statement.Branch.{Branch}
 use Rattle.pearl_tree.specs.ShownStatements.{shown_stmt, ShownStmt, OfIf, OfCase, OfRepeat, OfBegin, ShownStmts, NoStmts, MoreStmts, ShownBranches, NoBranches, MoreBranches, ShownOtherwise, NoOtherwise, OfOtherwise}
@@ -10,7 +9,7 @@ use Rattle.pearl_names.specs.declared.group.Group.{Group}
 use Rattle.pearl_names.specs.declared.group.ScopeGroups.{ScopeGroups}
 use Rattle.pearl_names.specs.Groups.{group_entries, entries_in, shown_scope, scopes_in_list}
 use Rattle.pearl_names.specs.Listed.{stmts_shown, branches_shown}
-use Rattle.pearl_names.specs.Scopes.{Entry, Scope, as_stmts, scopes_in, scopes_in_all, scopes_in_branches, scopes_in_otherwise, stmt_scopes, all_scopes, branch_scopes, otherwise_scopes}
+use Rattle.pearl_names.specs.Scopes.{Scope, as_stmts, scopes_in, scopes_in_all, scopes_in_branches, scopes_in_otherwise, stmt_scopes, all_scopes, branch_scopes, otherwise_scopes}
 
 pub entries_in-nil : entries_in [] ≡ []
 unfolding entries_in

@@ -1,5 +1,5 @@
 -- What a table in memory holds, as it is made.
-use Rattle.std.proofs.Common.{◌≡◌, ℕ, suc, ◌+◌, ◌<◌, ℤ, Bool, true, false, cond, List, [], ◌∷◌, ◌++◌, map, length, take, get_or, Option, Some, None, option_map, refl, sym, ap, subst, ◌∙◌, append_assoc, length-append, arith}
+use Rattle.std.proofs.Common.{◌≡◌, ℕ, ◌+◌, ◌<◌, ℤ, Bool, true, false, cond, List, [], ◌∷◌, ◌++◌, map, length, take, get_or, Option, Some, None, option_map, refl, sym, ap, subst, ◌∙◌, append_assoc, length-append, arith}
 use Rattle.std.proofs.lemmas.List.{map-append}
 use Rattle.std.proofs.lemmas.Option.{same_Some, none-some}
 use Rattle.std.specs.List.{list_all}
@@ -15,7 +15,7 @@ use Rattle.pearl_names.specs.declared.sense.Sense.TheVariants as held
 use Rattle.pearl_names.specs.declared.types.StructForm.{StructForm}
 use Rattle.pearl_names.specs.declared.types.TypeRef.{TypeRef}
 use Rattle.pearl_names.specs.Forming.{AllMatch, Grows}
-use Rattle.pearl_names.specs.Forms.{StandsFor, Matches}
+use Rattle.pearl_names.specs.Forms.{Matches}
 use Rattle.pearl_names.specs.Groups.{shown_meaning, group_entries, entries_in, shown_scope, scopes_in_list}
 use Rattle.pearl_names.specs.Holding.{pair_of, HoldsForm, HoldsSense, HoldsAll, HoldsSenses, HasPart}
 use Rattle.pearl_names.specs.Known.{Known, known_from}

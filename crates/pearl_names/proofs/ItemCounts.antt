@@ -1,16 +1,9 @@
 -- The counts of the variables of an item.
-use Rattle.std.proofs.Common.{◌≡◌, ℕ, zero, suc, ℤ, Bool, true, false, cond, List, [], ◌∷◌, take, Option, Some, None, option_map, is_some, refl, sym, ap, ◌∙◌}
-use Rattle.std.proofs.lemmas.Option.{none-some, same_Some}
-use Rattle.pearl_names.specs.declared.types.Counts.{Counts}
-use Rattle.pearl_names.specs.declared.types.Sizes.{Sizes}
+use Rattle.std.proofs.Common.{◌≡◌, ℕ, zero, suc, Bool, true, false, cond, List, [], ◌∷◌, take, Option, Some, None, option_map, is_some, refl}
 use Rattle.pearl_names.specs.declared.types.TypeRef.{TypeRef}
 use Rattle.pearl_names.specs.declared.types.StructForm.{StructForm}
-use Rattle.pearl_names.specs.Counts.{within, counts, counts_of}
-use Rattle.pearl_names.specs.Forms.{StandsFor, Matches}
-use Rattle.pearl_names.specs.Forming.{AllMatch, sizes_of}
-use Rattle.pearl_names.specs.Layout.{leaves_within}
+use Rattle.pearl_names.specs.Forming.{AllMatch}
 use Rattle.pearl_names.specs.Shapes.{Shape}
-use Rattle.pearl_names.proofs.Counting.{counts_of_variable}
 
 pub all_match_take : (forms : List StructForm) (named : List (Option TypeRef)) (shapes : List (Option Shape)) (n : ℕ) → AllMatch forms named shapes →
     AllMatch forms (take n named) (take n shapes)

@@ -5,7 +5,6 @@ pub mod Sorting
 pub mod DeclLists
 pub mod FirstNames
 pub mod Repeating
-pub mod Found
 pub mod HeldAt
 pub mod Holding
 pub mod Laid

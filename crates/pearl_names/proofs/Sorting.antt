@@ -1,6 +1,6 @@
 -- The names of scopes whose declarations stand one after the other.
-use Rattle.std.proofs.Common.{◌≡◌, ℕ, ◌+◌, ◌<◌, get_or, take, List, [], ◌∷◌, ◌++◌, refl, sym, ap, ◌∙◌, map, length}
-use Rattle.std.proofs.lemmas.List.{map-append, length-map, append-nil}
+use Rattle.std.proofs.Common.{◌≡◌, ℕ, ◌+◌, ◌<◌, get_or, take, List, [], ◌∷◌, ◌++◌, refl, sym, ap, ◌∙◌, length}
+use Rattle.std.proofs.lemmas.List.{map-append}
 use Rattle.pearl_tree.specs.declared.name.Name.{Name}
 use Rattle.pearl_names.specs.declared.group.Group.{Group}
 use Rattle.pearl_names.specs.declared.group.ScopeGroups.{ScopeGroups}

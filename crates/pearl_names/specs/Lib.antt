@@ -14,11 +14,9 @@ pub mod ScopeNames
 pub mod Groups
 -- what sort of thing each name of a scope is
 pub mod Sorts
--- what a name means where it is seen
-pub mod Meanings
 -- the first name of a text in a scope, and the repeated ones
 pub mod FirstNames
--- which entry of which scope a name means
+-- which entry of which scope a name means where it is seen, and of what sort it is
 pub mod Found
 -- which kinds, bounds and fields the types of variables have
 pub mod Shapes

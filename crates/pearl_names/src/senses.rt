@@ -259,7 +259,14 @@ pub(crate) fn all_senses(
     let mut all = Vec::new(alloc);
     let mut number = 0;
     for scope in scopes {
-        let senses = senses_of(alloc, names, lengths, types, number, scope.groups.as_slice())?;
+        let senses = senses_of(
+            alloc,
+            names,
+            lengths,
+            types,
+            number,
+            scope.groups.as_slice(),
+        )?;
         all.push(ScopeSenses { senses })?;
         number = after(number)?;
     }
