@@ -13,7 +13,7 @@ use Rattle.pearl_tree.specs.declared.expression.Monadic.{Monadic}
 use Rattle.pearl_tree.specs.declared.expression.Dyadic.{Dyadic}
 use Rattle.pearl_tree.specs.declared.rule.TheConstants as rule
 use Rattle.pearl_tree.specs.Faults.{fault_if}
-use Rattle.pearl_tree.specs.Names.{text_of}
+use Rattle.pearl_tree.specs.Names.{name_text as text_of}
 use Rattle.pearl_tree.specs.ShownExpressions.{ShownExpr, OfOperand, OfDyadic, ShownPrimary, OfLiteral, OfRef, OfGroup, OfNow, OfTry, OfLimit, ShownSelectors, NoSelectors, MoreSelectors, ShownSelector, OfSubscripts, OfComponent, ShownExprs, NoExprs, MoreExprs, ShownRef}
 use Rattle.pearl_scope.specs.declared.scope.View.{View}
 use Rattle.pearl_scope.specs.Tables.{Parameter, Sense, Semaphore, Table}

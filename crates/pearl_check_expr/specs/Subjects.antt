@@ -3,7 +3,7 @@ use Rattle.std.specs.Prelude.{ℕ, List, [], ◌∷◌, ◌++◌, Option, Some, 
 use Rattle.std.specs.Option.{option_and_then}
 use Rattle.pearl_tree.specs.declared.name.Name.{Name}
 use Rattle.pearl_tree.specs.declared.rule.TheConstants as rule
-use Rattle.pearl_tree.specs.Names.{text_of}
+use Rattle.pearl_tree.specs.Names.{name_text as text_of}
 use Rattle.pearl_tree.specs.ShownExpressions.{ShownExpr, ShownExprs, NoExprs, MoreExprs, ShownSelectors, ShownRef}
 use Rattle.pearl_scope.specs.declared.scope.View.{View}
 use Rattle.pearl_scope.specs.declared.scope.View.TheVariants.{Within, WhileOf}

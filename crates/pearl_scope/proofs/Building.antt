@@ -5,7 +5,7 @@ use Rattle.std.proofs.lemmas.Grind.{flat_map-append}
 use Rattle.std.specs.Map.{lookup}
 use Rattle.arrayvec.specs.ArrayVec.{ArrayVec}
 use Rattle.pearl_tree.specs.declared.name.Name.{Name}
-use Rattle.pearl_tree.specs.Names.{text_of, is_among, has_repeats}
+use Rattle.pearl_tree.specs.Names.{name_text as text_of, is_among, has_repeats}
 use Rattle.pearl_scope.specs.Shapes.{Shape, OfKind, OfFields, Fields, NoField, MoreField, with_fields}
 use Rattle.pearl_scope.specs.Layout.{Leaf, leaves_of, leaves_of_fields, leaf_slots, slots_of, elements}
 use Rattle.pearl_scope.specs.declared.types.Counts.{Counts}

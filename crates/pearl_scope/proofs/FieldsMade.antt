@@ -4,7 +4,7 @@ use Rattle.std.proofs.lemmas.List.{map-append}
 use Rattle.std.proofs.lemmas.Option.{same_Some, none-some}
 use Rattle.pearl_tree.specs.declared.typing.Field.{Field}
 use Rattle.pearl_tree.specs.ShownDeclarations.{ShownFields, NoFields, MoreFields, ShownTyping, OfBasic, OfStruct, shown_names, shown_typing}
-use Rattle.pearl_tree.specs.Names.{text_of, names_of, has_repeats, is_among}
+use Rattle.pearl_tree.specs.Names.{name_text as text_of, names_of, has_repeats, is_among}
 use Rattle.pearl_scope.specs.Shapes.{Shape, OfKind, OfFields, Fields, NoField, MoreField, Around, with_fields, with_parts, shape_of, fields_of, field_names, sound_bounds, type_shape}
 use Rattle.pearl_tree.specs.declared.name.Name.{Name}
 use mathlib.Core.Former.{Count}

@@ -4,7 +4,7 @@ use Rattle.std.proofs.lemmas.Slice.Eq.{bytes_eq-Decides}
 use Rattle.std.specs.Map.{lookup}
 use Rattle.arrayvec.specs.ArrayVec.{ArrayVec}
 use Rattle.pearl_scope.specs.declared.scope.SortedName.{SortedName}
-use Rattle.pearl_tree.specs.Names.{text_of}
+use Rattle.pearl_tree.specs.Names.{name_text as text_of}
 use Rattle.pearl_scope.specs.FirstNames.{first_index, number_of, or_else, HasNoted, IsIndex}
 
 -- one more name

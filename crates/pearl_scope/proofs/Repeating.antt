@@ -6,7 +6,7 @@ use Rattle.pearl_tree.specs.declared.name.Name.{Name}
 use Rattle.pearl_scope.specs.declared.scope.SortedName.{SortedName}
 use Rattle.pearl_scope.specs.ScopeNames.{ScopeNames}
 use Rattle.pearl_tree.specs.Faults.{fault_if}
-use Rattle.pearl_tree.specs.Names.{text_of, is_among, repeats}
+use Rattle.pearl_tree.specs.Names.{name_text as text_of, is_among, repeats}
 use Rattle.pearl_scope.specs.Rules.{s1}
 use Rattle.arrayvec.specs.ArrayVec.{ArrayVec}
 use Rattle.pearl_scope.specs.FirstNames.{first_index, number_of, HasNoted, IsIndex}

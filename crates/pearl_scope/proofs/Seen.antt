@@ -6,7 +6,7 @@ use Rattle.pearl_tree.specs.declared.name.Name.{Name}
 use Rattle.pearl_tree.specs.declared.typing.Field.{Field}
 use Rattle.pearl_tree.specs.ShownDeclarations.{shown_names}
 use Rattle.pearl_tree.specs.Faults.{fault_if}
-use Rattle.pearl_tree.specs.Names.{text_of, names_of, is_among, repeats}
+use Rattle.pearl_tree.specs.Names.{name_text as text_of, names_of, is_among, repeats}
 use Rattle.pearl_scope.specs.Shapes.{field_names}
 use Rattle.pearl_scope.specs.FirstNames.{number_of, or_else, HasNoted}
 use Rattle.pearl_scope.specs.Forming.{fields_shown}

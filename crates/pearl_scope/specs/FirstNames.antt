@@ -4,7 +4,7 @@ use Rattle.std.specs.Str.{bytes_eq}
 use Rattle.std.specs.Map.{lookup}
 use Rattle.arrayvec.specs.ArrayVec.{ArrayVec}
 use Rattle.pearl_tree.specs.declared.fault.RuleFault.{RuleFault}
-use Rattle.pearl_tree.specs.Names.{text_of, repeats}
+use Rattle.pearl_tree.specs.Names.{name_text as text_of, repeats}
 use Rattle.pearl_scope.specs.declared.scope.SortedName.{SortedName}
 
 -- the number of the first of these names that has the text

@@ -4,7 +4,7 @@ use Rattle.std.specs.Prelude.{◌≡◌, ℕ, ◌+◌, ◌*◌, ℤ, Bool, true,
 use Rattle.std.specs.Str.{bytes_eq}
 use Rattle.arrayvec.specs.ArrayVec.{ArrayVec}
 use Rattle.pearl_tree.specs.declared.name.Name.{Name}
-use Rattle.pearl_tree.specs.Names.{text_of, has_repeats}
+use Rattle.pearl_tree.specs.Names.{name_text as text_of, has_repeats}
 use Rattle.pearl_scope.specs.Shapes.{Shape, OfKind, OfFields, Fields, NoField, MoreField}
 use Rattle.pearl_scope.specs.Layout.{leaves_of, leaves_of_fields, elements, slots_of}
 use Rattle.pearl_scope.specs.declared.types.Counts.{Counts}

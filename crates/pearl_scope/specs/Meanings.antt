@@ -7,7 +7,7 @@ use Rattle.pearl_scope.specs.declared.scope.SortedName.{SortedName}
 use Rattle.pearl_scope.specs.ScopeNames.{ScopeNames}
 use Rattle.pearl_scope.specs.declared.scope.View.{View}
 use Rattle.pearl_scope.specs.declared.scope.View.TheVariants.{Within, WhileOf}
-use Rattle.pearl_tree.specs.Names.{text_of as name_text}
+use Rattle.pearl_tree.specs.Names.{name_text}
 
 -- the sort of the first of these names that has the text, or else this sort
 abbrev pub first_sort : List SortedName → List ℕ → Option NameSort → Option NameSort

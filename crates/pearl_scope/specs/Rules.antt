@@ -12,7 +12,7 @@ use Rattle.pearl_tree.specs.Faults.{fault_if}
 use Rattle.pearl_scope.specs.Lengths.{is_length, lengths_set}
 use Rattle.pearl_tree.specs.Durations.{place_of_duration}
 use Rattle.pearl_scope.specs.Durations.{is_too_long}
-use Rattle.pearl_tree.specs.Names.{text_of as name_text, names_of, repeats}
+use Rattle.pearl_tree.specs.Names.{name_text, names_of, repeats}
 use Rattle.pearl_scope.specs.declared.scope.NameSort.{NameSort}
 use Rattle.pearl_scope.specs.declared.scope.NameSort.TheVariants.{NewType as TypeNumber}
 use Rattle.pearl_scope.specs.ScopeNames.{ScopeNames}

@@ -11,7 +11,7 @@ use Rattle.pearl_tree.specs.declared.declaration.Device.{Device}
 use Rattle.pearl_tree.specs.declared.fault.RuleFault.{RuleFault}
 use Rattle.pearl_tree.specs.declared.rule.TheConstants as rule
 use Rattle.pearl_tree.specs.Faults.{fault_if}
-use Rattle.pearl_tree.specs.Names.{is_among, text_of}
+use Rattle.pearl_tree.specs.Names.{is_among, name_text as text_of}
 use Rattle.pearl_tree.specs.ShownModules.{ShownTree}
 use Rattle.pearl_system.specs.declared.specified.Specified.{Specified}
 use Rattle.pearl_system.specs.Broken.{BreaksS10, BreaksS11, BreaksS12, BreaksS13, BreaksS14, FaultsAreBroken, IsBroken}

@@ -6,7 +6,7 @@ use Rattle.pearl_tree.specs.declared.declaration.Device.{Device}
 use Rattle.pearl_tree.specs.declared.fault.RuleFault.{RuleFault}
 use Rattle.pearl_tree.specs.declared.rule.TheConstants as rule
 use Rattle.pearl_tree.specs.Faults.{fault_if}
-use Rattle.pearl_tree.specs.Names.{is_among, repeats, text_of}
+use Rattle.pearl_tree.specs.Names.{is_among, repeats, name_text as text_of}
 use Rattle.pearl_system.specs.declared.specified.Specified.{Specified}
 use Rattle.pearl_system.specs.Rules.{faults_of, is_twin, s10, s11, s12, s13, s14, twins}
 
