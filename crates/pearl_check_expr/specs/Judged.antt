@@ -13,7 +13,7 @@ use Rattle.pearl_tree.specs.declared.expression.Monadic.{Monadic}
 use Rattle.pearl_tree.specs.declared.expression.Dyadic.{Dyadic}
 use Rattle.pearl_tree.specs.declared.rule.TheConstants as rule
 use Rattle.pearl_tree.specs.Faults.{fault_if}
-use Rattle.pearl_tree.specs.Names.{text_of}
+use Rattle.pearl_tree.specs.Names.{name_text}
 use Rattle.pearl_tree.specs.ShownExpressions.{ShownExpr, OfOperand, OfDyadic, ShownPrimary, OfLiteral, OfRef, OfGroup, OfNow, OfTry, OfLimit, ShownSelectors, NoSelectors, MoreSelectors, ShownSelector, OfSubscripts, OfComponent, ShownExprs, NoExprs, MoreExprs, ShownRef}
 use Rattle.pearl_names.specs.declared.scope.View.{View}
 use Rattle.pearl_names.specs.Tables.{Parameter, Sense, Table, sense_from}
@@ -126,7 +126,7 @@ plain_name (OfDyadic left dyadic right place) = None
 
 abbrev pub ident_argument : Table → View → ℕ → Option Kind → Option Kind → Option Name → Argument
 ident_argument table view place to value None = no_variable place
-ident_argument table view place to value (Some name) = named_argument place to value (sense_from table view (text_of name))
+ident_argument table view place to value (Some name) = named_argument place to value (sense_from table view (name_text name))
 
 -- an argument that is of this kind, for a parameter
 abbrev pub fitted : Table → View → Parameter → ShownExpr → Option Kind → Argument
@@ -192,13 +192,13 @@ abbrev mutual
   pub judged_primary : Table → View → ShownPrimary → Judged
   judged_primary table view (OfLiteral part) = record { kind = literal_kind table.lengths part; faults = [] }
   judged_primary table view (OfRef name selectors place) =
-      called_or (callee_of (sense_from table view (text_of name))) (λ callee. call_value name callee (applied table view name callee selectors))
-      (as_value name (along table view name (variable_start name (sense_from table view (text_of name))) selectors))
+      called_or (callee_of (sense_from table view (name_text name))) (λ callee. call_value name callee (applied table view name callee selectors))
+      (as_value name (along table view name (variable_start name (sense_from table view (name_text name))) selectors))
   judged_primary table view (OfGroup inner place) = judged table view inner
   judged_primary table view (OfNow place) = record { kind = Some kind.Clock; faults = [] }
-  judged_primary table view (OfTry name place) = try_judged name (sense_from table view (text_of name))
+  judged_primary table view (OfTry name place) = try_judged name (sense_from table view (name_text name))
   judged_primary table view (OfLimit dimension side name selectors ref_place place) =
-      limit_judged name (dimension_of dimension) (along table view name (variable_start name (sense_from table view (text_of name))) selectors)
+      limit_judged name (dimension_of dimension) (along table view name (variable_start name (sense_from table view (name_text name))) selectors)
 
   -- the selectors of a reference, one after the other
   pub along : Table → View → Name → Walked → ShownSelectors → Walked
@@ -246,7 +246,7 @@ abbrev mutual
 -- where a reference comes whose name must be that of a variable
 abbrev pub walked_ref : Table → View → ShownRef → Walked
 walked_ref table view reference =
-    along table view reference.name (variable_start reference.name (sense_from table view (text_of reference.name))) reference.selectors
+    along table view reference.name (variable_start reference.name (sense_from table view (name_text reference.name))) reference.selectors
 
 abbrev pub judged_variable : Table → View → ShownRef → Judged
 judged_variable table view reference = as_value reference.name (walked_ref table view reference)

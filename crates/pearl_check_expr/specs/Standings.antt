@@ -7,7 +7,7 @@ use Rattle.pearl_value.specs.declared.kind.Kind.TheVariants as kind
 use Rattle.pearl_tree.specs.declared.fault.RuleFault.{RuleFault}
 use Rattle.pearl_tree.specs.declared.name.Name.{Name}
 use Rattle.pearl_tree.specs.declared.rule.TheConstants as rule
-use Rattle.pearl_tree.specs.Names.{text_of}
+use Rattle.pearl_tree.specs.Names.{name_text}
 use Rattle.pearl_names.specs.Shapes.{Shape, OfKind, OfFields}
 use Rattle.pearl_names.specs.Counts.{cut}
 use Rattle.pearl_names.specs.Forms.{Component, component}
@@ -104,7 +104,7 @@ to_field name (Some field) = walked_on (field_standing field) []
 
 -- S18: there is no such field
 abbrev pub field_of : Shape → Name → Walked
-field_of (OfFields fields) name = to_field name (component 0 0 fields (text_of name))
+field_of (OfFields fields) name = to_field name (component 0 0 fields (name_text name))
 field_of (OfKind kind) name = stopped name.place rule.S18
 
 -- a component. S17: an array has no subscripts

@@ -3,7 +3,7 @@ use Rattle.std.specs.Prelude.{ℕ, Bool, List, ◌++◌, Option, Some, None, is_
 use Rattle.pearl_tree.specs.declared.name.Name.{Name}
 use Rattle.pearl_tree.specs.declared.rule.TheConstants as rule
 use Rattle.pearl_tree.specs.Faults.{fault_if}
-use Rattle.pearl_tree.specs.Names.{text_of}
+use Rattle.pearl_tree.specs.Names.{name_text}
 use Rattle.pearl_tree.specs.ShownExpressions.{ShownExpr, ShownExprs, ShownRef, shown_expr, shown_expr_list, shown_ref}
 use Rattle.pearl_names.specs.declared.scope.View.{View}
 use Rattle.pearl_names.specs.declared.scope.View.TheVariants.{Within, WhileOf}
@@ -40,7 +40,7 @@ called_or_not table view name exprs sense None = uncalled name (is_some sense) (
 
 abbrev pub call_judged : Table → View → Name → ShownExprs → Judged
 call_judged table view name exprs =
-    called_or_not table view name exprs (sense_from table view (text_of name)) (callee_of (sense_from table view (text_of name)))
+    called_or_not table view name exprs (sense_from table view (name_text name)) (callee_of (sense_from table view (name_text name)))
 
 -- in a scope of this number; that of a WHILE is the scope of its loop's body
 abbrev pub subject_judged : Table → ℕ → ShownSubject → Judged

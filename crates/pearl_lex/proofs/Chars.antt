@@ -2,7 +2,7 @@
 use Rattle.std.proofs.Common.{◌≡◌, ◌<◌, ◌≤◌, ◌+◌, ℕ, Bool, true, false, if◌then◌else◌, List, [], ◌∷◌, ◌++◌, append-nil, length, drop, get_or, eqb, Some, refl, sym, subst, ◌∙◌, arith}
 use Rattle.std.proofs.lemmas.Bool.Decides.{nat_tests}
 use Rattle.pearl_tree.specs.declared.token.What.TheVariants as what
-use Rattle.pearl_lex.specs.Quoted.{is_char, char_len, chars_len, chars_of, text_of}
+use Rattle.pearl_lex.specs.Quoted.{is_char, char_len, chars_len, chars_of, quoted_text}
 
 one_byte : (p r : Bool) (a size : ℕ) → size ≡ (if p then 0 else (if r then 1 else 0)) → 0 < size
     → (if p then 0 else (if r then 1 else 0)) ≡ size + chars_len (drop size (a ∷ []))
@@ -26,12 +26,12 @@ text_ends : (text rest chars : List ℕ) → text ++ chars_of rest ≡ chars →
 text_ends text [] chars all none = sym (append-nil text) ∙ all
 text_ends text (x ∷ rest) chars all none = absurd (omega (arith, none))
 
-pub text_fits : (text : List ℕ) → 1 ≤ length text → length text ≤ 255 → Some (what.Text (record { items = text })) ≡ text_of text
+pub text_fits : (text : List ℕ) → 1 ≤ length text → length text ≤ 255 → Some (what.Text (record { items = text })) ≡ quoted_text text
 text_fits text some few = grind (arith, nat_tests)
 
 pub whole_text : (text rest chars : List ℕ) → text ++ chars_of rest ≡ chars → length rest < 1 → 1 ≤ length text → length text ≤ 255
-    → Some (what.Text (record { items = text })) ≡ text_of chars
-whole_text text rest chars all none some few = subst (λ cs. Some (what.Text (record { items = text })) ≡ text_of cs) (text_ends text rest chars all none) (text_fits text some few)
+    → Some (what.Text (record { items = text })) ≡ quoted_text chars
+whole_text text rest chars all none some few = subst (λ cs. Some (what.Text (record { items = text })) ≡ quoted_text cs) (text_ends text rest chars all none) (text_fits text some few)
 
 pub not_empty : (text : List ℕ) → eqb (length text) 0 ≡ false → 1 ≤ length text
 not_empty [] h = absurd (let f = h in cc f)

@@ -18,7 +18,7 @@ use Rattle.pearl_tree.specs.Tokens.{IsDigit, IsIdByte, BeginsWithLetter, IsLawfu
 use Rattle.pearl_lex.specs.declared.front.Front.{Front}
 use Rattle.pearl_lex.specs.Spelling.{is_id_byte, sized, meaning, id_of, word_or_id, double_symbol, single_symbol, longer_symbol, symbol_front}
 use Rattle.pearl_lex.specs.Literals.{value_of, value_within, digits_of, after_digits, next_part, begins_part, begins_clock, decimals_of, thousandths, number_of, decimal_by, decimal_of, milliseconds, clock_of, clock_front, decimal_front, number_front, numeral}
-use Rattle.pearl_lex.specs.Quoted.{is_char, chars_len, chars_of, text_of, digit_width, digit_value, is_digit_of, bits_value, bits_of, suffix_len, closed, quoted}
+use Rattle.pearl_lex.specs.Quoted.{is_char, chars_len, chars_of, quoted_text, digit_width, digit_value, is_digit_of, bits_value, bits_of, suffix_len, closed, quoted}
 use Rattle.pearl_lex.specs.Front.{word_front, front}
 use Rattle.pearl_lex.proofs.Passes.{and_front, and_back, at_most, less, equal, range, digit, letter, id_byte, all_prefix, one_more, choose}
 
@@ -198,7 +198,7 @@ chars_are [] = All-nil IsChar
 chars_are (a ∷ []) = one_char (eqb a 39) (is_char a) a refl
 chars_are (a ∷ b ∷ rest) = two_chars (eqb a 39) (eqb b 39) (is_char a) a b rest refl refl (chars_are rest) (chars_are (b ∷ rest))
 
-lawful_text : (text : List ℕ) → All IsChar text → IfSome (text_of text) IsLawfulWhat
+lawful_text : (text : List ℕ) → All IsChar text → IfSome (quoted_text text) IsLawfulWhat
 lawful_text text all =
     choose IsLawfulWhat (nat_le 1 (length text) && nat_le (length text) 255) (Some (what.Text (record { items = text }))) None
     (λ h. let fits = range 1 255 (length text) h in (fits.0, fits.1, all))
@@ -216,8 +216,8 @@ lawful_quoted bytes =
     let size = chars_len bytes in
     let after = drop (size + 1) bytes in
     choose IsLawfulFront (eqb (get_or bytes size 0) 39) (closed bytes size after) None
-    (λ _. choose IsLawfulFront (eqb (digit_width after) 0) (sized (text_of (chars_of (take size bytes))) (size + 2)) (sized (bits_of (digit_width after) (take size bytes)) (size + 2 + suffix_len after))
-    (λ _. lawful_sized (text_of (chars_of (take size bytes))) (size + 2) (lawful_text (chars_of (take size bytes)) (chars_are bytes)))
+    (λ _. choose IsLawfulFront (eqb (digit_width after) 0) (sized (quoted_text (chars_of (take size bytes))) (size + 2)) (sized (bits_of (digit_width after) (take size bytes)) (size + 2 + suffix_len after))
+    (λ _. lawful_sized (quoted_text (chars_of (take size bytes))) (size + 2) (lawful_text (chars_of (take size bytes)) (chars_are bytes)))
     (λ h. lawful_sized (bits_of (digit_width after) (take size bytes)) (size + 2 + suffix_len after) (lawful_bits (digit_width after) (take size bytes) (some_width (digit_width after) h))))
     (λ _. tt)
 

@@ -12,7 +12,7 @@ use Rattle.pearl_tree.specs.Tokens.{IsLawfulWhat, PlacesRise}
 use Rattle.pearl_lex.specs.declared.front.Front.{Front}
 use Rattle.pearl_lex.specs.Spelling.{is_id_byte, sized, longer_symbol, symbol_front, double_symbol, single_symbol}
 use Rattle.pearl_lex.specs.Literals.{digit_count, begins_clock, begins_part, after_digits, clock_front, decimal_front, number_front, numeral}
-use Rattle.pearl_lex.specs.Quoted.{chars_len, chars_of, text_of, digit_width, closed, quoted}
+use Rattle.pearl_lex.specs.Quoted.{chars_len, chars_of, quoted_text, digit_width, closed, quoted}
 use Rattle.pearl_lex.specs.Front.{word_front, front}
 use Rattle.pearl_lex.specs.Lexes.{AreSpaces, AreTokens}
 use Rattle.pearl_lex.specs.Laws.{HasLawfulTokens}
@@ -57,7 +57,7 @@ some_quoted bytes =
     let size = chars_len bytes in
     let after = drop (size + 1) bytes in
     choose IsSome-size (eqb (get_or bytes size 0) 39) (closed bytes size after) None
-    (λ _. choose IsSome-size (eqb (digit_width after) 0) (sized (text_of (chars_of (take size bytes))) (size + 2)) _
+    (λ _. choose IsSome-size (eqb (digit_width after) 0) (sized (quoted_text (chars_of (take size bytes))) (size + 2)) _
     (λ _. some_sized _ _ (omega arith))
     (λ _. some_sized _ _ (omega arith)))
     (λ _. tt)

@@ -8,7 +8,7 @@ use Rattle.pearl_tree.specs.declared.token.What.TheVariants as what
 use Rattle.pearl_tree.specs.Tokens.{IsIdByte, IsText}
 use Rattle.pearl_lex.specs.declared.front.Front.{Front}
 use Rattle.pearl_lex.specs.Spelling.{sized}
-use Rattle.pearl_lex.specs.Quoted.{chars_len, chars_of, text_of, digit_width, suffix_len, digit_value, is_digit_of, bits_value, bits_of, closed, quoted}
+use Rattle.pearl_lex.specs.Quoted.{chars_len, chars_of, quoted_text, digit_width, suffix_len, digit_value, is_digit_of, bits_value, bits_of, closed, quoted}
 use Rattle.pearl_lex.specs.Front.{front}
 use Rattle.pearl_lex.specs.Spells.{SpellsWidth, BeginsWith, MakesBits, BeginsToken, doubled}
 use Rattle.pearl_lex.proofs.Passes.{and_front, and_back, at_most, less, equal, range, choose}
@@ -55,7 +55,7 @@ bits_written : (bytes xs after ending tail : List ℕ) → bytes ≡ xs ++ 39 �
 bits_written bytes xs after ending tail e f = ap (λ t. 39 ∷ t) (e ∙ ap (λ t. xs ++ 39 ∷ t) f ∙ sym (append_assoc xs (39 ∷ ending) tail))
 
 text_sound : (bytes : List ℕ) → get_or bytes (chars_len bytes) 0 ≡ 39 → digit_width (drop (suc (chars_len bytes)) bytes) ≡ 0
-    → Sound (39 ∷ bytes) (sized (text_of (chars_of (take (chars_len bytes) bytes))) (chars_len bytes + 2))
+    → Sound (39 ∷ bytes) (sized (quoted_text (chars_of (take (chars_len bytes) bytes))) (chars_len bytes + 2))
 text_sound bytes here none =
     let size = chars_len bytes in
     let xs = take size bytes in
@@ -119,7 +119,7 @@ closed_sound bytes here = by (eqb (digit_width (drop (suc (chars_len bytes)) byt
   where
     by : (b : Bool) → eqb (digit_width (drop (suc (chars_len bytes)) bytes)) 0 ≡ b
         → (digit_width (drop (suc (chars_len bytes)) bytes) ≡ 0) ⊎ Ending (drop (suc (chars_len bytes)) bytes) (digit_width (drop (suc (chars_len bytes)) bytes))
-        → Sound (39 ∷ bytes) (if b then sized (text_of (chars_of (take (chars_len bytes) bytes))) (chars_len bytes + 2)
+        → Sound (39 ∷ bytes) (if b then sized (quoted_text (chars_of (take (chars_len bytes) bytes))) (chars_len bytes + 2)
         else sized (bits_of (digit_width (drop (suc (chars_len bytes)) bytes)) (take (chars_len bytes) bytes)) (chars_len bytes + 2 + suffix_len (drop (suc (chars_len bytes)) bytes)))
     by true e ending = text_sound bytes here (equal (digit_width (drop (suc (chars_len bytes)) bytes)) 0 e)
     by false e (inl none) = absurd (true≢false (sym (ap (λ n. eqb n 0) none) ∙ e))
@@ -147,8 +147,8 @@ pub text_answer : (cs rest : List ℕ) → IsText cs → ¬ BeginsWith (λ byte.
 text_answer cs rest is alone none =
     let size = length (doubled cs) + 2 in
     front_quote (doubled cs ++ 39 ∷ rest) ∙ quoted_is (doubled cs) rest (chars_read cs rest is.2 alone) ∙
-    ap (λ w. if eqb w 0 then sized (text_of (chars_of (doubled cs))) size else sized (bits_of (digit_width rest) (doubled cs)) (size + suffix_len rest)) (is_none_wide rest none) ∙
-    ap (λ t. sized (text_of t) size) (chars_back cs) ∙ ap (λ w. sized w size) (sym (text_fits cs is.0 is.1))
+    ap (λ w. if eqb w 0 then sized (quoted_text (chars_of (doubled cs))) size else sized (bits_of (digit_width rest) (doubled cs)) (size + suffix_len rest)) (is_none_wide rest none) ∙
+    ap (λ t. sized (quoted_text t) size) (chars_back cs) ∙ ap (λ w. sized w size) (sym (text_fits cs is.0 is.1))
 
 width_range : (ending : List ℕ) (width : ℕ) → SpellsWidth ending width → (1 ≤ width) × (width ≤ 4)
 width_range ending width (inl is) = (omega (arith, is.1), omega (arith, is.1))
@@ -192,7 +192,7 @@ bits_answer digits ending rest width spells each some few ends =
     let run : chars_len (digits ++ 39 ∷ after) ≡ length digits = subst (λ t. chars_len (t ++ 39 ∷ after) ≡ length t) same (chars_read digits after chars (no_quote ending rest width spells)) in
     let read = width_read ending rest width spells ends in
     front_quote (digits ++ 39 ∷ after) ∙ quoted_is digits after run ∙
-    ap (λ w. if eqb w 0 then sized (text_of (chars_of digits)) size else sized (bits_of w digits) (size + suffix_len after)) read.0 ∙
-    ap (λ b. if b then sized (text_of (chars_of digits)) size else sized (bits_of width digits) (size + suffix_len after)) (not_zero width wide.0) ∙
+    ap (λ w. if eqb w 0 then sized (quoted_text (chars_of digits)) size else sized (bits_of w digits) (size + suffix_len after)) read.0 ∙
+    ap (λ b. if b then sized (quoted_text (chars_of digits)) size else sized (bits_of width digits) (size + suffix_len after)) (not_zero width wide.0) ∙
     ap (λ w. sized w (size + suffix_len after)) (bits_fit digits width each some few) ∙
     ap (λ k. Some (record { what = what.Bits (length digits * width) (bits_value width digits); size = size + k })) read.1

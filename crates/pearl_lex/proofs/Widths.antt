@@ -6,7 +6,7 @@ use Rattle.std.proofs.lemmas.Bool.Decides.{nat_tests}
 use Rattle.std.proofs.lemmas.List.Elements.{All-head, All-tail}
 use Rattle.pearl_tree.specs.Tokens.{IsIdByte}
 use Rattle.pearl_lex.specs.Spelling.{is_id_byte, sized}
-use Rattle.pearl_lex.specs.Quoted.{is_char, chars_len, chars_of, text_of, digit_width, suffix_len, digit_value, bits_of, closed, quoted}
+use Rattle.pearl_lex.specs.Quoted.{is_char, chars_len, chars_of, quoted_text, digit_width, suffix_len, digit_value, bits_of, closed, quoted}
 use Rattle.pearl_lex.specs.Spells.{SpellsWidth, BeginsWith, doubled}
 use Rattle.pearl_lex.proofs.Passes.{equal, range, id_byte, one_more}
 use Rattle.pearl_lex.proofs.Lawful.{IsChar, chars_cons}
@@ -224,7 +224,7 @@ past_seam (x ∷ xs) y ys = past_seam xs y ys
 
 -- what is quoted where the characters end at an apostrophe
 pub quoted_is : (xs rest : List ℕ) → chars_len (xs ++ 39 ∷ rest) ≡ length xs
-    → quoted (xs ++ 39 ∷ rest) ≡ (if eqb (digit_width rest) 0 then sized (text_of (chars_of xs)) (length xs + 2) else sized (bits_of (digit_width rest) xs) (length xs + 2 + suffix_len rest))
+    → quoted (xs ++ 39 ∷ rest) ≡ (if eqb (digit_width rest) 0 then sized (quoted_text (chars_of xs)) (length xs + 2) else sized (bits_of (digit_width rest) xs) (length xs + 2 + suffix_len rest))
 quoted_is xs rest e =
     let bytes = xs ++ 39 ∷ rest in
     let n = length xs in
@@ -232,7 +232,7 @@ quoted_is xs rest e =
     ap (λ k. if eqb (get_or bytes k 0) 39 then closed bytes k (drop (k + 1) bytes) else None) e ∙
     ap (λ b. if eqb b 39 then closed bytes n (drop (n + 1) bytes) else None) (at_seam xs 39 rest) ∙
     ap (λ after. closed bytes n after) next ∙
-    ap (λ t. if eqb (digit_width rest) 0 then sized (text_of (chars_of t)) (n + 2) else sized (bits_of (digit_width rest) t) (n + 2 + suffix_len rest)) (take-append_seam xs (39 ∷ rest))
+    ap (λ t. if eqb (digit_width rest) 0 then sized (quoted_text (chars_of t)) (n + 2) else sized (bits_of (digit_width rest) t) (n + 2 + suffix_len rest)) (take-append_seam xs (39 ∷ rest))
 
 -- a digit is a character, and no apostrophe
 pub digit_is_plain : (d : ℕ) → digit_value d < 16 → IsChar d × (eqb d 39 ≡ false)

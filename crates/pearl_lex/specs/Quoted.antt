@@ -27,8 +27,8 @@ chars_of (a ∷ []) = a ∷ []
 chars_of (a ∷ b ∷ rest) = a ∷ (if a == 39 then chars_of rest else chars_of (b ∷ rest))
 
 -- 1 to 255 characters
-abbrev pub text_of : List ℕ → Option What
-text_of text = if nat_le 1 (length text) && nat_le (length text) 255 then Some (what.Text (record { items = text })) else None
+abbrev pub quoted_text : List ℕ → Option What
+quoted_text text = if nat_le 1 (length text) && nat_le (length text) 255 then Some (what.Text (record { items = text })) else None
 
 -- how many bits each digit has where `B`, `B1`, `B2`, `B3` or `B4` and then no letter, digit or `_` stands here, and else 0
 abbrev pub digit_width : List ℕ → ℕ
@@ -66,7 +66,7 @@ bits_of width digits =
 abbrev pub closed : List ℕ → ℕ → List ℕ → Option Front
 closed bytes size after =
     if digit_width after == 0
-    then sized (text_of (chars_of (take size bytes))) (size + 2)
+    then sized (quoted_text (chars_of (take size bytes))) (size + 2)
     else sized (bits_of (digit_width after) (take size bytes)) (size + 2 + suffix_len after)
 
 -- the bits or the text whose bytes behind the opening apostrophe these are

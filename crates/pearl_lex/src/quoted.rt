@@ -58,7 +58,7 @@ fn after_char(first: u8, after: &[u8]) -> &[u8]
 }
 
 fn text_of(bytes: &[u8]) -> Option<What>
-    ensures { result ≡ spec.text_of (spec.chars_of bytes.now) }
+    ensures { result ≡ spec.quoted_text (spec.chars_of bytes.now) }
 {
     let mut text: ArrayVec<u8, 255> = ArrayVec::new();
     let mut rest = bytes;

@@ -5,7 +5,7 @@ use Rattle.std.proofs.lemmas.Grind.{flat_map-append}
 use Rattle.std.specs.Map.{lookup}
 use Rattle.arrayvec.specs.ArrayVec.{ArrayVec}
 use Rattle.pearl_tree.specs.declared.name.Name.{Name}
-use Rattle.pearl_tree.specs.Names.{text_of, is_among, has_repeats}
+use Rattle.pearl_tree.specs.Names.{name_text, is_among, has_repeats}
 use Rattle.pearl_names.specs.Shapes.{Shape, Fields, NoField, MoreField, with_fields}
 use Rattle.pearl_names.specs.Layout.{leaves_of, leaves_of_fields, leaf_slots, slots_of}
 use Rattle.pearl_names.specs.declared.types.Counts.{Counts}
@@ -92,16 +92,16 @@ form_more forms old new key field each fields bounds shape adds is part = record
         part.each ∙ (λ i. within (part.dimensions i) (part.count i) (counts_of shape)) ∙ sym (counts_of_field key.items bounds shape)
 
 repeats-more : (before names : List Name) (name : Name) →
-    has_repeats before (names ++ name ∷ []) ≡ (has_repeats before names || is_among (before ++ names) (text_of name))
-repeats-more before [] name = or_false (is_among before (text_of name)) ∙ ap (λ l. is_among l (text_of name)) (sym (append-nil before))
+    has_repeats before (names ++ name ∷ []) ≡ (has_repeats before names || is_among (before ++ names) (name_text name))
+repeats-more before [] name = or_false (is_among before (name_text name)) ∙ ap (λ l. is_among l (name_text name)) (sym (append-nil before))
   where
     or_false : (b : Bool) → (b || false) ≡ b
     or_false true = refl
     or_false false = refl
 repeats-more before (first ∷ names) name =
-    ap (λ b. is_among before (text_of first) || b) (repeats-more (before ++ first ∷ []) names name
-    ∙ ap (λ l. has_repeats (before ++ first ∷ []) names || is_among l (text_of name)) (append_assoc before (first ∷ []) names))
-    ∙ sym (or_assoc (is_among before (text_of first)) (has_repeats (before ++ first ∷ []) names) (is_among (before ++ first ∷ names) (text_of name)))
+    ap (λ b. is_among before (name_text first) || b) (repeats-more (before ++ first ∷ []) names name
+    ∙ ap (λ l. has_repeats (before ++ first ∷ []) names || is_among l (name_text name)) (append_assoc before (first ∷ []) names))
+    ∙ sym (or_assoc (is_among before (name_text first)) (has_repeats (before ++ first ∷ []) names) (is_among (before ++ first ∷ names) (name_text name)))
   where
     or_assoc : (a b c : Bool) → ((a || b) || c) ≡ (a || (b || c))
     or_assoc true b c = refl
@@ -109,7 +109,7 @@ repeats-more before (first ∷ names) name =
 
 repeats_stay : (before names rest : List Name) → has_repeats before names ≡ true → has_repeats before (names ++ rest) ≡ true
 repeats_stay before [] rest h = absurd (true≢false (sym h))
-repeats_stay before (name ∷ names) rest h = by (is_among before (text_of name)) h (λ k. repeats_stay (before ++ name ∷ []) names rest k)
+repeats_stay before (name ∷ names) rest h = by (is_among before (name_text name)) h (λ k. repeats_stay (before ++ name ∷ []) names rest k)
   where
     by : (b : Bool) → (b || has_repeats (before ++ name ∷ []) names) ≡ true →
         (has_repeats (before ++ name ∷ []) names ≡ true → has_repeats (before ++ name ∷ []) (names ++ rest) ≡ true) →
@@ -133,7 +133,7 @@ among_keys (entry ∷ entries) (name ∷ names) text h =
     head (x ∷ xs) = x
 
     by : (b : Bool) → bytes_eq text entry.0.items ≡ b → is_none (lookup (λ key. bytes_eq text key.items) entries) ≡ not (is_among names text) →
-        is_none (cond b (Some entry.1) (lookup (λ key. bytes_eq text key.items) entries)) ≡ not (bytes_eq (text_of name) text || is_among names text)
+        is_none (cond b (Some entry.1) (lookup (λ key. bytes_eq text key.items) entries)) ≡ not (bytes_eq (name_text name) text || is_among names text)
     by true e rest = ap (λ b. not (b || is_among names text)) (sym (ap (λ n. bytes_eq n text) (sym (ap head h)) ∙ bytes_symm text entry.0.items true e))
     by false e rest = rest ∙ ap (λ b. not (b || is_among names text)) (sym (ap (λ n. bytes_eq n text) (sym (ap head h)) ∙ bytes_symm text entry.0.items false e))
 among_keys [] (name ∷ names) text h = absurd (nil-cons h)
@@ -152,9 +152,9 @@ among_keys (entry ∷ entries) [] text h = absurd (true≢false (ap full h))
 
 -- the fields of some names, and of one more
 with_more : (names : List Name) (name : Name) (bounds : List (ℤ × ℤ)) (shape : Shape) →
-    with_fields (names ++ name ∷ []) bounds shape NoField ≡ append_fields (with_fields names bounds shape NoField) (MoreField (text_of name) bounds shape NoField)
+    with_fields (names ++ name ∷ []) bounds shape NoField ≡ append_fields (with_fields names bounds shape NoField) (MoreField (name_text name) bounds shape NoField)
 with_more [] name bounds shape = refl
-with_more (first ∷ names) name bounds shape = ap (λ t. MoreField (text_of first) bounds shape t) (with_more names name bounds shape)
+with_more (first ∷ names) name bounds shape = ap (λ t. MoreField (name_text first) bounds shape t) (with_more names name bounds shape)
 
 append_twice : (a b c : Fields) → append_fields (append_fields a b) c ≡ append_fields a (append_fields b c)
 append_twice NoField b c = refl
@@ -172,28 +172,28 @@ pub record Added (old now : StructForm) (field : FieldForm) (each : Counts) (nam
 
 pub added_none : (form : StructForm) (field : FieldForm) (each : Counts) → Added form form field each []
 added_none form field each = record {
-  named = λ before h. (h ∙ ap (map text_of) (sym (append-nil before)), refl);
+  named = λ before h. (h ∙ ap (map name_text) (sym (append-nil before)), refl);
   built = λ forms fields bounds shape is part. subst (IsForm forms form) (sym (append_none fields)) is;
 }
 
 pub added_more : (old now new : StructForm) (field : FieldForm) (each : Counts) (names : List Name) (name : Name) → Added old now field each names →
-    is_none (lookup (λ key. bytes_eq (text_of name) key.items) now.fields.entries) ≡ true → Adds now name.text field each new →
+    is_none (lookup (λ key. bytes_eq (name_text name) key.items) now.fields.entries) ≡ true → Adds now name.text field each new →
     Added old new field each (names ++ name ∷ [])
 added_more old now new field each names name added fresh adds = record {
   named = λ before h.
       let so = added.named before h in
-      let absent : is_among (before ++ names) (text_of name) ≡ false =
-      not_true (is_among (before ++ names) (text_of name)) (sym (among_keys now.fields.entries (before ++ names) (text_of name) so.0) ∙ fresh) in (
+      let absent : is_among (before ++ names) (name_text name) ≡ false =
+      not_true (is_among (before ++ names) (name_text name)) (sym (among_keys now.fields.entries (before ++ names) (name_text name) so.0) ∙ fresh) in (
         ap (map (λ entry. entry.0.items)) adds.0
             ∙ map-append (λ entry. entry.0.items) now.fields.entries _
-            ∙ ap (λ t. t ++ text_of name ∷ []) so.0
-            ∙ sym (map-append text_of (before ++ names) (name ∷ []))
-            ∙ ap (map text_of) (append_assoc before names (name ∷ [])),
+            ∙ ap (λ t. t ++ name_text name ∷ []) so.0
+            ∙ sym (map-append name_text (before ++ names) (name ∷ []))
+            ∙ ap (map name_text) (append_assoc before names (name ∷ [])),
         repeats-more before names name ∙ (λ i. so.1 i || absent i),
       );
   built = λ forms fields bounds shape is part.
       subst (IsForm forms new)
-      (append_twice fields (with_fields names bounds shape NoField) (MoreField (text_of name) bounds shape NoField)
+      (append_twice fields (with_fields names bounds shape NoField) (MoreField (name_text name) bounds shape NoField)
       ∙ ap (append_fields fields) (sym (with_more names name bounds shape)))
       (form_more forms now new name.text field each (append_fields fields (with_fields names bounds shape NoField)) bounds shape adds (added.built forms fields bounds shape is part) part);
 }
@@ -204,12 +204,12 @@ added_more old now new field each names name added fresh adds = record {
 
 -- a name that a field has already
 pub added_twice : (old now : StructForm) (field : FieldForm) (each : Counts) (names rest : List Name) (name : Name) → Added old now field each names →
-    false ≡ is_none (lookup (λ key. bytes_eq (text_of name) key.items) now.fields.entries) →
+    false ≡ is_none (lookup (λ key. bytes_eq (name_text name) key.items) now.fields.entries) →
     (before : List Name) → AreNamed old.fields.entries before → has_repeats before (names ++ name ∷ rest) ≡ true
 added_twice old now field each names rest name added twice before h =
     let so = added.named before h in
-    let there : is_among (before ++ names) (text_of name) ≡ true =
-    not_false (is_among (before ++ names) (text_of name)) (sym (among_keys now.fields.entries (before ++ names) (text_of name) so.0) ∙ sym twice) in
+    let there : is_among (before ++ names) (name_text name) ≡ true =
+    not_false (is_among (before ++ names) (name_text name)) (sym (among_keys now.fields.entries (before ++ names) (name_text name) so.0) ∙ sym twice) in
     subst (λ l. has_repeats before l ≡ true) (append_assoc names (name ∷ []) rest)
     (repeats_stay before (names ++ name ∷ []) rest (repeats-more before names name ∙ (λ i. so.1 i || there i)))
   where

@@ -3,7 +3,7 @@ use Rattle.std.proofs.Common.{◌≡◌, ℕ, zero, suc, ℤ, Bool, true, false,
 use Rattle.std.proofs.lemmas.Option.{same_Some, none-some}
 use Rattle.pearl_tree.specs.declared.typing.Field.{Field}
 use Rattle.pearl_tree.specs.ShownDeclarations.{MoreFields, OfStruct, shown_names, shown_typing}
-use Rattle.pearl_tree.specs.Names.{text_of, names_of, has_repeats, is_among}
+use Rattle.pearl_tree.specs.Names.{name_text, names_of, has_repeats, is_among}
 use Rattle.pearl_names.specs.Shapes.{Shape, OfKind, OfFields, Fields, NoField, MoreField, Around, with_fields, with_parts, shape_of, fields_of, field_names, sound_bounds, type_shape}
 use Rattle.pearl_tree.specs.declared.name.Name.{Name}
 use mathlib.Core.Former.{Count}
@@ -73,7 +73,7 @@ joined_fields a b = None
 with_append : (names : List Name) (bounds : List (ℤ × ℤ)) (shape : Shape) (a b : Fields) →
     with_fields names bounds shape (append_fields a b) ≡ append_fields (with_fields names bounds shape a) b
 with_append [] bounds shape a b = refl
-with_append (name ∷ names) bounds shape a b = ap (λ t. MoreField (text_of name) bounds shape t) (with_append names bounds shape a b)
+with_append (name ∷ names) bounds shape a b = ap (λ t. MoreField (name_text name) bounds shape t) (with_append names bounds shape a b)
 
 parts_joined : (names : List Name) (bounds : Option (List (ℤ × ℤ))) (shape : Option Shape) (a b : Option Fields) →
     with_parts names bounds shape (joined_fields a b) ≡ joined_fields (with_parts names bounds shape a) b
@@ -116,9 +116,9 @@ no_fields around xs rest x none = fields_joined around xs (x ∷ rest) ∙ joine
 repeats-append : (before a b : List Name) → has_repeats before (a ++ b) ≡ (has_repeats before a || has_repeats (before ++ a) b)
 repeats-append before [] b = ap (λ l. has_repeats l b) (sym (append-nil before))
 repeats-append before (name ∷ a) b =
-    ap (λ c. is_among before (text_of name) || c) (repeats-append (before ++ name ∷ []) a b
+    ap (λ c. is_among before (name_text name) || c) (repeats-append (before ++ name ∷ []) a b
     ∙ ap (λ l. has_repeats (before ++ name ∷ []) a || has_repeats l b) (append_assoc before (name ∷ []) a))
-    ∙ sym (or_assoc (is_among before (text_of name)) (has_repeats (before ++ name ∷ []) a) (has_repeats (before ++ name ∷ a) b))
+    ∙ sym (or_assoc (is_among before (name_text name)) (has_repeats (before ++ name ∷ []) a) (has_repeats (before ++ name ∷ a) b))
   where
     or_assoc : (a b c : Bool) → ((a || b) || c) ≡ (a || (b || c))
     or_assoc true b c = refl
@@ -149,7 +149,7 @@ pub made_more : (old mid new : List StructForm) (named : List (Option TypeRef)) 
 unfolding joined_fields
 made_more old mid new named around built now xs x sizes part made grows matches sized fresh added = record {
   grows = grows_more old mid new made.grows grows;
-  named_so = (fresh (field_names (fields_shown xs)) made.named_so).0 ∙ ap (map text_of) (sym names);
+  named_so = (fresh (field_names (fields_shown xs)) made.named_so).0 ∙ ap (map name_text) (sym names);
   once = ap (has_repeats []) names ∙ repeats-append [] (field_names (fields_shown xs)) (names_of (shown_names x.names))
       ∙ (λ i. made.once i || (fresh (field_names (fields_shown xs)) made.named_so).1 i);
   has = λ shapes all.

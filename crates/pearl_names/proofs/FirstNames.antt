@@ -3,26 +3,26 @@ use Rattle.std.proofs.Common.{◌≡◌, ℕ, suc, ◌+◌, ◌<◌, ◌^◌, Bo
 use Rattle.std.proofs.lemmas.Slice.Eq.{bytes_eq-Decides}
 use Rattle.arrayvec.specs.ArrayVec.{ArrayVec}
 use Rattle.pearl_names.specs.declared.scope.SortedName.{SortedName}
-use Rattle.pearl_tree.specs.Names.{text_of}
+use Rattle.pearl_tree.specs.Names.{name_text}
 use Rattle.pearl_names.specs.FirstNames.{first_index, number_of, or_else, HasNoted, IsIndex}
 
 -- one more name
 pub first_push : (names : List SortedName) (entry : SortedName) (text : List ℕ) →
     first_index (names ++ entry ∷ []) text ≡
-    or_else (first_index names text) (cond (bytes_eq text (text_of entry.name)) (Some (length names)) None)
+    or_else (first_index names text) (cond (bytes_eq text (name_text entry.name)) (Some (length names)) None)
 first_push [] entry text = refl
-first_push (first ∷ names) entry text = by (first_push names entry text) (bytes_eq text (text_of first.name))
+first_push (first ∷ names) entry text = by (first_push names entry text) (bytes_eq text (name_text first.name))
   where
     last : (o : Option ℕ) (b : Bool) → option_map suc (or_else o (cond b (Some (length names)) None)) ≡ or_else (option_map suc o) (cond b (Some (length (first ∷ names))) None)
     last None true = refl
     last None false = refl
     last (Some i) b = refl
 
-    by : first_index (names ++ entry ∷ []) text ≡ or_else (first_index names text) (cond (bytes_eq text (text_of entry.name)) (Some (length names)) None) →
+    by : first_index (names ++ entry ∷ []) text ≡ or_else (first_index names text) (cond (bytes_eq text (name_text entry.name)) (Some (length names)) None) →
         (b : Bool) → cond b (Some 0) (option_map suc (first_index (names ++ entry ∷ []) text)) ≡
-        or_else (cond b (Some 0) (option_map suc (first_index names text))) (cond (bytes_eq text (text_of entry.name)) (Some (length (first ∷ names))) None)
+        or_else (cond b (Some 0) (option_map suc (first_index names text))) (cond (bytes_eq text (name_text entry.name)) (Some (length (first ∷ names))) None)
     by within true = refl
-    by within false = ap (option_map suc) within ∙ last (first_index names text) (bytes_eq text (text_of entry.name))
+    by within false = ap (option_map suc) within ∙ last (first_index names text) (bytes_eq text (name_text entry.name))
 
 pub bytes_symm : (a b : List ℕ) (is : Bool) → bytes_eq a b ≡ is → bytes_eq b a ≡ is
 bytes_symm a b true e = (bytes_eq-Decides b a).1 (sym ((bytes_eq-Decides a b).0 e))
@@ -67,7 +67,7 @@ noted_twice text number entries there q = by (bytes_eq q text) refl
     by false e = kept (number_of entries q)
 
 pub index_push : (names : List SortedName) (entry : SortedName) (text : List ℕ) (number : ℕ) (old new : List (ArrayVec ℕ × ℕ)) → IsIndex names old →
-    number + 1 < 2 ^ 32 → number ≡ length names → text_of entry.name ≡ text → HasNoted old text number new → IsIndex (names ++ entry ∷ []) new
+    number + 1 < 2 ^ 32 → number ≡ length names → name_text entry.name ≡ text → HasNoted old text number new → IsIndex (names ++ entry ∷ []) new
 index_push names entry text number old new index few last same noted = record {
   finds = λ q.
       noted q
@@ -76,7 +76,7 @@ index_push names entry text number old new index few last same noted = record {
   few = let e : length (names ++ entry ∷ []) ≡ length names + 1 = length-append names (entry ∷ []) in omega (arith, e, few, last);
 }
   where
-    same' : text ≡ text_of entry.name
+    same' : text ≡ name_text entry.name
     same' = sym same
 
 pub none_since : {X : Type 0} (o : Option X) → is_some o ≡ false → o ≡ None

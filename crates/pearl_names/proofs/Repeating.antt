@@ -5,7 +5,7 @@ use Rattle.pearl_tree.specs.declared.fault.RuleFault.{RuleFault}
 use Rattle.pearl_tree.specs.declared.name.Name.{Name}
 use Rattle.pearl_names.specs.declared.scope.SortedName.{SortedName}
 use Rattle.pearl_tree.specs.Faults.{fault_if}
-use Rattle.pearl_tree.specs.Names.{text_of, is_among, repeats}
+use Rattle.pearl_tree.specs.Names.{name_text, is_among, repeats}
 use Rattle.arrayvec.specs.ArrayVec.{ArrayVec}
 use Rattle.pearl_names.specs.FirstNames.{first_index, number_of, HasNoted, IsIndex}
 use Rattle.pearl_names.specs.FirstNames.{repeated, HasNames}
@@ -13,35 +13,35 @@ use Rattle.pearl_names.proofs.FirstNames.{bytes_symm, index_push}
 use Rattle.pearl_names.proofs.Lists.{one_taken}
 
 repeats_push : (rule : ℕ) (before names : List Name) (name : Name) →
-    repeats rule before (names ++ name ∷ []) ≡ repeats rule before names ++ fault_if (is_among (before ++ names) (text_of name)) name.place rule
+    repeats rule before (names ++ name ∷ []) ≡ repeats rule before names ++ fault_if (is_among (before ++ names) (name_text name)) name.place rule
 repeats_push rule before [] name =
-    append-nil _ ∙ ap (λ l. fault_if (is_among l (text_of name)) name.place rule) (sym (append-nil before))
+    append-nil _ ∙ ap (λ l. fault_if (is_among l (name_text name)) name.place rule) (sym (append-nil before))
 repeats_push rule before (first ∷ names) name =
-    ap (λ t. fault_if (is_among before (text_of first)) first.place rule ++ t) (repeats_push rule (before ++ first ∷ []) names name)
-    ∙ sym (append_assoc (fault_if (is_among before (text_of first)) first.place rule) (repeats rule (before ++ first ∷ []) names) _)
-    ∙ ap (λ l. (fault_if (is_among before (text_of first)) first.place rule ++ repeats rule (before ++ first ∷ []) names) ++ fault_if (is_among l (text_of name)) name.place rule)
+    ap (λ t. fault_if (is_among before (name_text first)) first.place rule ++ t) (repeats_push rule (before ++ first ∷ []) names name)
+    ∙ sym (append_assoc (fault_if (is_among before (name_text first)) first.place rule) (repeats rule (before ++ first ∷ []) names) _)
+    ∙ ap (λ l. (fault_if (is_among before (name_text first)) first.place rule ++ repeats rule (before ++ first ∷ []) names) ++ fault_if (is_among l (name_text name)) name.place rule)
     (append_assoc before (first ∷ []) names)
 
 among_found : (names : List SortedName) (text : List ℕ) → is_among (map (λ entry. entry.name) names) text ≡ is_some (first_index names text)
 among_found [] text = refl
-among_found (entry ∷ names) text = by (among_found names text) (bytes_eq text (text_of entry.name)) refl
+among_found (entry ∷ names) text = by (among_found names text) (bytes_eq text (name_text entry.name)) refl
   where
     some : (o : Option ℕ) → is_some o ≡ is_some (option_map suc o)
     some None = refl
     some (Some i) = refl
 
-    by : is_among (map (λ entry. entry.name) names) text ≡ is_some (first_index names text) → (b : Bool) → bytes_eq text (text_of entry.name) ≡ b →
-        (bytes_eq (text_of entry.name) text || is_among (map (λ entry. entry.name) names) text) ≡ is_some (cond b (Some 0) (option_map suc (first_index names text)))
-    by rest true e = ap (λ b. b || is_among (map (λ entry. entry.name) names) text) (bytes_symm text (text_of entry.name) true e)
-    by rest false e = ap (λ b. b || is_among (map (λ entry. entry.name) names) text) (bytes_symm text (text_of entry.name) false e) ∙ rest ∙ some (first_index names text)
+    by : is_among (map (λ entry. entry.name) names) text ≡ is_some (first_index names text) → (b : Bool) → bytes_eq text (name_text entry.name) ≡ b →
+        (bytes_eq (name_text entry.name) text || is_among (map (λ entry. entry.name) names) text) ≡ is_some (cond b (Some 0) (option_map suc (first_index names text)))
+    by rest true e = ap (λ b. b || is_among (map (λ entry. entry.name) names) text) (bytes_symm text (name_text entry.name) true e)
+    by rest false e = ap (λ b. b || is_among (map (λ entry. entry.name) names) text) (bytes_symm text (name_text entry.name) false e) ∙ rest ∙ some (first_index names text)
 
 pub repeated_push : (names : List SortedName) (entry : SortedName) →
-    repeated (names ++ entry ∷ []) ≡ repeated names ++ fault_if (is_some (first_index names (text_of entry.name))) entry.name.place 1
+    repeated (names ++ entry ∷ []) ≡ repeated names ++ fault_if (is_some (first_index names (name_text entry.name))) entry.name.place 1
 unfolding repeated
 repeated_push names entry =
     ap (repeats 1 []) (map-append (λ entry. entry.name) names (entry ∷ []))
     ∙ repeats_push 1 [] (map (λ entry. entry.name) names) entry.name
-    ∙ ap (λ b. repeats 1 [] (map (λ entry. entry.name) names) ++ fault_if b entry.name.place 1) (among_found names (text_of entry.name))
+    ∙ ap (λ b. repeats 1 [] (map (λ entry. entry.name) names) ++ fault_if b entry.name.place 1) (among_found names (name_text entry.name))
 
 -- of no names
 pub repeated_nil : repeated [] ≡ []
@@ -64,8 +64,8 @@ module _ (names : List SortedName) (entry : SortedName) (name : Name) (number : 
   index_after : IsIndex (names ++ entry ∷ []) new
   index_after = index_push names entry name.text.items number old new has.index few last (ap (λ n. n.text.items) same) noted
 
-  found : (b : Bool) → b ≡ is_some (number_of old name.text.items) → b ≡ is_some (first_index names (text_of entry.name))
-  found b h = h ∙ ap is_some (has.index.finds name.text.items) ∙ ap (λ n. is_some (first_index names (text_of n))) (sym same)
+  found : (b : Bool) → b ≡ is_some (number_of old name.text.items) → b ≡ is_some (first_index names (name_text entry.name))
+  found b h = h ∙ ap is_some (has.index.finds name.text.items) ∙ ap (λ n. is_some (first_index names (name_text n))) (sym same)
 
   -- no name has its text
   pub new_name : false ≡ is_some (number_of old name.text.items) → (after : List RuleFault) → after ≡ faults → HasNames (names ++ entry ∷ []) new after

@@ -4,14 +4,14 @@ use Rattle.std.specs.Str.{bytes_eq}
 use Rattle.std.specs.Map.{lookup}
 use Rattle.arrayvec.specs.ArrayVec.{ArrayVec}
 use Rattle.pearl_tree.specs.declared.fault.RuleFault.{RuleFault}
-use Rattle.pearl_tree.specs.Names.{text_of, repeats}
+use Rattle.pearl_tree.specs.Names.{name_text, repeats}
 use Rattle.pearl_names.specs.declared.scope.SortedName.{SortedName}
 
 -- the number of the first of these names that has the text
 abbrev pub first_index : List SortedName → List ℕ → Option ℕ
 first_index [] text = None
 first_index (entry ∷ rest) text =
-    if bytes_eq text (text_of entry.name) then Some 0 else option_map suc (first_index rest text)
+    if bytes_eq text (name_text entry.name) then Some 0 else option_map suc (first_index rest text)
 
 -- the number that a map from texts has at a text
 abbrev pub number_of : List (ArrayVec ℕ × ℕ) → List ℕ → Option ℕ

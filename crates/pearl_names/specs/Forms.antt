@@ -4,7 +4,7 @@ use Rattle.std.specs.Prelude.{◌≡◌, ℕ, ◌+◌, ◌*◌, ℤ, if◌then�
 use Rattle.std.specs.Str.{bytes_eq}
 use Rattle.arrayvec.specs.ArrayVec.{ArrayVec}
 use Rattle.pearl_tree.specs.declared.name.Name.{Name}
-use Rattle.pearl_tree.specs.Names.{text_of}
+use Rattle.pearl_tree.specs.Names.{name_text}
 use Rattle.pearl_names.specs.Shapes.{Shape, OfKind, OfFields, Fields, NoField, MoreField}
 use Rattle.pearl_names.specs.Layout.{leaves_of, leaves_of_fields, elements, slots_of}
 use Rattle.pearl_names.specs.declared.types.Counts.{Counts}
@@ -92,7 +92,7 @@ pub record IsPart (forms : List StructForm) (field : FieldForm) (counted : Count
 
 -- the keys are the texts of these names
 abbrev pub AreNamed : List (ArrayVec ℕ × FieldForm) → List Name → Type 0
-AreNamed entries names = map (λ entry. entry.0.items) entries ≡ map text_of names
+AreNamed entries names = map (λ entry. entry.0.items) entries ≡ map name_text names
 
 -- a field is added
 abbrev pub Adds : StructForm → ArrayVec ℕ → FieldForm → Counts → StructForm → Type 0

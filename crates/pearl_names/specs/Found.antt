@@ -3,7 +3,7 @@
 use Rattle.std.specs.Prelude.{ℕ, zero, suc, Bool, true, false, ◌&&◌, if◌then◌else◌, List, [], ◌∷◌, Option, Some, None, option_map, slice_get}
 use Rattle.std.specs.Option.{option_and_then}
 use Rattle.std.specs.Str.{bytes_eq}
-use Rattle.pearl_tree.specs.Names.{text_of as name_text}
+use Rattle.pearl_tree.specs.Names.{name_text}
 use Rattle.pearl_names.specs.declared.scope.NameSort.{NameSort}
 use Rattle.pearl_names.specs.declared.scope.NameSort.TheVariants.{Control}
 use Rattle.pearl_names.specs.declared.scope.SortedName.{SortedName}

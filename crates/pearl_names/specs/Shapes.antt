@@ -9,7 +9,7 @@ use Rattle.pearl_tree.specs.ShownDeclarations.{ShownTyping, OfBasic, OfStruct, O
 use Rattle.pearl_tree.specs.ShownModules.{ShownDecl, OfType}
 use Rattle.pearl_names.specs.declared.length.DefaultLength.{DefaultLength}
 use Rattle.pearl_names.specs.Lengths.{kind_of_basic}
-use Rattle.pearl_tree.specs.Names.{text_of as name_text, names_of, has_repeats}
+use Rattle.pearl_tree.specs.Names.{name_text, names_of, has_repeats}
 use Rattle.pearl_names.specs.declared.scope.NameSort.{NameSort}
 use Rattle.pearl_names.specs.declared.scope.NameSort.TheVariants.{NewType as TypeNumber}
 use Rattle.pearl_names.specs.ScopeNames.{ScopeNames}

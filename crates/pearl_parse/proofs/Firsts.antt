@@ -1,6 +1,6 @@
 -- Which statement a first token begins, by the table of first words.
 use Rattle.std.specs.Option.{option_map}
-use Rattle.std.proofs.Common.{if◌then◌else◌, ◌≡◌, ℕ, ◌==◌, ◌||◌, Bool, true, false, List, [], ◌∷◌, Option, Some, None, IfSome, ◌<◌, length, get_or, refl, sym, ap, subst, ◌∙◌}
+use Rattle.std.proofs.Common.{if◌then◌else◌, ◌≡◌, ℕ, ◌==◌, ◌||◌, Bool, true, false, List, [], ◌∷◌, Option, Some, None, IfSome, ◌<◌, length, map, get_or, refl, sym, ap, subst, ◌∙◌}
 use Rattle.std.proofs.lemmas.Bool.{eqb-true}
 use Rattle.std.proofs.lemmas.Option.{slice_get_read}
 use Rattle.pearl_tree.specs.declared.token.What.{What}
@@ -15,11 +15,11 @@ use Rattle.pearl_parse.specs.declared.first.First.{First}
 use Rattle.pearl_parse.specs.declared.first.First.TheVariants as first
 use Rattle.pearl_parse.specs.Stops.{is_among, begins_statement}
 use Rattle.pearl_parse.specs.Bodies.{is_one, loop_words}
-use Rattle.pearl_parse.specs.Firsts.{first_words, first_in, first_of, BeginsAs}
+use Rattle.pearl_parse.specs.FirstWords.{first_words}
+use Rattle.pearl_parse.specs.Firsts.{first_in, first_of, BeginsAs}
 
 abbrev words_of : List (ℕ × First) → List ℕ
-words_of [] = []
-words_of (row ∷ rows) = row.0 ∷ words_of rows
+words_of rows = map (λ row. row.0) rows
 
 none_in : (rows : List (ℕ × First)) (code : ℕ) → first_in rows code ≡ None → is_among (words_of rows) code ≡ false
 none_in [] code h = refl

@@ -1,11 +1,8 @@
 -- Which statement a first token begins.
-use Rattle.std.specs.Prelude.{if◌then◌else◌, ◌≡◌, ℕ, ◌==◌, true, false, List, [], ◌∷◌, Option, Some, None}
+use Rattle.std.specs.Prelude.{if◌then◌else◌, ◌≡◌, ℕ, ◌==◌, true, List, [], ◌∷◌, Option, Some, None}
 use Rattle.pearl_tree.specs.declared.token.What.{What}
 use Rattle.pearl_tree.specs.declared.token.What.TheVariants as what
 use Rattle.pearl_tree.specs.declared.token.Token.{Token}
-use Rattle.pearl_tree.specs.declared.statement.TaskWord.TheVariants.{Suspend, Terminate, Prevent}
-use Rattle.pearl_tree.specs.declared.statement.SemaWord.TheVariants.{Request, Release}
-use Rattle.pearl_tree.specs.declared.statement.InterruptWord.TheVariants.{Enable, Disable, Trigger}
 use Rattle.pearl_tree.specs.Standing.{what_at, HasWord, HasSymbol}
 use Rattle.pearl_tree.specs.Statements.{task_word, sema_word, interrupt_word}
 use Rattle.pearl_tables.specs.declared.symbol.TheConstants as s
@@ -15,24 +12,9 @@ use Rattle.pearl_parse.specs.declared.first.Simple.{Simple}
 use Rattle.pearl_parse.specs.declared.first.Simple.TheVariants as simple
 use Rattle.pearl_parse.specs.declared.first.First.{First}
 use Rattle.pearl_parse.specs.declared.first.First.TheVariants as first
+use Rattle.pearl_parse.specs.FirstWords.{first_words}
 use Rattle.pearl_parse.specs.Schedules.{time_word}
 use Rattle.pearl_parse.specs.Bodies.{is_one, loop_words}
-
--- the first words of statements, in the order of `statement_words`
-abbrev pub first_words : List (ℕ × First)
-first_words =
-    (w.CALL, first.Simple simple.Call) ∷ (w.IF, first.If) ∷ (w.CASE, first.Case) ∷ (w.FOR, first.Repeat) ∷
-    (w.FROM, first.Repeat) ∷ (w.BY, first.Repeat) ∷ (w.TO, first.Repeat) ∷ (w.WHILE, first.Repeat) ∷
-    (w.REPEAT, first.Repeat) ∷ (w.EXIT, first.Simple simple.Exit) ∷ (w.BEGIN, first.Begin) ∷
-    (w.RETURN, first.Simple simple.Return) ∷ (w.AT, first.Simple (simple.Timed false)) ∷
-    (w.AFTER, first.Simple (simple.Timed true)) ∷ (w.WHEN, first.Simple simple.When) ∷ (w.ALL, first.Simple simple.All) ∷
-    (w.ACTIVATE, first.Simple simple.Activate) ∷ (w.CONTINUE, first.Simple simple.Continue) ∷
-    (w.SUSPEND, first.Simple (simple.OnTask Suspend)) ∷ (w.TERMINATE, first.Simple (simple.OnTask Terminate)) ∷
-    (w.PREVENT, first.Simple (simple.OnTask Prevent)) ∷ (w.REQUEST, first.Simple (simple.OnSemas Request)) ∷
-    (w.RELEASE, first.Simple (simple.OnSemas Release)) ∷ (w.ENABLE, first.Simple (simple.OnInterrupt Enable)) ∷
-    (w.DISABLE, first.Simple (simple.OnInterrupt Disable)) ∷ (w.TRIGGER, first.Simple (simple.OnInterrupt Trigger)) ∷
-    (w.PUT, first.Simple simple.Put) ∷ (w.GET, first.Simple simple.Get) ∷ (w.SEND, first.Simple simple.Send) ∷
-    (w.TAKE, first.Simple simple.Take) ∷ []
 
 abbrev pub first_in : List (ℕ × First) → ℕ → Option First
 first_in [] code = None

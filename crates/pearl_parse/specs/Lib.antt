@@ -1,3 +1,5 @@
+-- the words with which statements begin, and what each begins
+pub mod FirstWords
 -- which token goes on with a part of a statement, and with which none goes on
 pub mod Stops
 -- which tokens the parts of calls and returns spell

@@ -3,10 +3,12 @@ use Rattle.std.specs.Prelude.{◌≡◌, ℕ, ◌+◌, ◌≤◌, ◌==◌, ◌|
 use Rattle.pearl_tree.specs.declared.token.What.{What}
 use Rattle.pearl_tree.specs.declared.token.What.TheVariants as what
 use Rattle.pearl_tree.specs.declared.token.Token.{Token}
+use Rattle.pearl_tree.specs.declared.limit.TheConstants as limit
 use Rattle.pearl_tree.specs.Standing.{Spelling, what_at, HasWord, HasSymbol, IsName, SpellsName, SpellsList}
 use Rattle.pearl_parse_expr.specs.declared.reading.Halt.{Halt}
 use Rattle.pearl_parse_expr.specs.declared.reading.Halt.TheVariants.{Refused, NoMemory}
 use Rattle.pearl_parse_expr.specs.Stops.{Stuck, SpellsNamed}
+use Rattle.pearl_parse.specs.FirstWords.{statement_words}
 use Rattle.pearl_tree.specs.declared.expression.Selector.{Selector}
 use Rattle.pearl_tree.specs.Statements.{SpellsMaybeList}
 use Rattle.pearl_tree.specs.Formats.{SpellsFmt}
@@ -33,7 +35,7 @@ IsMissing tokens wanted at stop (Refused k) = (wanted (what_at tokens at) ≡ fa
 
 -- a reference of a statement, by what follows its id
 abbrev pub SpellsOwnNamed : List Token → Spelling (List Selector)
-SpellsOwnNamed tokens = SpellsNamed tokens 33
+SpellsOwnNamed tokens = SpellsNamed tokens limit.OWN_BRACKETS_MAX
 
 -- [ part ], where a token that may begin one does
 abbrev pub SpellsOptional : {X : Type 0} → (Option What → Bool) → (List Token → Spelling X) → List Token → Spelling (Option X)
@@ -58,13 +60,6 @@ SpellsFormats tokens from formats to =
 abbrev pub SpellsStation : List Token → Spelling (Name × List Fmt)
 SpellsStation tokens from station to =
     IsName tokens from station.0 × HasWord tokens (from + 1) w.BY × SpellsFormats tokens (from + 2) station.1 to
-
--- the words with which a statement begins
-abbrev pub statement_words : List ℕ
-statement_words =
-    w.CALL ∷ w.IF ∷ w.CASE ∷ w.FOR ∷ w.FROM ∷ w.BY ∷ w.TO ∷ w.WHILE ∷ w.REPEAT ∷ w.EXIT ∷ w.BEGIN ∷ w.RETURN ∷ w.AT ∷ w.AFTER ∷
-    w.WHEN ∷ w.ALL ∷ w.ACTIVATE ∷ w.CONTINUE ∷ w.SUSPEND ∷ w.TERMINATE ∷ w.PREVENT ∷ w.REQUEST ∷ w.RELEASE ∷ w.ENABLE ∷
-    w.DISABLE ∷ w.TRIGGER ∷ w.PUT ∷ w.GET ∷ w.SEND ∷ w.TAKE ∷ []
 
 abbrev pub is_among : List ℕ → ℕ → Bool
 is_among [] code = false

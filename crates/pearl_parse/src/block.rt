@@ -24,7 +24,7 @@ pub fn block(
 ) -> Result<Reading<Body>, Halt>
     requires least_stop { (from ≤ least_stop) × (least_stop ≤ length tokens.now) }
     ensures spells { IfOk result (λ reading. SpellsBlock tokens.now from reading.part reading.end) }
-    ensures longest { IfOk result (λ reading. IsOnly SpellsBlock tokens.now from reading.end reading.stop) }
+    ensures only { IfOk result (λ reading. IsOnly SpellsBlock tokens.now from reading.end reading.stop) }
     ensures bounds { IfOk result (λ reading. spec.StopsWithin tokens.now (from + 1) least_stop reading.end reading.stop) }
     ensures refused { IfErr result (λ halt. spec.IsStopped SpellsBlock tokens.now from least_stop halt) }
 {

@@ -9,13 +9,14 @@ ghost use Rattle.pearl_parse.specs.Stops.{StopsWithin};
 ghost use Rattle.pearl_parse.specs.Bodies.{extends_body};
 
 use crate::each::Repeated;
-use crate::statement::{NESTED_MAX, body};
+use crate::statement::body;
 use crate::step::{symbol, word};
 use pearl_parse_decl::list::list;
 use pearl_parse_expr::reading::{Halt, Reading};
 use pearl_parse_expr::standing::place_at;
 use pearl_tables::symbol::SEMICOLON;
 use pearl_tables::word_code::DCL;
+use pearl_tree::limit::NESTED_MAX;
 use pearl_tree::parts::Parts;
 use pearl_tree::statement::{Body, BodyDecl};
 use pearl_tree::token::Token;
@@ -25,7 +26,7 @@ use std::alloc::Global;
 fn body_declaration(alloc: Global, tokens: &[Token], from: usize) -> Result<Reading<BodyDecl>, Halt>
     requires { from ≤ length tokens.now }
     ensures spells { IfOk result (λ reading. SpellsBodyDecl tokens.now from reading.part reading.end) }
-    ensures longest { IfOk result (λ reading. IsOnly SpellsBodyDecl tokens.now from reading.end reading.stop) }
+    ensures only { IfOk result (λ reading. IsOnly SpellsBodyDecl tokens.now from reading.end reading.stop) }
     ensures ahead { IfOk result (λ reading. IsAhead tokens.now from reading.end reading.stop) }
     ensures refused { IfErr result (λ halt. IsHalted SpellsBodyDecl tokens.now from halt) }
 {

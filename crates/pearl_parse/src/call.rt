@@ -27,7 +27,7 @@ fn value(alloc: Global, tokens: &[Token], from: usize) -> Result<Reading<Expr>, 
     requires within { from < length tokens.now }
     requires bracket { HasSymbol tokens.now from s.LEFT_ROUND }
     ensures spells { IfOk result (λ reading. SpellsValue tokens.now from reading.part reading.end) }
-    ensures longest { IfOk result (λ reading. IsOnly SpellsValue tokens.now from reading.end reading.stop) }
+    ensures only { IfOk result (λ reading. IsOnly SpellsValue tokens.now from reading.end reading.stop) }
     ensures ahead { IfOk result (λ reading. IsAhead tokens.now from reading.end reading.stop) }
     ensures refused { IfErr result (λ halt. IsHalted SpellsValue tokens.now from halt) }
 {
@@ -44,7 +44,7 @@ fn value(alloc: Global, tokens: &[Token], from: usize) -> Result<Reading<Expr>, 
 fn maybe_value(alloc: Global, tokens: &[Token], from: usize) -> Result<Reading<Option<Expr>>, Halt>
     requires within { from ≤ length tokens.now }
     ensures spells { IfOk result (λ reading. SpellsMaybe (SpellsValue tokens.now) from reading.part reading.end) }
-    ensures longest { IfOk result (λ reading. IsOnly calls.SpellsOptionalValue tokens.now from reading.end reading.stop) }
+    ensures only { IfOk result (λ reading. IsOnly calls.SpellsOptionalValue tokens.now from reading.end reading.stop) }
     ensures bounds { IfOk result (λ reading. spec.StopsWithin tokens.now from from reading.end reading.stop) }
     ensures refused { IfErr result (λ halt. IsHalted calls.SpellsOptionalValue tokens.now from halt) }
 {
@@ -70,7 +70,7 @@ pub fn return_(alloc: Global, tokens: &[Token], from: usize) -> Result<Reading<S
     requires within { from < length tokens.now }
     requires word { HasWord tokens.now from w.RETURN }
     ensures spells { IfOk result (λ reading. (depth : ℕ) → SpellsStmt tokens.now depth from reading.part reading.end) }
-    ensures longest { IfOk result (λ reading. (depth : ℕ) → IsOnly (λ tokens. SpellsStmt tokens depth) tokens.now from reading.end reading.stop) }
+    ensures only { IfOk result (λ reading. (depth : ℕ) → IsOnly (λ tokens. SpellsStmt tokens depth) tokens.now from reading.end reading.stop) }
     ensures ahead { IfOk result (λ reading. IsAhead tokens.now from reading.end reading.stop) }
     ensures refused { IfErr result (λ halt. (depth : ℕ) → IsHalted (λ tokens. SpellsStmt tokens depth) tokens.now from halt) }
 {
@@ -97,7 +97,7 @@ fn arguments(
     requires from { from ≤ length tokens.now }
     requires least_stop { least_stop ≤ length tokens.now }
     ensures spells { IfOk result (λ reading. calls.SpellsArguments tokens.now from reading.part.items reading.end) }
-    ensures longest { IfOk result (λ reading. IsOnly calls.SpellsArguments tokens.now from reading.end reading.stop) }
+    ensures only { IfOk result (λ reading. IsOnly calls.SpellsArguments tokens.now from reading.end reading.stop) }
     ensures bounds { IfOk result (λ reading. spec.StopsWithin tokens.now (from + 1) least_stop reading.end reading.stop) }
     ensures refused { IfErr result (λ halt. spec.IsStopped calls.SpellsArguments tokens.now from least_stop halt) }
 {
@@ -131,7 +131,7 @@ pub fn call(alloc: Global, tokens: &[Token], from: usize) -> Result<Reading<Stmt
     requires within { from < length tokens.now }
     requires word { HasWord tokens.now from w.CALL }
     ensures spells { IfOk result (λ reading. (depth : ℕ) → SpellsStmt tokens.now depth from reading.part reading.end) }
-    ensures longest { IfOk result (λ reading. (depth : ℕ) → IsOnly (λ tokens. SpellsStmt tokens depth) tokens.now from reading.end reading.stop) }
+    ensures only { IfOk result (λ reading. (depth : ℕ) → IsOnly (λ tokens. SpellsStmt tokens depth) tokens.now from reading.end reading.stop) }
     ensures ahead { IfOk result (λ reading. IsAhead tokens.now from reading.end reading.stop) }
     ensures refused { IfErr result (λ halt. (depth : ℕ) → IsHalted (λ tokens. SpellsStmt tokens depth) tokens.now from halt) }
 {
@@ -167,7 +167,7 @@ pub fn named(alloc: Global, tokens: &[Token], from: usize) -> Result<Reading<Stm
     requires within { from < length tokens.now }
     requires name { is_name (what_at tokens.now from) ≡ true }
     ensures spells { IfOk result (λ reading. (depth : ℕ) → SpellsStmt tokens.now depth from reading.part reading.end) }
-    ensures longest { IfOk result (λ reading. (depth : ℕ) → IsOnly (λ tokens. SpellsStmt tokens depth) tokens.now from reading.end reading.stop) }
+    ensures only { IfOk result (λ reading. (depth : ℕ) → IsOnly (λ tokens. SpellsStmt tokens depth) tokens.now from reading.end reading.stop) }
     ensures ahead { IfOk result (λ reading. IsAhead tokens.now from reading.end reading.stop) }
     ensures refused { IfErr result (λ halt. (depth : ℕ) → IsHalted (λ tokens. SpellsStmt tokens depth) tokens.now from halt) }
 {

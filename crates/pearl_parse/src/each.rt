@@ -24,7 +24,7 @@ pub trait Repeated: Drop {
     fn read(alloc: Global, tokens: &[Token], from: usize) -> Result<Reading<Self>, Halt>
         requires { from ≤ length tokens.now }
         ensures spells { IfOk result (λ reading. spelling tokens.now from reading.part reading.end) }
-        ensures longest { IfOk result (λ reading. IsOnly spelling tokens.now from reading.end reading.stop) }
+        ensures only { IfOk result (λ reading. IsOnly spelling tokens.now from reading.end reading.stop) }
         ensures ahead { IfOk result (λ reading. IsAhead tokens.now from reading.end reading.stop) }
         ensures refused { IfErr result (λ halt. IsHalted spelling tokens.now from halt) };
 

@@ -3,6 +3,7 @@
 ghost use Rattle.std.specs.Prelude.{◌≡◌, ◌<◌, None, false, length, IfSome};
 ghost use Rattle.pearl_tree.specs.Standing.{what_at};
 ghost use Rattle.pearl_parse.specs.Stops.{begins_statement};
+ghost use Rattle.pearl_parse.specs.FirstWords.{first_words};
 ghost use Rattle.pearl_parse.specs.Firsts as spec;
 
 use pearl_tables::symbol::SEMICOLON;
@@ -45,7 +46,7 @@ pub enum First {
 }
 
 fn first_of_word(word: u8) -> Option<First>
-    ensures { result ≡ spec.first_in spec.first_words word }
+    ensures { result ≡ spec.first_in first_words word }
 {
     match word {
         IF => Some(First::If),

@@ -24,7 +24,7 @@ pub fn before<P: Readable>(
     requires begins { (others : List Token) (at : ℕ) (x : P) (to : ℕ) → HasWord others at word → P.spelling others at x to → ⊥ }
     requires stops { P.extends (Some (what.Word word)) ≡ false }
     ensures spells { IfOk result (λ reading. spec.SpellsBefore word P.spelling tokens.now from reading.part.items reading.end) }
-    ensures longest { IfOk result (λ reading. IsOnly (spec.SpellsBefore word P.spelling) tokens.now from reading.end reading.stop) }
+    ensures only { IfOk result (λ reading. IsOnly (spec.SpellsBefore word P.spelling) tokens.now from reading.end reading.stop) }
     ensures ahead { IfOk result (λ reading. IsAhead tokens.now from reading.end reading.stop) }
     ensures refused { IfErr result (λ halt. IsHalted (spec.SpellsBefore word P.spelling) tokens.now from halt) }
 {

@@ -31,7 +31,7 @@ pub struct Heads {
 fn control(tokens: &[Token], from: usize) -> Result<Reading<Option<Name>>, Halt>
     requires { from ≤ length tokens.now }
     ensures spells { IfOk result (λ reading. SpellsMaybe (SpellsFor tokens.now) from reading.part reading.end) }
-    ensures longest { IfOk result (λ reading. IsOnly bodies.SpellsOptionalFor tokens.now from reading.end reading.stop) }
+    ensures only { IfOk result (λ reading. IsOnly bodies.SpellsOptionalFor tokens.now from reading.end reading.stop) }
     ensures bounds { IfOk result (λ reading. spec.StopsWithin tokens.now from from reading.end reading.stop) }
     ensures refused { IfErr result (λ halt. IsHalted bodies.SpellsOptionalFor tokens.now from halt) }
     ensures memory { IfErr result (λ halt. halt ≢ Halt.NoMemory) }
@@ -55,7 +55,7 @@ fn control(tokens: &[Token], from: usize) -> Result<Reading<Option<Name>>, Halt>
 pub fn loop_heads(alloc: Global, tokens: &[Token], from: usize) -> Result<Reading<Heads>, Halt>
     requires { from ≤ length tokens.now }
     ensures spells { IfOk result (λ reading. bodies.SpellsHeads tokens.now from reading.part reading.end) }
-    ensures longest { IfOk result (λ reading. IsOnly bodies.SpellsHeads tokens.now from reading.end reading.stop) }
+    ensures only { IfOk result (λ reading. IsOnly bodies.SpellsHeads tokens.now from reading.end reading.stop) }
     ensures ahead { IfOk result (λ reading. IsAhead tokens.now from reading.end reading.stop) }
     ensures refused { IfErr result (λ halt. IsHalted bodies.SpellsHeads tokens.now from halt) }
 {

@@ -23,7 +23,7 @@ use std::alloc::Global;
 fn module_name(tokens: &[Token], from: usize) -> Result<Reading<Option<ModuleName>>, Halt>
     requires { from ≤ length tokens.now }
     ensures spells { IfOk result (λ reading. modules.SpellsOptionalName tokens.now from reading.part reading.end) }
-    ensures longest { IfOk result (λ reading. IsOnly modules.SpellsOptionalName tokens.now from reading.end reading.stop) }
+    ensures only { IfOk result (λ reading. IsOnly modules.SpellsOptionalName tokens.now from reading.end reading.stop) }
     ensures bounds { IfOk result (λ reading. spec.StopsWithin tokens.now from from reading.end reading.stop) }
     ensures close { IfOk result (λ reading. reading.stop ≡ reading.end) }
     ensures refused { IfErr result (λ halt. IsHalted modules.SpellsOptionalName tokens.now from halt) }
@@ -56,7 +56,7 @@ fn module_name(tokens: &[Token], from: usize) -> Result<Reading<Option<ModuleNam
 fn head(tokens: &[Token], from: usize) -> Result<Reading<Option<ModuleName>>, Halt>
     requires { from ≤ length tokens.now }
     ensures spells { IfOk result (λ reading. modules.SpellsHead tokens.now from reading.part reading.end) }
-    ensures longest { IfOk result (λ reading. IsOnly modules.SpellsHead tokens.now from reading.end reading.stop) }
+    ensures only { IfOk result (λ reading. IsOnly modules.SpellsHead tokens.now from reading.end reading.stop) }
     ensures ahead { IfOk result (λ reading. IsAhead tokens.now from reading.end reading.stop) }
     ensures close { IfOk result (λ reading. reading.stop ≡ reading.end) }
     ensures refused { IfErr result (λ halt. IsHalted modules.SpellsHead tokens.now from halt) }

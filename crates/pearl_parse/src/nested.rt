@@ -22,7 +22,7 @@ pub fn condition(alloc: Global, tokens: &[Token], from: usize) -> Result<Reading
     requires within { from < length tokens.now }
     requires word { HasWord tokens.now from w.IF }
     ensures spells { IfOk result (λ reading. bodies.SpellsCondition tokens.now from reading.part reading.end) }
-    ensures longest { IfOk result (λ reading. IsOnly bodies.SpellsCondition tokens.now from reading.end reading.stop) }
+    ensures only { IfOk result (λ reading. IsOnly bodies.SpellsCondition tokens.now from reading.end reading.stop) }
     ensures ahead { IfOk result (λ reading. IsAhead tokens.now from reading.end reading.stop) }
     ensures refused { IfErr result (λ halt. IsHalted bodies.SpellsCondition tokens.now from halt) }
 {

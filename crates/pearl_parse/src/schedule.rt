@@ -113,7 +113,7 @@ pub fn activate(
     requires from { from ≤ length tokens.now }
     requires least_stop { (from ≤ least_stop) × (least_stop ≤ length tokens.now) }
     ensures spells { IfOk result (λ reading. schedules.SpellsActivation tokens.now from (reading.part.task, reading.part.priority) reading.end) }
-    ensures longest { IfOk result (λ reading. IsOnly schedules.SpellsActivation tokens.now from reading.end reading.stop) }
+    ensures only { IfOk result (λ reading. IsOnly schedules.SpellsActivation tokens.now from reading.end reading.stop) }
     ensures bounds { IfOk result (λ reading. spec.StopsWithin tokens.now (from + 1) least_stop reading.end reading.stop) }
     ensures refused { IfErr result (λ halt. spec.IsStopped schedules.SpellsActivation tokens.now from least_stop halt) }
 {
@@ -179,7 +179,7 @@ pub fn begin(
     requires from { from ≤ length tokens.now }
     requires least_stop { (from ≤ least_stop) × (least_stop ≤ length tokens.now) }
     ensures spells { IfOk result (λ reading. schedules.HasBegun tokens.now from reading.part.period reading.part.activation.task reading.part.activation.priority reading.end) }
-    ensures longest { IfOk result (λ reading. IsOnly schedules.SpellsBegun tokens.now from reading.end reading.stop) }
+    ensures only { IfOk result (λ reading. IsOnly schedules.SpellsBegun tokens.now from reading.end reading.stop) }
     ensures bounds { IfOk result (λ reading. spec.StopsWithin tokens.now (from + 1) least_stop reading.end reading.stop) }
     ensures refused { IfErr result (λ halt. spec.IsStopped schedules.SpellsBegun tokens.now from least_stop halt) }
 {
@@ -204,7 +204,7 @@ pub fn immediate_activation(
     requires within { from < length tokens.now }
     requires word { HasWord tokens.now from w.ACTIVATE }
     ensures spells { IfOk result (λ reading. (depth : ℕ) → SpellsStmt tokens.now depth from reading.part reading.end) }
-    ensures longest { IfOk result (λ reading. (depth : ℕ) → IsOnly (λ tokens. SpellsStmt tokens depth) tokens.now from reading.end reading.stop) }
+    ensures only { IfOk result (λ reading. (depth : ℕ) → IsOnly (λ tokens. SpellsStmt tokens depth) tokens.now from reading.end reading.stop) }
     ensures ahead { IfOk result (λ reading. IsAhead tokens.now from reading.end reading.stop) }
     ensures refused { IfErr result (λ halt. (depth : ℕ) → IsHalted (λ tokens. SpellsStmt tokens depth) tokens.now from halt) }
 {
@@ -231,7 +231,7 @@ pub fn immediate_continuation(
     requires within { from < length tokens.now }
     requires word { HasWord tokens.now from w.CONTINUE }
     ensures spells { IfOk result (λ reading. (depth : ℕ) → SpellsStmt tokens.now depth from reading.part reading.end) }
-    ensures longest { IfOk result (λ reading. (depth : ℕ) → IsOnly (λ tokens. SpellsStmt tokens depth) tokens.now from reading.end reading.stop) }
+    ensures only { IfOk result (λ reading. (depth : ℕ) → IsOnly (λ tokens. SpellsStmt tokens depth) tokens.now from reading.end reading.stop) }
     ensures ahead { IfOk result (λ reading. IsAhead tokens.now from reading.end reading.stop) }
     ensures refused { IfErr result (λ halt. (depth : ℕ) → IsHalted (λ tokens. SpellsStmt tokens depth) tokens.now from halt) }
 {
@@ -254,7 +254,7 @@ pub fn periodic(alloc: Global, tokens: &[Token], from: usize) -> Result<Reading<
     requires within { from < length tokens.now }
     requires word { HasWord tokens.now from w.ALL }
     ensures spells { IfOk result (λ reading. (depth : ℕ) → SpellsStmt tokens.now depth from reading.part reading.end) }
-    ensures longest { IfOk result (λ reading. (depth : ℕ) → IsOnly (λ tokens. SpellsStmt tokens depth) tokens.now from reading.end reading.stop) }
+    ensures only { IfOk result (λ reading. (depth : ℕ) → IsOnly (λ tokens. SpellsStmt tokens depth) tokens.now from reading.end reading.stop) }
     ensures ahead { IfOk result (λ reading. IsAhead tokens.now from reading.end reading.stop) }
     ensures refused { IfErr result (λ halt. (depth : ℕ) → IsHalted (λ tokens. SpellsStmt tokens depth) tokens.now from halt) }
 {

@@ -25,7 +25,7 @@ fn empty(tokens: &[Token], from: usize) -> Reading<Stmt>
     requires within { from < length tokens.now }
     requires symbol { HasSymbol tokens.now from s.SEMICOLON }
     ensures spells { (depth : ℕ) → SpellsStmt tokens.now depth from result.part result.end }
-    ensures longest { (depth : ℕ) → IsOnly (λ tokens. SpellsStmt tokens depth) tokens.now from result.end result.stop }
+    ensures only { (depth : ℕ) → IsOnly (λ tokens. SpellsStmt tokens depth) tokens.now from result.end result.stop }
     ensures ahead { IsAhead tokens.now from result.end result.stop }
 {
     Reading {
@@ -47,7 +47,7 @@ pub fn simple(
     requires within { from < length tokens.now }
     requires first { BeginsSimple tokens.now from first }
     ensures spells { IfOk result (λ reading. (depth : ℕ) → SpellsStmt tokens.now depth from reading.part reading.end) }
-    ensures longest { IfOk result (λ reading. (depth : ℕ) → IsOnly (λ tokens. SpellsStmt tokens depth) tokens.now from reading.end reading.stop) }
+    ensures only { IfOk result (λ reading. (depth : ℕ) → IsOnly (λ tokens. SpellsStmt tokens depth) tokens.now from reading.end reading.stop) }
     ensures ahead { IfOk result (λ reading. IsAhead tokens.now from reading.end reading.stop) }
     ensures refused { IfErr result (λ halt. (depth : ℕ) → IsHalted (λ tokens. SpellsStmt tokens depth) tokens.now from halt) }
 {

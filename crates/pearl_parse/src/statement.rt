@@ -23,9 +23,6 @@ use pearl_tree::statement::{Begin, Body, BodyDecl, Branch, Case, If, Repeat, Stm
 use pearl_tree::token::Token;
 use std::alloc::Global;
 
-/// How many IF, CASE, REPEAT and BEGIN may stand within one another.
-pub const NESTED_MAX: u8 = 32;
-
 /// `{ stmt }`
 #[cycle(statement)]
 fn statements(
@@ -173,7 +170,7 @@ fn if_(alloc: Global, tokens: &[Token], from: usize, depth: u8) -> Result<Readin
     requires within { from < length tokens.now }
     requires word { HasWord tokens.now from w.IF }
     ensures spells { IfOk result (λ reading. SpellsStmt tokens.now depth from reading.part reading.end) }
-    ensures longest { IfOk result (λ reading. IsOnly (λ tokens. SpellsStmt tokens depth) tokens.now from reading.end reading.stop) }
+    ensures only { IfOk result (λ reading. IsOnly (λ tokens. SpellsStmt tokens depth) tokens.now from reading.end reading.stop) }
     ensures ahead { IfOk result (λ reading. IsAhead tokens.now from reading.end reading.stop) }
     ensures refused { IfErr result (λ halt. IsHalted (λ tokens. SpellsStmt tokens depth) tokens.now from halt) }
 {
@@ -210,7 +207,7 @@ fn case(alloc: Global, tokens: &[Token], from: usize, depth: u8) -> Result<Readi
     requires within { from < length tokens.now }
     requires word { HasWord tokens.now from w.CASE }
     ensures spells { IfOk result (λ reading. SpellsStmt tokens.now depth from reading.part reading.end) }
-    ensures longest { IfOk result (λ reading. IsOnly (λ tokens. SpellsStmt tokens depth) tokens.now from reading.end reading.stop) }
+    ensures only { IfOk result (λ reading. IsOnly (λ tokens. SpellsStmt tokens depth) tokens.now from reading.end reading.stop) }
     ensures ahead { IfOk result (λ reading. IsAhead tokens.now from reading.end reading.stop) }
     ensures refused { IfErr result (λ halt. IsHalted (λ tokens. SpellsStmt tokens depth) tokens.now from halt) }
 {
@@ -279,7 +276,7 @@ fn repeat(alloc: Global, tokens: &[Token], from: usize, depth: u8) -> Result<Rea
     requires within { from < length tokens.now }
     requires word { bodies.is_one bodies.loop_words (what_at tokens.now from) ≡ true }
     ensures spells { IfOk result (λ reading. SpellsStmt tokens.now depth from reading.part reading.end) }
-    ensures longest { IfOk result (λ reading. IsOnly (λ tokens. SpellsStmt tokens depth) tokens.now from reading.end reading.stop) }
+    ensures only { IfOk result (λ reading. IsOnly (λ tokens. SpellsStmt tokens depth) tokens.now from reading.end reading.stop) }
     ensures ahead { IfOk result (λ reading. IsAhead tokens.now from reading.end reading.stop) }
     ensures refused { IfErr result (λ halt. IsHalted (λ tokens. SpellsStmt tokens depth) tokens.now from halt) }
 {
@@ -311,7 +308,7 @@ fn begin(alloc: Global, tokens: &[Token], from: usize, depth: u8) -> Result<Read
     requires within { from < length tokens.now }
     requires word { HasWord tokens.now from w.BEGIN }
     ensures spells { IfOk result (λ reading. SpellsStmt tokens.now depth from reading.part reading.end) }
-    ensures longest { IfOk result (λ reading. IsOnly (λ tokens. SpellsStmt tokens depth) tokens.now from reading.end reading.stop) }
+    ensures only { IfOk result (λ reading. IsOnly (λ tokens. SpellsStmt tokens depth) tokens.now from reading.end reading.stop) }
     ensures ahead { IfOk result (λ reading. IsAhead tokens.now from reading.end reading.stop) }
     ensures refused { IfErr result (λ halt. IsHalted (λ tokens. SpellsStmt tokens depth) tokens.now from halt) }
 {
@@ -341,7 +338,7 @@ pub fn statement(
 ) -> Result<Reading<Stmt>, Halt>
     requires { from ≤ length tokens.now }
     ensures spells { IfOk result (λ reading. SpellsStmt tokens.now depth from reading.part reading.end) }
-    ensures longest { IfOk result (λ reading. IsOnly (λ tokens. SpellsStmt tokens depth) tokens.now from reading.end reading.stop) }
+    ensures only { IfOk result (λ reading. IsOnly (λ tokens. SpellsStmt tokens depth) tokens.now from reading.end reading.stop) }
     ensures ahead { IfOk result (λ reading. IsAhead tokens.now from reading.end reading.stop) }
     ensures refused { IfErr result (λ halt. IsHalted (λ tokens. SpellsStmt tokens depth) tokens.now from halt) }
 {

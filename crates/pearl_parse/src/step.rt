@@ -8,10 +8,11 @@ ghost use Rattle.pearl_tree.specs.Statements.{SpellsAfter};
 ghost use Rattle.pearl_parse_expr.specs.Stops.{IsLongest, IsOnly, extends_expression, is_word, is_symbol, is_name};
 ghost use Rattle.pearl_parse.specs.Stops as spec;
 
-use pearl_parse_expr::expression::{BRACKETS_MAX, expression_at_depth};
+use pearl_parse_expr::expression::expression_at_depth;
 use pearl_parse_expr::reading::{Halt, Reading};
 use pearl_parse_expr::standing::{is_symbol, is_word, name_at};
 use pearl_tree::expression::Expr;
+use pearl_tree::limit::BRACKETS_MAX;
 use pearl_tree::name::Name;
 use pearl_tree::token::Token;
 use std::alloc::Global;
@@ -83,7 +84,7 @@ pub fn expr(
 pub fn maybe_name(tokens: &[Token], from: usize) -> Reading<Option<Name>>
     requires { from ≤ length tokens.now }
     ensures spells { SpellsMaybe (SpellsName tokens.now) from result.part result.end }
-    ensures longest { IsOnly (spec.SpellsOptional is_name SpellsName) tokens.now from result.end result.stop }
+    ensures only { IsOnly (spec.SpellsOptional is_name SpellsName) tokens.now from result.end result.stop }
     ensures bounds { spec.StopsWithin tokens.now from from result.end result.stop }
 {
     match name_at(tokens, from) {

@@ -90,7 +90,7 @@ pub fn opening(
 ) -> Result<Reading<Option<Parts<Device>>>, Halt>
     requires { from ≤ length tokens.now }
     ensures spells { IfOk result (λ reading. modules.SpellsOpening tokens.now from reading.part reading.end) }
-    ensures longest { IfOk result (λ reading. IsOnly modules.SpellsOpening tokens.now from reading.end reading.stop) }
+    ensures only { IfOk result (λ reading. IsOnly modules.SpellsOpening tokens.now from reading.end reading.stop) }
     ensures ahead { IfOk result (λ reading. IsAhead tokens.now from reading.end reading.stop) }
     ensures refused { IfErr result (λ halt. IsHalted modules.SpellsOpening tokens.now from halt) }
 {

@@ -44,7 +44,7 @@ pub fn on_semas(
     requires within { from < length tokens.now }
     requires word { HasWord tokens.now from (sema_word word) }
     ensures spells { IfOk result (λ reading. (depth : ℕ) → SpellsStmt tokens.now depth from reading.part reading.end) }
-    ensures longest { IfOk result (λ reading. (depth : ℕ) → IsOnly (λ tokens. SpellsStmt tokens depth) tokens.now from reading.end reading.stop) }
+    ensures only { IfOk result (λ reading. (depth : ℕ) → IsOnly (λ tokens. SpellsStmt tokens depth) tokens.now from reading.end reading.stop) }
     ensures ahead { IfOk result (λ reading. IsAhead tokens.now from reading.end reading.stop) }
     ensures refused { IfErr result (λ halt. (depth : ℕ) → IsHalted (λ tokens. SpellsStmt tokens depth) tokens.now from halt) }
 {
@@ -72,7 +72,7 @@ fn formats(
     requires from { from ≤ length tokens.now }
     requires least_stop { least_stop ≤ length tokens.now }
     ensures spells { IfOk result (λ reading. spec.SpellsFormats tokens.now from reading.part.items reading.end) }
-    ensures longest { IfOk result (λ reading. IsOnly spec.SpellsFormats tokens.now from reading.end reading.stop) }
+    ensures only { IfOk result (λ reading. IsOnly spec.SpellsFormats tokens.now from reading.end reading.stop) }
     ensures bounds { IfOk result (λ reading. spec.StopsWithin tokens.now (from + 1) least_stop reading.end reading.stop) }
     ensures refused { IfErr result (λ halt. spec.IsStopped spec.SpellsFormats tokens.now from least_stop halt) }
 {
@@ -111,7 +111,7 @@ fn station(
     requires from { from ≤ length tokens.now }
     requires least_stop { least_stop ≤ length tokens.now }
     ensures spells { IfOk result (λ reading. spec.SpellsStation tokens.now from (reading.part.dation, reading.part.formats.items) reading.end) }
-    ensures longest { IfOk result (λ reading. IsOnly spec.SpellsStation tokens.now from reading.end reading.stop) }
+    ensures only { IfOk result (λ reading. IsOnly spec.SpellsStation tokens.now from reading.end reading.stop) }
     ensures bounds { IfOk result (λ reading. spec.StopsWithin tokens.now (from + 1) least_stop reading.end reading.stop) }
     ensures refused { IfErr result (λ halt. spec.IsStopped spec.SpellsStation tokens.now from least_stop halt) }
 {
@@ -133,7 +133,7 @@ pub fn put(alloc: Global, tokens: &[Token], from: usize) -> Result<Reading<Stmt>
     requires within { from < length tokens.now }
     requires word { HasWord tokens.now from w.PUT }
     ensures spells { IfOk result (λ reading. (depth : ℕ) → SpellsStmt tokens.now depth from reading.part reading.end) }
-    ensures longest { IfOk result (λ reading. (depth : ℕ) → IsOnly (λ tokens. SpellsStmt tokens depth) tokens.now from reading.end reading.stop) }
+    ensures only { IfOk result (λ reading. (depth : ℕ) → IsOnly (λ tokens. SpellsStmt tokens depth) tokens.now from reading.end reading.stop) }
     ensures ahead { IfOk result (λ reading. IsAhead tokens.now from reading.end reading.stop) }
     ensures refused { IfErr result (λ halt. (depth : ℕ) → IsHalted (λ tokens. SpellsStmt tokens depth) tokens.now from halt) }
 {
@@ -157,7 +157,7 @@ pub fn get(alloc: Global, tokens: &[Token], from: usize) -> Result<Reading<Stmt>
     requires within { from < length tokens.now }
     requires word { HasWord tokens.now from w.GET }
     ensures spells { IfOk result (λ reading. (depth : ℕ) → SpellsStmt tokens.now depth from reading.part reading.end) }
-    ensures longest { IfOk result (λ reading. (depth : ℕ) → IsOnly (λ tokens. SpellsStmt tokens depth) tokens.now from reading.end reading.stop) }
+    ensures only { IfOk result (λ reading. (depth : ℕ) → IsOnly (λ tokens. SpellsStmt tokens depth) tokens.now from reading.end reading.stop) }
     ensures ahead { IfOk result (λ reading. IsAhead tokens.now from reading.end reading.stop) }
     ensures refused { IfErr result (λ halt. (depth : ℕ) → IsHalted (λ tokens. SpellsStmt tokens depth) tokens.now from halt) }
 {

@@ -31,7 +31,7 @@ fn task(alloc: Global, tokens: &[Token], from: usize, name: Name) -> Result<Read
     requires colon { HasSymbol tokens.now (from + 1) s.COLON }
     requires word { HasWord tokens.now (from + 2) w.TASK }
     ensures spells { IfOk result (λ reading. SpellsDecl tokens.now from reading.part reading.end) }
-    ensures longest { IfOk result (λ reading. IsOnly SpellsDecl tokens.now from reading.end reading.stop) }
+    ensures only { IfOk result (λ reading. IsOnly SpellsDecl tokens.now from reading.end reading.stop) }
     ensures ahead { IfOk result (λ reading. IsAhead tokens.now from reading.end reading.stop) }
     ensures refused { IfErr result (λ halt. IsHalted SpellsDecl tokens.now from halt) }
 {
@@ -62,7 +62,7 @@ fn procedure(
     requires colon { HasSymbol tokens.now (from + 1) s.COLON }
     requires word { HasWord tokens.now (from + 2) w.PROC }
     ensures spells { IfOk result (λ reading. SpellsDecl tokens.now from reading.part reading.end) }
-    ensures longest { IfOk result (λ reading. IsOnly SpellsDecl tokens.now from reading.end reading.stop) }
+    ensures only { IfOk result (λ reading. IsOnly SpellsDecl tokens.now from reading.end reading.stop) }
     ensures ahead { IfOk result (λ reading. IsAhead tokens.now from reading.end reading.stop) }
     ensures refused { IfErr result (λ halt. IsHalted SpellsDecl tokens.now from halt) }
 {
@@ -90,7 +90,7 @@ fn unit(alloc: Global, tokens: &[Token], from: usize, name: Name) -> Result<Read
     requires within { from < length tokens.now }
     requires name { IsName tokens.now from name }
     ensures spells { IfOk result (λ reading. SpellsDecl tokens.now from reading.part reading.end) }
-    ensures longest { IfOk result (λ reading. IsOnly SpellsDecl tokens.now from reading.end reading.stop) }
+    ensures only { IfOk result (λ reading. IsOnly SpellsDecl tokens.now from reading.end reading.stop) }
     ensures ahead { IfOk result (λ reading. IsAhead tokens.now from reading.end reading.stop) }
     ensures refused { IfErr result (λ halt. IsHalted SpellsDecl tokens.now from halt) }
 {
@@ -106,7 +106,7 @@ fn unit(alloc: Global, tokens: &[Token], from: usize, name: Name) -> Result<Read
 pub fn declaration(alloc: Global, tokens: &[Token], from: usize) -> Result<Reading<Decl>, Halt>
     requires { from ≤ length tokens.now }
     ensures spells { IfOk result (λ reading. SpellsDecl tokens.now from reading.part reading.end) }
-    ensures longest { IfOk result (λ reading. IsOnly SpellsDecl tokens.now from reading.end reading.stop) }
+    ensures only { IfOk result (λ reading. IsOnly SpellsDecl tokens.now from reading.end reading.stop) }
     ensures ahead { IfOk result (λ reading. IsAhead tokens.now from reading.end reading.stop) }
     ensures refused { IfErr result (λ halt. IsHalted SpellsDecl tokens.now from halt) }
 {

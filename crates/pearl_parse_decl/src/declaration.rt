@@ -9,11 +9,12 @@ ghost use Rattle.pearl_parse_expr.specs.Stops as stops;
 
 use crate::list::list;
 use crate::name::bracketed_number;
-use crate::typing::{STRUCTS_MAX, sort_at, typing};
+use crate::typing::{sort_at, typing};
 use pearl_parse_expr::reading::{Halt, Reading};
 use pearl_parse_expr::standing::{is_symbol, name_at, place_at};
 use pearl_tables::symbol::SEMICOLON;
 use pearl_tree::declaration::{Declared, Spec};
+use pearl_tree::limit::STRUCTS_MAX;
 use pearl_tree::parts::Parts;
 use pearl_tree::token::Token;
 use pearl_tree::tree::Decl;

@@ -2,12 +2,14 @@
 
 ghost use Rattle.std.specs.Prelude.{◌≤◌, length, IfOk, IfErr, refl};
 ghost use Rattle.pearl_tree.specs.Expressions.{SpellsWhole, SpellsOwnRef};
+ghost use Rattle.pearl_tree.specs.declared.limit.TheConstants as limit;
 ghost use Rattle.pearl_parse_expr.specs.Stops as stops;
 
 use crate::list::Readable;
-use pearl_parse_expr::expression::{BRACKETS_MAX, expression_at_depth, reference};
+use pearl_parse_expr::expression::{expression_at_depth, reference};
 use pearl_parse_expr::reading::{Halt, Reading};
 use pearl_tree::expression::{Expr, Ref};
+use pearl_tree::limit::{BRACKETS_MAX, OWN_BRACKETS_MAX};
 use pearl_tree::token::Token;
 use std::alloc::Global;
 
@@ -27,12 +29,12 @@ pub fn own_reference(alloc: Global, tokens: &[Token], from: usize) -> Result<Rea
     requires { from ≤ length tokens.now }
     ensures spells { IfOk result (λ reading. SpellsOwnRef tokens.now from reading.part reading.end) }
     ensures longest { IfOk result (λ reading. stops.IsLongest SpellsOwnRef stops.extends_operand tokens.now from reading.end reading.stop) }
-    ensures named { IfOk result (λ reading. stops.IsLongest (λ tokens. stops.SpellsNamed tokens 33) stops.extends_operand tokens.now from reading.end reading.stop) }
+    ensures named { IfOk result (λ reading. stops.IsLongest (λ tokens. stops.SpellsNamed tokens limit.OWN_BRACKETS_MAX) stops.extends_operand tokens.now from reading.end reading.stop) }
     ensures ahead { IfOk result (λ reading. stops.IsAhead tokens.now from reading.end reading.stop) }
     ensures refused { IfErr result (λ halt. stops.IsHalted SpellsOwnRef tokens.now from halt) }
-    ensures unnamed { IfErr result (λ halt. stops.IsHalted (λ tokens. stops.SpellsNamed tokens 33) tokens.now from halt) }
+    ensures unnamed { IfErr result (λ halt. stops.IsHalted (λ tokens. stops.SpellsNamed tokens limit.OWN_BRACKETS_MAX) tokens.now from halt) }
 {
-    reference(alloc, tokens, from, BRACKETS_MAX + 1)
+    reference(alloc, tokens, from, OWN_BRACKETS_MAX)
 }
 
 impl Readable for Expr {

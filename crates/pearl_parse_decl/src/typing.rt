@@ -23,9 +23,6 @@ use pearl_tree::token::Token;
 use pearl_tree::typing::{Basic, Bound, Field, Int, Sort, Typing};
 use std::alloc::Global;
 
-/// How many STRUCTs may stand within one another.
-pub const STRUCTS_MAX: u8 = 8;
-
 /// `[ "-" ] number`, or the number of a token with which none begins.
 pub fn int(tokens: &[Token], from: usize) -> Result<Reading<Int>, usize>
     requires { from ≤ length tokens.now }

@@ -5,6 +5,7 @@ use Rattle.pearl_value.specs.declared.operator.Monad.TheVariants as monad
 use Rattle.pearl_tree.specs.declared.token.What.{What}
 use Rattle.pearl_tree.specs.declared.token.What.TheVariants as what
 use Rattle.pearl_tree.specs.declared.token.Token.{Token}
+use Rattle.pearl_tree.specs.declared.limit.TheConstants as limit
 use Rattle.pearl_tree.specs.declared.literal.Secs.{Secs}
 use Rattle.pearl_tree.specs.declared.expression.Monadic.{Monadic}
 use Rattle.pearl_tree.specs.declared.expression.Expr.{Expr}
@@ -133,7 +134,7 @@ extends_list token = extends_expression token || is_symbol s.COMMA token
 -- { + | - | ABS | SIGN | NOT } primary
 abbrev pub SpellsSigned : List Token → ℕ → Spelling Primary
 SpellsSigned tokens depth from part to =
-    (m : ℕ) × (monadics : List Monadic) × (length monadics ≤ 8) × SpellsEach (SpellsMonadic tokens) from monadics m ×
+    (m : ℕ) × (monadics : List Monadic) × (length monadics ≤ limit.MONADS_MAX) × SpellsEach (SpellsMonadic tokens) from monadics m ×
     SpellsPrimary tokens depth m part to
 
 -- id { "(" expr { "," expr } ")" | "." id }, by what follows the id

@@ -24,14 +24,10 @@ use crate::standing::{is_name, is_symbol, is_word, name_at, place_at};
 use pearl_tables::symbol::{COMMA, LEFT_ROUND, PERIOD, RIGHT_ROUND};
 use pearl_tables::word_code::{NOW, TRY};
 use pearl_tree::expression::{Expr, Operand, Primary, Ref, Selector};
+use pearl_tree::limit::{BRACKETS_MAX, DYADS_MAX};
 use pearl_tree::parts::Parts;
 use pearl_tree::token::Token;
 use std::alloc::Global;
-
-/// How many brackets of one expression may stand within one another.
-pub const BRACKETS_MAX: u8 = 32;
-
-const DYADS_MAX: usize = 100;
 
 // The place that is told where the tokens run out.
 const NO_PLACE: u32 = u32::MAX;

@@ -7,8 +7,8 @@ ghost use Rattle.pearl_tree.specs.Standing.{IsAt};
 ghost use Rattle.pearl_tree.specs.Expressions as grammar;
 ghost use Rattle.pearl_parse_expr.specs.declared.reading.Halt.{Halt};
 
-use crate::operator::rank;
 use crate::reading::{Halt, boxed};
+use pearl_tables::operator::rank;
 use pearl_tree::expression::{Dyadic, Expr, Operand};
 use std::alloc::Global;
 

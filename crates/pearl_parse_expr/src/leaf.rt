@@ -4,6 +4,7 @@ ghost use Rattle.std.specs.Prelude.{◌≡◌, ◌≢◌, ℕ, ◌+◌, ◌<◌,
 ghost use Rattle.std.specs.Option.{option_and_then};
 ghost use Rattle.pearl_tree.specs.Standing.{what_at, HasWord, HasSymbol, SpellsEach, SpellsMaybe, SpellsNumber};
 ghost use Rattle.pearl_tree.specs.Expressions as grammar;
+ghost use Rattle.pearl_tree.specs.declared.limit.TheConstants as limit;
 ghost use Rattle.pearl_tables.specs.declared.word_code.TheConstants as w;
 ghost use Rattle.pearl_tables.specs.declared.symbol.TheConstants as s;
 ghost use Rattle.pearl_parse_expr.specs.declared.reading.Halt.{Halt};
@@ -14,19 +15,18 @@ use crate::operator::{monadic_at, side_at};
 use crate::reading::{Halt, Reading, append};
 use crate::standing::{name_at, number_at, place_at};
 use pearl_tree::expression::{Monadic, Primary, Selector, Side};
+use pearl_tree::limit::MONADS_MAX;
 use pearl_tree::literal::Literal;
 use pearl_tree::name::Number;
 use pearl_tree::token::Token;
 use std::alloc::Global;
 
-const MONADS_MAX: usize = 8;
-
 /// The monadic operators that begin here, as many as may stand before one primary.
 pub fn monadics(alloc: Global, tokens: &[Token], from: usize) -> Result<Vec<Monadic>, Halt>
     requires { from ≤ length tokens.now }
     ensures each { IfOk result (λ list. SpellsEach (grammar.SpellsMonadic tokens.now) from list.items (from + length list.items)) }
-    ensures few { IfOk result (λ list. length list.items ≤ 8) }
-    ensures all { IfOk result (λ list. (length list.items ≡ 8) ⊎ (option_and_then spec.monad_of (what_at tokens.now (from + length list.items)) ≡ None)) }
+    ensures few { IfOk result (λ list. length list.items ≤ limit.MONADS_MAX) }
+    ensures all { IfOk result (λ list. (length list.items ≡ limit.MONADS_MAX) ⊎ (option_and_then spec.monad_of (what_at tokens.now (from + length list.items)) ≡ None)) }
     ensures within { IfOk result (λ list. from + length list.items ≤ length tokens.now) }
     ensures fault { IfErr result (λ halt. halt ≡ Halt.NoMemory) }
 {

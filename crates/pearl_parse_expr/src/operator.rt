@@ -130,18 +130,3 @@ pub fn side_at(tokens: &[Token], at: usize) -> Option<Side>
         None => None,
     }
 }
-
-/// The rank of an operator: a smaller one binds closer.
-pub fn rank(operator: Dyad) -> u8
-    ensures { result ≡ grammar.rank operator }
-{
-    match operator {
-        Dyad::Pow => 1,
-        Dyad::Mul | Dyad::Div | Dyad::Rem | Dyad::Cat => 2,
-        Dyad::Add | Dyad::Sub | Dyad::Cshift | Dyad::Shift => 3,
-        Dyad::Lt | Dyad::Gt | Dyad::Le | Dyad::Ge => 4,
-        Dyad::Eq | Dyad::Ne => 5,
-        Dyad::And => 6,
-        Dyad::Or | Dyad::Exor => 7,
-    }
-}

@@ -6,7 +6,7 @@ use Rattle.std.proofs.lemmas.List.Elements.{All-head, All-tail}
 use Rattle.pearl_tree.specs.declared.token.What.TheVariants as what
 use Rattle.pearl_tree.specs.Tokens.{IsText}
 use Rattle.pearl_lex.specs.Spelling.{sized}
-use Rattle.pearl_lex.specs.Quoted.{is_char, chars_len, chars_of, text_of, quoted}
+use Rattle.pearl_lex.specs.Quoted.{is_char, chars_len, chars_of, quoted_text, quoted}
 use Rattle.pearl_lex.specs.Front.{front}
 use Rattle.pearl_lex.specs.Spells.{doubled}
 use Rattle.pearl_print.specs.Spelled.{spelled}
@@ -63,11 +63,11 @@ drop_more before rest b =
     let next : length before + 1 ≡ suc (length before) = omega arith in
     ap (λ n. drop n (before ++ b ∷ rest)) next ∙ drop_suc before rest b
 
-fits : (text : List ℕ) → 1 ≤ length text → length text ≤ 255 → text_of text ≡ Some (what.Text (record { items = text }))
+fits : (text : List ℕ) → 1 ≤ length text → length text ≤ 255 → quoted_text text ≡ Some (what.Text (record { items = text }))
 fits text low high = grind (arith, nat_tests)
 
 quoted_front : (bytes text rest : List ℕ) (n : ℕ) → chars_len bytes ≡ n → slice_index bytes n ≡ 39 → drop (n + 1) bytes ≡ 32 ∷ rest → chars_of (take n bytes) ≡ text →
-    quoted bytes ≡ sized (text_of text) (n + 2)
+    quoted bytes ≡ sized (quoted_text text) (n + 2)
 quoted_front bytes text rest n len close after chars = rw (len, close, after, chars)
 
 -- a text is read back

@@ -6,7 +6,7 @@ use Rattle.pearl_tree.specs.declared.name.Name.{Name}
 use Rattle.pearl_tree.specs.declared.typing.Field.{Field}
 use Rattle.pearl_tree.specs.ShownDeclarations.{shown_names}
 use Rattle.pearl_tree.specs.Faults.{fault_if}
-use Rattle.pearl_tree.specs.Names.{text_of, names_of, is_among, repeats}
+use Rattle.pearl_tree.specs.Names.{name_text, names_of, is_among, repeats}
 use Rattle.pearl_names.specs.Shapes.{field_names}
 use Rattle.pearl_names.specs.FirstNames.{number_of, or_else, HasNoted}
 use Rattle.pearl_names.specs.Forming.{fields_shown}
@@ -17,29 +17,29 @@ use Rattle.pearl_names.proofs.Lists.{one_taken}
 repeats_append : (rule : ℕ) (before a b : List Name) → repeats rule before (a ++ b) ≡ repeats rule before a ++ repeats rule (before ++ a) b
 repeats_append rule before [] b = ap (λ l. repeats rule l b) (sym (append-nil before))
 repeats_append rule before (name ∷ a) b =
-    ap (λ t. fault_if (is_among before (text_of name)) name.place rule ++ t) (repeats_append rule (before ++ name ∷ []) a b)
-    ∙ sym (append_assoc (fault_if (is_among before (text_of name)) name.place rule) (repeats rule (before ++ name ∷ []) a) _)
-    ∙ ap (λ l. (fault_if (is_among before (text_of name)) name.place rule ++ repeats rule (before ++ name ∷ []) a) ++ repeats rule l b)
+    ap (λ t. fault_if (is_among before (name_text name)) name.place rule ++ t) (repeats_append rule (before ++ name ∷ []) a b)
+    ∙ sym (append_assoc (fault_if (is_among before (name_text name)) name.place rule) (repeats rule (before ++ name ∷ []) a) _)
+    ∙ ap (λ l. (fault_if (is_among before (name_text name)) name.place rule ++ repeats rule (before ++ name ∷ []) a) ++ repeats rule l b)
     (append_assoc before (name ∷ []) a)
 
-among_push : (before : List Name) (name : Name) (q : List ℕ) → is_among (before ++ name ∷ []) q ≡ is_among before q || bytes_eq q (text_of name)
-among_push [] name q = by (bytes_eq q (text_of name)) refl
+among_push : (before : List Name) (name : Name) (q : List ℕ) → is_among (before ++ name ∷ []) q ≡ is_among before q || bytes_eq q (name_text name)
+among_push [] name q = by (bytes_eq q (name_text name)) refl
   where
-    by : (b : Bool) → bytes_eq q (text_of name) ≡ b → (bytes_eq (text_of name) q || false) ≡ b
-    by true e = ap (λ c. c || false) (bytes_symm q (text_of name) true e)
-    by false e = ap (λ c. c || false) (bytes_symm q (text_of name) false e)
-among_push (first ∷ before) name q = by (bytes_eq (text_of first) q) (among_push before name q)
+    by : (b : Bool) → bytes_eq q (name_text name) ≡ b → (bytes_eq (name_text name) q || false) ≡ b
+    by true e = ap (λ c. c || false) (bytes_symm q (name_text name) true e)
+    by false e = ap (λ c. c || false) (bytes_symm q (name_text name) false e)
+among_push (first ∷ before) name q = by (bytes_eq (name_text first) q) (among_push before name q)
   where
-    by : (b : Bool) → is_among (before ++ name ∷ []) q ≡ is_among before q || bytes_eq q (text_of name) →
-        (b || is_among (before ++ name ∷ []) q) ≡ (b || is_among before q) || bytes_eq q (text_of name)
+    by : (b : Bool) → is_among (before ++ name ∷ []) q ≡ is_among before q || bytes_eq q (name_text name) →
+        (b || is_among (before ++ name ∷ []) q) ≡ (b || is_among before q) || bytes_eq q (name_text name)
     by true rest = refl
     by false rest = rest
 
-sees_more : (old new : List (ArrayVec ℕ × ℕ)) (before : List Name) (name : Name) (number : ℕ) → Sees old before → HasNoted old (text_of name) number new →
+sees_more : (old new : List (ArrayVec ℕ × ℕ)) (before : List Name) (name : Name) (number : ℕ) → Sees old before → HasNoted old (name_text name) number new →
     Sees new (before ++ name ∷ [])
 sees_more old new before name number sees noted q =
-    ap is_some (noted q) ∙ by (number_of old q) (bytes_eq q (text_of name))
-    ∙ ap (λ b. b || bytes_eq q (text_of name)) (sees q) ∙ sym (among_push before name q)
+    ap is_some (noted q) ∙ by (number_of old q) (bytes_eq q (name_text name))
+    ∙ ap (λ b. b || bytes_eq q (name_text name)) (sees q) ∙ sym (among_push before name q)
   where
     by : (o : Option ℕ) (b : Bool) → is_some (or_else o (cond b (Some number) None)) ≡ is_some o || b
     by None true = refl
@@ -55,16 +55,16 @@ pub told_none : (seen : List (ArrayVec ℕ × ℕ)) (faults : List RuleFault) �
 told_none seen faults earlier sees = (subst (Sees seen) (sym (append-nil earlier)) sees, sym (append-nil faults))
 
 pub told_more : (old now new : List (ArrayVec ℕ × ℕ)) (a b c : List RuleFault) (xs : List Name) (i : ℕ) (x : Name) (number : ℕ) (again : Bool) →
-    i < length xs → x ≡ get_or xs i x → Told old now a b (take i xs) → again ≡ is_some (number_of now (text_of x)) → HasNoted now (text_of x) number new →
+    i < length xs → x ≡ get_or xs i x → Told old now a b (take i xs) → again ≡ is_some (number_of now (name_text x)) → HasNoted now (name_text x) number new →
     c ≡ b ++ fault_if again x.place 6 → Told old new a c (take (i + 1) xs)
 told_more old now new a b c xs i x number again inside is told twice noted more earlier sees =
     let so = told earlier sees in
-    let here : again ≡ is_among (earlier ++ take i xs) (text_of x) = twice ∙ so.0 (text_of x) in
+    let here : again ≡ is_among (earlier ++ take i xs) (name_text x) = twice ∙ so.0 (name_text x) in
     let taken = one_taken xs i x inside is in (
       subst (Sees new) (append_assoc earlier (take i xs) (x ∷ []) ∙ ap (λ t. earlier ++ t) (sym taken)) (sees_more now new (earlier ++ take i xs) x number so.0 noted),
       more ∙ (λ j. so.1 j ++ fault_if (here j) x.place 6)
           ∙ append_assoc a (repeats 6 earlier (take i xs)) _
-          ∙ ap (λ t. a ++ (repeats 6 earlier (take i xs) ++ t)) (append-nil' (fault_if (is_among (earlier ++ take i xs) (text_of x)) x.place 6))
+          ∙ ap (λ t. a ++ (repeats 6 earlier (take i xs) ++ t)) (append-nil' (fault_if (is_among (earlier ++ take i xs) (name_text x)) x.place 6))
           ∙ ap (λ t. a ++ t) (sym (repeats_append 6 earlier (take i xs) (x ∷ [])))
           ∙ ap (λ l. a ++ repeats 6 earlier l) (sym taken),
     )

@@ -11,7 +11,7 @@ use Rattle.pearl_tree.specs.Faults.{fault_if}
 use Rattle.pearl_names.specs.Lengths.{is_length}
 use Rattle.pearl_tree.specs.Durations.{place_of_duration}
 use Rattle.pearl_names.specs.Durations.{is_too_long}
-use Rattle.pearl_tree.specs.Names.{text_of as name_text, names_of, repeats}
+use Rattle.pearl_tree.specs.Names.{name_text, names_of, repeats}
 use Rattle.pearl_names.specs.declared.scope.NameSort.{NameSort}
 use Rattle.pearl_names.specs.declared.scope.NameSort.TheVariants.{NewType as TypeNumber}
 use Rattle.pearl_names.specs.ScopeNames.{ScopeNames}

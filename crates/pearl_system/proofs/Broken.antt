@@ -11,7 +11,7 @@ use Rattle.pearl_tree.specs.declared.declaration.Device.{Device}
 use Rattle.pearl_tree.specs.declared.fault.RuleFault.{RuleFault}
 use Rattle.pearl_tree.specs.declared.rule.TheConstants as rule
 use Rattle.pearl_tree.specs.Faults.{fault_if}
-use Rattle.pearl_tree.specs.Names.{is_among, text_of}
+use Rattle.pearl_tree.specs.Names.{is_among, name_text}
 use Rattle.pearl_tree.specs.ShownModules.{ShownTree}
 use Rattle.pearl_system.specs.declared.specified.Specified.{Specified}
 use Rattle.pearl_system.specs.Broken.{BreaksS10, BreaksS11, BreaksS12, BreaksS13, BreaksS14, FaultsAreBroken, IsBroken}
@@ -134,7 +134,7 @@ unfolding has_name
 s10_from tree fault h =
     let devices = devices_of tree in
     let (j, later, read, has) = each_in name_fault [] devices fault (subst (λ l. Contains l fault) (s10_is devices) h) in
-    let told = if_in (is_among (map (λ d. d.name) (take j devices)) (text_of later.name)) later.name.place rule.S10 fault has in
+    let told = if_in (is_among (map (λ d. d.name) (take j devices)) (name_text later.name)) later.name.place rule.S10 fault has in
     let first = before_from (has_name later.name.text.items) devices j (sym (among_any (take j devices) later.name.text.items) ∙ told.is) in
     (told.by, (first.1, later, (first.0, j, first.2, first.3, read), (bytes_eq-Decides first.1.name.text.items later.name.text.items).0 first.4, told.at))
 
@@ -146,7 +146,7 @@ s10_to tree fault number (first, later, (i, j, early, read, there), same, place)
     let among = among_any (take j devices) later.name.text.items ∙ before_to (has_name later.name.text.items) devices j i first early read passes in
     subst (λ l. Contains l fault) (sym (s10_is devices))
     (each_to name_fault [] devices j later fault there
-    (if_to (is_among (map (λ d. d.name) (take j devices)) (text_of later.name)) later.name.place rule.S10 fault among place number))
+    (if_to (is_among (map (λ d. d.name) (take j devices)) (name_text later.name)) later.name.place rule.S10 fault among place number))
 
 s11_from : (tree : ShownTree) (fault : RuleFault) → Contains (s11 (devices_of tree)) fault → (fault.rule ≡ rule.S11) × BreaksS11 tree fault.place
 s11_from tree fault h =

@@ -6,7 +6,7 @@ use Rattle.pearl_tree.specs.declared.declaration.Device.{Device}
 use Rattle.pearl_tree.specs.declared.fault.RuleFault.{RuleFault}
 use Rattle.pearl_tree.specs.declared.rule.TheConstants as rule
 use Rattle.pearl_tree.specs.Faults.{fault_if}
-use Rattle.pearl_tree.specs.Names.{is_among, repeats, text_of}
+use Rattle.pearl_tree.specs.Names.{is_among, repeats, name_text}
 use Rattle.pearl_system.specs.declared.specified.Specified.{Specified}
 use Rattle.pearl_system.specs.Rules.{faults_of, is_twin, s10, s11, s12, s13, s14, twins}
 
@@ -26,7 +26,7 @@ each_push faults before (first ∷ devices) device =
 
 -- the fault of a name that stands before
 abbrev pub name_fault : List Device → Device → List RuleFault
-name_fault before device = fault_if (is_among (map (λ d. d.name) before) (text_of device.name)) device.name.place rule.S10
+name_fault before device = fault_if (is_among (map (λ d. d.name) before) (name_text device.name)) device.name.place rule.S10
 
 -- the fault of a word and number that stand before
 abbrev pub twin_fault : List Device → Device → List RuleFault
@@ -51,7 +51,7 @@ pub s12_is : (devices : List Device) → s12 devices ≡ each_after twin_fault [
 s12_is devices = twins_after [] devices
 
 pub s10_push : (devices : List Device) (device : Device) → s10 (devices ++ device ∷ []) ≡
-    s10 devices ++ fault_if (is_among (map (λ d. d.name) devices) (text_of device.name)) device.name.place rule.S10
+    s10 devices ++ fault_if (is_among (map (λ d. d.name) devices) (name_text device.name)) device.name.place rule.S10
 s10_push devices device = s10_is (devices ++ device ∷ []) ∙ each_push name_fault [] devices device ∙ ap (λ t. t ++ name_fault devices device) (sym (s10_is devices))
 
 pub s12_push : (devices : List Device) (device : Device) → s12 (devices ++ device ∷ []) ≡

@@ -2,10 +2,11 @@
 
 ghost use Rattle.std.specs.Prelude.{◌≡◌, ◌↔◌, All, Contains, IfSome, IsTrue, Some, None};
 ghost use Rattle.pearl_tables.specs.Rising.{rises};
-ghost use Rattle.pearl_tables.specs.Operators.{key_before, HasKey};
+ghost use Rattle.pearl_tables.specs.Operators.{key_before, rank, HasKey};
 
 use crate::family::*;
 use crate::opcode::*;
+use pearl_value::operator::Dyad;
 
 /// What an operator gives for operands of these families. Operators of a smaller rank bind closer; those with one
 /// operand have rank 0, and no left operand.
@@ -88,6 +89,21 @@ pub static OPS: [OpRow; OP_COUNT] = op_rows![
     OR 7 BIT BIT BIT;
     EXOR 7 BIT BIT BIT;
 ];
+
+/// The rank of an operator: a smaller one binds closer.
+pub fn rank(operator: Dyad) -> u8
+    ensures { result ≡ rank operator }
+{
+    match operator {
+        Dyad::Pow => 1,
+        Dyad::Mul | Dyad::Div | Dyad::Rem | Dyad::Cat => 2,
+        Dyad::Add | Dyad::Sub | Dyad::Cshift | Dyad::Shift => 3,
+        Dyad::Lt | Dyad::Gt | Dyad::Le | Dyad::Ge => 4,
+        Dyad::Eq | Dyad::Ne => 5,
+        Dyad::And => 6,
+        Dyad::Or | Dyad::Exor => 7,
+    }
+}
 
 fn has_key(row: &OpRow, code: u8, left: u8, right: u8) -> bool
     ensures { IsTrue result ↔ HasKey row.now code left right }

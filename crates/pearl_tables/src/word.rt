@@ -143,7 +143,7 @@ pub fn words() -> &'static [WordRow; WORD_COUNT]
 }
 
 /// The code of the word in rows whose texts rise strictly.
-pub fn find_word(rows: &[WordRow; WORD_COUNT], text: &[u8]) -> Option<u8>
+pub fn find_word(rows: &[WordRow], text: &[u8]) -> Option<u8>
     requires { IsTrue (rises spec.text_before rows.now) }
     ensures found { IfSome result (λ code. Any (λ row. (row.text.now ≡ text.now) × (row.code ≡ code)) rows.entry.now) }
     ensures only { All (λ row. row.text.now ≡ text.now → result ≡ Some row.code) rows.entry.now }

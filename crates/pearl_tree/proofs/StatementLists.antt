@@ -1,9 +1,6 @@
 -- What a statement with a body spells, told by the lists that its fields show.
-use Rattle.std.proofs.Common.{◌≡◌, ℕ, ◌+◌, ◌-◌, ◌<◌, List, Option, Some, None, refl, sym, ap, ◌∙◌, Box, Global}
+use Rattle.std.proofs.Common.{◌≡◌, ℕ, ◌+◌, ◌-◌, ◌<◌, List, refl, sym, ap, ◌∙◌, Box, Global}
 use mathlib.Core.Former.{Count}
-use Rattle.pearl_tree.specs.declared.parts.Parts.{Parts}
-use Rattle.pearl_tree.specs.declared.name.Name.{Name}
-use Rattle.pearl_tree.specs.declared.expression.Expr.{Expr}
 use Rattle.pearl_tree.specs.declared.statement.Stmt.{Stmt, If', Case', Repeat', Begin', Row_of-Stmt, end_of-Stmt, more_of-Stmt, items-the_row-Stmt, items_shown-the_row-Stmt-0, items_hidden-the_row-Stmt-0}
 use Rattle.pearl_tree.specs.declared.statement.Stmt as stmt
 use Rattle.pearl_tree.specs.declared.statement.Repeat.{Repeat}
@@ -13,7 +10,6 @@ use Rattle.pearl_tree.specs.declared.statement.If.{out-If, outs-If', Held-Case-o
 use Rattle.pearl_tree.specs.declared.statement.Case as case_
 use Rattle.pearl_tree.specs.declared.statement.Case.{out-Case, outs-Case', Row_of-Branch, end_of-Branch, more_of-Branch, items-the_row-Branch, items_shown-the_row-Branch-1}
 use Rattle.pearl_tree.specs.declared.statement.Body.{Body}
-use Rattle.pearl_tree.specs.declared.statement.Branch.{Branch}
 use Rattle.pearl_tree.specs.declared.token.Token.{Token}
 use Rattle.pearl_tree.specs.Standing.{IsAt, HasWord, HasSymbol, SpellsEach, SpellsSome, SpellsMaybe}
 use Rattle.pearl_tree.specs.Statements.{SpellsStmt, SpellsStmts, SpellsAlternatives, SpellsMoreAlternatives, SpellsOtherwise, SpellsBranch, SpellsBody, SpellsBodyDecl, SpellsAfter, SpellsFor}

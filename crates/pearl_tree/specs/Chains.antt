@@ -4,6 +4,7 @@ use Rattle.pearl_tree.specs.declared.expression.Dyadic.{Dyadic}
 use Rattle.pearl_tree.specs.declared.expression.Expr.{Expr, Operand', Dyadic'}
 use Rattle.pearl_tree.specs.declared.expression.Operand.{Operand}
 use Rattle.pearl_tree.specs.declared.expression.Primary.{Primary}
+use Rattle.pearl_tree.specs.declared.limit.TheConstants as limit
 use Rattle.pearl_tree.specs.declared.token.Token.{Token}
 use Rattle.pearl_tree.specs.Standing.{Spelling, IsAt, SpellsEach}
 use Rattle.pearl_tree.specs.Expressions.{SpellsMonadic, SpellsPrimary, SpellsTerms, HasDyad, dyad_count}
@@ -11,7 +12,7 @@ use Rattle.pearl_tree.specs.Expressions.{SpellsMonadic, SpellsPrimary, SpellsTer
 -- operand = { + | - | ABS | SIGN | NOT } primary
 abbrev pub SpellsOperand : List Token → ℕ → Spelling Operand
 SpellsOperand tokens depth from operand to =
-    (m : ℕ) × IsAt tokens from operand.place × (length operand.monadics.items.items ≤ 8) ×
+    (m : ℕ) × IsAt tokens from operand.place × (length operand.monadics.items.items ≤ limit.MONADS_MAX) ×
     SpellsEach (SpellsMonadic tokens) from operand.monadics.items.items m ×
     SpellsPrimary tokens depth m operand.primary to
 

@@ -24,6 +24,7 @@ use Rattle.pearl_tree.specs.declared.expression.Primary.{Primary}
 use Rattle.pearl_tree.specs.declared.expression.Primary as primary
 use Rattle.pearl_tree.specs.declared.expression.Selector.{Selector, Subscripts', Component, Row_of-Expr, end_of-Expr, more_of-Expr}
 use Rattle.pearl_tree.specs.declared.expression.Ref.{Ref, Row_of-Selector, end_of-Selector, more_of-Selector}
+use Rattle.pearl_tree.specs.declared.limit.TheConstants as limit
 use Rattle.pearl_tree.specs.declared.token.What.{What}
 use Rattle.pearl_tree.specs.declared.token.What.TheVariants as what
 use Rattle.pearl_tree.specs.declared.token.Token.{Token}
@@ -135,12 +136,12 @@ side_word Lower = w.LWB
 side_word Upper = w.UPB
 
 -- `depth` is the number of brackets that may still stand within one another. An expression between two brackets or
--- commas, and a whole one, has at most 100 dyadic operators outside further brackets.
+-- commas, and a whole one, has at most so many dyadic operators outside further brackets.
 abbrev mutual
   -- expr = operand { dyadic operand }, operand = { + | - | ABS | SIGN | NOT } primary. Equal ranks group from the left.
   pub SpellsTerms : List Token → ℕ → ℕ → Expr → ℕ → Type 0
   SpellsTerms tokens depth from (Operand' monadics part place) to =
-      (m : ℕ) × IsAt tokens from place × (length monadics.items.items ≤ 8) ×
+      (m : ℕ) × IsAt tokens from place × (length monadics.items.items ≤ limit.MONADS_MAX) ×
       SpellsEach (SpellsMonadic tokens) from monadics.items.items m × SpellsPrimary tokens depth m part to
   SpellsTerms tokens depth from (Dyadic' _ left dyadic _ right place) to =
       (m : ℕ) × IsAt tokens from place × SpellsTerms tokens depth from left m ×
@@ -154,7 +155,7 @@ abbrev mutual
       IsAt tokens from place × IsName tokens from name × SpellsSelectors tokens depth (from + 1) selectors to
   SpellsPrimary tokens depth from (primary.Group' _ inner place) to =
       (m : ℕ) × IsAt tokens from place × HasSymbol tokens from s.LEFT_ROUND × (0 < depth) ×
-      (SpellsTerms tokens (depth - 1) (from + 1) inner m × (dyad_count inner ≤ 100)) ×
+      (SpellsTerms tokens (depth - 1) (from + 1) inner m × (dyad_count inner ≤ limit.DYADS_MAX)) ×
       HasSymbol tokens m s.RIGHT_ROUND × (to ≡ m + 1)
   SpellsPrimary tokens depth from (primary.Now place) to =
       IsAt tokens from place × HasWord tokens from w.NOW × (to ≡ from + 1)
@@ -183,7 +184,7 @@ abbrev mutual
   pub SpellsSubscripts : {n : _} → List Token → ℕ → ℕ → Row_of-Expr n → ℕ → Type 0
   SpellsSubscripts tokens depth from end_of-Expr to = ⊥
   SpellsSubscripts tokens depth from (more_of-Expr first rest) to =
-      (m : ℕ) × (SpellsTerms tokens depth from first m × (dyad_count first ≤ 100)) ×
+      (m : ℕ) × (SpellsTerms tokens depth from first m × (dyad_count first ≤ limit.DYADS_MAX)) ×
       SpellsMoreSubscripts tokens depth m rest to
 
   -- { "," expr }
@@ -191,16 +192,16 @@ abbrev mutual
   SpellsMoreSubscripts tokens depth from end_of-Expr to = to ≡ from
   SpellsMoreSubscripts tokens depth from (more_of-Expr next rest) to =
       (m : ℕ) × HasSymbol tokens from s.COMMA ×
-      (SpellsTerms tokens depth (from + 1) next m × (dyad_count next ≤ 100)) ×
+      (SpellsTerms tokens depth (from + 1) next m × (dyad_count next ≤ limit.DYADS_MAX)) ×
       SpellsMoreSubscripts tokens depth m rest to
 
 -- an expression at one bracket level, with at most this many brackets within one another
 abbrev pub SpellsExpr : List Token → ℕ → Spelling Expr
-SpellsExpr tokens depth from expr to = SpellsTerms tokens depth from expr to × (dyad_count expr ≤ 100)
+SpellsExpr tokens depth from expr to = SpellsTerms tokens depth from expr to × (dyad_count expr ≤ limit.DYADS_MAX)
 
 -- an expression that stands in no other
 abbrev pub SpellsWhole : List Token → Spelling Expr
-SpellsWhole tokens from expr to = SpellsExpr tokens 32 from expr to
+SpellsWhole tokens from expr to = SpellsExpr tokens limit.BRACKETS_MAX from expr to
 
 -- ref = id { "(" expr { "," expr } ")" | "." id }, with at most this many brackets within one another
 abbrev pub SpellsRef : List Token → ℕ → Spelling Ref
@@ -208,7 +209,7 @@ SpellsRef tokens depth from reference to =
     IsAt tokens from reference.place × IsName tokens from reference.name ×
     SpellsEach (SpellsSelector tokens depth) (from + 1) reference.selectors.items.items to
 
--- a ref of a statement's own, whose brackets aren't counted: 32 brackets may stand within one another in each
--- expression between them
+-- a ref of a statement's own, whose brackets aren't counted: in each expression between them as many may stand within
+-- one another as in any other
 abbrev pub SpellsOwnRef : List Token → Spelling Ref
-SpellsOwnRef tokens from reference to = SpellsRef tokens 33 from reference to
+SpellsOwnRef tokens from reference to = SpellsRef tokens limit.OWN_BRACKETS_MAX from reference to

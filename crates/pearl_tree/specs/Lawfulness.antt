@@ -18,6 +18,7 @@ use Rattle.pearl_tree.specs.declared.expression.Primary.{Primary}
 use Rattle.pearl_tree.specs.declared.expression.Primary as primary
 use Rattle.pearl_tree.specs.declared.expression.Selector.{Selector, Subscripts', Component, Row_of-Expr, end_of-Expr, more_of-Expr}
 use Rattle.pearl_tree.specs.declared.expression.Ref.{Ref, Row_of-Selector, end_of-Selector, more_of-Selector}
+use Rattle.pearl_tree.specs.declared.limit.TheConstants as limit
 use Rattle.pearl_tree.specs.declared.format.Fmt.{Fmt}
 use Rattle.pearl_tree.specs.declared.format.Fmt.TheVariants.{Free, Wide}
 use Rattle.pearl_tree.specs.declared.typing.Bound.{Bound}
@@ -108,14 +109,14 @@ module _ (MayName : List ℕ → Type 0) where
   abbrev mutual
     pub HasLawfulTerms : ℕ → Expr → Type 0
     HasLawfulTerms depth (Operand' monadics part place) =
-        (length monadics.items.items ≤ 8) × IsLawfulPrimary depth part
+        (length monadics.items.items ≤ limit.MONADS_MAX) × IsLawfulPrimary depth part
     HasLawfulTerms depth (Dyadic' _ left dyadic _ right place) = HasLawfulTerms depth left × HasLawfulTerms depth right
 
     pub IsLawfulPrimary : ℕ → Primary → Type 0
     IsLawfulPrimary depth (primary.Literal part) = IsLawfulLiteral part
     IsLawfulPrimary depth (primary.Ref' name _ selectors place) = IsLawfulName name × AreLawfulSelectors depth selectors
     IsLawfulPrimary depth (primary.Group' _ inner place) =
-        (0 < depth) × (HasLawfulTerms (depth - 1) inner × (dyad_count inner ≤ 100))
+        (0 < depth) × (HasLawfulTerms (depth - 1) inner × (dyad_count inner ≤ limit.DYADS_MAX))
     IsLawfulPrimary depth (primary.Now place) = Unit {0}
     IsLawfulPrimary depth (primary.Try name place) = IsLawfulName name
     IsLawfulPrimary depth (primary.Limit' dimension side _ name _ selectors ref_place place) =
@@ -133,15 +134,15 @@ module _ (MayName : List ℕ → Type 0) where
     pub AreLawfulSubscripts : {n : _} → ℕ → Row_of-Expr n → Type 0
     AreLawfulSubscripts depth end_of-Expr = Unit {0}
     AreLawfulSubscripts depth (more_of-Expr expr rest) =
-        (HasLawfulTerms depth expr × (dyad_count expr ≤ 100)) × AreLawfulSubscripts depth rest
+        (HasLawfulTerms depth expr × (dyad_count expr ≤ limit.DYADS_MAX)) × AreLawfulSubscripts depth rest
 
   -- an expression that stands in no other
   abbrev pub IsLawfulExpr : Expr → Type 0
-  IsLawfulExpr expr = HasLawfulTerms 32 expr × (dyad_count expr ≤ 100)
+  IsLawfulExpr expr = HasLawfulTerms limit.BRACKETS_MAX expr × (dyad_count expr ≤ limit.DYADS_MAX)
 
   -- a ref of a statement's own
   abbrev pub IsLawfulRef : Ref → Type 0
-  IsLawfulRef reference = IsLawfulName reference.name × All (IsLawfulSelector 33) reference.selectors.items.items
+  IsLawfulRef reference = IsLawfulName reference.name × All (IsLawfulSelector limit.OWN_BRACKETS_MAX) reference.selectors.items.items
 
   -- `depth` is the number of STRUCTs that may still stand within one another
   abbrev mutual
@@ -157,7 +158,7 @@ module _ (MayName : List ℕ → Type 0) where
         AreLawfulFields depth rest
 
   abbrev pub IsLawfulTyping : Typing → Type 0
-  IsLawfulTyping part = HasLawfulTyping 8 part
+  IsLawfulTyping part = HasLawfulTyping limit.STRUCTS_MAX part
 
   abbrev pub IsLawfulDeviceWord : DeviceWord → Type 0
   IsLawfulDeviceWord (device.Id name) = IsLawfulName name
@@ -261,7 +262,7 @@ module _ (MayName : List ℕ → Type 0) where
   -- the body of a task or procedure
   abbrev pub IsLawfulBody : Body → Type 0
   IsLawfulBody body =
-      All IsLawfulBodyDecl body.declarations.items.items × All (IsLawfulStmt 32) body.statements.items.items
+      All IsLawfulBodyDecl body.declarations.items.items × All (IsLawfulStmt limit.NESTED_MAX) body.statements.items.items
 
   abbrev pub IsLawfulTaskHead : TaskHead → Type 0
   IsLawfulTaskHead (PrioFirst prio main) = IfSome prio (λ prio. IsLawfulNumber prio.number)

@@ -25,6 +25,7 @@ use Rattle.pearl_tree.specs.declared.statement.Case.{Row_of-Branch, end_of-Branc
 use Rattle.pearl_tree.specs.declared.statement.Body.{Body}
 use Rattle.pearl_tree.specs.declared.statement.Branch.{Branch}
 use Rattle.pearl_tree.specs.declared.token.Token.{Token}
+use Rattle.pearl_tree.specs.declared.limit.TheConstants as limit
 use Rattle.pearl_tree.specs.Standing.{Spelling, IsAt, HasWord, HasSymbol, IsName, SpellsName, SpellsFlag, SpellsMaybe, SpellsEach, SpellsList, SpellsMaybeBracketed}
 use Rattle.pearl_tree.specs.Expressions.{SpellsWhole, SpellsOwnRef}
 use Rattle.pearl_tree.specs.Declarations.{SpellsItem}
@@ -252,4 +253,4 @@ SpellsBody tokens depth from body to =
 
 -- the body of a task or procedure
 abbrev pub SpellsWholeBody : List Token → Spelling Body
-SpellsWholeBody tokens from body to = SpellsBody tokens 32 from body to
+SpellsWholeBody tokens from body to = SpellsBody tokens limit.NESTED_MAX from body to

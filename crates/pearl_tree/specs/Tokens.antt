@@ -55,10 +55,10 @@ IsLawfulWhat (what.Bits len value) = IsBits len value
 IsLawfulWhat (what.Text text) = IsText text.items
 IsLawfulWhat (what.Symbol symbol) = symbol < symbol_count
 
--- each place is above the one before it, the first one at least `low`, and all are below `high`
+-- each place is above the one before it, the first one at least `least`, and all are below `limit`
 abbrev pub PlacesRise : ℕ → ℕ → List Token → Type 0
-PlacesRise low high [] = Unit {0}
-PlacesRise low high (token ∷ rest) = (low ≤ token.place) × (token.place < high) × PlacesRise (token.place + 1) high rest
+PlacesRise least limit [] = Unit {0}
+PlacesRise least limit (token ∷ rest) = (least ≤ token.place) × (token.place < limit) × PlacesRise (token.place + 1) limit rest
 
 -- what each call that takes tokens asks of them
 pub record AreLawful (tokens : List Token) : Type 0 where

@@ -14,6 +14,7 @@ use Rattle.pearl_tree.specs.declared.typing.Typing.{Row_of-Field, end_of-Field, 
 use Rattle.pearl_tree.specs.declared.typing.Field.{Field}
 use Rattle.pearl_tree.specs.declared.parts.Parts.{Parts}
 use Rattle.pearl_tree.specs.declared.token.Token.{Token}
+use Rattle.pearl_tree.specs.declared.limit.TheConstants as limit
 use Rattle.pearl_tree.specs.Standing.{Spelling, IsAt, HasWord, HasSymbol, IsNumber, SpellsName, SpellsMaybe, SpellsBracketed, SpellsMaybeBracketed, SpellsBracketedNumber, SpellsSymbolFlag}
 use Rattle.pearl_tables.specs.declared.symbol.TheConstants as s
 use Rattle.pearl_tables.specs.declared.word_code.TheConstants as w
@@ -97,4 +98,4 @@ SpellsField tokens depth from field to =
 
 -- a type that stands in no other
 abbrev pub SpellsWholeTyping : List Token → Spelling Typing
-SpellsWholeTyping tokens from part to = SpellsTyping tokens 8 from part to
+SpellsWholeTyping tokens from part to = SpellsTyping tokens limit.STRUCTS_MAX from part to

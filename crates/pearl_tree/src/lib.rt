@@ -8,6 +8,7 @@ pub mod expression;
 pub mod fault;
 pub mod format;
 pub mod laws;
+pub mod limit;
 pub mod literal;
 pub mod name;
 pub mod parts;

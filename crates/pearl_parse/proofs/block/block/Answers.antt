@@ -54,8 +54,8 @@ returns-in_err-symbol-2-clause-refused c =
     (missing_behind SpellsBlock tokens from least_stop (is_symbol s.SEMICOLON) end_rest body.end stop (body.end + 1) c.in_err-symbol-2.field-0.0 go (λ others to h. ap (is_symbol s.SEMICOLON) h.1)
     (omega (arith, read.bounds, c.max-stop.ensures)) (omega (arith, c.max-stop.ensures)) (omega (arith, c.in_ok-word.ensures.within)) (omega (arith, read.bounds, c.max-stop.ensures, c.requires.least_stop)) c.in_err-symbol-2.ensures.missing)
 
-pub returns-clause-longest : goal.returns-clause-longest
-returns-clause-longest c =
+pub returns-clause-only : goal.returns-clause-only
+returns-clause-only c =
     let tokens = c.args.tokens.now in
     let from = c.args.from in
     let least_stop = c.args.least_stop in

@@ -35,8 +35,8 @@ returns-in_err-symbol-in-Ok-2-clause-refused c =
     (λ others to h. ap (is_symbol s.SEMICOLON) h.1) (omega (arith, c.max-in-Ok-2.ensures, read.ahead)) (omega (arith, c.max-in-Ok-2.ensures)) (omega (arith, c.in_ok-symbol-in-Ok.ensures.within)) (omega (arith, c.max-in-Ok-2.ensures, read.ahead, c.requires.least_stop))
     c.in_err-symbol-in-Ok-2.ensures.missing)
 
-pub returns-in_ok-symbol-in-Ok-2-clause-longest : goal.returns-in_ok-symbol-in-Ok-2-clause-longest
-returns-in_ok-symbol-in-Ok-2-clause-longest c =
+pub returns-in_ok-symbol-in-Ok-2-clause-only : goal.returns-in_ok-symbol-in-Ok-2-clause-only
+returns-in_ok-symbol-in-Ok-2-clause-only c =
     let tokens = c.args.tokens.now in
     let from = c.args.from in
     let list = c.in-Ok.list in

@@ -21,10 +21,10 @@ returns-in_err-arguments-clause-refused c =
     err_told _ _ c.in_err-arguments.field-0.0 c.from_residual-in_err-arguments.result c.from_residual-in_err-arguments.ensures (λ e is. is)
     (λ depth. no_part (Spelled depth) tokens from SpellsArguments Ends (from + 2) from c.in_err-arguments.field-0.0 (call_goes_on tokens depth from c.requires.word) (omega arith) c.in_err-arguments.ensures.refused)
 
-pub returns-clause-longest : goal.returns-clause-longest
-returns-clause-longest c = λ depth.
+pub returns-clause-only : goal.returns-clause-only
+returns-clause-only c = λ depth.
     let tokens = c.args.tokens.now in
     let from = c.args.from in
     let arguments = c.in_ok-arguments.arguments in
     let last = c.in_ok-arguments.ensures in
-    past_only (Spelled depth) tokens from SpellsArguments Ends (from + 2) from arguments.end arguments.stop (call_goes_on tokens depth from c.requires.word) last.bounds.2 last.longest
+    past_only (Spelled depth) tokens from SpellsArguments Ends (from + 2) from arguments.end arguments.stop (call_goes_on tokens depth from c.requires.word) last.bounds.2 last.only

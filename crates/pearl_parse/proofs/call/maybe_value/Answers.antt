@@ -5,10 +5,10 @@ use Rattle.pearl_parse_expr.specs.Stops.{is_symbol}
 use Rattle.pearl_parse.proofs.Steps.{optional_is_only, optional_is_halted}
 use Rattle.pearl_parse.proofs.call.maybe_value.Goals as goal
 
-pub returns-in-Ok-clause-longest : goal.returns-in-Ok-clause-longest
-returns-in-Ok-clause-longest c =
+pub returns-in-Ok-clause-only : goal.returns-in-Ok-clause-only
+returns-in-Ok-clause-only c =
     optional_is_only (is_symbol s.LEFT_ROUND) SpellsValue c.args.tokens.now c.args.from c.in-Ok.read.end c.in-Ok.read.stop (sym c.if-not-is_symbol.ensures.value)
-    (omega (arith, c.in-Ok.ensures.ahead)) c.in-Ok.ensures.longest
+    (omega (arith, c.in-Ok.ensures.ahead)) c.in-Ok.ensures.only
 
 pub returns-in-Err-clause-refused : goal.returns-in-Err-clause-refused
 returns-in-Err-clause-refused c =

@@ -40,8 +40,8 @@ returns-in_err-symbol-clause-refused c =
     missing (Spelled depth) tokens from (is_symbol s.SEMICOLON) exit_rest value.end value.stop value.end c.in_err-symbol.field-0.0 go
     (λ others to h. ap (is_symbol s.SEMICOLON) h.0) (omega (arith, next.bounds, read.ahead)) (omega (arith, next.bounds)) (omega (arith, next.bounds)) c.in_err-symbol.ensures.missing)
 
-pub returns-then-becomes-clause-longest : goal.returns-then-becomes-clause-longest
-returns-then-becomes-clause-longest c = λ depth.
+pub returns-then-becomes-clause-only : goal.returns-then-becomes-clause-only
+returns-then-becomes-clause-only c = λ depth.
     let tokens = c.args.tokens.now in
     let from = c.args.from in
     let target = c.in_ok-target.target in
@@ -62,8 +62,8 @@ returns-in_err-arguments-clause-refused c =
     (λ depth. no_part (Spelled depth) tokens from SpellsArguments Ends (from + 1) target.stop c.in_err-arguments.field-0.0
     (named_call_goes tokens depth from target.end target.stop c.requires.name (omega (arith, read.ahead)) (omega (arith, read.ahead)) read.named (sym c.if-becomes.ensures.value)) (omega (arith, read.ahead)) c.in_err-arguments.ensures.refused)
 
-pub returns-clause-longest : goal.returns-clause-longest
-returns-clause-longest c = λ depth.
+pub returns-clause-only : goal.returns-clause-only
+returns-clause-only c = λ depth.
     let tokens = c.args.tokens.now in
     let from = c.args.from in
     let target = c.in_ok-target.target in
@@ -71,4 +71,4 @@ returns-clause-longest c = λ depth.
     let arguments = c.in_ok-arguments.arguments in
     let last = c.in_ok-arguments.ensures in
     past_only (Spelled depth) tokens from SpellsArguments Ends (from + 1) target.stop arguments.end arguments.stop
-    (named_call_goes tokens depth from target.end target.stop c.requires.name (omega (arith, read.ahead)) (omega (arith, read.ahead)) read.named (sym c.if-becomes.ensures.value)) last.bounds.2 last.longest
+    (named_call_goes tokens depth from target.end target.stop c.requires.name (omega (arith, read.ahead)) (omega (arith, read.ahead)) read.named (sym c.if-becomes.ensures.value)) last.bounds.2 last.only

@@ -23,15 +23,15 @@ returns-in_err-symbol-clause-refused c =
     let read = c.in_ok-value.ensures in
     err_told _ _ c.in_err-symbol.field-0.0 c.from_residual-in_err-symbol.result c.from_residual-in_err-symbol.ensures (λ e is. is)
     (λ depth.
-    let go = past_only (Spelled depth) tokens from SpellsOptionalValue exit_rest (from + 1) from value.end value.stop (return_goes tokens depth from c.requires.word) (omega (arith, read.bounds)) read.longest in
+    let go = past_only (Spelled depth) tokens from SpellsOptionalValue exit_rest (from + 1) from value.end value.stop (return_goes tokens depth from c.requires.word) (omega (arith, read.bounds)) read.only in
     missing (Spelled depth) tokens from (is_symbol s.SEMICOLON) exit_rest value.end value.stop value.end c.in_err-symbol.field-0.0 go
     (λ others to h. ap (is_symbol s.SEMICOLON) h.0) (omega (arith, read.bounds)) (omega (arith, read.bounds)) (omega (arith, read.bounds)) c.in_err-symbol.ensures.missing)
 
-pub returns-clause-longest : goal.returns-clause-longest
-returns-clause-longest c = λ depth.
+pub returns-clause-only : goal.returns-clause-only
+returns-clause-only c = λ depth.
     let tokens = c.args.tokens.now in
     let from = c.args.from in
     let value = c.in_ok-value.value in
     let read = c.in_ok-value.ensures in
-    let go = past_only (Spelled depth) tokens from SpellsOptionalValue exit_rest (from + 1) from value.end value.stop (return_goes tokens depth from c.requires.word) (omega (arith, read.bounds)) read.longest in
+    let go = past_only (Spelled depth) tokens from SpellsOptionalValue exit_rest (from + 1) from value.end value.stop (return_goes tokens depth from c.requires.word) (omega (arith, read.bounds)) read.only in
     ends (Spelled depth) tokens from exit_rest value.end value.stop c.max.result (value.end + 1) go (omega (arith, c.max.ensures)) (λ others to h. h.1)

@@ -18,7 +18,7 @@ each-preserved g c =
       spells = subst (λ xs. SpellsEach (g.P.Repeated.spelling tokens) c.args.from xs next.end) (sym c.in_ok-append-in-Ok.ensures.appended)
           (each_one_more (g.P.Repeated.spelling tokens) c.each.list.items c.args.from c.each.end next.end next.part c.each.invariant.spells read.spells);
       goes = each_next g.P.Repeated.spelling g.P.Repeated.begins tokens c.args.from c.each.end c.each.stop next.end next.stop c.max-stop.result c.each.invariant.goes near ahead below reach
-          (g.met.P.Repeated.first tokens c.each.end next.part next.end read.spells) read.longest;
+          (g.met.P.Repeated.first tokens c.each.end next.part next.end read.spells) read.only;
       bounds = (omega (arith, c.each.invariant.bounds, read.ahead), omega (arith, read.ahead, c.max-stop.ensures), omega (arith, c.each.invariant.bounds, c.max-stop.ensures), omega (arith, c.each.invariant.bounds, read.ahead, c.max-stop.ensures));
     }
 

@@ -34,8 +34,8 @@ returns-in_err-symbol-clause-refused c =
     (λ depth. missing (Spelled depth) tokens from (is_symbol s.SEMICOLON) continue_rest (from + 2) (from + 2) (from + 4) c.in_err-symbol.field-0.0 (when_continues tokens depth from c.requires.word (c.if-is_word.ensures.stands refl))
     (λ others to h. ap (is_symbol s.SEMICOLON) (subst (λ k. HasSymbol others k s.SEMICOLON) (omega arith) h.1)) (omega arith) (omega (arith, c.in_ok-task.ensures.within)) (omega (arith, c.in_ok-interrupt.ensures.within)) c.in_err-symbol.ensures.missing)
 
-pub returns-then-is_word-clause-longest : goal.returns-then-is_word-clause-longest
-returns-then-is_word-clause-longest c = λ depth.
+pub returns-then-is_word-clause-only : goal.returns-then-is_word-clause-only
+returns-then-is_word-clause-only c = λ depth.
     let tokens = c.args.tokens.now in
     let from = c.args.from in
     ends (Spelled depth) tokens from continue_rest (from + 2) (from + 2) (from + 5) (from + 5)
@@ -49,8 +49,8 @@ returns-in_err-symbol-2-clause-refused c =
     (λ depth. missing (Spelled depth) tokens from (is_symbol s.SEMICOLON) resume_rest (from + 2) (from + 2) (from + 3) c.in_err-symbol-2.field-0.0 (when_resumes tokens depth from c.requires.word (c.if-is_word-2.ensures.stands refl))
     (λ others to h. ap (is_symbol s.SEMICOLON) (subst (λ k. HasSymbol others k s.SEMICOLON) (omega arith) h.0)) (omega arith) (omega (arith, c.if-is_word-2.ensures.within refl)) (omega (arith, c.in_ok-interrupt.ensures.within)) c.in_err-symbol-2.ensures.missing)
 
-pub returns-then-is_word-2-clause-longest : goal.returns-then-is_word-2-clause-longest
-returns-then-is_word-2-clause-longest c = λ depth.
+pub returns-then-is_word-2-clause-only : goal.returns-then-is_word-2-clause-only
+returns-then-is_word-2-clause-only c = λ depth.
     let tokens = c.args.tokens.now in
     let from = c.args.from in
     ends (Spelled depth) tokens from resume_rest (from + 2) (from + 2) (from + 4) (from + 4)
@@ -76,8 +76,8 @@ returns-in_err-begun-clause-refused c =
     (when_begins tokens depth from c.requires.word (sym c.if-is_word.ensures.value) (sym c.if-is_word-2.ensures.value)) read.bounds.2 read.longest avoids_begun in
     no_part (Spelled depth) tokens from SpellsBegun Ends after.end after.stop c.in_err-begun.field-0.0 go (omega (arith, read.bounds)) c.in_err-begun.ensures.refused)
 
-pub returns-clause-longest : goal.returns-clause-longest
-returns-clause-longest c = λ depth.
+pub returns-clause-only : goal.returns-clause-only
+returns-clause-only c = λ depth.
     let tokens = c.args.tokens.now in
     let from = c.args.from in
     let after = c.in_ok-after.after in
@@ -86,4 +86,4 @@ returns-clause-longest c = λ depth.
     let last = c.in_ok-begun.ensures in
     let go = past (Spelled depth) tokens from SpellsOptionalAfter extends_expression begun_rest (from + 2) (from + 2) after.end after.stop
     (when_begins tokens depth from c.requires.word (sym c.if-is_word.ensures.value) (sym c.if-is_word-2.ensures.value)) read.bounds.2 read.longest avoids_begun in
-    past_only (Spelled depth) tokens from SpellsBegun Ends after.end after.stop begun.end begun.stop go last.bounds.2 last.longest
+    past_only (Spelled depth) tokens from SpellsBegun Ends after.end after.stop begun.end begun.stop go last.bounds.2 last.only

@@ -13,8 +13,8 @@ returns-in_err-symbol-clause-refused c =
     (λ depth. missing (Spelled depth) tokens from (is_symbol s.SEMICOLON) exit_rest (from + 1) from (from + 1) c.in_err-symbol.field-0.0 (exit_goes tokens depth from c.requires.word)
     (λ others to h. ap (is_symbol s.SEMICOLON) h.0) (omega arith) (omega (arith, c.requires.within)) (omega (arith, c.requires.within)) c.in_err-symbol.ensures.missing)
 
-pub returns-clause-longest : goal.returns-clause-longest
-returns-clause-longest c = λ depth.
+pub returns-clause-only : goal.returns-clause-only
+returns-clause-only c = λ depth.
     let tokens = c.args.tokens.now in
     let from = c.args.from in
     ends (Spelled depth) tokens from exit_rest (from + 1) from (from + 2) (from + 2) (exit_goes tokens depth from c.requires.word) (omega arith) (λ others to h. omega (arith, h.1))

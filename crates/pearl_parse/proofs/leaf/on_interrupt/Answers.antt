@@ -22,8 +22,8 @@ returns-in_err-symbol-clause-refused c =
     (λ depth. missing (Spelled depth) tokens from (is_symbol s.SEMICOLON) interrupt_rest (from + 1) from (from + 2) c.in_err-symbol.field-0.0 (interrupt_goes tokens depth from c.args.word c.requires.word)
     (λ others to h. ap (is_symbol s.SEMICOLON) (subst (λ k. HasSymbol others k s.SEMICOLON) (omega arith) h.1)) (omega arith) (omega (arith, c.in_ok-interrupt.ensures.within)) (omega (arith, c.requires.within)) c.in_err-symbol.ensures.missing)
 
-pub returns-clause-longest : goal.returns-clause-longest
-returns-clause-longest c = λ depth.
+pub returns-clause-only : goal.returns-clause-only
+returns-clause-only c = λ depth.
     let tokens = c.args.tokens.now in
     let from = c.args.from in
     ends (Spelled depth) tokens from interrupt_rest (from + 1) from (from + 3) (from + 3) (interrupt_goes tokens depth from c.args.word c.requires.word) (omega arith) (λ others to h. omega (arith, h.2))

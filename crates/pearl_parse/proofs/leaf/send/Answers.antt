@@ -51,8 +51,8 @@ returns-in_err-symbol-clause-refused c =
     missing (Spelled depth) tokens from (is_symbol s.SEMICOLON) (station_rest w.TO) value.end value.stop (value.end + 2) c.in_err-symbol.field-0.0 go
     (λ others to h. ap (is_symbol s.SEMICOLON) h.2) (omega (arith, read.bounds)) (omega (arith, c.in_ok-dation.ensures.within)) (omega (arith, read.bounds)) c.in_err-symbol.ensures.missing)
 
-pub returns-clause-longest : goal.returns-clause-longest
-returns-clause-longest c = λ depth.
+pub returns-clause-only : goal.returns-clause-only
+returns-clause-only c = λ depth.
     let tokens = c.args.tokens.now in
     let from = c.args.from in
     let value = c.in_ok-value.value in

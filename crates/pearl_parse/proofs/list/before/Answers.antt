@@ -18,8 +18,8 @@ returns-then-not-is_word-clause-refused g c =
       omega (arith, read.ahead),
     )
 
-pub returns-clause-longest : goal.returns-clause-longest
-returns-clause-longest g c =
+pub returns-clause-only : goal.returns-clause-only
+returns-clause-only g c =
     let list = c.in-Ok.list in
     let read = c.in-Ok.ensures in
     behind_list g.P.Readable.spelling g.P.Readable.extends c.args.word c.requires.begins c.requires.stops c.args.tokens.now c.args.from list.end list.stop c.max.result (itself c.args.word)

@@ -18,7 +18,7 @@ returns-in_err-begin-clause-refused c =
     let tokens = c.args.tokens.now in
     let from = c.args.from in
     let control = c.in_ok-control.control in
-    let go_0 = past_only SpellsHeads tokens from SpellsOptionalFor from_rest from from control.end control.stop (heads_goes tokens from) (omega (arith, c.in_ok-control.ensures.bounds)) c.in_ok-control.ensures.longest in
+    let go_0 = past_only SpellsHeads tokens from SpellsOptionalFor from_rest from from control.end control.stop (heads_goes tokens from) (omega (arith, c.in_ok-control.ensures.bounds)) c.in_ok-control.ensures.only in
     err_told _ _ c.in_err-begin.field-0.0 c.from_residual-in_err-begin.result c.from_residual-in_err-begin.ensures (λ e is. is)
     (no_part SpellsHeads tokens from (Optional w.FROM) by_rest control.end control.stop c.in_err-begin.field-0.0 go_0 (omega (arith, c.in_ok-control.ensures.bounds)) c.in_err-begin.ensures.refused)
 
@@ -28,7 +28,7 @@ returns-in_err-step-clause-refused c =
     let from = c.args.from in
     let control = c.in_ok-control.control in
     let begin = c.in_ok-begin.begin in
-    let go_0 = past_only SpellsHeads tokens from SpellsOptionalFor from_rest from from control.end control.stop (heads_goes tokens from) (omega (arith, c.in_ok-control.ensures.bounds)) c.in_ok-control.ensures.longest in
+    let go_0 = past_only SpellsHeads tokens from SpellsOptionalFor from_rest from from control.end control.stop (heads_goes tokens from) (omega (arith, c.in_ok-control.ensures.bounds)) c.in_ok-control.ensures.only in
     let go_1 = past SpellsHeads tokens from (Optional w.FROM) extends_expression by_rest control.end control.stop begin.end begin.stop go_0 (omega (arith, c.in_ok-begin.ensures.bounds)) c.in_ok-begin.ensures.longest avoids_by in
     err_told _ _ c.in_err-step.field-0.0 c.from_residual-in_err-step.result c.from_residual-in_err-step.ensures (λ e is. is)
     (no_part SpellsHeads tokens from (Optional w.BY) to_rest begin.end begin.stop c.in_err-step.field-0.0 go_1 (omega (arith, c.in_ok-control.ensures.bounds, c.in_ok-begin.ensures.bounds)) c.in_err-step.ensures.refused)
@@ -40,7 +40,7 @@ returns-in_err-end-clause-refused c =
     let control = c.in_ok-control.control in
     let begin = c.in_ok-begin.begin in
     let step = c.in_ok-step.step in
-    let go_0 = past_only SpellsHeads tokens from SpellsOptionalFor from_rest from from control.end control.stop (heads_goes tokens from) (omega (arith, c.in_ok-control.ensures.bounds)) c.in_ok-control.ensures.longest in
+    let go_0 = past_only SpellsHeads tokens from SpellsOptionalFor from_rest from from control.end control.stop (heads_goes tokens from) (omega (arith, c.in_ok-control.ensures.bounds)) c.in_ok-control.ensures.only in
     let go_1 = past SpellsHeads tokens from (Optional w.FROM) extends_expression by_rest control.end control.stop begin.end begin.stop go_0 (omega (arith, c.in_ok-begin.ensures.bounds)) c.in_ok-begin.ensures.longest avoids_by in
     let go_2 = past SpellsHeads tokens from (Optional w.BY) extends_expression to_rest begin.end begin.stop step.end step.stop go_1 (omega (arith, c.in_ok-step.ensures.bounds)) c.in_ok-step.ensures.longest avoids_to in
     err_told _ _ c.in_err-end.field-0.0 c.from_residual-in_err-end.result c.from_residual-in_err-end.ensures (λ e is. is)
@@ -54,7 +54,7 @@ returns-in_err-condition-clause-refused c =
     let begin = c.in_ok-begin.begin in
     let step = c.in_ok-step.step in
     let end = c.in_ok-end.end in
-    let go_0 = past_only SpellsHeads tokens from SpellsOptionalFor from_rest from from control.end control.stop (heads_goes tokens from) (omega (arith, c.in_ok-control.ensures.bounds)) c.in_ok-control.ensures.longest in
+    let go_0 = past_only SpellsHeads tokens from SpellsOptionalFor from_rest from from control.end control.stop (heads_goes tokens from) (omega (arith, c.in_ok-control.ensures.bounds)) c.in_ok-control.ensures.only in
     let go_1 = past SpellsHeads tokens from (Optional w.FROM) extends_expression by_rest control.end control.stop begin.end begin.stop go_0 (omega (arith, c.in_ok-begin.ensures.bounds)) c.in_ok-begin.ensures.longest avoids_by in
     let go_2 = past SpellsHeads tokens from (Optional w.BY) extends_expression to_rest begin.end begin.stop step.end step.stop go_1 (omega (arith, c.in_ok-step.ensures.bounds)) c.in_ok-step.ensures.longest avoids_to in
     let go_3 = past SpellsHeads tokens from (Optional w.TO) extends_expression while_rest step.end step.stop end.end end.stop go_2 (omega (arith, c.in_ok-end.ensures.bounds)) c.in_ok-end.ensures.longest avoids_while in
@@ -70,7 +70,7 @@ returns-in_err-word-clause-refused c =
     let step = c.in_ok-step.step in
     let end = c.in_ok-end.end in
     let condition = c.in_ok-condition.condition in
-    let go_0 = past_only SpellsHeads tokens from SpellsOptionalFor from_rest from from control.end control.stop (heads_goes tokens from) (omega (arith, c.in_ok-control.ensures.bounds)) c.in_ok-control.ensures.longest in
+    let go_0 = past_only SpellsHeads tokens from SpellsOptionalFor from_rest from from control.end control.stop (heads_goes tokens from) (omega (arith, c.in_ok-control.ensures.bounds)) c.in_ok-control.ensures.only in
     let go_1 = past SpellsHeads tokens from (Optional w.FROM) extends_expression by_rest control.end control.stop begin.end begin.stop go_0 (omega (arith, c.in_ok-begin.ensures.bounds)) c.in_ok-begin.ensures.longest avoids_by in
     let go_2 = past SpellsHeads tokens from (Optional w.BY) extends_expression to_rest begin.end begin.stop step.end step.stop go_1 (omega (arith, c.in_ok-step.ensures.bounds)) c.in_ok-step.ensures.longest avoids_to in
     let go_3 = past SpellsHeads tokens from (Optional w.TO) extends_expression while_rest step.end step.stop end.end end.stop go_2 (omega (arith, c.in_ok-end.ensures.bounds)) c.in_ok-end.ensures.longest avoids_while in
@@ -79,8 +79,8 @@ returns-in_err-word-clause-refused c =
     (missing SpellsHeads tokens from (is_word w.REPEAT) repeat_word condition.end condition.stop condition.end c.in_err-word.field-0.0 go_4
     (λ others to h. ap (is_word w.REPEAT) h.0) (omega (arith, c.in_ok-control.ensures.bounds, c.in_ok-begin.ensures.bounds, c.in_ok-step.ensures.bounds, c.in_ok-end.ensures.bounds, c.in_ok-condition.ensures.bounds)) (omega (arith, c.in_ok-condition.ensures.bounds)) (omega (arith, c.in_ok-condition.ensures.bounds)) c.in_err-word.ensures.missing)
 
-pub returns-clause-longest : goal.returns-clause-longest
-returns-clause-longest c =
+pub returns-clause-only : goal.returns-clause-only
+returns-clause-only c =
     let tokens = c.args.tokens.now in
     let from = c.args.from in
     let control = c.in_ok-control.control in
@@ -88,7 +88,7 @@ returns-clause-longest c =
     let step = c.in_ok-step.step in
     let end = c.in_ok-end.end in
     let condition = c.in_ok-condition.condition in
-    let go_0 = past_only SpellsHeads tokens from SpellsOptionalFor from_rest from from control.end control.stop (heads_goes tokens from) (omega (arith, c.in_ok-control.ensures.bounds)) c.in_ok-control.ensures.longest in
+    let go_0 = past_only SpellsHeads tokens from SpellsOptionalFor from_rest from from control.end control.stop (heads_goes tokens from) (omega (arith, c.in_ok-control.ensures.bounds)) c.in_ok-control.ensures.only in
     let go_1 = past SpellsHeads tokens from (Optional w.FROM) extends_expression by_rest control.end control.stop begin.end begin.stop go_0 (omega (arith, c.in_ok-begin.ensures.bounds)) c.in_ok-begin.ensures.longest avoids_by in
     let go_2 = past SpellsHeads tokens from (Optional w.BY) extends_expression to_rest begin.end begin.stop step.end step.stop go_1 (omega (arith, c.in_ok-step.ensures.bounds)) c.in_ok-step.ensures.longest avoids_to in
     let go_3 = past SpellsHeads tokens from (Optional w.TO) extends_expression while_rest step.end step.stop end.end end.stop go_2 (omega (arith, c.in_ok-end.ensures.bounds)) c.in_ok-end.ensures.longest avoids_while in

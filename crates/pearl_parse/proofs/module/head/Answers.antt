@@ -29,18 +29,18 @@ returns-in_err-symbol-clause-refused c =
     let from = c.args.from in
     let name = c.in_ok-name.name in
     let read = c.in_ok-name.ensures in
-    let go = past_only SpellsHead tokens from SpellsOptionalName exit_rest (from + 1) from name.end name.stop (name_goes tokens from) (omega (arith, read.bounds)) read.longest in
+    let go = past_only SpellsHead tokens from SpellsOptionalName exit_rest (from + 1) from name.end name.stop (name_goes tokens from) (omega (arith, read.bounds)) read.only in
     err_told _ _ c.in_err-symbol.field-0.0 c.from_residual-in_err-symbol.result c.from_residual-in_err-symbol.ensures (λ e is. is)
     (missing SpellsHead tokens from (is_symbol s.SEMICOLON) exit_rest name.end name.stop name.end c.in_err-symbol.field-0.0 go
     (λ others to h. ap (is_symbol s.SEMICOLON) h.0) (omega (arith, read.bounds)) (omega (arith, read.bounds)) read.bounds.3 c.in_err-symbol.ensures.missing)
 
-pub returns-clause-longest : goal.returns-clause-longest
-returns-clause-longest c =
+pub returns-clause-only : goal.returns-clause-only
+returns-clause-only c =
     let tokens = c.args.tokens.now in
     let from = c.args.from in
     let name = c.in_ok-name.name in
     let read = c.in_ok-name.ensures in
-    let go = past_only SpellsHead tokens from SpellsOptionalName exit_rest (from + 1) from name.end name.stop (name_goes tokens from) (omega (arith, read.bounds)) read.longest in
+    let go = past_only SpellsHead tokens from SpellsOptionalName exit_rest (from + 1) from name.end name.stop (name_goes tokens from) (omega (arith, read.bounds)) read.only in
     ends SpellsHead tokens from exit_rest name.end name.stop (name.end + 1) (name.end + 1) go (omega (arith, read.close)) (λ others to h. h.1)
 
 pub returns-in_err-word-clause-memory : goal.returns-in_err-word-clause-memory

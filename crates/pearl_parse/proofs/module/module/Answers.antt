@@ -15,7 +15,7 @@ returns-in_err-opening-clause-refused c =
     let tokens = c.args.tokens.now in
     let head = c.in_ok-head.head in
     let first = c.in_ok-head.ensures in
-    let go = past_only SpellsSource tokens 0 SpellsHead problems_rest 0 0 head.end head.stop (source_goes tokens) (omega arith) first.longest in
+    let go = past_only SpellsSource tokens 0 SpellsHead problems_rest 0 0 head.end head.stop (source_goes tokens) (omega arith) first.only in
     err_told _ _ c.in_err-opening.field-0.0 c.from_residual-in_err-opening.result c.from_residual-in_err-opening.ensures (λ e is. is)
     (no_first SpellsSource tokens 0 SpellsOpening list_rest head.end head.stop c.in_err-opening.field-0.0 go (omega arith) (omega (arith, first.close)) c.in_err-opening.ensures.refused)
 
@@ -30,7 +30,7 @@ returns-in_err-semicolon-clause-refused c =
     let third = c.in-Ok.ensures in
     let stop = c.max.result in
     let go = last_goes tokens head.end head.stop opening.end opening.stop list.end list.stop stop (omega (arith, first.close, second.ahead)) (omega (arith, c.max.ensures))
-    (omega (arith, c.max.ensures)) first.longest second.longest third.longest in
+    (omega (arith, c.max.ensures)) first.only second.only third.longest in
     err_told _ _ c.in_err-semicolon.field-0.0 c.from_residual-in_err-semicolon.result c.from_residual-in_err-semicolon.ensures (λ e is. is)
     (no_part SpellsSource tokens 0 SpellsEnding Ends list.end stop c.in_err-semicolon.field-0.0 go (omega arith) c.in_err-semicolon.ensures.refused)
 

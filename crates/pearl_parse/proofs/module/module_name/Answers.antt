@@ -26,23 +26,23 @@ returns-in_err-symbol-clause-refused c =
     (missing SpellsOptionalName tokens from (is_symbol s.RIGHT_ROUND) bracketed_rest (from + 1) from (from + 2) c.in_err-symbol.field-0.0 (bracketed_goes tokens from (c.if-is_symbol.ensures.stands refl))
     (λ others to h. bracket_closes others from to h) (omega arith) (omega (arith, two)) c.requires c.in_err-symbol.ensures.missing)
 
-pub returns-then-is_symbol-clause-longest : goal.returns-then-is_symbol-clause-longest
-returns-then-is_symbol-clause-longest c =
+pub returns-then-is_symbol-clause-only : goal.returns-then-is_symbol-clause-only
+returns-then-is_symbol-clause-only c =
     let tokens = c.args.tokens.now in
     let from = c.args.from in
     ends SpellsOptionalName tokens from bracketed_rest (from + 1) from (from + 3) (from + 3) (bracketed_goes tokens from (c.if-is_symbol.ensures.stands refl)) (omega arith)
     (λ others to h. omega (arith, h.2))
 
-pub returns-in-Some-clause-longest : goal.returns-in-Some-clause-longest
-returns-in-Some-clause-longest c =
+pub returns-in-Some-clause-only : goal.returns-in-Some-clause-only
+returns-in-Some-clause-only c =
     bare_is_only c.args.tokens.now c.args.from (sym c.if-is_symbol.ensures.value) (ap is_name c.in-Some.ensures.some.0)
 
 pub returns-in-None-clause-spells : goal.returns-in-None-clause-spells
 returns-in-None-clause-spells c =
     (refl, no_name (what_at c.args.tokens.now c.args.from) (sym c.if-is_symbol.ensures.value) (c.name_at.ensures.none c.in-None.is))
 
-pub returns-in-None-clause-longest : goal.returns-in-None-clause-longest
-returns-in-None-clause-longest c =
+pub returns-in-None-clause-only : goal.returns-in-None-clause-only
+returns-in-None-clause-only c =
     let tokens = c.args.tokens.now in
     let from = c.args.from in
     optional_is_none begins_module_name SpellsModuleName tokens from from

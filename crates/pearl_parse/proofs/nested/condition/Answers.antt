@@ -26,8 +26,8 @@ returns-in_err-word-clause-refused c =
     missing SpellsCondition tokens from (is_word w.THEN) then_word condition.end condition.stop condition.end c.in_err-word.field-0.0 go
     (λ others to h. ap (is_word w.THEN) h.0) (omega (arith, read.bounds)) (omega (arith, read.bounds)) (omega (arith, read.bounds)) c.in_err-word.ensures.missing)
 
-pub returns-clause-longest : goal.returns-clause-longest
-returns-clause-longest c =
+pub returns-clause-only : goal.returns-clause-only
+returns-clause-only c =
     let tokens = c.args.tokens.now in
     let from = c.args.from in
     let condition = c.in_ok-condition.condition in

@@ -27,8 +27,8 @@ returns-in_err-symbol-clause-refused c =
     (missing_behind SpellsActivation tokens from least_stop (is_symbol s.SEMICOLON) exit_rest priority.end priority.stop priority.end c.in_err-symbol.field-0.0 go
     (λ others to h. ap (is_symbol s.SEMICOLON) h.0) (omega (arith, read.bounds)) read.bounds.2 (omega (arith, read.bounds)) (omega (arith, read.bounds)) c.in_err-symbol.ensures.missing)
 
-pub returns-clause-longest : goal.returns-clause-longest
-returns-clause-longest c =
+pub returns-clause-only : goal.returns-clause-only
+returns-clause-only c =
     let tokens = c.args.tokens.now in
     let from = c.args.from in
     let least_stop = c.args.least_stop in

@@ -24,8 +24,8 @@ returns-in_err-activation-clause-refused c =
     err_told _ _ c.in_err-activation.field-0.0 c.from_residual-in_err-activation.result c.from_residual-in_err-activation.ensures (λ e is. is)
     (no_part_behind SpellsBegun tokens from least_stop SpellsActivation Ends period.end period.stop c.in_err-activation.field-0.0 go (omega (arith, read.bounds)) read.bounds.2 c.in_err-activation.ensures.refused)
 
-pub returns-clause-longest : goal.returns-clause-longest
-returns-clause-longest c =
+pub returns-clause-only : goal.returns-clause-only
+returns-clause-only c =
     let tokens = c.args.tokens.now in
     let from = c.args.from in
     let least_stop = c.args.least_stop in
@@ -34,4 +34,4 @@ returns-clause-longest c =
     let activation = c.in_ok-activation.activation in
     let last = c.in_ok-activation.ensures in
     let go = past SpellsBegun tokens from SpellsOptionalPeriod extends_expression activation_rest from least_stop period.end period.stop (begun_goes tokens from least_stop) read.bounds.2 read.longest (λ others at to h. ap extends_expression h.2.1) in
-    past_only SpellsBegun tokens from SpellsActivation Ends period.end period.stop activation.end activation.stop go last.bounds.2 last.longest
+    past_only SpellsBegun tokens from SpellsActivation Ends period.end period.stop activation.end activation.stop go last.bounds.2 last.only

@@ -12,8 +12,8 @@ returns-in_err-activation-clause-refused c =
     err_told _ _ c.in_err-activation.field-0.0 c.from_residual.result c.from_residual.ensures (λ e is. is)
     (λ depth. no_part (Spelled depth) tokens from SpellsActivation Ends from from c.in_err-activation.field-0.0 (activate_goes tokens depth from c.requires.word) (omega arith) c.in_err-activation.ensures.refused)
 
-pub returns-clause-longest : goal.returns-clause-longest
-returns-clause-longest c = λ depth.
+pub returns-clause-only : goal.returns-clause-only
+returns-clause-only c = λ depth.
     let activation = c.in_ok-activation.activation in
     let read = c.in_ok-activation.ensures in
-    past_only (Spelled depth) c.args.tokens.now c.args.from SpellsActivation Ends c.args.from c.args.from activation.end activation.stop (activate_goes c.args.tokens.now depth c.args.from c.requires.word) read.bounds.2 read.longest
+    past_only (Spelled depth) c.args.tokens.now c.args.from SpellsActivation Ends c.args.from c.args.from activation.end activation.stop (activate_goes c.args.tokens.now depth c.args.from c.requires.word) read.bounds.2 read.only

@@ -22,6 +22,6 @@ returns-in_err-symbol-clause-refused c =
     (λ depth. missing (Spelled depth) tokens from (is_symbol s.SEMICOLON) continue_rest from from (from + 2) c.in_err-symbol.field-0.0 (continue_goes tokens depth from c.requires.word)
     (λ others to h. ap (is_symbol s.SEMICOLON) h.1) (omega arith) (omega (arith, c.in_ok-task.ensures.within)) (omega (arith, c.requires.within)) c.in_err-symbol.ensures.missing)
 
-pub returns-clause-longest : goal.returns-clause-longest
-returns-clause-longest c = λ depth.
+pub returns-clause-only : goal.returns-clause-only
+returns-clause-only c = λ depth.
     ends (Spelled depth) c.args.tokens.now c.args.from continue_rest c.args.from c.args.from (c.args.from + 3) (c.args.from + 3) (continue_goes c.args.tokens.now depth c.args.from c.requires.word) (omega arith) (λ others to h. h.2)

@@ -25,8 +25,8 @@ returns-in_err-activation-clause-refused c =
     let go = past (Spelled depth) tokens from SpellsLongPeriod extends_expression activation_rest from from period.end period.stop (periodic_goes tokens depth from c.requires.word) read.bounds.2 read.longest (λ others at to h. ap extends_expression h.2.1) in
     no_part (Spelled depth) tokens from SpellsActivation Ends period.end period.stop c.in_err-activation.field-0.0 go read.bounds.2 c.in_err-activation.ensures.refused)
 
-pub returns-clause-longest : goal.returns-clause-longest
-returns-clause-longest c = λ depth.
+pub returns-clause-only : goal.returns-clause-only
+returns-clause-only c = λ depth.
     let tokens = c.args.tokens.now in
     let from = c.args.from in
     let period = c.in_ok-period.period in
@@ -34,4 +34,4 @@ returns-clause-longest c = λ depth.
     let activation = c.in_ok-activation.activation in
     let last = c.in_ok-activation.ensures in
     let go = past (Spelled depth) tokens from SpellsLongPeriod extends_expression activation_rest from from period.end period.stop (periodic_goes tokens depth from c.requires.word) read.bounds.2 read.longest (λ others at to h. ap extends_expression h.2.1) in
-    past_only (Spelled depth) tokens from SpellsActivation Ends period.end period.stop activation.end activation.stop go last.bounds.2 last.longest
+    past_only (Spelled depth) tokens from SpellsActivation Ends period.end period.stop activation.end activation.stop go last.bounds.2 last.only

@@ -30,7 +30,7 @@ statements-each-preserved t c =
       spells = subst (λ xs. SpellsStatements depth tokens c.args.from xs next.end) (sym c.in_ok-append-in-Ok.ensures.appended)
           (each_one_more (SpellsStmt tokens depth) c.each.list.items c.args.from c.each.end next.end next.part c.each.invariant.spells read.spells);
       goes = each_next (λ tokens. SpellsStmt tokens depth) begins_statement tokens c.args.from c.each.end c.each.stop next.end next.stop c.max-stop.result c.each.invariant.goes near ahead below reach
-          (stmt_begins tokens depth c.each.end next.part next.end read.spells) read.longest;
+          (stmt_begins tokens depth c.each.end next.part next.end read.spells) read.only;
       bounds = (omega (arith, c.each.invariant.bounds, read.ahead), omega (arith, read.ahead, c.max-stop.ensures), omega (arith, c.each.invariant.bounds, c.max-stop.ensures), omega (arith, c.each.invariant.bounds, read.ahead, c.max-stop.ensures));
     }
 
@@ -120,7 +120,7 @@ if_-returns-in_err-closing-clause-refused t c =
     let statements = c.in_ok-statements.statements in
     let otherwise = c.in_ok-otherwise.otherwise in
     let go_0 = if_goes tokens depth from c.requires.word in
-    let go_1 = past_only (Spelled depth) tokens from SpellsCondition (then_rest (depth - 1)) from from condition.end condition.stop go_0 (omega (arith, c.in_ok-condition.ensures.ahead)) c.in_ok-condition.ensures.longest in
+    let go_1 = past_only (Spelled depth) tokens from SpellsCondition (then_rest (depth - 1)) from from condition.end condition.stop go_0 (omega (arith, c.in_ok-condition.ensures.ahead)) c.in_ok-condition.ensures.only in
     let go_2 = past (Spelled depth) tokens from (SpellsStatements (depth - 1)) begins_statement (otherwise_rest (depth - 1) w.ELSE) condition.end condition.stop statements.end statements.stop go_1 (omega (arith, c.in_ok-statements.ensures.bounds)) c.in_ok-statements.ensures.longest (avoids_otherwise begins_statement (depth - 1) w.ELSE refl refl) in
     let go_3 = past (Spelled depth) tokens from (SpellsOptionalHeaded (depth - 1) w.ELSE) begins_statement (closing_rest w.FIN) statements.end statements.stop otherwise.end otherwise.stop go_2 (omega (arith, c.in_ok-otherwise.ensures.bounds)) c.in_ok-otherwise.ensures.longest (avoids_closing begins_statement w.FIN refl) in
     err_told _ _ c.in_err-closing.field-0.0 c.from_residual-in_err-closing.result c.from_residual-in_err-closing.ensures (λ e is. is)
@@ -138,8 +138,8 @@ if_-returns-clause-spells t c =
     if_spelled tokens depth from c.place_at.result c.place_at.ensures deep c.in_ok-boxed.field-0 condition.part c.new.result otherwise.part c.in_ok-boxed.ensures.value condition.end statements.end otherwise.end c.in_ok-condition.ensures.spells
     (subst (λ xs. SpellsStatements (depth - 1) tokens condition.end xs statements.end) (sym c.new.ensures) c.in_ok-statements.ensures.spells) c.in_ok-otherwise.ensures.spells c.in_ok-closing.ensures.stands
 
-pub if_-returns-clause-longest : goal.if_-returns-clause-longest
-if_-returns-clause-longest t c =
+pub if_-returns-clause-only : goal.if_-returns-clause-only
+if_-returns-clause-only t c =
     let tokens = c.args.tokens.now in
     let from = c.args.from in
     let depth = c.args.depth in
@@ -147,7 +147,7 @@ if_-returns-clause-longest t c =
     let statements = c.in_ok-statements.statements in
     let otherwise = c.in_ok-otherwise.otherwise in
     let go_0 = if_goes tokens depth from c.requires.word in
-    let go_1 = past_only (Spelled depth) tokens from SpellsCondition (then_rest (depth - 1)) from from condition.end condition.stop go_0 (omega (arith, c.in_ok-condition.ensures.ahead)) c.in_ok-condition.ensures.longest in
+    let go_1 = past_only (Spelled depth) tokens from SpellsCondition (then_rest (depth - 1)) from from condition.end condition.stop go_0 (omega (arith, c.in_ok-condition.ensures.ahead)) c.in_ok-condition.ensures.only in
     let go_2 = past (Spelled depth) tokens from (SpellsStatements (depth - 1)) begins_statement (otherwise_rest (depth - 1) w.ELSE) condition.end condition.stop statements.end statements.stop go_1 (omega (arith, c.in_ok-statements.ensures.bounds)) c.in_ok-statements.ensures.longest (avoids_otherwise begins_statement (depth - 1) w.ELSE refl refl) in
     let go_3 = past (Spelled depth) tokens from (SpellsOptionalHeaded (depth - 1) w.ELSE) begins_statement (closing_rest w.FIN) statements.end statements.stop otherwise.end otherwise.stop go_2 (omega (arith, c.in_ok-otherwise.ensures.bounds)) c.in_ok-otherwise.ensures.longest (avoids_closing begins_statement w.FIN refl) in
     ends (Spelled depth) tokens from (closing_rest w.FIN) otherwise.end otherwise.stop c.max.result (otherwise.end + 2) go_3 (omega (arith, c.max.ensures)) (λ others to h. omega (arith, h.2.2, h.3))
@@ -207,8 +207,8 @@ case-returns-clause-spells t c =
     case_spelled tokens depth from c.place_at.result c.place_at.ensures deep c.in_ok-boxed.field-0 selector.part c.new.result otherwise.part c.in_ok-boxed.ensures.value selector.end alternatives.end otherwise.end c.in_ok-selector.ensures.spells
     (subst (λ xs. SpellsSome (SpellsBranch tokens (depth - 1) w.ALT) selector.end xs alternatives.end) (sym c.new.ensures) c.in_ok-alternatives.ensures.spells) c.in_ok-otherwise.ensures.spells c.in_ok-closing.ensures.stands
 
-pub case-returns-clause-longest : goal.case-returns-clause-longest
-case-returns-clause-longest t c =
+pub case-returns-clause-only : goal.case-returns-clause-only
+case-returns-clause-only t c =
     let tokens = c.args.tokens.now in
     let from = c.args.from in
     let depth = c.args.depth in
@@ -240,7 +240,7 @@ repeat-returns-in_err-body-clause-refused t c =
     let depth = c.args.depth in
     let heads = c.in_ok-heads.heads in
     let go_0 = repeat_goes tokens depth from c.requires.word in
-    let go_1 = past_only (Spelled depth) tokens from SpellsHeads (block_rest (depth - 1)) from from heads.end heads.stop go_0 (omega (arith, c.in_ok-heads.ensures.ahead)) c.in_ok-heads.ensures.longest in
+    let go_1 = past_only (Spelled depth) tokens from SpellsHeads (block_rest (depth - 1)) from from heads.end heads.stop go_0 (omega (arith, c.in_ok-heads.ensures.ahead)) c.in_ok-heads.ensures.only in
     err_told _ _ c.in_err-body.field-0.0 c.from_residual-in_err-body.result c.from_residual-in_err-body.ensures (λ e is. is)
     (no_part (Spelled depth) tokens from (SpellsBlock (depth - 1)) (closing_rest w.END) heads.end heads.stop c.in_err-body.field-0.0 go_1 (omega (arith, c.in_ok-heads.ensures.ahead)) c.in_err-body.ensures.refused)
 
@@ -252,7 +252,7 @@ repeat-returns-in_err-closing-clause-refused t c =
     let heads = c.in_ok-heads.heads in
     let body = c.in_ok-body.body in
     let go_0 = repeat_goes tokens depth from c.requires.word in
-    let go_1 = past_only (Spelled depth) tokens from SpellsHeads (block_rest (depth - 1)) from from heads.end heads.stop go_0 (omega (arith, c.in_ok-heads.ensures.ahead)) c.in_ok-heads.ensures.longest in
+    let go_1 = past_only (Spelled depth) tokens from SpellsHeads (block_rest (depth - 1)) from from heads.end heads.stop go_0 (omega (arith, c.in_ok-heads.ensures.ahead)) c.in_ok-heads.ensures.only in
     let go_2 = past (Spelled depth) tokens from (SpellsBlock (depth - 1)) extends_body (closing_rest w.END) heads.end heads.stop body.end body.stop go_1 (omega (arith, c.in_ok-body.ensures.bounds)) c.in_ok-body.ensures.longest (avoids_closing extends_body w.END refl) in
     err_told _ _ c.in_err-closing.field-0.0 c.from_residual-in_err-closing.result c.from_residual-in_err-closing.ensures (λ e is. is)
     (no_part (Spelled depth) tokens from (SpellsClosing w.END) Ends body.end body.stop c.in_err-closing.field-0.0 go_2 (omega (arith, c.in_ok-heads.ensures.ahead, c.in_ok-body.ensures.bounds)) c.in_err-closing.ensures.refused)
@@ -267,15 +267,15 @@ repeat-returns-clause-spells t c =
     let deep : 0 < depth = omega (arith, c.if-depth-eq0.false) in
     repeat_spelled tokens depth from c.place_at.result c.place_at.ensures deep c.in_ok-boxed.field-0 heads.part body.part c.in_ok-boxed.ensures.value heads.end body.end c.in_ok-heads.ensures.spells c.in_ok-body.ensures.spells c.in_ok-closing.ensures.stands
 
-pub repeat-returns-clause-longest : goal.repeat-returns-clause-longest
-repeat-returns-clause-longest t c =
+pub repeat-returns-clause-only : goal.repeat-returns-clause-only
+repeat-returns-clause-only t c =
     let tokens = c.args.tokens.now in
     let from = c.args.from in
     let depth = c.args.depth in
     let heads = c.in_ok-heads.heads in
     let body = c.in_ok-body.body in
     let go_0 = repeat_goes tokens depth from c.requires.word in
-    let go_1 = past_only (Spelled depth) tokens from SpellsHeads (block_rest (depth - 1)) from from heads.end heads.stop go_0 (omega (arith, c.in_ok-heads.ensures.ahead)) c.in_ok-heads.ensures.longest in
+    let go_1 = past_only (Spelled depth) tokens from SpellsHeads (block_rest (depth - 1)) from from heads.end heads.stop go_0 (omega (arith, c.in_ok-heads.ensures.ahead)) c.in_ok-heads.ensures.only in
     let go_2 = past (Spelled depth) tokens from (SpellsBlock (depth - 1)) extends_body (closing_rest w.END) heads.end heads.stop body.end body.stop go_1 (omega (arith, c.in_ok-body.ensures.bounds)) c.in_ok-body.ensures.longest (avoids_closing extends_body w.END refl) in
     ends (Spelled depth) tokens from (closing_rest w.END) body.end body.stop c.max.result (body.end + 2) go_2 (omega (arith, c.max.ensures)) (λ others to h. omega (arith, h.2.2, h.3))
 
@@ -311,8 +311,8 @@ begin-returns-clause-spells t c =
     let deep : 0 < depth = omega (arith, c.if-depth-eq0.false) in
     begin_spelled tokens depth from c.place_at.result c.place_at.ensures deep c.in_ok-boxed.field-0 body.part c.in_ok-boxed.ensures.value body.end c.requires.word c.in_ok-body.ensures.spells c.in_ok-closing.ensures.stands
 
-pub begin-returns-clause-longest : goal.begin-returns-clause-longest
-begin-returns-clause-longest t c =
+pub begin-returns-clause-only : goal.begin-returns-clause-only
+begin-returns-clause-only t c =
     let tokens = c.args.tokens.now in
     let from = c.args.from in
     let depth = c.args.depth in
@@ -358,8 +358,8 @@ statement-returns-in-None-clause-refused t c = no_statement c.args.tokens.now c.
 pub statement-returns-in-Simple-clause-spells : goal.statement-returns-in-Simple-clause-spells
 statement-returns-in-Simple-clause-spells t c = ok_map _ _ c.simple.result (λ reading h. h c.args.depth) c.simple.ensures.spells
 
-pub statement-returns-in-Simple-clause-longest : goal.statement-returns-in-Simple-clause-longest
-statement-returns-in-Simple-clause-longest t c = ok_map _ _ c.simple.result (λ reading h. h c.args.depth) c.simple.ensures.longest
+pub statement-returns-in-Simple-clause-only : goal.statement-returns-in-Simple-clause-only
+statement-returns-in-Simple-clause-only t c = ok_map _ _ c.simple.result (λ reading h. h c.args.depth) c.simple.ensures.only
 
 pub statement-returns-in-Simple-clause-refused : goal.statement-returns-in-Simple-clause-refused
 statement-returns-in-Simple-clause-refused t c = at_depth (λ depth halt. IsHalted (λ tokens. SpellsStmt tokens depth) c.args.tokens.now c.args.from halt) c.args.depth c.simple.result c.simple.ensures.refused

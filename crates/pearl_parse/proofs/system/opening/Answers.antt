@@ -37,8 +37,8 @@ returns-in_err-symbol-clause-refused c =
     (missing SpellsOpening tokens from (is_symbol s.SEMICOLON) problem_rest system.end system.stop (system.end + 1) c.in_err-symbol.field-0.0 go
     (λ others to h. ap (is_symbol s.SEMICOLON) h.1) read.bounds.2 (omega (arith, c.in_ok-word.ensures.within)) read.bounds.3 c.in_err-symbol.ensures.missing)
 
-pub returns-clause-longest : goal.returns-clause-longest
-returns-clause-longest c =
+pub returns-clause-only : goal.returns-clause-only
+returns-clause-only c =
     let tokens = c.args.tokens.now in
     let from = c.args.from in
     let system = c.in_ok-system.system in

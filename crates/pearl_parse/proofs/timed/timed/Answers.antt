@@ -37,8 +37,8 @@ returns-in_err-symbol-clause-refused c =
     (continued_goes tokens depth from later c.time_word.result time.end time.stop c.requires.word c.time_word.ensures read.bounds.2 (omega (arith, read.bounds)) read.longest (c.if-is_word.ensures.stands refl))
     (λ others to h. ap (is_symbol s.SEMICOLON) h.1) read.bounds.2 (omega (arith, c.in_ok-task.ensures.within)) (omega (arith, read.bounds)) c.in_err-symbol.ensures.missing)
 
-pub returns-then-is_word-clause-longest : goal.returns-then-is_word-clause-longest
-returns-then-is_word-clause-longest c = λ depth.
+pub returns-then-is_word-clause-only : goal.returns-then-is_word-clause-only
+returns-then-is_word-clause-only c = λ depth.
     let tokens = c.args.tokens.now in
     let from = c.args.from in
     let later = c.args.later in
@@ -59,8 +59,8 @@ returns-in_err-symbol-2-clause-refused c =
     (resumed_goes tokens depth from later c.time_word.result time.end time.stop c.requires.word c.time_word.ensures read.bounds.2 (omega (arith, read.bounds)) read.longest (c.if-is_word-2.ensures.stands refl))
     (λ others to h. ap (is_symbol s.SEMICOLON) h.0) read.bounds.2 (omega (arith, c.if-is_word-2.ensures.within refl)) (omega (arith, read.bounds)) c.in_err-symbol-2.ensures.missing)
 
-pub returns-then-is_word-2-clause-longest : goal.returns-then-is_word-2-clause-longest
-returns-then-is_word-2-clause-longest c = λ depth.
+pub returns-then-is_word-2-clause-only : goal.returns-then-is_word-2-clause-only
+returns-then-is_word-2-clause-only c = λ depth.
     let tokens = c.args.tokens.now in
     let from = c.args.from in
     let later = c.args.later in
@@ -80,8 +80,8 @@ returns-in_err-begun-clause-refused c =
     (λ depth. no_part (Spelled depth) tokens from SpellsBegun Ends time.end time.stop c.in_err-begun.field-0.0
     (begins_goes tokens depth from later c.time_word.result time.end time.stop c.requires.word c.time_word.ensures read.bounds.2 (omega (arith, read.bounds)) read.longest (sym c.if-is_word.ensures.value) (sym c.if-is_word-2.ensures.value)) read.bounds.2 c.in_err-begun.ensures.refused)
 
-pub returns-clause-longest : goal.returns-clause-longest
-returns-clause-longest c = λ depth.
+pub returns-clause-only : goal.returns-clause-only
+returns-clause-only c = λ depth.
     let tokens = c.args.tokens.now in
     let from = c.args.from in
     let later = c.args.later in
@@ -90,4 +90,4 @@ returns-clause-longest c = λ depth.
     let begun = c.in_ok-begun.begun in
     let last = c.in_ok-begun.ensures in
     past_only (Spelled depth) tokens from SpellsBegun Ends time.end time.stop begun.end begun.stop
-    (begins_goes tokens depth from later c.time_word.result time.end time.stop c.requires.word c.time_word.ensures read.bounds.2 (omega (arith, read.bounds)) read.longest (sym c.if-is_word.ensures.value) (sym c.if-is_word-2.ensures.value)) last.bounds.2 last.longest
+    (begins_goes tokens depth from later c.time_word.result time.end time.stop c.requires.word c.time_word.ensures read.bounds.2 (omega (arith, read.bounds)) read.longest (sym c.if-is_word.ensures.value) (sym c.if-is_word-2.ensures.value)) last.bounds.2 last.only

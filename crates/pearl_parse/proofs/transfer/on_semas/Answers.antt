@@ -28,8 +28,8 @@ returns-in_err-symbol-clause-refused c =
     missing (Spelled depth) tokens from (is_symbol s.SEMICOLON) exit_rest names.end names.stop names.end c.in_err-symbol.field-0.0 go
     (λ others to h. ap (is_symbol s.SEMICOLON) h.0) (omega (arith, read.ahead)) (omega (arith, read.ahead)) (omega (arith, read.ahead)) c.in_err-symbol.ensures.missing)
 
-pub returns-clause-longest : goal.returns-clause-longest
-returns-clause-longest c = λ depth.
+pub returns-clause-only : goal.returns-clause-only
+returns-clause-only c = λ depth.
     let tokens = c.args.tokens.now in
     let from = c.args.from in
     let names = c.in_ok-names.names in

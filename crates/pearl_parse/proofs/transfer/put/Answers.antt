@@ -26,16 +26,16 @@ returns-in_err-station-clause-refused c =
     let read = c.in_ok-values.ensures in
     err_told _ _ c.in_err-station.field-0.0 c.from_residual-in_err-station.result c.from_residual-in_err-station.ensures (λ e is. is)
     (λ depth.
-    let go = past_only (Spelled depth) tokens from (SpellsBefore w.TO SpellsWhole) station_ends (from + 1) from values.end values.stop (put_goes tokens depth from c.requires.word) (omega (arith, read.ahead)) read.longest in
+    let go = past_only (Spelled depth) tokens from (SpellsBefore w.TO SpellsWhole) station_ends (from + 1) from values.end values.stop (put_goes tokens depth from c.requires.word) (omega (arith, read.ahead)) read.only in
     no_part (Spelled depth) tokens from SpellsStation Ends values.end values.stop c.in_err-station.field-0.0 go (omega (arith, read.ahead)) c.in_err-station.ensures.refused)
 
-pub returns-clause-longest : goal.returns-clause-longest
-returns-clause-longest c = λ depth.
+pub returns-clause-only : goal.returns-clause-only
+returns-clause-only c = λ depth.
     let tokens = c.args.tokens.now in
     let from = c.args.from in
     let values = c.in_ok-values.values in
     let read = c.in_ok-values.ensures in
     let station = c.in_ok-station.station in
     let last = c.in_ok-station.ensures in
-    let go = past_only (Spelled depth) tokens from (SpellsBefore w.TO SpellsWhole) station_ends (from + 1) from values.end values.stop (put_goes tokens depth from c.requires.word) (omega (arith, read.ahead)) read.longest in
-    past_only (Spelled depth) tokens from SpellsStation Ends values.end values.stop station.end station.stop go last.bounds.2 last.longest
+    let go = past_only (Spelled depth) tokens from (SpellsBefore w.TO SpellsWhole) station_ends (from + 1) from values.end values.stop (put_goes tokens depth from c.requires.word) (omega (arith, read.ahead)) read.only in
+    past_only (Spelled depth) tokens from SpellsStation Ends values.end values.stop station.end station.stop go last.bounds.2 last.only

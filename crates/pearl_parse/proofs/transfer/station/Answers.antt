@@ -7,5 +7,5 @@ returns-in_err-formats-clause-refused c =
     err_told _ _ c.in_err-formats.field-0.0 c.from_residual-in_err-formats.result c.from_residual-in_err-formats.ensures (λ e is. is)
     (station_stopped c.args.tokens.now c.args.from c.args.least_stop c.in_err-formats.field-0.0 c.in_err-formats.ensures.refused)
 
-pub returns-clause-longest : goal.returns-clause-longest
-returns-clause-longest c = λ others agree x to h. c.in_ok-formats.ensures.longest others agree x.1 to h.2
+pub returns-clause-only : goal.returns-clause-only
+returns-clause-only c = λ others agree x to h. c.in_ok-formats.ensures.only others agree x.1 to h.2

@@ -19,8 +19,8 @@ returns-in_err-block-clause-refused c =
     err_told _ _ c.in_err-block.field-0.0 c.from_residual.result c.from_residual.ensures (λ e is. is)
     (no_part SpellsDecl tokens from SpellsBlock Ends returns.end stop c.in_err-block.field-0.0 go (omega (arith, c.max.ensures, first.ahead)) c.in_err-block.ensures.refused)
 
-pub returns-clause-longest : goal.returns-clause-longest
-returns-clause-longest c =
+pub returns-clause-only : goal.returns-clause-only
+returns-clause-only c =
     let tokens = c.args.tokens.now in
     let from = c.args.from in
     let params = c.in-Ok.params in
@@ -32,4 +32,4 @@ returns-clause-longest c =
     let last = c.in_ok-block.ensures in
     let go = block_goes tokens from (ap is_name c.requires.name.0) c.requires.word params.end params.stop returns.end returns.stop stop (omega (arith, first.ahead))
     (omega (arith, c.max.ensures)) (omega (arith, c.max.ensures)) first.longest second.longest in
-    past_only SpellsDecl tokens from SpellsBlock Ends returns.end stop block.end block.stop go last.bounds.2 last.longest
+    past_only SpellsDecl tokens from SpellsBlock Ends returns.end stop block.end block.stop go last.bounds.2 last.only

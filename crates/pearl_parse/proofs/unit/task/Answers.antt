@@ -18,8 +18,8 @@ returns-in_err-block-clause-refused c =
     err_told _ _ c.in_err-block.field-0.0 c.from_residual.result c.from_residual.ensures (λ e is. is)
     (no_part SpellsDecl tokens from SpellsBlock Ends head.end head.stop c.in_err-block.field-0.0 go (omega (arith, read.ahead)) c.in_err-block.ensures.refused)
 
-pub returns-clause-longest : goal.returns-clause-longest
-returns-clause-longest c =
+pub returns-clause-only : goal.returns-clause-only
+returns-clause-only c =
     let tokens = c.args.tokens.now in
     let from = c.args.from in
     let head = c.task_head-head.result in
@@ -28,4 +28,4 @@ returns-clause-longest c =
     let last = c.in_ok-block.ensures in
     let go = past SpellsDecl tokens from SpellsTaskHead extends_head block_rest (from + 3) (from + 2) head.end head.stop
     (task_goes tokens from (ap is_name c.requires.name.0) c.requires.word) (omega (arith, read.ahead)) read.longest head_stops in
-    past_only SpellsDecl tokens from SpellsBlock Ends head.end head.stop block.end block.stop go last.bounds.2 last.longest
+    past_only SpellsDecl tokens from SpellsBlock Ends head.end head.stop block.end block.stop go last.bounds.2 last.only

@@ -1,7 +1,6 @@
 use Rattle.std.proofs.lemmas.List.Filters.{dedup_is}
 use Rattle.std.proofs.lemmas.List.Kept.{Contains-dedup, Contains-from_dedup, IsStrictlySortedBy-dedup}
 use Rattle.std.proofs.lemmas.List.Sorted.{Contains-permutation, IsPermutation-sym}
-use Rattle.std.proofs.lemmas.Cmp.{eq_by_cmp_equiv}
 use Rattle.pearl_tree.proofs.FaultOrder.{total, ties, rising, same_equiv, same_fault}
 use Rattle.pearl_tree.proofs.fault.in_order.Goals as goal
 
