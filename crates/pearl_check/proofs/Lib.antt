@@ -1,0 +1,4 @@
+pub mod Tests
+pub mod Ways
+pub mod FirstFaults
+pub mod Examples
