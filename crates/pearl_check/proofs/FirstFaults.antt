@@ -1,10 +1,10 @@
 -- The first fault is the head of the list in order.
-use Rattle.std.proofs.Common.{◌≡◌, ◌⊎◌, inl, inr, ℕ, zero, suc, ◌≤◌, Bool, true, false, ◌||◌, ◌&&◌, ◌==◌, nat_lt, if◌then◌else◌, List, [], ◌∷◌, Option, Some, None, refl, sym, ap, subst, arith, true≢false, eq-eqb, eqb-true}
-use Rattle.std.proofs.lemmas.Bool.{ltb-true, lt-ltb, ltb-false}
+use Rattle.std.proofs.Common.{◌≡◌, ◌⊎◌, inl, inr, zero, suc, ◌≤◌, Bool, true, false, ◌&&◌, ◌==◌, nat_lt, if◌then◌else◌, List, [], ◌∷◌, Some, refl, sym, ap, subst, arith, eq-eqb, eqb-true}
+use Rattle.std.proofs.lemmas.Bool.{ltb-true, ltb-false}
 use Rattle.std.specs.Prelude.{AllPairs, Contains, slice_get}
 use Rattle.pearl_tree.specs.declared.fault.RuleFault.{RuleFault}
 use Rattle.pearl_tree.specs.Faults.{IsBefore, ListFaults}
-use Rattle.pearl_check.proofs.Tests.{by_case, or_left, or_right, or_rest, nor_left, nor_right, and_left, and_right, nand}
+use Rattle.pearl_check.proofs.Tests.{by_case, or_rest, nor_left, nor_right, and_left, and_right, nand}
 use Rattle.pearl_check.specs.Rules.{is_before, earlier, first}
 
 here : (x : RuleFault) (xs : List RuleFault) → Contains (x ∷ xs) x
@@ -30,8 +30,10 @@ before_of : (a b : RuleFault) → is_before a b ≡ true → IsBefore a b
 before_of a b h = by_case _ (nat_lt a.place b.place)
     (λ less. inl (ltb-true a.place b.place less))
     (λ other. let both = or_rest (nat_lt a.place b.place) ((a.place == b.place) && nat_lt a.rule b.rule) other h in
-    inr (eqb-true a.place b.place (and_left (a.place == b.place) (nat_lt a.rule b.rule) both),
-    ltb-true a.rule b.rule (and_right (a.place == b.place) (nat_lt a.rule b.rule) both)))
+    inr (
+      eqb-true a.place b.place (and_left (a.place == b.place) (nat_lt a.rule b.rule) both),
+      ltb-true a.rule b.rule (and_right (a.place == b.place) (nat_lt a.rule b.rule) both),
+    ))
 
 -- the places of one that isn't before
 record Behind (a b : RuleFault) : Type 0 where

@@ -97,6 +97,7 @@ module _ (procedures : List Caller) where
       reach_of short.through (length procedures) from to (omega (arith, few)) short.way
 
 pub cycles : (procedures : List Caller) (number : ℕ) → (calls_itself procedures number ≡ true) ↔ CallsItself procedures number
-cycles procedures number =
-    (λ h. way_of procedures (length procedures) number number h,
-    λ way. few_calls procedures number number (simple procedures way.0 number number way.1))
+cycles procedures number = (
+  λ h. way_of procedures (length procedures) number number h,
+  λ way. few_calls procedures number number (simple procedures way.0 number number way.1),
+)

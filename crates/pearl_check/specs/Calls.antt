@@ -1,6 +1,6 @@
 -- Which procedures a task or procedure calls, and which procedures reach themselves. Each call in the text counts, also
 -- one that is never made: in the subscripts behind LWB or UPB.
-use Rattle.std.specs.Prelude.{◌≡◌, ℕ, zero, suc, ◌+◌, Bool, true, false, ◌||◌, List, [], ◌∷◌, ◌++◌, length, map, Option, Some, None, nat_eq, slice_get, filter, position, filter_map}
+use Rattle.std.specs.Prelude.{◌≡◌, ℕ, zero, suc, ◌+◌, Bool, true, false, ◌||◌, List, [], ◌∷◌, ◌++◌, length, Option, Some, None, nat_eq, slice_get, filter, position, filter_map}
 use Rattle.std.specs.List.{list_any, flat_map}
 use Rattle.std.specs.Str.{bytes_eq}
 use Rattle.pearl_tree.specs.declared.fault.RuleFault.{RuleFault}
@@ -8,7 +8,6 @@ use Rattle.pearl_tree.specs.declared.name.Name.{Name}
 use Rattle.pearl_tree.specs.declared.rule.TheConstants as rule
 use Rattle.pearl_tree.specs.Faults.{fault_if}
 use Rattle.pearl_tree.specs.Names.{text_of}
-use Rattle.pearl_tree.specs.ShownExpressions.{ShownSelectors}
 use Rattle.pearl_scope.specs.Tables.{Table}
 use Rattle.pearl_check_expr.specs.Subjects.{ShownSubject, OfValue, OfWhile, OfTarget, OfCallStatement}
 use Rattle.pearl_check.specs.Asked.{Asked, Subject, Named, asked_at}

@@ -1,12 +1,12 @@
 -- All rules that a module breaks, and the first of them: what is told of a module that is refused.
-use Rattle.std.specs.Prelude.{◌≡◌, ◌⊎◌, ℕ, ◌==◌, Bool, true, false, ◌&&◌, ◌||◌, not, nat_le, nat_lt, if◌then◌else◌, List, [], ◌∷◌, ◌++◌, Option, Some, None, Contains}
+use Rattle.std.specs.Prelude.{ℕ, ◌==◌, Bool, ◌&&◌, ◌||◌, not, nat_le, nat_lt, if◌then◌else◌, List, [], ◌∷◌, ◌++◌, Option, Some, None}
 use Rattle.std.specs.List.{flat_map}
 use Rattle.pearl_tree.specs.declared.fault.RuleFault.{RuleFault}
 use Rattle.pearl_tree.specs.declared.rule.TheConstants as rule
 use Rattle.pearl_tree.specs.declared.declaration.Prio.{Prio}
 use Rattle.pearl_tree.specs.declared.tree.TaskHead.{TaskHead}
 use Rattle.pearl_tree.specs.declared.tree.TaskHead.TheVariants.{PrioFirst, MainFirst}
-use Rattle.pearl_tree.specs.Faults.{fault_if, IsBefore}
+use Rattle.pearl_tree.specs.Faults.{fault_if}
 use Rattle.pearl_tree.specs.ShownModules.{ShownTree}
 use Rattle.pearl_scope.specs.Placed.{Placed}
 use Rattle.pearl_scope.specs.Rules as names

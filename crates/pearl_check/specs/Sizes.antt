@@ -1,5 +1,5 @@
 -- The sizes of a module, and the weights of its tasks and procedures.
-use Rattle.std.specs.Prelude.{ℕ, zero, suc, ◌+◌, ◌*◌, max, Bool, true, false, ◌&&◌, ◌||◌, nat_le, nat_lt, if◌then◌else◌, List, [], ◌∷◌, ◌++◌, length, map, take, drop, Option, Some, None, is_some, slice_get, filter, filter_map}
+use Rattle.std.specs.Prelude.{ℕ, zero, suc, ◌+◌, ◌*◌, max, Bool, false, ◌&&◌, ◌||◌, nat_le, nat_lt, if◌then◌else◌, List, [], ◌∷◌, ◌++◌, length, map, take, drop, Option, Some, None, is_some, slice_get, filter, filter_map}
 use Rattle.std.specs.List.{list_any, flat_map, sum_by}
 use Rattle.pearl_tree.specs.declared.fault.RuleFault.{RuleFault}
 use Rattle.pearl_tree.specs.declared.name.Name.{Name}
@@ -15,7 +15,7 @@ use Rattle.pearl_scope.specs.Scopes.{Entry, decls_entries}
 use Rattle.pearl_scope.specs.Tables.{Form, Sense, Variable, OwnParameter, Semaphore, Task, Procedure, SenseScope, Table, sense_of}
 use Rattle.pearl_check.specs.Asked.{asked_at}
 use Rattle.pearl_check.specs.Calls.{Caller, asked_pieces, calls_of}
-use Rattle.pearl_check.specs.Routines.{Routine, statements_of, scopes_in_routine, is_task, is_procedure}
+use Rattle.pearl_check.specs.Routines.{Routine, statements_of, scopes_in_routine, is_procedure}
 
 -- a name that the module declares, also one that is declared again
 pub record Declared : Type 0 where
