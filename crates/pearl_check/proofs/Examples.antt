@@ -18,7 +18,7 @@ use Rattle.pearl_tree.specs.ShownDeclarations.{OfOne, OfBasic, OfItem}
 use Rattle.pearl_tree.specs.ShownStatements.{ShownStmt, OfAssign, OfCall, OfRepeat, OfExit, OfReturn, NoStmts, MoreStmts}
 use Rattle.pearl_tree.specs.ShownModules.{ShownDecl, OfDeclare, OfTask, OfProc, ShownTree}
 use Rattle.pearl_scope.specs.Rules.{faults_in}
-use Rattle.pearl_scope.specs.Sorts.{sorted_names, names_of_scopes}
+use Rattle.pearl_names.specs.Sorts.{sorted_names, names_of_scopes}
 use Rattle.pearl_check.specs.Calls.{Caller}
 use Rattle.pearl_check.specs.Formats.{format_faults}
 use Rattle.pearl_check.specs.Rules.{broken, all_broken, first}

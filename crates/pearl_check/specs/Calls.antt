@@ -8,7 +8,7 @@ use Rattle.pearl_tree.specs.declared.name.Name.{Name}
 use Rattle.pearl_tree.specs.declared.rule.TheConstants as rule
 use Rattle.pearl_tree.specs.Faults.{fault_if}
 use Rattle.pearl_tree.specs.Names.{text_of}
-use Rattle.pearl_scope.specs.Tables.{Table}
+use Rattle.pearl_names.specs.Tables.{Table}
 use Rattle.pearl_check_expr.specs.Subjects.{ShownSubject, OfValue, OfWhile, OfTarget, OfCallStatement}
 use Rattle.pearl_check.specs.Asked.{Asked, Subject, Named, asked_at}
 use Rattle.pearl_check.specs.Pieces.{Piece, Reference, Other, expr_pieces, exprs_pieces, selectors_pieces}

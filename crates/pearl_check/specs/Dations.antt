@@ -5,8 +5,8 @@ use Rattle.pearl_tree.specs.declared.fault.RuleFault.{RuleFault}
 use Rattle.pearl_tree.specs.declared.rule.TheConstants as rule
 use Rattle.pearl_tree.specs.Faults.{fault_if}
 use Rattle.pearl_tree.specs.ShownStatements.{ShownStmt, OfPut, OfGet, OfSend, OfTake}
-use Rattle.pearl_scope.specs.declared.scope.View.TheVariants.{Within}
-use Rattle.pearl_scope.specs.Tables.{Sense, AlphicDation, BasicDation, Table}
+use Rattle.pearl_names.specs.declared.scope.View.TheVariants.{Within}
+use Rattle.pearl_names.specs.Tables.{Sense, AlphicDation, BasicDation, Table}
 use Rattle.pearl_system.specs.Rules.{is_in, is_out}
 use Rattle.pearl_check_expr.specs.Judged.{misfits}
 use Rattle.pearl_check.specs.Views.{seen, value_kind, target_kind}

@@ -13,7 +13,7 @@ use Rattle.pearl_tree.specs.declared.format.Fmt.TheVariants.{Free, Wide}
 use Rattle.pearl_tree.specs.declared.rule.TheConstants as rule
 use Rattle.pearl_tree.specs.Faults.{fault_if}
 use Rattle.pearl_tree.specs.ShownStatements.{ShownStmt, OfPut, OfGet}
-use Rattle.pearl_scope.specs.Tables.{Table}
+use Rattle.pearl_names.specs.Tables.{Table}
 use Rattle.pearl_check.specs.Views.{value_kind, target_kind}
 
 abbrev pub place_of_item : Fmt → ℕ

@@ -6,9 +6,9 @@ use Rattle.pearl_value.specs.declared.kind.Kind.TheVariants as kind
 use Rattle.pearl_tree.specs.declared.fault.RuleFault.{RuleFault}
 use Rattle.pearl_tree.specs.declared.rule.TheConstants as rule
 use Rattle.pearl_tree.specs.Faults.{fault_if}
-use Rattle.pearl_scope.specs.declared.scope.View.TheVariants.{Within}
-use Rattle.pearl_scope.specs.Tables.{Sense, Semaphore, Interrupt, AlphicDation, BasicDation, Table}
-use Rattle.pearl_scope.specs.Tables as sense
+use Rattle.pearl_names.specs.declared.scope.View.TheVariants.{Within}
+use Rattle.pearl_names.specs.Tables.{Sense, Semaphore, Interrupt, AlphicDation, BasicDation, Table}
+use Rattle.pearl_names.specs.Tables as sense
 use Rattle.pearl_check_expr.specs.Senses.{is_fixed}
 use Rattle.pearl_check_expr.specs.Subjects.{ShownSubject, OfTarget, subject_judged}
 use Rattle.pearl_check.specs.Asked.{Role, Plain, Condition, Count, Moment, Lapse, Priority, NameRole, TaskName, SemaphoreName, InterruptName, DationName, Asked, Subject, Named}

@@ -4,7 +4,7 @@ use Rattle.pearl_tree.specs.declared.name.Name.{Name}
 use Rattle.pearl_tree.specs.declared.typing.Basic.{Basic}
 use Rattle.pearl_tree.specs.declared.tree.TaskHead.{TaskHead}
 use Rattle.pearl_tree.specs.ShownModules.{ShownBody, ShownDecl, OfTask, OfProc, ShownTree}
-use Rattle.pearl_scope.specs.Scopes.{as_stmts, scopes_in_all, scopes_in_decl}
+use Rattle.pearl_names.specs.Scopes.{as_stmts, scopes_in_all, scopes_in_decl}
 use Rattle.pearl_scope.specs.Placed.{Placed, placed_body}
 
 pub data RoutineSort : Type 0 where

@@ -10,7 +10,7 @@ use Rattle.pearl_tree.specs.Faults.{fault_if}
 use Rattle.pearl_tree.specs.ShownModules.{ShownTree}
 use Rattle.pearl_scope.specs.Placed.{Placed}
 use Rattle.pearl_scope.specs.Rules as names
-use Rattle.pearl_scope.specs.Tables.{Table, table_of}
+use Rattle.pearl_names.specs.Tables.{Table, table_of}
 use Rattle.pearl_system.specs.Rules as devices
 use Rattle.pearl_check.specs.Asked.{asked_at}
 use Rattle.pearl_check.specs.Calls.{Caller, s28}
@@ -58,7 +58,7 @@ whole_faults declared procedures callers = s28 procedures ++ s34 (s28 procedures
 abbrev pub broken : ShownTree → List RuleFault
 broken tree =
     flat_map (routine_faults (table_of tree)) (routines_of tree) ++
-    whole_faults (declared_in tree) (procedure_callers (table_of tree) (routines_of tree))
+    whole_faults (declared_in (table_of tree)) (procedure_callers (table_of tree) (routines_of tree))
     (all_callers (table_of tree) (routines_of tree))
 
 abbrev pub routine_part_faults : Table → Routine → List RuleFault

@@ -1,18 +1,17 @@
 -- The sizes of a module, and the weights of its tasks and procedures.
-use Rattle.std.specs.Prelude.{ℕ, zero, suc, ◌+◌, ◌*◌, max, Bool, false, ◌&&◌, ◌||◌, nat_le, nat_lt, if◌then◌else◌, List, [], ◌∷◌, ◌++◌, length, map, take, drop, Option, Some, None, is_some, slice_get, filter, filter_map}
+use Rattle.std.specs.Prelude.{ℕ, zero, suc, ◌+◌, ◌*◌, max, Bool, false, ◌&&◌, ◌||◌, nat_le, nat_lt, if◌then◌else◌, List, [], ◌∷◌, ◌++◌, length, map, take, drop, Option, Some, None, is_some, unwrap_or, slice_get, filter, filter_map}
 use Rattle.std.specs.List.{list_any, flat_map, sum_by}
 use Rattle.pearl_tree.specs.declared.fault.RuleFault.{RuleFault}
 use Rattle.pearl_tree.specs.declared.name.Name.{Name}
 use Rattle.pearl_tree.specs.declared.rule.TheConstants as rule
 use Rattle.pearl_tree.specs.Faults.{fault_if}
 use Rattle.pearl_tree.specs.Names.{text_of}
-use Rattle.pearl_tree.specs.ShownModules.{ShownTree}
 use Rattle.pearl_tree.specs.ShownStatements.{ShownStmt, OfRepeat, OfGet}
-use Rattle.pearl_scope.specs.Layout.{Leaf, leaves_of, slots_of}
+use Rattle.pearl_names.specs.Layout.{Leaf, leaves_of, slots_of}
 use Rattle.pearl_scope.specs.Placed.{Placed}
-use Rattle.pearl_scope.specs.Rules.{known_of}
-use Rattle.pearl_scope.specs.Scopes.{Entry, decls_entries}
-use Rattle.pearl_scope.specs.Tables.{Form, Sense, Variable, OwnParameter, Semaphore, Task, Procedure, SenseScope, Table, sense_of}
+use Rattle.pearl_names.specs.Meanings.{names_in}
+use Rattle.pearl_names.specs.declared.scope.SortedName.{SortedName}
+use Rattle.pearl_names.specs.Tables.{Form, Sense, Variable, OwnParameter, Semaphore, Task, Procedure, Table}
 use Rattle.pearl_check.specs.Asked.{asked_at}
 use Rattle.pearl_check.specs.Calls.{Caller, asked_pieces, calls_of}
 use Rattle.pearl_check.specs.Routines.{Routine, statements_of, scopes_in_routine, is_procedure}
@@ -22,10 +21,13 @@ pub record Declared : Type 0 where
   pub name : Name
   pub sense : Sense
 
-abbrev pub declared_in : ShownTree → List Declared
-declared_in tree =
-    map (λ (entry : Entry). record { name = entry.name; sense = sense_of (known_of tree) 0 entry.meaning })
-    (decls_entries 0 tree.declarations)
+abbrev pub with_senses : List SortedName → List Sense → List Declared
+with_senses (entry ∷ entries) (sense ∷ senses) = record { name = entry.name; sense = sense } ∷ with_senses entries senses
+with_senses entries senses = []
+
+-- the names of the module's own scope, in order
+abbrev pub declared_in : Table → List Declared
+declared_in table = with_senses (names_in (slice_get table.names 0)) (unwrap_or (slice_get table.senses 0) [])
 
 -- where a rule is broken in a variable's declaration, it has no leaves here
 abbrev pub leaves_in : Option Form → List Leaf
@@ -83,9 +85,6 @@ cells (Variable form inv) = slots_in form
 cells (OwnParameter parameter) = 1
 cells sense = 0
 
-abbrev pub cells_in_scope : SenseScope → ℕ
-cells_in_scope scope = sum_by (λ named. cells named.sense) scope.names
-
 abbrev pub has_counter : {X Y : Type 0} → Option X → (begin step end : Option Y) → Bool
 has_counter control begin step end = is_some control || (is_some begin || (is_some step || is_some end))
 
@@ -98,7 +97,7 @@ hidden_cells statement = 0
 
 abbrev pub cells_of : Table → Routine → ℕ
 cells_of table routine =
-    sum_by cells_in_scope (take (scopes_in_routine routine) (drop routine.scope table.scopes)) +
+    sum_by (sum_by cells) (take (scopes_in_routine routine) (drop routine.scope table.senses)) +
     sum_by (λ (place : Placed). hidden_cells place.statement) (statements_of routine)
 
 -- what a statement needs beside the cells, apart from those within it

@@ -8,9 +8,9 @@ use Rattle.pearl_tree.specs.Faults.{fault_if}
 use Rattle.pearl_tree.specs.Names.{repeats}
 use Rattle.pearl_tree.specs.ShownExpressions.{ShownExpr}
 use Rattle.pearl_tree.specs.ShownStatements.{ShownStmt, OfAssign, OfExit, OfReturn, OfOnSemas}
-use Rattle.pearl_scope.specs.declared.scope.View.TheVariants.{Within}
-use Rattle.pearl_scope.specs.Lengths.{kind_of_basic}
-use Rattle.pearl_scope.specs.Tables.{Table}
+use Rattle.pearl_names.specs.declared.scope.View.TheVariants.{Within}
+use Rattle.pearl_names.specs.Lengths.{kind_of_basic}
+use Rattle.pearl_names.specs.Tables.{Table}
 use Rattle.pearl_check_expr.specs.Judged.{misfits}
 use Rattle.pearl_check.specs.Routines.{RoutineSort, Task, Procedure}
 use Rattle.pearl_check.specs.Views.{seen, value_kind, target_kind, is_semaphore}

@@ -5,16 +5,15 @@ use Rattle.pearl_value.specs.declared.kind.Kind.{Kind}
 use Rattle.pearl_tree.specs.declared.name.Name.{Name}
 use Rattle.pearl_tree.specs.Names.{text_of}
 use Rattle.pearl_tree.specs.ShownExpressions.{ShownExpr, ShownRef}
-use Rattle.pearl_scope.specs.declared.scope.View.{View}
-use Rattle.pearl_scope.specs.declared.scope.View.TheVariants.{Within, WhileOf}
-use Rattle.pearl_scope.specs.Tables.{Sense, Procedure, Semaphore, Table}
-use Rattle.pearl_check_expr.specs.Senses.{sense_from}
+use Rattle.pearl_names.specs.declared.scope.View.{View}
+use Rattle.pearl_names.specs.declared.scope.View.TheVariants.{Within, WhileOf}
+use Rattle.pearl_names.specs.Tables.{Sense, Procedure, Semaphore, Table, sense_from}
 use Rattle.pearl_check_expr.specs.Judged.{judged, expr_place}
 use Rattle.pearl_check_expr.specs.Subjects.{ShownSubject, OfValue, OfWhile, OfTarget, OfCallStatement, subject_judged, target_judged}
 
 -- what a name stands for
 abbrev pub seen : Table → View → Name → Option Sense
-seen table view name = sense_from table.scopes view (text_of name)
+seen table view name = sense_from table view (text_of name)
 
 abbrev pub value_kind : Table → ℕ → ShownExpr → Option Kind
 value_kind table scope expr = (judged table (Within scope) expr).kind

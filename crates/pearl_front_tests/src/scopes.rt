@@ -2,12 +2,12 @@
 
 use crate::cases::{STOP, places_of, source_of, tokens_of};
 use arrayvec::ArrayVec;
+use pearl_names::collect::names_of_module;
+use pearl_names::duration::is_too_long;
+use pearl_names::length::{is_length, kind_of_basic, lengths_set};
+use pearl_names::meaning::sort_from;
+use pearl_names::scope::{NameSort, View};
 use pearl_parse::parse::parse;
-use pearl_scope::collect::names_of_module;
-use pearl_scope::duration::is_too_long;
-use pearl_scope::length::{is_length, kind_of_basic, lengths_set};
-use pearl_scope::meaning::sort_from;
-use pearl_scope::scope::{NameSort, View};
 use pearl_tree::literal::{Duration, Secs};
 use pearl_tree::name::Number;
 use pearl_tree::tree::Tree;

@@ -1,6 +1,7 @@
 use Rattle.std.proofs.Common.{◌++◌}
 use Rattle.pearl_scope.specs.PartLists.{shown_part}
-use Rattle.pearl_scope.specs.Rules.{Known, s2, s3, s4, s5, s6, s8, s9}
+use Rattle.pearl_scope.specs.Rules.{s2, s3, s4, s5, s6, s8, s9}
+use Rattle.pearl_names.specs.Known.{Known}
 use Rattle.pearl_scope.proofs.Asking.{adds}
 use Rattle.pearl_scope.proofs.rules.rules_at.Goals as goal
 

@@ -9,11 +9,11 @@ use Rattle.pearl_tree.specs.declared.statement.If.{out-If}
 use Rattle.pearl_tree.specs.declared.statement.Repeat.{Repeat}
 use Rattle.pearl_tree.specs.ShownExpressions.{shown_expr}
 use Rattle.pearl_tree.specs.ShownStatements.{ShownStmt, shown_stmt, shown_body_decl}
-use Rattle.pearl_scope.specs.declared.scope.View.TheVariants.{Within}
+use Rattle.pearl_names.specs.declared.scope.View.TheVariants.{Within}
 use Rattle.pearl_scope.specs.Parts.{Part, expr_parts, loop_parts, body_decl_parts}
 use Rattle.pearl_scope.specs.PartLists.{parts_in}
 use Rattle.pearl_scope.specs.Placed.{placed_at, parts_at}
-use Rattle.pearl_scope.proofs.StatementRows.{if_shown, case_shown, repeat_shown, begin_shown}
+use Rattle.pearl_names.proofs.StatementRows.{if_shown, case_shown, repeat_shown, begin_shown}
 use Rattle.pearl_scope.proofs.statement_part.add_place.Goals as goal
 
 pub returns-in-If : goal.returns-in-If

@@ -1,0 +1,19 @@
+pub mod Lists
+pub mod StatementRows
+pub mod Collecting
+pub mod AnyTypes
+pub mod DeclLists
+pub mod FirstNames
+pub mod Repeating
+pub mod Found
+pub mod HeldAt
+pub mod Counting
+pub mod Standing
+pub mod Building
+pub mod FieldsMade
+pub mod Sized
+pub mod TypesMade
+pub mod ItemCounts
+pub mod Steps
+mod Outers
+pub mod Examples

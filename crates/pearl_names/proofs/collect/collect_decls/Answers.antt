@@ -1,0 +1,6 @@
+use Rattle.pearl_names.proofs.DeclLists.{one_more_scopes}
+use Rattle.pearl_names.proofs.collect.collect_decls.Goals as goal
+
+pub loop-decl-preserved : goal.loop-decl-preserved
+loop-decl-preserved c =
+    one_more_scopes _ _ _ _ _ c.decl-item.result c.loop-decl-test.true c.decl-item.is c.loop-decl.invariant c.in_ok-collect_decl.ensures
