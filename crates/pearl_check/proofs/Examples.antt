@@ -18,6 +18,7 @@ use Rattle.pearl_tree.specs.ShownDeclarations.{OfOne, OfBasic, OfItem}
 use Rattle.pearl_tree.specs.ShownStatements.{ShownStmt, OfAssign, OfCall, OfRepeat, OfExit, OfReturn, NoStmts, MoreStmts}
 use Rattle.pearl_tree.specs.ShownModules.{ShownDecl, OfDeclare, OfTask, OfProc, ShownTree}
 use Rattle.pearl_scope.specs.Rules.{faults_in}
+use Rattle.pearl_names.specs.FirstNames.{repeated}
 use Rattle.pearl_names.specs.Sorts.{sorted_names, names_of_scopes}
 use Rattle.pearl_check.specs.Calls.{Caller}
 use Rattle.pearl_check.specs.Formats.{format_faults}
@@ -86,11 +87,11 @@ assigned text = source
     task 32 (OfAssign (record { name = name "c" 39; selectors = NoSelectors; place = 39 }) (OfOperand [] (OfLiteral (OfText (codes text) 42)) 42) 39 ∷ []) ∷ [])
 
 too_long : first (all_broken (assigned "abcde")) ≡ Some (fault 39 24)
-unfolding faults_in names_of_scopes sorted_names
+unfolding faults_in names_of_scopes sorted_names repeated
 too_long = refl
 
 short : first (all_broken (assigned "ab")) ≡ None
-unfolding faults_in names_of_scopes sorted_names
+unfolding faults_in names_of_scopes sorted_names repeated
 short = refl
 
 -- F(0)

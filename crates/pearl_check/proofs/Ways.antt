@@ -6,7 +6,7 @@ use Rattle.pearl_check.proofs.Tests.{by_case, or_left, or_right, or_rest, nor_le
 use Rattle.pearl_check.specs.Calls.{Caller, callees, reaches, calls, calls_itself, IsWay, CallsItself}
 
 -- an element that passes is found
-some_test : (p : ℕ → Bool) (x : ℕ) (xs : List ℕ) → list_any (nat_eq x) xs ≡ true → p x ≡ true → list_any p xs ≡ true
+pub some_test : (p : ℕ → Bool) (x : ℕ) (xs : List ℕ) → list_any (nat_eq x) xs ≡ true → p x ≡ true → list_any p xs ≡ true
 some_test p x [] h u = absurd (true≢false (sym h))
 some_test p x (y ∷ ys) h u = by_case _ (nat_eq x y)
     (λ same. or_left (p y) (list_any p ys) (subst (λ z. p z ≡ true) (eqb-true x y same) u))
@@ -24,12 +24,12 @@ one_passes p (x ∷ xs) h = by_case _ (p x)
     (λ no_. let found = one_passes p xs (or_rest (p x) (list_any p xs) no_ h) in
     record { one = found.one; inside = or_right (nat_eq found.one x) (list_any (nat_eq found.one) xs) found.inside; passes = found.passes })
 
-all_other : (i : ℕ) (xs : List ℕ) → list_any (nat_eq i) xs ≡ false → AllByRecursion (λ y. nat_eq i y ≡ false) xs
+pub all_other : (i : ℕ) (xs : List ℕ) → list_any (nat_eq i) xs ≡ false → AllByRecursion (λ y. nat_eq i y ≡ false) xs
 all_other i [] h = tt
 all_other i (x ∷ xs) h = (nor_left (nat_eq i x) (list_any (nat_eq i) xs) h, all_other i xs (nor_right (nat_eq i x) (list_any (nat_eq i) xs) h))
 
 -- only a procedure that is there calls another
-inside : (procedures : List Caller) (i c : ℕ) → calls procedures i c ≡ true → i < length procedures
+pub inside : (procedures : List Caller) (i c : ℕ) → calls procedures i c ≡ true → i < length procedures
 inside [] i c h = absurd (true≢false (sym h))
 inside (x ∷ xs) zero c h = omega arith
 inside (x ∷ xs) (suc i) c h = omega (arith, inside xs i c h)

@@ -20,5 +20,5 @@ pub mod Calls
 pub mod Sizes
 -- all rules that a module breaks, and the first of them
 pub mod Rules
--- what is told is the first of the faults in order, and S28 is broken where calls lead back
+-- what is told is the first of the faults in order; S28 is broken where calls lead back, and weights add up where it isn't
 pub mod Laws

@@ -124,9 +124,11 @@ abbrev pub weight : (depth : ℕ) → List Caller → Caller → ℕ
 weight zero procedures caller = caller.own
 weight (suc depth) procedures caller = caller.own + greatest (map (weight depth procedures) (called procedures caller))
 
+abbrev pub whole_weight : List Caller → Caller → ℕ
+whole_weight procedures caller = weight (length procedures) procedures caller
+
 abbrev pub overweight : List Caller → Caller → List RuleFault
-overweight procedures caller =
-    fault_if (nat_lt 4096 (weight (length procedures) procedures caller)) caller.name.place rule.S34
+overweight procedures caller = fault_if (nat_lt 4096 (whole_weight procedures caller)) caller.name.place rule.S34
 
 -- weights are asked only where S28 isn't broken
 abbrev pub weights : (cycles : List RuleFault) → (procedures callers : List Caller) → List RuleFault
