@@ -1,60 +1,52 @@
--- The names of scopes whose declarations stand one after the other.
-use Rattle.std.proofs.Common.{◌≡◌, ℕ, ◌+◌, ◌<◌, Option, Some, get_or, take, subst, List, [], ◌∷◌, ◌++◌, refl, sym, ap, ◌∙◌, map, length, length-append, append_assoc, arith}
+-- Scopes whose declarations stand one after the other.
+use Rattle.std.proofs.Common.{◌≡◌, ℕ, ◌+◌, ◌<◌, get_or, take, subst, List, [], ◌∷◌, ◌++◌, refl, sym, ap, ◌∙◌, map, length, length-append, append_assoc, arith}
 use Rattle.std.proofs.lemmas.List.{map-append, length-map, append-nil, take_more}
+use Rattle.std.proofs.lemmas.Grind.{flat_map-append}
 use Rattle.pearl_tree.specs.declared.statement.Stmt.{Stmt}
 use Rattle.pearl_tree.specs.declared.statement.Branch.{Branch}
-use Rattle.pearl_tree.specs.ShownExpressions.{ShownExpr}
-use Rattle.pearl_tree.specs.ShownStatements.{ShownBodyDecl, shown_stmt, ShownStmt, OfIf, OfCase, OfRepeat, OfBegin, ShownStmts, NoStmts, MoreStmts, ShownBranches, NoBranches, MoreBranches, ShownOtherwise, NoOtherwise, OfOtherwise}
+use Rattle.pearl_tree.specs.ShownStatements.{shown_stmt, ShownStmt, OfIf, OfCase, OfRepeat, OfBegin, ShownStmts, NoStmts, MoreStmts, ShownBranches, NoBranches, MoreBranches, ShownOtherwise, NoOtherwise, OfOtherwise}
+use Rattle.pearl_names.specs.declared.group.Group.{Group}
+use Rattle.pearl_names.specs.declared.group.ScopeGroups.{ScopeGroups}
+use Rattle.pearl_names.specs.Groups.{group_entries, entries_in, shown_scope, scopes_in_list}
 use Rattle.pearl_names.specs.Listed.{stmts_shown, branches_shown}
-use Rattle.pearl_tree.specs.declared.name.Name.{Name}
-use Rattle.pearl_names.specs.ScopeNames.{ScopeNames}
-use Rattle.pearl_names.specs.Scopes.{Meaning, Entry, Scope, entries_as, as_stmts, scopes_in, scopes_in_all, scopes_in_branches, scopes_in_otherwise, stmt_scopes, all_scopes, branch_scopes, otherwise_scopes, control_entries, body_entries}
-use Rattle.pearl_names.specs.Sorts.{sort_of, sorted_name, sorted_names, names_as, scope_names, names_of_scopes, body_scopes}
+use Rattle.pearl_names.specs.Scopes.{Scope, as_stmts, scopes_in, scopes_in_all, scopes_in_branches, scopes_in_otherwise, stmt_scopes, all_scopes, branch_scopes, otherwise_scopes}
 
-pub sorted_names-nil : sorted_names [] ≡ []
-unfolding sorted_names
-sorted_names-nil = refl
+pub entries_in-nil : entries_in [] ≡ []
+unfolding entries_in
+entries_in-nil = refl
 
-pub sorted_names-cons : (entry : Entry) (rest : List Entry) → sorted_names (entry ∷ rest) ≡ sorted_name entry ∷ sorted_names rest
-unfolding sorted_names
-sorted_names-cons entry rest = refl
+pub entries_in-append : (groups rest : List Group) → entries_in (groups ++ rest) ≡ entries_in groups ++ entries_in rest
+unfolding entries_in
+entries_in-append groups rest = flat_map-append group_entries groups rest
 
-pub sorted_names-append : (entries rest : List Entry) → sorted_names (entries ++ rest) ≡ sorted_names entries ++ sorted_names rest
-unfolding sorted_names
-sorted_names-append entries rest = map-append sorted_name entries rest
+pub entries_in-one : (group : Group) → entries_in (group ∷ []) ≡ group_entries group
+unfolding entries_in
+entries_in-one group = append-nil (group_entries group)
 
--- the names that a declaration declares are of its sort
-pub sorted_names-as : (meaning : Meaning) (names : List Name) → sorted_names (entries_as meaning names) ≡ names_as (sort_of meaning) names
-unfolding sorted_names
-sorted_names-as meaning [] = refl
-sorted_names-as meaning (name ∷ names) = ap (λ t. record { name = name; sort = sort_of meaning } ∷ t) (sorted_names-as meaning names)
+pub scopes_in_list-nil : scopes_in_list [] ≡ []
+unfolding scopes_in_list
+scopes_in_list-nil = refl
 
-pub names_of_scopes-nil : names_of_scopes [] ≡ []
-unfolding names_of_scopes
-names_of_scopes-nil = refl
+pub scopes_in_list-append : (scopes rest : List ScopeGroups) → scopes_in_list (scopes ++ rest) ≡ scopes_in_list scopes ++ scopes_in_list rest
+unfolding scopes_in_list
+scopes_in_list-append scopes rest = map-append shown_scope scopes rest
 
-pub names_of_scopes-append : (scopes rest : List Scope) → names_of_scopes (scopes ++ rest) ≡ names_of_scopes scopes ++ names_of_scopes rest
-unfolding names_of_scopes
-names_of_scopes-append scopes rest = map-append scope_names scopes rest
+pub scopes_in_list-one : (scope : ScopeGroups) → scopes_in_list (scope ∷ []) ≡ shown_scope scope ∷ []
+unfolding scopes_in_list
+scopes_in_list-one scope = refl
 
-pub names_of_scopes-cons : (scope : Scope) (rest : List Scope) → names_of_scopes (scope ∷ rest) ≡ scope_names scope ∷ names_of_scopes rest
-unfolding names_of_scopes
-names_of_scopes-cons scope rest = refl
+pub length-scopes_in_list : (scopes : List ScopeGroups) → length (scopes_in_list scopes) ≡ length scopes
+unfolding scopes_in_list
+length-scopes_in_list scopes = length-map scopes shown_scope
 
-pub length-names_of_scopes : (scopes : List Scope) → length (names_of_scopes scopes) ≡ length scopes
-unfolding names_of_scopes
-length-names_of_scopes scopes = length-map scopes scope_names
+pub ruleset group_steps = (entries_in-nil, entries_in-append, entries_in-one, scopes_in_list-nil, scopes_in_list-append, scopes_in_list-one, length-scopes_in_list)
 
 -- scopes were added, and then those that begin behind them
-pub adds_scopes : (a b c : List ScopeNames) (count : ℕ) (first : List Scope) (rest : ℕ → List Scope) → length first ≡ count →
-    b ≡ a ++ names_of_scopes first → c ≡ b ++ names_of_scopes (rest (length b)) →
-    c ≡ a ++ names_of_scopes (first ++ rest (length a + count))
+pub adds_scopes : (a b c : List Scope) (count : ℕ) (first : List Scope) (rest : ℕ → List Scope) → length first ≡ count →
+    b ≡ a ++ first → c ≡ b ++ rest (length b) → c ≡ a ++ (first ++ rest (length a + count))
 adds_scopes a b c count first rest counted one two =
-    let long : length b ≡ length a + count =
-    ap length one ∙ length-append a (names_of_scopes first) ∙ ap (λ n. length a + n) (length-names_of_scopes first ∙ counted) in
-    two ∙ ap (λ n. b ++ names_of_scopes (rest n)) long ∙ ap (λ t. t ++ names_of_scopes (rest (length a + count))) one
-    ∙ append_assoc a (names_of_scopes first) (names_of_scopes (rest (length a + count)))
-    ∙ ap (λ t. a ++ t) (sym (names_of_scopes-append first (rest (length a + count))))
+    let long : length b ≡ length a + count = ap length one ∙ length-append a first ∙ ap (λ n. length a + n) counted in
+    two ∙ ap (λ n. b ++ rest n) long ∙ ap (λ t. t ++ rest (length a + count)) one ∙ append_assoc a first (rest (length a + count))
 
 mutual
   pub length-stmt_scopes : (types scope next : ℕ) (statement : ShownStmt) → length (stmt_scopes types scope next statement) ≡ scopes_in statement
@@ -124,51 +116,32 @@ branch_scopes-more types scope next (y ∷ ys) x =
     ∙ ap (λ n. branch_scopes types scope (next + here) (branches_shown ys) ++ all_scopes types scope n (stmts_shown x.statements.items.items)) e)
     ∙ sym (append_assoc (all_scopes types scope next (stmts_shown y.statements.items.items)) _ _)
 
--- the body of BEGIN
-pub names_of_begin : (scope number : ℕ) (declarations : List ShownBodyDecl) (statements : ShownStmts) (body_place place : ℕ) →
-    names_of_scopes (stmt_scopes 0 scope number (OfBegin declarations statements body_place place)) ≡
-    body_scopes scope [] number declarations statements
-unfolding names_of_scopes
-names_of_begin scope number declarations statements body_place place = refl
-
--- the body of a loop
-pub names_of_loop : (scope number : ℕ) (control : Option Name) (begin step end condition : Option ShownExpr)
-    (declarations : List ShownBodyDecl) (statements : ShownStmts) (body_place place : ℕ) →
-    names_of_scopes (stmt_scopes 0 scope number (OfRepeat control begin step end condition declarations statements body_place place)) ≡
-    body_scopes scope (sorted_names (control_entries place control)) number declarations statements
-unfolding names_of_scopes
-names_of_loop scope number control begin step end condition declarations statements body_place place =
-    ap (λ names. record { outer = Some scope; names = names } ∷ map scope_names (all_scopes 0 number (number + 1) statements))
-    (sorted_names-append (control_entries place control) (body_entries 0 declarations))
-
 -- one element more is taken of a list
 pub taken : {X : Type 0} (xs listed : List X) (i : ℕ) (x : X) → listed ≡ xs → i < length listed → x ≡ get_or listed i x →
     take (i + 1) xs ≡ take i xs ++ x ∷ []
 taken xs listed i x same inside is =
     subst (λ l. take (i + 1) l ≡ take i l ++ x ∷ []) same (take_more listed i x inside ∙ ap (λ s. take i listed ++ s ∷ []) (sym is))
 
-pub one_more_stmt : (a b c : List ScopeNames) (scope : ℕ) (xs listed : List Stmt) (i : ℕ) (x : Stmt) →
+pub one_more_stmt : (a b c : List Scope) (types scope : ℕ) (xs listed : List Stmt) (i : ℕ) (x : Stmt) →
     listed ≡ xs → i < length listed → x ≡ get_or listed i x →
-    b ≡ a ++ names_of_scopes (all_scopes 0 scope (length a) (stmts_shown (take i xs))) →
-    c ≡ b ++ names_of_scopes (stmt_scopes 0 scope (length b) (shown_stmt x)) →
-    c ≡ a ++ names_of_scopes (all_scopes 0 scope (length a) (stmts_shown (take (i + 1) xs)))
-one_more_stmt a b c scope xs listed i x same inside is one two =
+    b ≡ a ++ all_scopes types scope (length a) (stmts_shown (take i xs)) →
+    c ≡ b ++ stmt_scopes types scope (length b) (shown_stmt x) →
+    c ≡ a ++ all_scopes types scope (length a) (stmts_shown (take (i + 1) xs))
+one_more_stmt a b c types scope xs listed i x same inside is one two =
     let shown : stmts_shown (take (i + 1) xs) ≡ as_stmts (map shown_stmt (take i xs) ++ shown_stmt x ∷ []) =
     ap stmts_shown (taken xs listed i x same inside is) ∙ ap as_stmts (map-append shown_stmt (take i xs) (x ∷ [])) in
-    adds_scopes a b c (scopes_in_all (stmts_shown (take i xs))) (all_scopes 0 scope (length a) (stmts_shown (take i xs)))
-    (λ n. stmt_scopes 0 scope n (shown_stmt x)) (length-all_scopes 0 scope (length a) (stmts_shown (take i xs))) one two
-    ∙ ap (λ t. a ++ names_of_scopes t) (sym (all_scopes-more 0 scope (length a) (map shown_stmt (take i xs)) (shown_stmt x))
-    ∙ ap (λ t. all_scopes 0 scope (length a) t) (sym shown))
+    adds_scopes a b c (scopes_in_all (stmts_shown (take i xs))) (all_scopes types scope (length a) (stmts_shown (take i xs)))
+    (λ n. stmt_scopes types scope n (shown_stmt x)) (length-all_scopes types scope (length a) (stmts_shown (take i xs))) one two
+    ∙ ap (λ t. a ++ t) (sym (all_scopes-more types scope (length a) (map shown_stmt (take i xs)) (shown_stmt x))
+    ∙ ap (λ t. all_scopes types scope (length a) t) (sym shown))
 
-pub one_more_branch : (a b c : List ScopeNames) (scope : ℕ) (xs listed : List Branch) (i : ℕ) (x : Branch) →
+pub one_more_branch : (a b c : List Scope) (types scope : ℕ) (xs listed : List Branch) (i : ℕ) (x : Branch) →
     listed ≡ xs → i < length listed → x ≡ get_or listed i x →
-    b ≡ a ++ names_of_scopes (branch_scopes 0 scope (length a) (branches_shown (take i xs))) →
-    c ≡ b ++ names_of_scopes (all_scopes 0 scope (length b) (stmts_shown x.statements.items.items)) →
-    c ≡ a ++ names_of_scopes (branch_scopes 0 scope (length a) (branches_shown (take (i + 1) xs)))
-one_more_branch a b c scope xs listed i x same inside is one two =
-    adds_scopes a b c (scopes_in_branches (branches_shown (take i xs))) (branch_scopes 0 scope (length a) (branches_shown (take i xs)))
-    (λ n. all_scopes 0 scope n (stmts_shown x.statements.items.items)) (length-branch_scopes 0 scope (length a) (branches_shown (take i xs))) one two
-    ∙ ap (λ t. a ++ names_of_scopes t) (sym (branch_scopes-more 0 scope (length a) (take i xs) x)
-    ∙ ap (λ t. branch_scopes 0 scope (length a) (branches_shown t)) (sym (taken xs listed i x same inside is)))
-
-pub ruleset name_steps = (sorted_names-nil, sorted_names-cons, sorted_names-append, sorted_names-as, names_of_scopes-nil, names_of_scopes-append, names_of_scopes-cons)
+    b ≡ a ++ branch_scopes types scope (length a) (branches_shown (take i xs)) →
+    c ≡ b ++ all_scopes types scope (length b) (stmts_shown x.statements.items.items) →
+    c ≡ a ++ branch_scopes types scope (length a) (branches_shown (take (i + 1) xs))
+one_more_branch a b c types scope xs listed i x same inside is one two =
+    adds_scopes a b c (scopes_in_branches (branches_shown (take i xs))) (branch_scopes types scope (length a) (branches_shown (take i xs)))
+    (λ n. all_scopes types scope n (stmts_shown x.statements.items.items)) (length-branch_scopes types scope (length a) (branches_shown (take i xs))) one two
+    ∙ ap (λ t. a ++ t) (sym (branch_scopes-more types scope (length a) (take i xs) x)
+    ∙ ap (λ t. branch_scopes types scope (length a) (branches_shown t)) (sym (taken xs listed i x same inside is)))

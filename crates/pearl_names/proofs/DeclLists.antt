@@ -3,11 +3,8 @@ use Rattle.std.proofs.Common.{◌≡◌, ℕ, ◌+◌, ◌<◌, List, [], ◌∷
 use Rattle.std.proofs.lemmas.List.{append-nil, map-append}
 use Rattle.pearl_tree.specs.declared.tree.Decl.{Decl}
 use Rattle.pearl_tree.specs.ShownModules.{ShownDecl, OfTask, OfProc, shown_decl}
-use Rattle.pearl_names.specs.declared.scope.SortedName.{SortedName}
-use Rattle.pearl_names.specs.ScopeNames.{ScopeNames}
-use Rattle.pearl_names.specs.Scopes.{types_in, scopes_in_decl, decl_entries, decls_entries, decl_scopes, decls_scopes, as_stmts}
-use Rattle.pearl_names.specs.Sorts.{sorted_names, names_of_scopes}
-use Rattle.pearl_names.proofs.Collecting.{sorted_names-append, length-all_scopes, adds_scopes, taken}
+use Rattle.pearl_names.specs.Scopes.{Entry, Scope, types_in, scopes_in_decl, decl_entries, decls_entries, decl_scopes, decls_scopes, as_stmts}
+use Rattle.pearl_names.proofs.Collecting.{length-all_scopes, adds_scopes, taken}
 
 -- how many TYPEs there are in some declarations
 abbrev pub types_in_all : List ShownDecl → ℕ
@@ -45,20 +42,19 @@ one_more_type types after xs i x inside is before more =
     more ∙ ap (λ n. n + types_in (shown_decl x)) before ∙ sym (types_in_all-more (map shown_decl (take i xs)) (shown_decl x))
     ∙ ap types_in_all (sym (taken_decl xs i x inside is))
 
-pub one_more_names : (a b c : List SortedName) (types : ℕ) (xs : List Decl) (i : ℕ) (x : Decl) → i < length xs → x ≡ get_or xs i x →
+pub one_more_entries : (a b c : List Entry) (types : ℕ) (xs : List Decl) (i : ℕ) (x : Decl) → i < length xs → x ≡ get_or xs i x →
     types ≡ types_in_all (map shown_decl (take i xs)) →
-    b ≡ a ++ sorted_names (decls_entries 0 (map shown_decl (take i xs))) →
-    c ≡ b ++ sorted_names (decl_entries types (shown_decl x)) →
-    c ≡ a ++ sorted_names (decls_entries 0 (map shown_decl (take (i + 1) xs)))
-one_more_names a b c types xs i x inside is before one two =
+    b ≡ a ++ decls_entries 0 (map shown_decl (take i xs)) →
+    c ≡ b ++ decl_entries types (shown_decl x) →
+    c ≡ a ++ decls_entries 0 (map shown_decl (take (i + 1) xs))
+one_more_entries a b c types xs i x inside is before one two =
     let here = decls_entries 0 (map shown_decl (take i xs)) in
     let more = decl_entries types (shown_decl x) in
     let z : types_in_all (map shown_decl (take i xs)) ≡ 0 + types_in_all (map shown_decl (take i xs)) = omega arith in
-    two ∙ ap (λ t. t ++ sorted_names more) one ∙ append_assoc a (sorted_names here) (sorted_names more)
-    ∙ ap (λ t. a ++ t) (sym (sorted_names-append here more)
-    ∙ ap (λ n. sorted_names (here ++ decl_entries n (shown_decl x))) (before ∙ z)
-    ∙ ap sorted_names (sym (decls_entries-more 0 (map shown_decl (take i xs)) (shown_decl x)))
-    ∙ ap (λ t. sorted_names (decls_entries 0 t)) (sym (taken_decl xs i x inside is)))
+    two ∙ ap (λ t. t ++ more) one ∙ append_assoc a here more
+    ∙ ap (λ t. a ++ t) (ap (λ n. here ++ decl_entries n (shown_decl x)) (before ∙ z)
+    ∙ sym (decls_entries-more 0 (map shown_decl (take i xs)) (shown_decl x))
+    ∙ ap (λ t. decls_entries 0 t) (sym (taken_decl xs i x inside is)))
 
 pub length-decl_scopes : (types next : ℕ) (decl : ShownDecl) → length (decl_scopes types next decl) ≡ scopes_in_decl decl
 length-decl_scopes types next (OfTask name head body place) =
@@ -86,13 +82,16 @@ decls_scopes-more types next (y ∷ ys) x =
     ∙ (λ i. decls_scopes (types + types_in y) (next + scopes_in_decl y) ys ++ decl_scopes (e i) (f i) x))
     ∙ sym (append_assoc (decl_scopes types next y) _ _)
 
-pub one_more_scopes : (a b c : List ScopeNames) (xs : List Decl) (i : ℕ) (x : Decl) → i < length xs → x ≡ get_or xs i x →
-    b ≡ a ++ names_of_scopes (decls_scopes 0 (length a) (map shown_decl (take i xs))) →
-    ((types : ℕ) → c ≡ b ++ names_of_scopes (decl_scopes types (length b) (shown_decl x))) →
-    c ≡ a ++ names_of_scopes (decls_scopes 0 (length a) (map shown_decl (take (i + 1) xs)))
-one_more_scopes a b c xs i x inside is one two =
+pub one_more_scopes : (a b c : List Scope) (types : ℕ) (xs : List Decl) (i : ℕ) (x : Decl) → i < length xs → x ≡ get_or xs i x →
+    types ≡ types_in_all (map shown_decl (take i xs)) →
+    b ≡ a ++ decls_scopes 0 (length a) (map shown_decl (take i xs)) →
+    c ≡ b ++ decl_scopes types (length b) (shown_decl x) →
+    c ≡ a ++ decls_scopes 0 (length a) (map shown_decl (take (i + 1) xs))
+one_more_scopes a b c types xs i x inside is before one two =
     let here = map shown_decl (take i xs) in
+    let z : types_in_all here ≡ 0 + types_in_all here = omega arith in
     adds_scopes a b c (scopes_in_decls here) (decls_scopes 0 (length a) here)
-    (λ n. decl_scopes (0 + types_in_all here) n (shown_decl x)) (length-decls_scopes 0 (length a) here) one (two (0 + types_in_all here))
-    ∙ ap (λ t. a ++ names_of_scopes t) (sym (decls_scopes-more 0 (length a) here (shown_decl x))
+    (λ n. decl_scopes (0 + types_in_all here) n (shown_decl x)) (length-decls_scopes 0 (length a) here) one
+    (two ∙ ap (λ n. b ++ decl_scopes n (length b) (shown_decl x)) (before ∙ z))
+    ∙ ap (λ t. a ++ t) (sym (decls_scopes-more 0 (length a) here (shown_decl x))
     ∙ ap (λ t. decls_scopes 0 (length a) t) (sym (taken_decl xs i x inside is)))

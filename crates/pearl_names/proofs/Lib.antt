@@ -1,12 +1,13 @@
 pub mod Lists
 pub mod StatementRows
 pub mod Collecting
-pub mod AnyTypes
+pub mod Sorting
 pub mod DeclLists
 pub mod FirstNames
 pub mod Repeating
-pub mod Found
 pub mod HeldAt
+pub mod Holding
+pub mod Laid
 pub mod Counting
 pub mod Standing
 pub mod Building

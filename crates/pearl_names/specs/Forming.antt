@@ -1,5 +1,5 @@
 -- How forms are made of written types.
-use Rattle.std.specs.Prelude.{◌≡◌, ℕ, ℤ, false, List, [], ◌∷◌, ◌++◌, length, Option, Some}
+use Rattle.std.specs.Prelude.{◌≡◌, ℕ, ℤ, false, List, [], ◌∷◌, ◌++◌, length, Option, Some, None}
 use Rattle.pearl_tree.specs.declared.typing.Field.{Field}
 use Rattle.pearl_tree.specs.ShownDeclarations.{ShownFields, NoFields, MoreFields, OfStruct, shown_names, shown_typing}
 use Rattle.pearl_names.specs.ScopeNames.{ScopeNames}
@@ -10,8 +10,9 @@ use Rattle.pearl_names.specs.Layout.{elements}
 use Rattle.pearl_names.specs.declared.types.TypeRef.{TypeRef}
 use Rattle.pearl_names.specs.declared.types.StructForm.{StructForm}
 use Rattle.pearl_names.specs.declared.types.Sizes.{Sizes}
+use Rattle.pearl_names.specs.declared.layout.Laid.{Laid}
 use Rattle.pearl_names.specs.Counts.{cut}
-use Rattle.pearl_names.specs.Forms.{Matches, IsForm, AreNamed}
+use Rattle.pearl_names.specs.Forms.{StandsFor, Matches, IsForm, AreNamed}
 
 abbrev pub fields_shown : List Field → ShownFields
 fields_shown [] = NoFields
@@ -50,3 +51,10 @@ sizes_of bounds = record { dimensions = cut (length bounds); elements = cut (ele
 -- the shape of a STRUCT with these fields
 abbrev pub struct_shape : Around → List Field → Option Shape
 struct_shape around fields = shape_of around (OfStruct (fields_shown fields) 0)
+
+-- what an item's variables are, where they have bounds and a shape
+abbrev pub IsLaid : List StructForm → Option Laid → Option (List (ℤ × ℤ)) → Option Shape → Type 0
+IsLaid forms (Some laid) (Some bounds) (Some shape) = (laid.sizes ≡ sizes_of bounds) × StandsFor forms laid.part shape
+IsLaid forms None (Some bounds) (Some shape) = ⊥
+IsLaid forms None bounds shape = Unit {0}
+IsLaid forms laid bounds shape = ⊥

@@ -1,6 +1,6 @@
 -- Which table in memory holds which table of names. A TYPE stands there by its number, and is written out in the
 -- definition.
-use Rattle.std.specs.Prelude.{◌≡◌, ℤ, List, [], ◌∷◌, map, Option, Some, None, slice_get}
+use Rattle.std.specs.Prelude.{◌≡◌, ℕ, ℤ, List, [], ◌∷◌, map, Option, Some, None, option_map, slice_get}
 use Rattle.std.specs.Option.{option_and_then}
 use Rattle.pearl_names.specs.declared.meaning.Found.{Found}
 use Rattle.pearl_names.specs.declared.sense.Bounds.{Bounds}
@@ -11,8 +11,12 @@ use Rattle.pearl_names.specs.declared.sense.Sense.TheVariants as held
 use Rattle.pearl_names.specs.declared.sense.ScopeSenses.{ScopeSenses}
 use Rattle.pearl_names.specs.declared.table.SenseTable.{SenseTable}
 use Rattle.pearl_names.specs.declared.types.StructForm.{StructForm}
-use Rattle.pearl_names.specs.Forms.{StandsFor}
-use Rattle.pearl_names.specs.Tables.{Form, Parameter, Sense, Variable, Control, OwnParameter, NewType, Semaphore, Interrupt, AlphicDation, BasicDation, Task, Procedure, Table}
+use Rattle.pearl_names.specs.declared.types.TypeRef.{TypeRef}
+use Rattle.pearl_names.specs.Forms.{StandsFor, Matches}
+use Rattle.pearl_names.specs.Known.{Known, around}
+use Rattle.pearl_names.specs.Scopes.{Meaning}
+use Rattle.pearl_names.specs.Scopes as scopes
+use Rattle.pearl_names.specs.Tables.{Form, Parameter, Sense, Variable, Control, OwnParameter, NewType, Semaphore, Interrupt, AlphicDation, BasicDation, Task, Procedure, Table, form_of}
 
 abbrev pub pair_of : Bounds → ℤ × ℤ
 pair_of bounds = (bounds.lower, bounds.upper)
@@ -21,6 +25,12 @@ abbrev pub HoldsForm : List StructForm → Option HeldForm → Option Form → T
 HoldsForm forms None None = Unit {0}
 HoldsForm forms (Some form) (Some of) = (map pair_of form.bounds.items ≡ of.bounds) × StandsFor forms form.part of.shape
 HoldsForm forms form of = ⊥
+
+-- the type of a name's variable, where no rule is broken in it
+abbrev pub HasPart : List StructForm → Option TypeRef → Known → (scope : ℕ) → Meaning → Type 0
+HasPart forms part known scope (scopes.Variable item types) =
+    Matches forms part (option_map (λ form. form.shape) (form_of (around known scope types) item))
+HasPart forms part known scope meaning = Unit {0}
 
 abbrev pub parameter_of : HeldParameter → Parameter
 parameter_of parameter = record { kind = parameter.kind; ident = parameter.ident }

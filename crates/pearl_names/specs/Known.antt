@@ -21,6 +21,10 @@ known_of tree = record {
   shapes = shapes_after (names_of_scopes (scopes_of tree)) (lengths_set tree.declarations) [] tree.declarations;
 }
 
+-- with these names, default lengths and shapes
+abbrev pub known_from : List ScopeNames → List DefaultLength → List (Option Shape) → Known
+known_from scopes lengths shapes = record { scopes = scopes; lengths = lengths; shapes = shapes }
+
 -- what is seen from a scope where so many TYPEs stand before
 abbrev pub around : Known → (scope types : ℕ) → Around
 around known scope types =

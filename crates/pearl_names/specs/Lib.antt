@@ -10,13 +10,13 @@ pub mod Scopes
 pub mod Listed
 -- a scope's names as contracts see them
 pub mod ScopeNames
+-- what the scopes in memory show, whose names stand in groups that are declared together
+pub mod Groups
 -- what sort of thing each name of a scope is
 pub mod Sorts
--- what a name means where it is seen
-pub mod Meanings
 -- the first name of a text in a scope, and the repeated ones
 pub mod FirstNames
--- which entry of which scope a name means
+-- which entry of which scope a name means where it is seen, and of what sort it is
 pub mod Found
 -- which kinds, bounds and fields the types of variables have
 pub mod Shapes

@@ -13,7 +13,7 @@ use Rattle.pearl_tree.specs.Names.{text_of as name_text, names_of, has_repeats}
 use Rattle.pearl_names.specs.declared.scope.NameSort.{NameSort}
 use Rattle.pearl_names.specs.declared.scope.NameSort.TheVariants.{NewType as TypeNumber}
 use Rattle.pearl_names.specs.ScopeNames.{ScopeNames}
-use Rattle.pearl_names.specs.Meanings.{sort_within}
+use Rattle.pearl_names.specs.Found.{sort_within}
 
 mutual
   pub data Shape : Type 0 where

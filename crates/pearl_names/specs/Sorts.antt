@@ -1,12 +1,11 @@
 -- What sort of thing each name of a scope is.
-use Rattle.std.specs.Prelude.{ℕ, ◌+◌, List, ◌∷◌, ◌++◌, map, Some}
+use Rattle.std.specs.Prelude.{List, map}
 use Rattle.pearl_tree.specs.declared.name.Name.{Name}
 use Rattle.pearl_names.specs.declared.scope.NameSort.{NameSort}
 use Rattle.pearl_names.specs.declared.scope.NameSort.TheVariants as sort
 use Rattle.pearl_names.specs.declared.scope.SortedName.{SortedName}
 use Rattle.pearl_names.specs.ScopeNames.{ScopeNames}
-use Rattle.pearl_names.specs.Scopes.{Meaning, Variable, Control, Parameter, NewType, Semaphore, Interrupt, Dation, Task, Procedure, Entry, Scope, body_entries, all_scopes}
-use Rattle.pearl_tree.specs.ShownStatements.{ShownBodyDecl, ShownStmts}
+use Rattle.pearl_names.specs.Scopes.{Meaning, Variable, Control, Parameter, NewType, Semaphore, Interrupt, Dation, Task, Procedure, Entry, Scope}
 
 abbrev pub sort_of : Meaning → NameSort
 sort_of (Variable item types) = sort.Variable
@@ -35,9 +34,3 @@ scope_names scope = record { outer = scope.outer; names = sorted_names scope.ent
 -- the names of these scopes
 unfoldable pub names_of_scopes : List Scope → List ScopeNames
 names_of_scopes scopes = map scope_names scopes
-
--- a body within this scope that declares these names before its own, and the scopes within it
-abbrev pub body_scopes : (outer : ℕ) → List SortedName → (number : ℕ) → List ShownBodyDecl → ShownStmts → List ScopeNames
-body_scopes outer names number declarations statements =
-    record { outer = Some outer; names = names ++ sorted_names (body_entries 0 declarations) } ∷
-    names_of_scopes (all_scopes 0 number (number + 1) statements)

@@ -1,99 +1,123 @@
-// The names of all scopes.
-#![tactic(auto, using(crate::proofs::Collecting::name_steps, crate::proofs::Lists::list_steps, std::proofs::lemmas::Grind::common_steps))]
+// The scopes of a module, by what declares their names.
+#![tactic(auto, using(crate::proofs::Collecting::group_steps, crate::proofs::Lists::list_steps, std::proofs::lemmas::Grind::common_steps))]
 
-ghost use Rattle.std.specs.Prelude.{◌≡◌, ℕ, ◌+◌, ◌++◌, ◌∷◌, [], length, map, Option, Some, None, IfOk, OnOk};
+ghost use Rattle.std.specs.Prelude.{◌≡◌, ◌+◌, ◌++◌, ◌∷◌, [], length, map, None, IfOk, OnOk};
 ghost use Rattle.std.specs.List.{flat_map};
 ghost use Rattle.pearl_tree.specs.ShownDeclarations.{shown_names, shown_item, shown_declared, shown_spec, shown_param};
 ghost use Rattle.pearl_tree.specs.ShownStatements.{shown_body_decl, shown_stmt};
 ghost use Rattle.pearl_tree.specs.ShownModules.{shown_decl, shown_tree};
 ghost use Rattle.pearl_tree.specs.Names.{names_of};
+ghost use Rattle.pearl_names.specs.Groups.{shown_meaning, entries_in, scopes_in_list, body_scopes};
 ghost use Rattle.pearl_names.specs.Listed.{stmts_shown, branches_shown, otherwise_shown};
 ghost use Rattle.pearl_names.specs.Scopes as spec;
-ghost use Rattle.pearl_names.specs.Sorts.{names_as, sorted_names, names_of_scopes, body_scopes};
 
-use crate::names::ScopeTable;
-use crate::scope::{NameSort, SortedName};
+use crate::group::{Group, Meaning, ScopeGroups};
 use pearl_tree::declaration::{Declared, Item, Param, Spec};
 use pearl_tree::name::{Name, Names};
 use pearl_tree::parts::Parts;
 use pearl_tree::statement::{Body, BodyDecl, Branch, Repeat, Stmt};
 use pearl_tree::tree::{Decl, Tree};
 use std::alloc::{AllocError as NoMemory, Global};
+use std::slice::from_ref;
 
-fn declare_name(into: &mut Vec<SortedName>, name: &Name, sort: NameSort) -> Result<(), NoMemory>
-    ensures { OnOk result (into.new.items ≡ into.old.items ++ names_as sort (name.now ∷ [])) }
-{
-    let text = name.text.clone()?;
-    let place = name.place;
-    into.push(SortedName {
-        name: Name { text, place },
-        sort,
-    })?;
-    Ok(())
-}
-
-fn declare_each(into: &mut Vec<SortedName>, names: &[Name], sort: NameSort) -> Result<(), NoMemory>
-    ensures { OnOk result (into.new.items ≡ into.old.items ++ names_as sort names.now) }
-{
-    for name in names {
-        declare_name(into, name, sort)?;
-    }
-    Ok(())
-}
-
-fn declare_names(into: &mut Vec<SortedName>, names: &Names, sort: NameSort) -> Result<(), NoMemory>
-    ensures { OnOk result (into.new.items ≡ into.old.items ++ names_as sort (names_of (shown_names names.now))) }
-{
-    declare_each(into, names.as_slice(), sort)
-}
-
-fn declare_items(into: &mut Vec<SortedName>, items: &[Item]) -> Result<(), NoMemory>
-    ensures { OnOk result
-        (into.new.items ≡ into.old.items ++ sorted_names (flat_map (spec.item_entries 0) (map shown_item items.now))) }
-{
-    for item in items {
-        declare_names(into, &item.names, NameSort::Variable)?;
-    }
-    Ok(())
-}
-
-fn declare_body(into: &mut Vec<SortedName>, declarations: &[BodyDecl]) -> Result<(), NoMemory>
-    ensures { OnOk result
-        (into.new.items ≡ into.old.items ++ sorted_names (spec.body_entries 0 (map shown_body_decl declarations.now))) }
-{
-    for declaration in declarations {
-        declare_items(into, declaration.items.as_slice())?;
-    }
-    Ok(())
-}
-
-fn declare_params(into: &mut Vec<SortedName>, params: &[Param]) -> Result<(), NoMemory>
-    ensures { OnOk result
-        (into.new.items ≡ into.old.items ++ sorted_names (flat_map spec.param_entries (map shown_param params.now))) }
-{
-    for param in params {
-        declare_names(into, &param.names, NameSort::Parameter)?;
-    }
-    Ok(())
-}
-
-fn declare_control(
-    into: &mut Vec<SortedName>,
-    loop_place: u32,
-    control: &Option<Name>,
+fn declare<'a>(
+    into: &mut Vec<Group<'a>>,
+    names: &'a [Name],
+    meaning: Meaning<'a>,
 ) -> Result<(), NoMemory>
     ensures { OnOk result
-        (into.new.items ≡ into.old.items ++ sorted_names (spec.control_entries loop_place control.now)) }
+        (entries_in into.new.items ≡ entries_in into.old.items ++ spec.entries_as (shown_meaning meaning.entry) names.now) }
+{
+    into.push(Group { names, meaning })?;
+    Ok(())
+}
+
+fn declare_one<'a>(
+    into: &mut Vec<Group<'a>>,
+    name: &'a Name,
+    meaning: Meaning<'a>,
+) -> Result<(), NoMemory>
+    ensures { OnOk result
+        (entries_in into.new.items ≡ entries_in into.old.items ++ spec.entries_as (shown_meaning meaning.entry) (name.now ∷ [])) }
+{
+    let one = from_ref(name);
+    declare(into, one, meaning)
+}
+
+fn declare_names<'a>(
+    into: &mut Vec<Group<'a>>,
+    names: &'a Names,
+    meaning: Meaning<'a>,
+) -> Result<(), NoMemory>
+    ensures { OnOk result
+        (entries_in into.new.items ≡
+        entries_in into.old.items ++ spec.entries_as (shown_meaning meaning.entry) (names_of (shown_names names.now))) }
+{
+    declare(into, names.as_slice(), meaning)
+}
+
+fn declare_items<'a>(
+    into: &mut Vec<Group<'a>>,
+    types: u32,
+    items: &'a [Item],
+) -> Result<(), NoMemory>
+    ensures { OnOk result
+        (entries_in into.new.items ≡
+        entries_in into.old.items ++ flat_map (spec.item_entries types) (map shown_item items.now)) }
+{
+    for item in items {
+        declare_names(into, &item.names, Meaning::Variable { item, types })?;
+    }
+    Ok(())
+}
+
+fn declare_body<'a>(
+    into: &mut Vec<Group<'a>>,
+    types: u32,
+    declarations: &'a [BodyDecl],
+) -> Result<(), NoMemory>
+    ensures { OnOk result
+        (entries_in into.new.items ≡
+        entries_in into.old.items ++ spec.body_entries types (map shown_body_decl declarations.now)) }
+{
+    for declaration in declarations {
+        declare_items(into, types, declaration.items.as_slice())?;
+    }
+    Ok(())
+}
+
+fn declare_params<'a>(into: &mut Vec<Group<'a>>, params: &'a [Param]) -> Result<(), NoMemory>
+    ensures { OnOk result
+        (entries_in into.new.items ≡
+        entries_in into.old.items ++ flat_map spec.param_entries (map shown_param params.now)) }
+{
+    for param in params {
+        let meaning = Meaning::Parameter {
+            basic: param.basic,
+            ident: param.ident,
+        };
+        declare_names(into, &param.names, meaning)?;
+    }
+    Ok(())
+}
+
+fn declare_control<'a>(
+    into: &mut Vec<Group<'a>>,
+    loop_place: u32,
+    control: &'a Option<Name>,
+) -> Result<(), NoMemory>
+    ensures { OnOk result
+        (entries_in into.new.items ≡ entries_in into.old.items ++ spec.control_entries loop_place control.now) }
 {
     if let Some(name) = control {
-        declare_name(into, name, NameSort::Control)?;
+        declare_one(into, name, Meaning::Control(loop_place))?;
     }
     Ok(())
 }
 
 /// The number of the next scope.
-fn next_number(scopes: &[ScopeTable]) -> Result<u32, NoMemory>
-    ensures { IfOk result (λ number. number ≡ length scopes.now) }
+fn next_number(scopes: &[ScopeGroups<'_>]) -> Result<u32, NoMemory>
+    ensures { IfOk result (λ number. number ≡ length (scopes_in_list scopes.now)) }
 {
     match u32::try_from(scopes.len()) {
         Ok(number) => Ok(number),
@@ -102,45 +126,47 @@ fn next_number(scopes: &[ScopeTable]) -> Result<u32, NoMemory>
 }
 
 /// Adds a scope, and answers its number.
-fn begin_scope(
-    alloc: Global,
-    scopes: &mut Vec<ScopeTable>,
+fn begin_scope<'a>(
+    scopes: &mut Vec<ScopeGroups<'a>>,
     outer: Option<u32>,
-    names: Vec<SortedName>,
+    groups: Vec<Group<'a>>,
 ) -> Result<u32, NoMemory>
     ensures scope { OnOk result
-        (scopes.new.items ≡ scopes.old.items ++ record { outer = outer; names = names.items } ∷ []) }
-    ensures number { IfOk result (λ number. number ≡ length scopes.old.items) }
+        (scopes_in_list scopes.new.items ≡
+        scopes_in_list scopes.old.items ++ record { outer = outer; entries = entries_in groups.entry.items } ∷ []) }
+    ensures number { IfOk result (λ number. number ≡ length (scopes_in_list scopes.old.items)) }
 {
     let number = next_number(scopes.as_slice())?;
-    scopes.push(ScopeTable::new(alloc, outer, names)?)?;
+    scopes.push(ScopeGroups { outer, groups })?;
     Ok(number)
 }
 
 #[cycle(statement)]
-fn collect_stmt(
+fn collect_stmt<'a>(
     alloc: Global,
-    scopes: &mut Vec<ScopeTable>,
+    scopes: &mut Vec<ScopeGroups<'a>>,
+    types: u32,
     scope: u32,
-    stmt: &Stmt,
+    stmt: &'a Stmt,
 ) -> Result<(), NoMemory>
     ensures { OnOk result
-        (let within = spec.stmt_scopes 0 scope (length scopes.old.items) (shown_stmt stmt.now) in
-        scopes.new.items ≡ scopes.old.items ++ names_of_scopes within) }
+        (scopes_in_list scopes.new.items ≡
+        scopes_in_list scopes.old.items ++
+        spec.stmt_scopes types scope (length (scopes_in_list scopes.old.items)) (shown_stmt stmt.now)) }
 {
     match stmt {
         Stmt::If(part) => {
-            collect_stmts(alloc, scopes, scope, &part.statements)?;
-            collect_otherwise(alloc, scopes, scope, &part.otherwise)?;
+            collect_stmts(alloc, scopes, types, scope, &part.statements)?;
+            collect_otherwise(alloc, scopes, types, scope, &part.otherwise)?;
             Ok(())
         }
         Stmt::Case(part) => {
-            collect_branches(alloc, scopes, scope, &part.alternatives)?;
-            collect_otherwise(alloc, scopes, scope, &part.otherwise)?;
+            collect_branches(alloc, scopes, types, scope, &part.alternatives)?;
+            collect_otherwise(alloc, scopes, types, scope, &part.otherwise)?;
             Ok(())
         }
-        Stmt::Repeat(part) => collect_loop(alloc, scopes, scope, part),
-        Stmt::Begin(part) => collect_body(alloc, scopes, scope, Vec::new(alloc), &part.body),
+        Stmt::Repeat(part) => collect_loop(alloc, scopes, types, scope, part),
+        Stmt::Begin(part) => collect_body(alloc, scopes, types, scope, Vec::new(alloc), &part.body),
         Stmt::Empty { .. } => Ok(()),
         Stmt::Assign(_) => Ok(()),
         Stmt::Call(_) => Ok(()),
@@ -160,131 +186,161 @@ fn collect_stmt(
 }
 
 #[cycle(statement)]
-fn collect_stmts(
+fn collect_stmts<'a>(
     alloc: Global,
-    scopes: &mut Vec<ScopeTable>,
+    scopes: &mut Vec<ScopeGroups<'a>>,
+    types: u32,
     scope: u32,
-    stmts: &Parts<Stmt>,
+    stmts: &'a Parts<Stmt>,
 ) -> Result<(), NoMemory>
     ensures { OnOk result
-        (let within = spec.all_scopes 0 scope (length scopes.old.items) (stmts_shown stmts.now.items.items) in
-        scopes.new.items ≡ scopes.old.items ++ names_of_scopes within) }
+        (scopes_in_list scopes.new.items ≡
+        scopes_in_list scopes.old.items ++
+        spec.all_scopes types scope (length (scopes_in_list scopes.old.items)) (stmts_shown stmts.now.items.items)) }
 {
     for stmt in stmts.as_slice() {
-        collect_stmt(alloc, scopes, scope, stmt)?;
+        collect_stmt(alloc, scopes, types, scope, stmt)?;
     }
     Ok(())
 }
 
 #[cycle(statement)]
-fn collect_branches(
+fn collect_branches<'a>(
     alloc: Global,
-    scopes: &mut Vec<ScopeTable>,
+    scopes: &mut Vec<ScopeGroups<'a>>,
+    types: u32,
     scope: u32,
-    branches: &Parts<Branch>,
+    branches: &'a Parts<Branch>,
 ) -> Result<(), NoMemory>
     ensures { OnOk result
-        (let within = spec.branch_scopes 0 scope (length scopes.old.items) (branches_shown branches.now.items.items) in
-        scopes.new.items ≡ scopes.old.items ++ names_of_scopes within) }
+        (scopes_in_list scopes.new.items ≡
+        scopes_in_list scopes.old.items ++
+        spec.branch_scopes types scope (length (scopes_in_list scopes.old.items)) (branches_shown branches.now.items.items)) }
 {
     for branch in branches.as_slice() {
-        collect_stmts(alloc, scopes, scope, &branch.statements)?;
+        collect_stmts(alloc, scopes, types, scope, &branch.statements)?;
     }
     Ok(())
 }
 
 #[cycle(statement)]
-fn collect_otherwise(
+fn collect_otherwise<'a>(
     alloc: Global,
-    scopes: &mut Vec<ScopeTable>,
+    scopes: &mut Vec<ScopeGroups<'a>>,
+    types: u32,
     scope: u32,
-    otherwise: &Option<Branch>,
+    otherwise: &'a Option<Branch>,
 ) -> Result<(), NoMemory>
     ensures { OnOk result
-        (let within = spec.otherwise_scopes 0 scope (length scopes.old.items) (otherwise_shown otherwise.now) in
-        scopes.new.items ≡ scopes.old.items ++ names_of_scopes within) }
+        (scopes_in_list scopes.new.items ≡
+        scopes_in_list scopes.old.items ++
+        spec.otherwise_scopes types scope (length (scopes_in_list scopes.old.items)) (otherwise_shown otherwise.now)) }
 {
     if let Some(branch) = otherwise {
-        collect_stmts(alloc, scopes, scope, &branch.statements)?;
+        collect_stmts(alloc, scopes, types, scope, &branch.statements)?;
     }
     Ok(())
 }
 
 // The body of a loop, with its control variable.
 #[cycle(statement)]
-fn collect_loop(
+fn collect_loop<'a>(
     alloc: Global,
-    scopes: &mut Vec<ScopeTable>,
+    scopes: &mut Vec<ScopeGroups<'a>>,
+    types: u32,
     scope: u32,
-    part: &Repeat,
+    part: &'a Repeat,
 ) -> Result<(), NoMemory>
     ensures { OnOk result
-        (let names = sorted_names (spec.control_entries part.now.place part.now.control) in
-        let body = part.now.body in
-        scopes.new.items ≡ scopes.old.items ++
-        body_scopes scope names (length scopes.old.items)
+        (let body = part.now.body in
+        scopes_in_list scopes.new.items ≡
+        scopes_in_list scopes.old.items ++
+        body_scopes types scope (length (scopes_in_list scopes.old.items)) (spec.control_entries part.now.place part.now.control)
         (map shown_body_decl body.declarations.items.items) (stmts_shown body.statements.items.items)) }
 {
-    let mut names = Vec::new(alloc);
-    declare_control(&mut names, part.place, &part.control)?;
-    collect_body(alloc, scopes, scope, names, &part.body)
+    let mut groups = Vec::new(alloc);
+    declare_control(&mut groups, part.place, &part.control)?;
+    collect_body(alloc, scopes, types, scope, groups, &part.body)
 }
 
 // A body that declares these names before its own.
 #[cycle(statement)]
-fn collect_body(
+fn collect_body<'a>(
     alloc: Global,
-    scopes: &mut Vec<ScopeTable>,
+    scopes: &mut Vec<ScopeGroups<'a>>,
+    types: u32,
     outer: u32,
-    names: Vec<SortedName>,
-    body: &Body,
+    groups: Vec<Group<'a>>,
+    body: &'a Body,
 ) -> Result<(), NoMemory>
     ensures { OnOk result
-        (scopes.new.items ≡ scopes.old.items ++
-        body_scopes outer names.items (length scopes.old.items)
+        (scopes_in_list scopes.new.items ≡
+        scopes_in_list scopes.old.items ++
+        body_scopes types outer (length (scopes_in_list scopes.old.items)) (entries_in groups.entry.items)
         (map shown_body_decl body.now.declarations.items.items) (stmts_shown body.now.statements.items.items)) }
 {
-    let mut names = names;
-    declare_body(&mut names, body.declarations.as_slice())?;
-    let scope = begin_scope(alloc, scopes, Some(outer), names)?;
-    collect_stmts(alloc, scopes, scope, &body.statements)?;
+    let mut groups = groups;
+    declare_body(&mut groups, types, body.declarations.as_slice())?;
+    let scope = begin_scope(scopes, Some(outer), groups)?;
+    collect_stmts(alloc, scopes, types, scope, &body.statements)?;
     Ok(())
 }
 
-fn declare_part(into: &mut Vec<SortedName>, part: &Declared) -> Result<(), NoMemory>
+fn declare_part<'a>(
+    into: &mut Vec<Group<'a>>,
+    types: u32,
+    part: &'a Declared,
+) -> Result<(), NoMemory>
     ensures { OnOk result
-        (into.new.items ≡ into.old.items ++ sorted_names (spec.declared_entries 0 (shown_declared part.now))) }
+        (entries_in into.new.items ≡
+        entries_in into.old.items ++ spec.declared_entries types (shown_declared part.now)) }
 {
     match part {
-        Declared::Item(item) => declare_names(into, &item.names, NameSort::Variable),
-        Declared::Sema(sema) => declare_names(into, &sema.names, NameSort::Semaphore),
+        Declared::Item(item) => declare_names(into, &item.names, Meaning::Variable { item, types }),
+        Declared::Sema(sema) => declare_names(into, &sema.names, Meaning::Semaphore),
     }
 }
 
-fn declare_parts(into: &mut Vec<SortedName>, parts: &[Declared]) -> Result<(), NoMemory>
+fn declare_parts<'a>(
+    into: &mut Vec<Group<'a>>,
+    types: u32,
+    parts: &'a [Declared],
+) -> Result<(), NoMemory>
     ensures { OnOk result
-        (into.new.items ≡
-        into.old.items ++ sorted_names (flat_map (spec.declared_entries 0) (map shown_declared parts.now))) }
+        (entries_in into.new.items ≡
+        entries_in into.old.items ++ flat_map (spec.declared_entries types) (map shown_declared parts.now)) }
 {
     for part in parts {
-        declare_part(into, part)?;
+        declare_part(into, types, part)?;
     }
     Ok(())
 }
 
-fn specify(into: &mut Vec<SortedName>, part: &Spec) -> Result<(), NoMemory>
+fn specify<'a>(into: &mut Vec<Group<'a>>, part: &'a Spec) -> Result<(), NoMemory>
     ensures { OnOk result
-        (into.new.items ≡ into.old.items ++ sorted_names (spec.spec_entries (shown_spec part.now))) }
+        (entries_in into.new.items ≡ entries_in into.old.items ++ spec.spec_entries (shown_spec part.now)) }
 {
     match part {
-        Spec::Interrupt { names, .. } => declare_names(into, names, NameSort::Interrupt),
-        Spec::Dation { names, .. } => declare_names(into, names, NameSort::Dation),
+        Spec::Interrupt { names, .. } => declare_names(into, names, Meaning::Interrupt),
+        Spec::Dation {
+            names,
+            direction,
+            class,
+            ..
+        } => {
+            let meaning = Meaning::Dation {
+                direction: *direction,
+                class: *class,
+            };
+            declare_names(into, names, meaning)
+        }
     }
 }
 
-fn specify_all(into: &mut Vec<SortedName>, parts: &[Spec]) -> Result<(), NoMemory>
+fn specify_all<'a>(into: &mut Vec<Group<'a>>, parts: &'a [Spec]) -> Result<(), NoMemory>
     ensures { OnOk result
-        (into.new.items ≡ into.old.items ++ sorted_names (flat_map spec.spec_entries (map shown_spec parts.now))) }
+        (entries_in into.new.items ≡
+        entries_in into.old.items ++ flat_map spec.spec_entries (map shown_spec parts.now)) }
 {
     for part in parts {
         specify(into, part)?;
@@ -293,17 +349,29 @@ fn specify_all(into: &mut Vec<SortedName>, parts: &[Spec]) -> Result<(), NoMemor
 }
 
 // The names that a declaration of the module declares.
-fn declare_decl(into: &mut Vec<SortedName>, types: u32, decl: &Decl) -> Result<(), NoMemory>
+fn declare_decl<'a>(into: &mut Vec<Group<'a>>, types: u32, decl: &'a Decl) -> Result<(), NoMemory>
     ensures { OnOk result
-        (into.new.items ≡ into.old.items ++ sorted_names (spec.decl_entries types (shown_decl decl.now))) }
+        (entries_in into.new.items ≡
+        entries_in into.old.items ++ spec.decl_entries types (shown_decl decl.now)) }
 {
     match decl {
         Decl::Length { .. } => Ok(()),
-        Decl::Type { name, .. } => declare_name(into, name, NameSort::NewType(types)),
-        Decl::Declare { declared, .. } => declare_parts(into, declared.as_slice()),
+        Decl::Type { name, .. } => declare_one(into, name, Meaning::NewType(types)),
+        Decl::Declare { declared, .. } => declare_parts(into, types, declared.as_slice()),
         Decl::Specify { specs, .. } => specify_all(into, specs.as_slice()),
-        Decl::Task { name, .. } => declare_name(into, name, NameSort::Task),
-        Decl::Proc { name, .. } => declare_name(into, name, NameSort::Procedure),
+        Decl::Task { name, .. } => declare_one(into, name, Meaning::Task),
+        Decl::Proc {
+            name,
+            params,
+            returns,
+            ..
+        } => {
+            let meaning = Meaning::Procedure {
+                params,
+                returns: *returns,
+            };
+            declare_one(into, name, meaning)
+        }
     }
 }
 
@@ -324,9 +392,10 @@ pub fn types_after(types: u32, decl: &Decl) -> Result<u32, NoMemory>
     }
 }
 
-fn declare_decls(into: &mut Vec<SortedName>, decls: &[Decl]) -> Result<(), NoMemory>
+fn declare_decls<'a>(into: &mut Vec<Group<'a>>, decls: &'a [Decl]) -> Result<(), NoMemory>
     ensures { OnOk result
-        (into.new.items ≡ into.old.items ++ sorted_names (spec.decls_entries 0 (map shown_decl decls.now))) }
+        (entries_in into.new.items ≡
+        entries_in into.old.items ++ spec.decls_entries 0 (map shown_decl decls.now)) }
 {
     let mut types = 0;
     for decl in decls {
@@ -336,51 +405,59 @@ fn declare_decls(into: &mut Vec<SortedName>, decls: &[Decl]) -> Result<(), NoMem
     Ok(())
 }
 
-// The scopes of a task or a procedure, in any number of TYPEs.
-fn collect_decl(alloc: Global, scopes: &mut Vec<ScopeTable>, decl: &Decl) -> Result<(), NoMemory>
-    ensures { (types : ℕ) → OnOk result
-        (let within = spec.decl_scopes types (length scopes.old.items) (shown_decl decl.now) in
-        scopes.new.items ≡ scopes.old.items ++ names_of_scopes within) }
+// The scopes of a task or a procedure.
+fn collect_decl<'a>(
+    alloc: Global,
+    scopes: &mut Vec<ScopeGroups<'a>>,
+    types: u32,
+    decl: &'a Decl,
+) -> Result<(), NoMemory>
+    ensures { OnOk result
+        (scopes_in_list scopes.new.items ≡
+        scopes_in_list scopes.old.items ++
+        spec.decl_scopes types (length (scopes_in_list scopes.old.items)) (shown_decl decl.now)) }
 {
     match decl {
         Decl::Length { .. } => Ok(()),
         Decl::Type { .. } => Ok(()),
         Decl::Declare { .. } => Ok(()),
         Decl::Specify { .. } => Ok(()),
-        Decl::Task { body, .. } => collect_body(alloc, scopes, 0, Vec::new(alloc), body),
+        Decl::Task { body, .. } => collect_body(alloc, scopes, types, 0, Vec::new(alloc), body),
         Decl::Proc { params, body, .. } => {
-            let mut names = Vec::new(alloc);
-            declare_params(&mut names, params.as_slice())?;
-            collect_body(alloc, scopes, 0, names, body)
+            let mut groups = Vec::new(alloc);
+            declare_params(&mut groups, params.as_slice())?;
+            collect_body(alloc, scopes, types, 0, groups, body)
         }
     }
 }
 
-fn collect_decls(
+fn collect_decls<'a>(
     alloc: Global,
-    scopes: &mut Vec<ScopeTable>,
-    decls: &[Decl],
+    scopes: &mut Vec<ScopeGroups<'a>>,
+    decls: &'a [Decl],
 ) -> Result<(), NoMemory>
     ensures { OnOk result
-        (let within = spec.decls_scopes 0 (length scopes.old.items) (map shown_decl decls.now) in
-        scopes.new.items ≡ scopes.old.items ++ names_of_scopes within) }
+        (scopes_in_list scopes.new.items ≡
+        scopes_in_list scopes.old.items ++
+        spec.decls_scopes 0 (length (scopes_in_list scopes.old.items)) (map shown_decl decls.now)) }
 {
+    let mut types = 0;
     for decl in decls {
-        collect_decl(alloc, scopes, decl)?;
+        collect_decl(alloc, scopes, types, decl)?;
+        types = types_after(types, decl)?;
     }
     Ok(())
 }
 
-/// The names of all scopes of a module, by the scopes' numbers: each name with its sort, in order, also where a rule is
-/// broken.
-pub fn names_of_module(alloc: Global, tree: &Tree) -> Result<Vec<ScopeTable>, NoMemory>
-    ensures { IfOk result (λ scopes. scopes.items ≡ names_of_scopes (spec.scopes_of (shown_tree tree.now))) }
+/// All scopes of a module, by their numbers, with what declares their names in order, also where a rule is broken.
+pub fn scopes_of_module<'a>(alloc: Global, tree: &'a Tree) -> Result<Vec<ScopeGroups<'a>>, NoMemory>
+    ensures { IfOk result (λ scopes. scopes_in_list scopes.items ≡ spec.scopes_of (shown_tree tree.now)) }
 {
     let decls = tree.declarations.as_slice();
-    let mut names = Vec::new(alloc);
-    declare_decls(&mut names, decls)?;
+    let mut groups = Vec::new(alloc);
+    declare_decls(&mut groups, decls)?;
     let mut scopes = Vec::new(alloc);
-    begin_scope(alloc, &mut scopes, None, names)?;
+    begin_scope(&mut scopes, None, groups)?;
     collect_decls(alloc, &mut scopes, decls)?;
     Ok(scopes)
 }

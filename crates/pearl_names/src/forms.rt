@@ -1,6 +1,6 @@
 // The forms of written types.
 
-ghost use Rattle.std.specs.Prelude.{◌≡◌, ◌++◌, ◌∷◌, [], List, ℕ, ℤ, true, false, Option, Some, None, if◌then◌else◌, option_map, map, IfOk, OnOk, length, int_le, unsigned_abs, ◌-ℤ◌, ◌+◌};
+ghost use Rattle.std.specs.Prelude.{◌≡◌, ◌++◌, ◌∷◌, [], List, ℕ, ℤ, true, false, Option, Some, None, if◌then◌else◌, option_map, map, IfOk, OnOk, length, int_le};
 ghost use Rattle.std.specs.Option.{option_and_then};
 ghost use Rattle.pearl_tree.specs.declared.name.Name.{Name as NameOf};
 ghost use Rattle.pearl_tree.specs.ShownDeclarations.{shown_names, shown_typing};
@@ -13,12 +13,14 @@ ghost use Rattle.pearl_names.specs.Lengths.{kind_of_basic as kind_of};
 ghost use Rattle.pearl_names.specs.declared.types.TypeRef.TheVariants as type_ref;
 ghost use Rattle.pearl_names.specs.declared.types.StructForm.{StructForm as StructFormOf};
 ghost use Rattle.pearl_names.specs.Forms.{IsForm, IsPart, StandsFor, AreNamed, Matches, append_fields};
+ghost use Rattle.pearl_names.specs.Holding.{pair_of};
 ghost use Rattle.pearl_names.specs.Forming.{AllMatch, Grows, around_of, fields_shown, Made, sizes_of, struct_shape};
 
 use crate::length::{Lengths, kind_of_basic};
 use crate::meaning::sort_within;
 use crate::names::ScopeTable;
 use crate::scope::NameSort;
+use crate::sense::Bounds;
 use crate::types::{
     Counts, FieldForm, NONE, Sizes, StructForm, TypeRef, add_field, add_fields, counts_of, cut,
     cut_product, cut_sum, within,
@@ -178,33 +180,63 @@ fn value_in_range(int: &Int) -> Option<i32>
     }
 }
 
-fn elements_between(lower: i32, upper: i32) -> Option<u32>
-    ensures { result ≡ (if int_le lower upper then Some (cut (unsigned_abs (upper -ℤ lower) + 1)) else None) }
+fn bounds_between(lower: i32, upper: i32) -> Option<Bounds>
+    ensures { option_map pair_of result ≡ (if int_le lower upper then Some (lower, upper) else None) }
 {
     if lower <= upper {
-        let last = (i64::from(upper) - i64::from(lower)).unsigned_abs();
-        Some(cut(last + 1))
+        Some(Bounds { lower, upper })
     } else {
         None
     }
+}
+
+// The bounds that are written, where they are sound.
+fn bounds_of(bound: &Bound) -> Option<Bounds>
+    ensures { option_map pair_of result ≡ sound_bound bound.now }
+{
+    match &bound.second {
+        None => match value_in_range(&bound.first) {
+            Some(upper) => bounds_between(1, upper),
+            None => None,
+        },
+        Some(second) => match value_in_range(&bound.first) {
+            Some(lower) => match value_in_range(second) {
+                Some(upper) => bounds_between(lower, upper),
+                None => None,
+            },
+            None => None,
+        },
+    }
+}
+
+/// The bounds of all dimensions, where they are sound.
+pub(crate) fn all_bounds(alloc: Global, bounds: &[Bound]) -> Result<Option<Vec<Bounds>>, NoMemory>
+    ensures { IfOk result (λ found. option_map (λ own. map pair_of own.items) found ≡ sound_bounds bounds.now) }
+{
+    let mut found = Vec::new(alloc);
+    for bound in bounds {
+        match bounds_of(bound) {
+            Some(own) => found.push(own)?,
+            None => return Ok(None),
+        }
+    }
+    Ok(Some(found))
+}
+
+fn elements_within(bounds: Bounds) -> u32
+    ensures { result ≡ cut (elements (pair_of bounds ∷ [])) }
+{
+    let last = (i64::from(bounds.upper) - i64::from(bounds.lower)).unsigned_abs();
+    cut(last + 1)
 }
 
 // How many elements there are within a sound bound.
 fn elements_of(bound: &Bound) -> Option<u32>
     ensures { result ≡ option_map (λ pair. cut (elements (pair ∷ []))) (sound_bound bound.now) }
 {
-    match &bound.second {
-        None => match value_in_range(&bound.first) {
-            Some(upper) => elements_between(1, upper),
-            None => None,
-        },
-        Some(second) => match value_in_range(&bound.first) {
-            Some(lower) => match value_in_range(second) {
-                Some(upper) => elements_between(lower, upper),
-                None => None,
-            },
-            None => None,
-        },
+    match bounds_of(bound) {
+        Some(bounds) => Some(elements_within(bounds)),
+        None => None,
     }
 }
 

@@ -5,6 +5,7 @@
 pub mod collect;
 pub mod duration;
 pub mod forms;
+pub mod group;
 pub mod laws;
 pub mod layout;
 pub mod length;
@@ -12,5 +13,7 @@ pub mod meaning;
 pub mod names;
 pub mod scope;
 pub mod sense;
+pub mod senses;
+pub mod sorted;
 pub mod table;
 pub mod types;

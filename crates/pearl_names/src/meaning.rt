@@ -1,9 +1,8 @@
 // What a name means.
 
 ghost use Rattle.std.specs.Prelude.{◌≡◌};
-ghost use Rattle.std.specs.Option.{option_and_then};
-ghost use Rattle.pearl_names.specs.Meanings as spec;
-ghost use Rattle.pearl_names.specs.Found.{found_through, found_within, found_in_while, found_from, sort_at};
+ghost use Rattle.pearl_names.specs.Found as spec;
+ghost use Rattle.pearl_names.specs.Found.{found_through, found_within, found_in_while, found_from};
 
 use crate::names::ScopeTable;
 use crate::scope::{NameSort, View};
@@ -61,8 +60,7 @@ fn find_in_while(scopes: &[ScopeTable], number: u32, text: &ArrayVec<u8, 63>) ->
 
 /// The declared name that a name means where it is seen from there, if a visible scope declares it.
 pub fn find_from(scopes: &[ScopeTable], view: View, text: &ArrayVec<u8, 63>) -> Option<Found>
-    ensures entry { result ≡ found_from scopes.now view text.now.items }
-    ensures sort { option_and_then (sort_at scopes.now) result ≡ spec.sort_from scopes.now view text.now.items }
+    ensures { result ≡ found_from scopes.now view text.now.items }
 {
     match view {
         View::Within(number) => find_within(scopes, number, text),

@@ -2,7 +2,7 @@
 
 ghost use Rattle.std.specs.Prelude.{◌≡◌, ◌+◌, ◌<◌, ◌^◌, ◌++◌, ◌∷◌, [], List, is_some, IfOk, OnOk, OnErr, length, option_map, slice_get};
 ghost use Rattle.pearl_names.specs.declared.scope.SortedName.{SortedName as SortedNameOf};
-ghost use Rattle.pearl_names.specs.Meanings.{is_control as has_control};
+ghost use Rattle.pearl_names.specs.Found.{is_control as has_control};
 ghost use Rattle.pearl_names.specs.FirstNames.{first_index, number_of, repeated, HasNoted, HasNames};
 
 use crate::scope::{NameSort, SortedName};

@@ -17,7 +17,7 @@ use Rattle.pearl_names.specs.declared.scope.NameSort.TheVariants.{NewType as Typ
 use Rattle.pearl_names.specs.ScopeNames.{ScopeNames}
 use Rattle.pearl_names.specs.FirstNames.{repeated}
 use Rattle.pearl_names.specs.Known.{Known, known_of, around}
-use Rattle.pearl_names.specs.Meanings.{sort_from, sort_within}
+use Rattle.pearl_names.specs.Found.{sort_from, sort_within}
 use Rattle.pearl_names.specs.Shapes.{field_names, is_sound_pair, bound_pair}
 use Rattle.pearl_names.specs.Layout.{Leaf, item_leaves, is_sound_leaf, slots_of}
 use Rattle.pearl_scope.specs.Constants.{missing_slots, wrong_signs}

@@ -1,26 +1,11 @@
-use Rattle.std.proofs.Common.{sym, subst, ap, ◌∙◌, option_map, take}
+use Rattle.std.proofs.Common.{sym, subst, take}
 use Rattle.pearl_tree.specs.ShownDeclarations.{shown_typing}
-use Rattle.pearl_names.specs.Forms.{Matches}
-use Rattle.pearl_names.specs.Forming.{AllMatch, around_of, sizes_of}
+use Rattle.pearl_names.specs.Forming.{IsLaid, around_of}
 use Rattle.pearl_names.specs.Shapes.{sound_bounds, shape_of}
-use Rattle.pearl_names.proofs.ItemCounts.{unsized_item, sized_item, all_match_take}
-use Rattle.pearl_names.proofs.FieldsMade.{grows_none}
 use Rattle.pearl_names.proofs.layout.item_counts.Goals as goal
-
-pub returns-in-None-clause-grows : goal.returns-in-None-clause-grows
-returns-in-None-clause-grows c = grows_none _
-
-pub returns-in-None-clause-counts : goal.returns-in-None-clause-counts
-returns-in-None-clause-counts c = λ shapes all.
-    unsized_item (sound_bounds c.args.item.now.bounds.items.items) _ (c.in-None.ensures ∙ ap (λ b. option_map sizes_of (sound_bounds b)) c.as_slice.ensures)
 
 pub returns-clause-counts : goal.returns-clause-counts
 returns-clause-counts c = λ shapes all.
-    let n = c.args.types in
-    let forms = c.args.known.now.forms.items in
-    let shape = shape_of (around_of c.args.scopes.now c.args.lengths.now c.args.scope (take n shapes)) (shown_typing c.args.item.now.typing) in
-    let named = c.first_types-named.ensures ∙ ap (take n) c.as_slice-2.ensures.value in
-    let before = subst (λ l. AllMatch forms l (take n shapes)) (sym named) (all_match_take forms c.args.known.now.named.items shapes n all) in
-    let matches = subst (λ l. Matches l c.in_ok-part.part shape) (sym c.as_slice-3.ensures.value) (c.in_ok-part.ensures.form (take n shapes) before) in
-    sized_item (sound_bounds c.args.item.now.bounds.items.items) shape c.in-Some.sizes _ (c.in-Some.ensures ∙ ap (λ b. option_map sizes_of (sound_bounds b)) c.as_slice.ensures)
-    (λ own same. c.counts_within-found.ensures own shape same matches)
+    let bounds = sound_bounds c.args.item.now.bounds.items.items in
+    let shape = shape_of (around_of c.args.scopes.now c.args.lengths.now c.args.scope (take c.args.types shapes)) (shown_typing c.args.item.now.typing) in
+    c.counts_within-found.ensures bounds shape (subst (λ l. IsLaid l c.in_ok-laid.laid bounds shape) (sym c.as_slice.ensures.value) (c.in_ok-laid.ensures.laid shapes all))

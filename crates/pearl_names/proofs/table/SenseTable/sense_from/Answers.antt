@@ -12,7 +12,7 @@ returns c = λ t holds.
     let forms = table.forms.items in
     let found = c.in_ok-found.found in
     let e : Some found ≡ found_from t.names c.args.view c.args.text.now.items =
-    c.in_ok-found.ensures.entry ∙ ap (λ names. found_from names c.args.view c.args.text.now.items) (c.as_slice.ensures.value ∙ holds.names) in
+    c.in_ok-found.ensures ∙ ap (λ names. found_from names c.args.view c.args.text.now.items) (c.as_slice.ensures.value ∙ holds.names) in
     let is : option_copied c.sense_at.result ≡ held_at table.senses.items found =
     c.sense_at.ensures ∙ ap (λ scopes. held_at scopes found) c.as_slice-2.ensures.value in
     subst (HoldsFound forms (option_copied c.sense_at.result)) (ap (option_and_then (sense_at t.senses)) e)
