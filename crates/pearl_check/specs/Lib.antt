@@ -1,0 +1,24 @@
+-- the tasks and procedures of a module, with the scopes of their bodies and their statements
+pub mod Routines
+-- what an expression is made of: literals, names, and the words NOW, TRY, LWB and UPB
+pub mod Pieces
+-- what a statement asks for: expressions in their roles, targets, calls, and names of tasks, semaphores, interrupts and dations
+pub mod Asked
+-- which kinds and names are seen from a statement
+pub mod Views
+-- the rules on what a statement asks for: S23, S25 and S29, and S16 for the names of tasks, semaphores, interrupts and dations
+pub mod Roles
+-- the rules on statements as a whole: S24, S26, S27 and S31
+pub mod Statements
+-- which dations a transfer may name: S32
+pub mod Dations
+-- which items a format may have for its values or targets: S33
+pub mod Formats
+-- which procedures a task or procedure calls, and which reach themselves: S28
+pub mod Calls
+-- the sizes of a module, and the weights of its tasks and procedures: S34
+pub mod Sizes
+-- all rules that a module breaks, and the first of them
+pub mod Rules
+-- what is told is the first of the faults in order; S28 is broken where calls lead back, and weights add up where it isn't
+pub mod Laws

@@ -1,0 +1,86 @@
+-- All rules that a module breaks, and the first of them: what is told of a module that is refused.
+use Rattle.std.specs.Prelude.{ℕ, ◌==◌, Bool, ◌&&◌, ◌||◌, not, nat_le, nat_lt, if◌then◌else◌, List, [], ◌∷◌, ◌++◌, Option, Some, None}
+use Rattle.std.specs.List.{flat_map}
+use Rattle.pearl_tree.specs.declared.fault.RuleFault.{RuleFault}
+use Rattle.pearl_tree.specs.declared.rule.TheConstants as rule
+use Rattle.pearl_tree.specs.declared.declaration.Prio.{Prio}
+use Rattle.pearl_tree.specs.declared.tree.TaskHead.{TaskHead}
+use Rattle.pearl_tree.specs.declared.tree.TaskHead.TheVariants.{PrioFirst, MainFirst}
+use Rattle.pearl_tree.specs.Faults.{fault_if}
+use Rattle.pearl_tree.specs.ShownModules.{ShownTree}
+use Rattle.pearl_scope.specs.Placed.{Placed}
+use Rattle.pearl_scope.specs.Rules as names
+use Rattle.pearl_names.specs.Tables.{Table, table_of}
+use Rattle.pearl_system.specs.Rules as devices
+use Rattle.pearl_check.specs.Asked.{asked_at}
+use Rattle.pearl_check.specs.Calls.{Caller, s28}
+use Rattle.pearl_check.specs.Dations.{s32}
+use Rattle.pearl_check.specs.Formats.{s33}
+use Rattle.pearl_check.specs.Roles.{part_faults, role_faults}
+use Rattle.pearl_check.specs.Routines.{RoutineSort, Task, Procedure, Routine, routines_of, statements_of}
+use Rattle.pearl_check.specs.Sizes.{Declared, declared_in, procedure_callers, all_callers, s34}
+use Rattle.pearl_check.specs.Statements.{s24, s26, s27, s31}
+
+abbrev pub is_priority : ℕ → Bool
+is_priority number = nat_le 1 number && nat_le number 255
+
+abbrev pub unfit_priority : Prio → List RuleFault
+unfit_priority prio = fault_if (not (is_priority prio.number.value)) prio.number.place rule.S30
+
+abbrev pub head_faults : TaskHead → List RuleFault
+head_faults (PrioFirst None main) = []
+head_faults (PrioFirst (Some prio) main) = unfit_priority prio
+head_faults (MainFirst prio) = unfit_priority prio
+
+-- S30: a declared priority isn't 1 to 255
+abbrev pub s30 : RoutineSort → List RuleFault
+s30 (Task head) = head_faults head
+s30 (Procedure returns) = []
+
+-- of a statement in a routine of this sort, apart from those within it
+abbrev pub statement_faults : Table → RoutineSort → Placed → List RuleFault
+statement_faults table sort place =
+    flat_map (role_faults table) (asked_at place) ++
+    (s24 table place.spot.scope place.statement ++
+    (s26 place.spot.in_loop place.statement ++
+    (s27 table place.spot.scope sort place.statement ++
+    (s31 table place.spot.scope place.statement ++
+    (s32 table place.spot.scope place.statement ++ s33 table place.spot.scope place.statement)))))
+
+abbrev pub routine_faults : Table → Routine → List RuleFault
+routine_faults table routine = s30 routine.sort ++ flat_map (statement_faults table routine.sort) (statements_of routine)
+
+-- of the module as a whole
+abbrev pub whole_faults : List Declared → (procedures callers : List Caller) → List RuleFault
+whole_faults declared procedures callers = s28 procedures ++ s34 (s28 procedures) declared procedures callers
+
+-- the rules S23 to S34 that a module breaks, in no order and perhaps more than once
+abbrev pub broken : ShownTree → List RuleFault
+broken tree =
+    flat_map (routine_faults (table_of tree)) (routines_of tree) ++
+    whole_faults (declared_in (table_of tree)) (procedure_callers (table_of tree) (routines_of tree))
+    (all_callers (table_of tree) (routines_of tree))
+
+abbrev pub routine_part_faults : Table → Routine → List RuleFault
+routine_part_faults table routine =
+    flat_map (λ place. flat_map (part_faults table) (asked_at place)) (statements_of routine)
+
+-- the rules S15 to S22
+abbrev pub broken_in_parts : ShownTree → List RuleFault
+broken_in_parts tree = flat_map (routine_part_faults (table_of tree)) (routines_of tree)
+
+-- the rules S1 to S34 that a module breaks, in no order and perhaps more than once
+abbrev pub all_broken : ShownTree → List RuleFault
+all_broken tree = names.broken tree ++ (devices.broken tree ++ (broken_in_parts tree ++ broken tree))
+
+abbrev pub is_before : RuleFault → RuleFault → Bool
+is_before a b = nat_lt a.place b.place || ((a.place == b.place) && nat_lt a.rule b.rule)
+
+abbrev pub earlier : RuleFault → Option RuleFault → RuleFault
+earlier fault None = fault
+earlier fault (Some other) = if is_before other fault then other else fault
+
+-- the first by place, and of several at one place that with the smallest number
+abbrev pub first : List RuleFault → Option RuleFault
+first [] = None
+first (fault ∷ rest) = Some (earlier fault (first rest))

@@ -1,0 +1,149 @@
+-- The sizes of a module, and the weights of its tasks and procedures.
+use Rattle.std.specs.Prelude.{ℕ, zero, suc, ◌+◌, ◌*◌, max, Bool, false, ◌&&◌, ◌||◌, nat_le, nat_lt, if◌then◌else◌, List, [], ◌∷◌, ◌++◌, length, map, take, drop, Option, Some, None, is_some, unwrap_or, slice_get, filter, filter_map}
+use Rattle.std.specs.List.{list_any, flat_map, sum_by}
+use Rattle.pearl_tree.specs.declared.fault.RuleFault.{RuleFault}
+use Rattle.pearl_tree.specs.declared.name.Name.{Name}
+use Rattle.pearl_tree.specs.declared.rule.TheConstants as rule
+use Rattle.pearl_tree.specs.Faults.{fault_if}
+use Rattle.pearl_tree.specs.Names.{text_of}
+use Rattle.pearl_tree.specs.ShownStatements.{ShownStmt, OfRepeat, OfGet}
+use Rattle.pearl_names.specs.Layout.{Leaf, leaves_of, slots_of}
+use Rattle.pearl_scope.specs.Placed.{Placed}
+use Rattle.pearl_names.specs.Meanings.{names_in}
+use Rattle.pearl_names.specs.declared.scope.SortedName.{SortedName}
+use Rattle.pearl_names.specs.Tables.{Form, Sense, Variable, OwnParameter, Semaphore, Task, Procedure, Table}
+use Rattle.pearl_check.specs.Asked.{asked_at}
+use Rattle.pearl_check.specs.Calls.{Caller, asked_pieces, calls_of}
+use Rattle.pearl_check.specs.Routines.{Routine, statements_of, scopes_in_routine, is_procedure}
+
+-- a name that the module declares, also one that is declared again
+pub record Declared : Type 0 where
+  pub name : Name
+  pub sense : Sense
+
+abbrev pub with_senses : List SortedName → List Sense → List Declared
+with_senses (entry ∷ entries) (sense ∷ senses) = record { name = entry.name; sense = sense } ∷ with_senses entries senses
+with_senses entries senses = []
+
+-- the names of the module's own scope, in order
+abbrev pub declared_in : Table → List Declared
+declared_in table = with_senses (names_in (slice_get table.names 0)) (unwrap_or (slice_get table.senses 0) [])
+
+-- where a rule is broken in a variable's declaration, it has no leaves here
+abbrev pub leaves_in : Option Form → List Leaf
+leaves_in None = []
+leaves_in (Some form) = leaves_of [] form.bounds form.shape
+
+abbrev pub slots_in : Option Form → ℕ
+slots_in form = length (slots_of (leaves_in form))
+
+-- what a name adds to each size
+abbrev pub task_count : Sense → ℕ
+task_count Task = 1
+task_count sense = 0
+
+abbrev pub procedure_count : Sense → ℕ
+procedure_count (Procedure parameters result) = 1
+procedure_count sense = 0
+
+abbrev pub semaphore_count : Sense → ℕ
+semaphore_count Semaphore = 1
+semaphore_count sense = 0
+
+abbrev pub slot_count : Sense → ℕ
+slot_count (Variable form inv) = slots_in form
+slot_count sense = 0
+
+-- at the name with which a size passes its limit, where so much comes before
+abbrev pub passed : (size : Sense → ℕ) → (limit before : ℕ) → List Declared → List RuleFault
+passed size limit before [] = []
+passed size limit before (declared ∷ rest) =
+    fault_if (nat_le before limit && nat_lt limit (before + size declared.sense)) declared.name.place rule.S34 ++
+    passed size limit (before + size declared.sense) rest
+
+-- the bytes in the name of a leaf: those of the variable and of its fields, with a point before each field
+abbrev pub bytes_in_name : Name → Leaf → ℕ
+bytes_in_name name leaf = length (text_of name) + sum_by (λ field. 1 + length field) leaf.path
+
+abbrev pub has_long_leaf : Name → Sense → Bool
+has_long_leaf name (Variable form inv) = list_any (λ leaf. nat_lt 1024 (bytes_in_name name leaf)) (leaves_in form)
+has_long_leaf name sense = false
+
+abbrev pub long_leaf_fault : Declared → List RuleFault
+long_leaf_fault declared = fault_if (has_long_leaf declared.name declared.sense) declared.name.place rule.S34
+
+abbrev pub counted_sizes : List Declared → List RuleFault
+counted_sizes declared =
+    passed task_count 200 0 declared ++
+    (passed procedure_count 200 0 declared ++
+    (passed semaphore_count 1000 0 declared ++
+    (passed slot_count 65536 0 declared ++ flat_map long_leaf_fault declared)))
+
+-- the cells of a parameter, and of the slots of a variable
+abbrev pub cells : Sense → ℕ
+cells (Variable form inv) = slots_in form
+cells (OwnParameter parameter) = 1
+cells sense = 0
+
+abbrev pub has_counter : {X Y : Type 0} → Option X → (begin step end : Option Y) → Bool
+has_counter control begin step end = is_some control || (is_some begin || (is_some step || is_some end))
+
+-- the cells of a loop with FOR, FROM, BY or TO: control, step and limit; and of the targets of a GET
+abbrev pub hidden_cells : ShownStmt → ℕ
+hidden_cells (OfRepeat control begin step end condition declarations statements body_place place) =
+    if has_counter control begin step end then 3 else 0
+hidden_cells (OfGet targets dation formats place) = 2 * length targets
+hidden_cells statement = 0
+
+abbrev pub cells_of : Table → Routine → ℕ
+cells_of table routine =
+    sum_by (sum_by cells) (take (scopes_in_routine routine) (drop routine.scope table.senses)) +
+    sum_by (λ (place : Placed). hidden_cells place.statement) (statements_of routine)
+
+-- what a statement needs beside the cells, apart from those within it
+abbrev pub need : Placed → ℕ
+need place = 2 + length (flat_map asked_pieces (asked_at place))
+
+abbrev pub greatest : List ℕ → ℕ
+greatest [] = 0
+greatest (n ∷ rest) = max n (greatest rest)
+
+abbrev pub caller_of : Table → (procedures : List Name) → Routine → Caller
+caller_of table procedures routine = record {
+  name = routine.name;
+  own = cells_of table routine + greatest (2 ∷ map need (statements_of routine));
+  calls = calls_of table procedures routine;
+}
+
+abbrev pub called : List Caller → Caller → List Caller
+called procedures caller = filter_map (slice_get procedures) caller.calls
+
+-- the weight of one that calls at most so deep; where no procedure reaches itself, none calls deeper than there are
+-- procedures
+abbrev pub weight : (depth : ℕ) → List Caller → Caller → ℕ
+weight zero procedures caller = caller.own
+weight (suc depth) procedures caller = caller.own + greatest (map (weight depth procedures) (called procedures caller))
+
+abbrev pub whole_weight : List Caller → Caller → ℕ
+whole_weight procedures caller = weight (length procedures) procedures caller
+
+abbrev pub overweight : List Caller → Caller → List RuleFault
+overweight procedures caller = fault_if (nat_lt 4096 (whole_weight procedures caller)) caller.name.place rule.S34
+
+-- weights are asked only where S28 isn't broken
+abbrev pub weights : (cycles : List RuleFault) → (procedures callers : List Caller) → List RuleFault
+weights [] procedures callers = flat_map (overweight procedures) callers
+weights (cycle ∷ cycles) procedures callers = []
+
+abbrev pub procedure_names : List Routine → List Name
+procedure_names routines = map (λ (routine : Routine). routine.name) (filter is_procedure routines)
+
+abbrev pub procedure_callers : Table → List Routine → List Caller
+procedure_callers table routines = map (caller_of table (procedure_names routines)) (filter is_procedure routines)
+
+abbrev pub all_callers : Table → List Routine → List Caller
+all_callers table routines = map (caller_of table (procedure_names routines)) routines
+
+-- S34: a size is passed
+abbrev pub s34 : (cycles : List RuleFault) → List Declared → (procedures callers : List Caller) → List RuleFault
+s34 cycles declared procedures callers = counted_sizes declared ++ weights cycles procedures callers
