@@ -7,7 +7,7 @@ use Rattle.pearl_tree.specs.declared.fault.RuleFault.{RuleFault}
 use Rattle.pearl_tree.specs.declared.name.Name.{Name}
 use Rattle.pearl_tree.specs.declared.rule.TheConstants as rule
 use Rattle.pearl_tree.specs.Faults.{fault_if}
-use Rattle.pearl_tree.specs.Names.{text_of}
+use Rattle.pearl_tree.specs.Names.{name_text}
 use Rattle.pearl_names.specs.Tables.{Table}
 use Rattle.pearl_check_expr.specs.Subjects.{ShownSubject, OfValue, OfWhile, OfTarget, OfCallStatement}
 use Rattle.pearl_check.specs.Asked.{Asked, Subject, Named, asked_at}
@@ -50,7 +50,7 @@ pub record Caller : Type 0 where
 
 -- of procedures with one name, the first is called
 abbrev pub number_of : List Name → Name → Option ℕ
-number_of procedures name = position (λ procedure. bytes_eq (text_of procedure) (text_of name)) procedures
+number_of procedures name = position (λ procedure. bytes_eq (name_text procedure) (name_text name)) procedures
 
 abbrev pub calls_of : Table → (procedures : List Name) → Routine → List ℕ
 calls_of table procedures routine =

@@ -5,7 +5,7 @@ use Rattle.pearl_tree.specs.declared.fault.RuleFault.{RuleFault}
 use Rattle.pearl_tree.specs.declared.name.Name.{Name}
 use Rattle.pearl_tree.specs.declared.rule.TheConstants as rule
 use Rattle.pearl_tree.specs.Faults.{fault_if}
-use Rattle.pearl_tree.specs.Names.{text_of}
+use Rattle.pearl_tree.specs.Names.{name_text}
 use Rattle.pearl_tree.specs.ShownStatements.{ShownStmt, OfRepeat, OfGet}
 use Rattle.pearl_names.specs.Layout.{Leaf, leaves_of, slots_of}
 use Rattle.pearl_scope.specs.Placed.{Placed}
@@ -63,7 +63,7 @@ passed size limit before (declared ∷ rest) =
 
 -- the bytes in the name of a leaf: those of the variable and of its fields, with a point before each field
 abbrev pub bytes_in_name : Name → Leaf → ℕ
-bytes_in_name name leaf = length (text_of name) + sum_by (λ field. 1 + length field) leaf.path
+bytes_in_name name leaf = length (name_text name) + sum_by (λ field. 1 + length field) leaf.path
 
 abbrev pub has_long_leaf : Name → Sense → Bool
 has_long_leaf name (Variable form inv) = list_any (λ leaf. nat_lt 1024 (bytes_in_name name leaf)) (leaves_in form)

@@ -3,7 +3,7 @@
 use Rattle.std.specs.Prelude.{ℕ, Bool, true, false, Option, Some}
 use Rattle.pearl_value.specs.declared.kind.Kind.{Kind}
 use Rattle.pearl_tree.specs.declared.name.Name.{Name}
-use Rattle.pearl_tree.specs.Names.{text_of}
+use Rattle.pearl_tree.specs.Names.{name_text}
 use Rattle.pearl_tree.specs.ShownExpressions.{ShownExpr, ShownRef}
 use Rattle.pearl_names.specs.declared.scope.View.{View}
 use Rattle.pearl_names.specs.declared.scope.View.TheVariants.{Within, WhileOf}
@@ -13,7 +13,7 @@ use Rattle.pearl_check_expr.specs.Subjects.{ShownSubject, OfValue, OfWhile, OfTa
 
 -- what a name stands for
 abbrev pub seen : Table → View → Name → Option Sense
-seen table view name = sense_from table view (text_of name)
+seen table view name = sense_from table view (name_text name)
 
 abbrev pub value_kind : Table → ℕ → ShownExpr → Option Kind
 value_kind table scope expr = (judged table (Within scope) expr).kind
