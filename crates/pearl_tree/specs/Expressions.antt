@@ -136,7 +136,7 @@ side_word Lower = w.LWB
 side_word Upper = w.UPB
 
 -- `depth` is the number of brackets that may still stand within one another. An expression between two brackets or
--- commas, and a whole one, has at most so many dyadic operators outside further brackets.
+-- commas, and a whole one, has at most DYADS_MAX dyadic operators outside further brackets.
 abbrev mutual
   -- expr = operand { dyadic operand }, operand = { + | - | ABS | SIGN | NOT } primary. Equal ranks group from the left.
   pub SpellsTerms : List Token → ℕ → ℕ → Expr → ℕ → Type 0
