@@ -1,5 +1,5 @@
 -- What the variables of an item are.
-use Rattle.std.proofs.Common.{◌≡◌, ℕ, ◌<◌, ◌+◌, ℤ, Bool, true, false, cond, List, [], ◌∷◌, ◌++◌, map, length, take, drop, get_or, Option, Some, None, option_map, refl, sym, ap, subst, ◌∙◌, append_assoc, append-nil}
+use Rattle.std.proofs.Common.{◌≡◌, ℕ, ◌<◌, ◌+◌, ℤ, Bool, true, false, cond, List, [], ◌∷◌, ◌++◌, map, length, take, drop, get_or, Option, Some, None, option_map, refl, sym, ap, subst, ◌∙◌, append_assoc, append-nil, zero, suc, is_some}
 use Rattle.std.proofs.lemmas.List.{map-append}
 use Rattle.std.proofs.lemmas.Option.{none-some, same_Some}
 use Rattle.std.specs.List.{list_all}
@@ -13,13 +13,22 @@ use Rattle.pearl_names.specs.declared.types.StructForm.{StructForm}
 use Rattle.pearl_names.specs.declared.types.TypeRef.{TypeRef}
 use Rattle.pearl_names.specs.Counts.{counts, has_sound_leaves}
 use Rattle.pearl_names.specs.Forms.{StandsFor, Matches}
-use Rattle.pearl_names.specs.Forming.{IsLaid, sizes_of}
+use Rattle.pearl_names.specs.Forming.{AllMatch, IsLaid, sizes_of}
 use Rattle.pearl_names.specs.Holding.{pair_of}
 use Rattle.pearl_names.specs.Layout.{leaves_of, leaves_within, is_sound_leaf}
 use Rattle.pearl_names.specs.Shapes.{Shape, sound_bound, sound_bounds}
 use Rattle.pearl_names.specs.Tables.{Form, sound_form}
 use Rattle.pearl_names.proofs.Counting.{sound_counts}
 use Rattle.pearl_names.proofs.Lists.{one_taken, cut_at}
+
+-- the TYPEs that stand before
+pub all_match_take : (forms : List StructForm) (named : List (Option TypeRef)) (shapes : List (Option Shape)) (n : ℕ) → AllMatch forms named shapes →
+    AllMatch forms (take n named) (take n shapes)
+all_match_take forms named shapes zero h = tt
+all_match_take forms [] [] (suc n) h = tt
+all_match_take forms (part ∷ named) (shape ∷ shapes) (suc n) h = (h.0, all_match_take forms named shapes n h.1)
+all_match_take forms [] (shape ∷ shapes) (suc n) h = absurd h
+all_match_take forms (part ∷ named) [] (suc n) h = absurd h
 
 -- the bounds are sound, and there is a type
 pub laid_some : (forms : List StructForm) (sizes : Sizes) (bounds : List (ℤ × ℤ)) (part : TypeRef) (shape : Option Shape) → sizes ≡ sizes_of bounds →
@@ -80,6 +89,10 @@ pub none_sound : (forms : List StructForm) (bounds : Option (List (ℤ × ℤ)))
 none_sound forms None shape h = tt
 none_sound forms (Some bounds) None h = tt
 none_sound forms (Some bounds) (Some s) h = absurd h
+
+pub some_if : {X Y : Type 0} (f : X → Y) (b : Bool) (x : X) → is_some (option_map f (cond b (Some x) None)) ≡ b
+some_if f true x = refl
+some_if f false x = refl
 
 -- what a loop over bounds has found: all so far are sound
 pub record BoundsSo (found : List Bounds) (bounds : List Bound) : Type 0 where

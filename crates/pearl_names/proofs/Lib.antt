@@ -14,7 +14,6 @@ pub mod Building
 pub mod FieldsMade
 pub mod Sized
 pub mod TypesMade
-pub mod ItemCounts
 pub mod Steps
 mod Outers
 pub mod Examples

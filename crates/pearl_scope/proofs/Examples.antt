@@ -1,29 +1,22 @@
 -- Small modules and their faults. Each stands between `MODULE(m);PROBLEM;` and `MODEND;`, so that its first byte is 18.
 use Prim.Native.String.{String}
-use Rattle.std.specs.Prelude.{◌≡◌, ℕ, ◌+◌, pos, false, true, List, [], ◌∷◌, Some, None, codes}
+use Rattle.std.specs.Prelude.{◌≡◌, ℕ, false, true, List, [], ◌∷◌, Some, None, codes}
 use Rattle.std.proofs.Common.{refl}
-use Rattle.pearl_value.specs.declared.kind.Kind.TheVariants as kind
 use Rattle.pearl_tree.specs.declared.fault.RuleFault.{RuleFault}
-use Rattle.pearl_tree.specs.declared.name.Name.{Name}
-use Rattle.pearl_tree.specs.declared.name.Number.{Number}
 use Rattle.pearl_tree.specs.declared.literal.Sign.TheVariants.{Plus}
 use Rattle.pearl_tree.specs.declared.literal.Duration.TheVariants.{Hours}
-use Rattle.pearl_tree.specs.declared.typing.Bound.{Bound}
-use Rattle.pearl_tree.specs.declared.typing.Sort.TheVariants.{Fixed, Bit, Char}
+use Rattle.pearl_tree.specs.declared.typing.Sort.TheVariants.{Fixed, Char}
 use Rattle.pearl_tree.specs.declared.typing.Basic.TheVariants.{Sized, Duration}
 use Rattle.pearl_tree.specs.declared.tree.TaskHead.TheVariants.{PrioFirst}
-use Rattle.pearl_tree.specs.ShownLiterals.{OfNumber, OfBits, OfText, OfDuration, ShownConst}
+use Rattle.pearl_tree.specs.ShownLiterals.{OfText, OfDuration}
 use Rattle.pearl_tree.specs.ShownExpressions.{ShownExpr, OfOperand, OfRef, NoSelectors}
-use Rattle.pearl_tree.specs.ShownDeclarations.{ShownNames, OfOne, OfSeveral, ShownTyping, OfBasic, OfStruct, OfNamed, NoFields, MoreFields, ShownItem, OfItem, OfSema}
+use Rattle.pearl_tree.specs.ShownDeclarations.{OfOne, OfSeveral, OfBasic, OfStruct, OfNamed, NoFields, MoreFields, OfItem, OfSema}
 use Rattle.pearl_tree.specs.ShownStatements.{ShownStmt, OfRepeat, NoStmts}
-use Rattle.pearl_tree.specs.ShownModules.{ShownDecl, OfLength, OfType, OfDeclare, OfTask, OfProc, ShownTree}
+use Rattle.pearl_tree.specs.ShownModules.{ShownDecl, OfLength, OfType, OfDeclare, OfTask}
 use Rattle.pearl_names.specs.Sorts.{sorted_names, names_of_scopes}
-use Rattle.pearl_names.specs.Layout.{item_leaves}
 use Rattle.pearl_names.specs.FirstNames.{repeated}
 use Rattle.pearl_names.proofs.Examples.{name, number, source, upto, between, fixed, item, declare, constant, tabled}
 use Rattle.pearl_scope.specs.Rules.{broken, faults_in}
-use Rattle.pearl_names.specs.Shapes.{OfKind}
-use Rattle.pearl_names.specs.Tables.{table_of, NewType, Variable, Procedure, OwnParameter, Control}
 
 abbrev fault : ℕ → ℕ → RuleFault
 fault place rule = record { place = place; rule = rule }

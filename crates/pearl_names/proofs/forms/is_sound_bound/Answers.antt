@@ -2,7 +2,7 @@ use Rattle.std.proofs.Common.{ap, ◌∙◌, is_some, ◌∷◌, []}
 use Rattle.pearl_names.specs.Counts.{cut}
 use Rattle.pearl_names.specs.Layout.{elements}
 use Rattle.pearl_names.specs.Shapes.{is_sound_pair, bound_pair}
-use Rattle.pearl_names.proofs.ItemCounts.{some_if}
+use Rattle.pearl_names.proofs.Laid.{some_if}
 use Rattle.pearl_names.proofs.forms.is_sound_bound.Goals as goal
 
 pub returns : goal.returns

@@ -2,9 +2,8 @@ use Rattle.std.proofs.Common.{sym, subst, ap, ◌∙◌, option_map, take}
 use Rattle.pearl_tree.specs.ShownDeclarations.{shown_typing}
 use Rattle.pearl_names.specs.Forming.{AllMatch, around_of, sizes_of}
 use Rattle.pearl_names.specs.Shapes.{sound_bounds, shape_of}
-use Rattle.pearl_names.proofs.ItemCounts.{all_match_take}
 use Rattle.pearl_names.proofs.FieldsMade.{grows_none}
-use Rattle.pearl_names.proofs.Laid.{unsized, sized}
+use Rattle.pearl_names.proofs.Laid.{all_match_take, unsized, sized}
 use Rattle.pearl_names.proofs.layout.item_laid.Goals as goal
 
 pub returns-in-None-clause-grows : goal.returns-in-None-clause-grows
