@@ -9,7 +9,7 @@ use Rattle.pearl_tree.specs.Names.{name_text}
 use Rattle.pearl_tree.specs.ShownStatements.{ShownStmt, OfRepeat, OfGet}
 use Rattle.pearl_names.specs.Layout.{Leaf, leaves_of, slots_of}
 use Rattle.pearl_scope.specs.Placed.{Placed}
-use Rattle.pearl_names.specs.Meanings.{names_in}
+use Rattle.pearl_names.specs.Found.{names_in}
 use Rattle.pearl_names.specs.declared.scope.SortedName.{SortedName}
 use Rattle.pearl_names.specs.Tables.{Form, Sense, Variable, OwnParameter, Semaphore, Task, Procedure, Table}
 use Rattle.pearl_check.specs.Asked.{asked_at}
