@@ -8,8 +8,8 @@ use Rattle.pearl_tree.specs.ShownExpressions.{ShownExpr, ShownRef}
 use Rattle.pearl_names.specs.declared.scope.View.{View}
 use Rattle.pearl_names.specs.declared.scope.View.TheVariants.{Within, WhileOf}
 use Rattle.pearl_names.specs.Tables.{Sense, Procedure, Semaphore, Table, sense_from}
-use Rattle.pearl_check_expr.specs.Judged.{judged, expr_place}
-use Rattle.pearl_check_expr.specs.Subjects.{ShownSubject, OfValue, OfWhile, OfTarget, OfCallStatement, subject_judged, target_judged}
+use Rattle.pearl_check_expr.specs.Judged.{judged, judged_variable, expr_place}
+use Rattle.pearl_check_expr.specs.Subjects.{ShownSubject, OfValue, OfWhile, OfTarget, OfCallStatement, subject_judged}
 
 -- what a name stands for
 abbrev pub seen : Table → View → Name → Option Sense
@@ -19,7 +19,7 @@ abbrev pub value_kind : Table → ℕ → ShownExpr → Option Kind
 value_kind table scope expr = (judged table (Within scope) expr).kind
 
 abbrev pub target_kind : Table → ℕ → ShownRef → Option Kind
-target_kind table scope reference = (target_judged table (Within scope) reference).kind
+target_kind table scope reference = (judged_variable table (Within scope) reference).kind
 
 abbrev pub subject_kind : Table → ℕ → ShownSubject → Option Kind
 subject_kind table scope subject = (subject_judged table scope subject).kind

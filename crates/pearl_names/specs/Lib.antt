@@ -2,7 +2,7 @@
 pub mod Lengths
 -- the default lengths as steps by place
 pub mod Steps
--- how many milliseconds a duration literal has
+-- which duration literals are too long
 pub mod Durations
 -- which scopes a module has, and what each declares
 pub mod Scopes

@@ -1,4 +1,4 @@
-// The definitions in specs/ say which of the static rules on names, types and declarations (S1 to S9) a module breaks.
+// Which of the static rules on names, types and declarations (S1 to S9) a module breaks.
 #![tactic(auto)]
 
 pub mod laws;
