@@ -21,3 +21,7 @@ pub mod Asking
 pub mod Steps
 mod Outers
 mod Examples
+pub mod KindSets
+pub mod ShapeSlots
+pub mod Walking
+pub mod Fitting

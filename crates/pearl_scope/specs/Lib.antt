@@ -24,12 +24,20 @@ pub mod Shapes
 pub mod Layout
 -- how many leaves, slots and dimensions a type has, cut off above the limits
 pub mod Counts
+-- which kinds are among some slots
+pub mod Kinds
+-- the slots of types that are written out
+pub mod Runs
 -- the TYPEs of a module by number, with their counts
 pub mod Forms
 -- what each STRUCT adds to the TYPEs by number
 pub mod Forming
+-- walks over the slots of a variable, run by run
+pub mod Walks
 -- constants of INIT, and the slots that they are put into
 pub mod Constants
+-- how constants are put into slots that are listed as runs
+pub mod Filling
 -- the parts of a module in which a rule on names and types may be broken
 pub mod Parts
 -- the statements of a module with where they stand

@@ -5,6 +5,8 @@
 pub mod collect;
 pub mod duration;
 pub mod forms;
+pub mod init;
+pub mod kinds;
 pub mod laws;
 pub mod layout;
 pub mod length;
@@ -15,5 +17,6 @@ pub mod part;
 pub mod places;
 pub mod rules;
 pub mod scope;
+pub mod slots;
 pub mod statement_part;
 pub mod types;

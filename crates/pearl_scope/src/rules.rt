@@ -18,6 +18,7 @@ ghost use Rattle.pearl_scope.specs.PartLists.{shown_part, parts_in};
 
 use crate::collect::names_of_module;
 use crate::duration::is_too_long;
+use crate::init::s7_at;
 use crate::forms::{Types, is_sound_bound, types_of};
 use crate::layout::{has_sound_leaves, item_counts};
 use crate::length::{Lengths, is_length, lengths_set};
@@ -40,7 +41,7 @@ use std::alloc::{AllocError as NoMemory, Global};
 const GREATEST_PRESET: u64 = (1 << 31) - 1;
 
 // Tells a fault where the test is true.
-fn fault_if(faults: &mut Vec<RuleFault>, broken: bool, place: u32, rule: u8) -> Result<(), NoMemory>
+pub(crate) fn fault_if(faults: &mut Vec<RuleFault>, broken: bool, place: u32, rule: u8) -> Result<(), NoMemory>
     ensures { OnOk result (faults.new.items ≡ faults.old.items ++ faults_spec.fault_if broken place rule) }
 {
     if broken {
@@ -299,6 +300,7 @@ fn rules_at(
     s4_at(faults, part)?;
     s5_at(alloc, faults, scopes, lengths, types, part)?;
     s6_at(alloc, faults, part)?;
+    s7_at(alloc, faults, scopes, lengths, types, part)?;
     s8_at(faults, part)?;
     s9_at(faults, part)?;
     Ok(())
@@ -323,7 +325,7 @@ fn rules_at_all(
 }
 
 /// Where a module breaks the rules S1 to S6, S8 and S9. S7, on INIT, isn't asked.
-pub fn faults_but_s7(alloc: Global, tree: &Tree) -> Result<Vec<RuleFault>, NoMemory>
+pub fn broken_rules(alloc: Global, tree: &Tree) -> Result<Vec<RuleFault>, NoMemory>
     ensures { IfOk result (λ faults. ListFaults (spec.broken_but_s7 (shown_tree tree.now)) faults.items) }
 {
     let scopes = names_of_module(alloc, tree)?;

@@ -7,7 +7,7 @@ use Rattle.pearl_scope.specs.PartLists.{parts_in}
 use Rattle.pearl_scope.specs.Parts.{parts_of}
 use Rattle.pearl_scope.specs.Rules.{known_of, s1, but_s7, broken_but_s7}
 use Rattle.pearl_scope.specs.Shapes.{shapes_after}
-use Rattle.pearl_scope.proofs.rules.faults_but_s7.Goals as goal
+use Rattle.pearl_scope.proofs.rules.broken_rules.Goals as goal
 
 pub returns : goal.returns
 returns c =
