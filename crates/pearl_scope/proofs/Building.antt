@@ -1,20 +1,19 @@
 -- How a form is built field by field.
-use Rattle.std.proofs.Common.{◌≡◌, ℕ, zero, suc, ◌+◌, ◌*◌, ◌<◌, ◌≤◌, ℤ, Bool, true, false, cond, not, ◌||◌, List, [], ◌∷◌, ◌++◌, map, length, take, drop, get_or, slice_get, Option, Some, None, is_some, is_none, bytes_eq, refl, sym, ap, subst, ◌∙◌, true≢false, append_assoc, append-nil, length-append, arith}
-use Rattle.std.proofs.lemmas.List.{map-append, take_more, take-append-drop}
+use Rattle.std.proofs.Common.{◌≡◌, ℕ, ◌+◌, ℤ, Bool, true, false, cond, not, ◌||◌, List, [], ◌∷◌, ◌++◌, map, length, Some, is_none, bytes_eq, refl, sym, ap, subst, ◌∙◌, true≢false, append_assoc, append-nil, length-append, arith}
+use Rattle.std.proofs.lemmas.List.{map-append}
 use Rattle.std.proofs.lemmas.Grind.{flat_map-append}
 use Rattle.std.specs.Map.{lookup}
 use Rattle.arrayvec.specs.ArrayVec.{ArrayVec}
 use Rattle.pearl_tree.specs.declared.name.Name.{Name}
 use Rattle.pearl_tree.specs.Names.{text_of, is_among, has_repeats}
-use Rattle.pearl_scope.specs.Shapes.{Shape, OfKind, OfFields, Fields, NoField, MoreField, with_fields}
-use Rattle.pearl_scope.specs.Layout.{Leaf, leaves_of, leaves_of_fields, leaf_slots, slots_of, elements}
+use Rattle.pearl_scope.specs.Shapes.{Shape, Fields, NoField, MoreField, with_fields}
+use Rattle.pearl_scope.specs.Layout.{leaves_of, leaves_of_fields, leaf_slots, slots_of}
 use Rattle.pearl_scope.specs.declared.types.Counts.{Counts}
 use Rattle.pearl_scope.specs.declared.types.FieldForm.{FieldForm}
 use Rattle.pearl_scope.specs.declared.types.StructForm.{StructForm}
 use Rattle.pearl_scope.specs.Counts.{cut, counts, counts_of, joined, within}
-use Rattle.pearl_scope.specs.Forms.{leaf_count, slot_count, IsField, StandsFor, FieldsStand, IsForm, IsPart, AreNamed, Adds, append_fields}
+use Rattle.pearl_scope.specs.Forms.{leaf_count, slot_count, StandsFor, FieldsStand, IsForm, IsPart, AreNamed, Adds, append_fields}
 use Rattle.pearl_scope.proofs.FirstNames.{bytes_symm}
-use Rattle.pearl_scope.proofs.Lists.{one_taken, all_taken, cut_at}
 use Rattle.pearl_scope.proofs.Counting.{counts-append, counts_of_field, leaves_behind, slots-behind, behind}
 use Rattle.std.proofs.lemmas.List.{length-map}
 

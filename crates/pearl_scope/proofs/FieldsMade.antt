@@ -1,10 +1,9 @@
 -- The forms of written types, field by field.
-use Rattle.std.proofs.Common.{◌≡◌, ℕ, zero, suc, ◌+◌, ◌<◌, ℤ, Bool, true, false, cond, ◌||◌, List, [], ◌∷◌, ◌++◌, map, length, take, drop, get_or, slice_get, Option, Some, None, option_map, refl, sym, ap, subst, ◌∙◌, true≢false, append_assoc, append-nil, arith}
+use Rattle.std.proofs.Common.{◌≡◌, ℕ, zero, suc, ℤ, Bool, true, false, cond, ◌||◌, List, [], ◌∷◌, ◌++◌, map, length, take, slice_get, Option, Some, None, option_map, refl, sym, ap, subst, ◌∙◌, append_assoc, append-nil}
 use Rattle.std.proofs.Math.Seq.{take-append_seam}
-use Rattle.std.proofs.lemmas.List.{map-append}
 use Rattle.std.proofs.lemmas.Option.{same_Some, none-some}
 use Rattle.pearl_tree.specs.declared.typing.Field.{Field}
-use Rattle.pearl_tree.specs.ShownDeclarations.{ShownFields, NoFields, MoreFields, ShownTyping, OfBasic, OfStruct, shown_names, shown_typing}
+use Rattle.pearl_tree.specs.ShownDeclarations.{MoreFields, OfStruct, shown_names, shown_typing}
 use Rattle.pearl_tree.specs.Names.{text_of, names_of, has_repeats, is_among}
 use Rattle.pearl_scope.specs.Shapes.{Shape, OfKind, OfFields, Fields, NoField, MoreField, Around, with_fields, with_parts, shape_of, fields_of, field_names, sound_bounds, type_shape}
 use Rattle.pearl_tree.specs.declared.name.Name.{Name}
@@ -19,11 +18,8 @@ use Rattle.pearl_scope.specs.declared.types.StructForm.{StructForm}
 use Rattle.pearl_scope.specs.Forms.{StandsFor, FieldsStand, Matches, IsForm, AreNamed, append_fields}
 use Rattle.pearl_scope.specs.Forming.{fields_shown, AllMatch, Grows, Has, Made, sizes_of, struct_shape}
 use Rattle.pearl_scope.specs.declared.types.Sizes.{Sizes}
-use Rattle.pearl_scope.specs.declared.types.Counts.{Counts}
 use Rattle.pearl_scope.specs.Counts.{counts}
 use Rattle.pearl_scope.specs.Runs.{tails_of}
-use Rattle.pearl_scope.proofs.Building.{append_none}
-use Rattle.pearl_scope.specs.Layout.{leaves_of_fields}
 use Rattle.pearl_scope.proofs.Standing.{stands_more, fields_more}
 
 -- the form of a TYPE, by its number

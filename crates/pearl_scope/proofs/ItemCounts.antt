@@ -5,7 +5,8 @@ use Rattle.pearl_scope.specs.declared.types.Counts.{Counts}
 use Rattle.pearl_scope.specs.declared.types.Sizes.{Sizes}
 use Rattle.pearl_scope.specs.declared.types.TypeRef.{TypeRef}
 use Rattle.pearl_scope.specs.declared.types.StructForm.{StructForm}
-use Rattle.pearl_scope.specs.Counts.{cut, within, counts, counts_of, has_sound_leaves}
+use Rattle.pearl_scope.specs.Counts.{within, counts, counts_of, has_sound_leaves}
+use Rattle.pearl_scope.specs.Filling.{HasLeaves}
 use Rattle.pearl_scope.specs.Forms.{StandsFor, Matches}
 use Rattle.pearl_scope.specs.Forming.{AllMatch, sizes_of}
 use Rattle.pearl_scope.specs.Layout.{Leaf, leaves_within}
@@ -55,3 +56,16 @@ no_counts (Some leaves) h = absurd (none-some (counts leaves) h)
 pub some_if : {X Y : Type 0} (f : X → Y) (b : Bool) (x : X) → is_some (option_map f (cond b (Some x) None)) ≡ b
 some_if f true x = refl
 some_if f false x = refl
+
+-- the form of a variable
+pub form_there : (forms : List StructForm) (part : TypeRef) (sizes : Sizes) (bounds : Option (List (ℤ × ℤ))) (shape : Option Shape) → Some sizes ≡ option_map sizes_of bounds →
+    Matches forms (Some part) shape → HasLeaves forms (record { part = part; sizes = sizes }) (leaves_within bounds shape)
+form_there forms part sizes None shape h m = absurd (none-some sizes (sym h))
+form_there forms part sizes (Some bounds) None h m = absurd m
+form_there forms part sizes (Some bounds) (Some shape) h m =
+    record { bounds = bounds; shape = shape; stands = m; sized = same_Some sizes (sizes_of bounds) h; is = refl }
+
+pub form_gone : (forms : List StructForm) (bounds : Option (List (ℤ × ℤ))) (shape : Option Shape) → Matches forms None shape → leaves_within bounds shape ≡ None
+form_gone forms None shape m = refl
+form_gone forms (Some bounds) None m = refl
+form_gone forms (Some bounds) (Some shape) m = absurd m

@@ -25,3 +25,4 @@ pub mod KindSets
 pub mod ShapeSlots
 pub mod Walking
 pub mod Fitting
+pub mod Filled

@@ -1,14 +1,13 @@
 -- The slots of shapes: those of their leaves, their kinds, and those of the last fields.
-use Rattle.std.proofs.Common.{◌≡◌, ℕ, zero, suc, ◌+◌, ◌*◌, ◌-◌, ◌<◌, ◌≤◌, ◌^◌, ℤ, unsigned_abs, ◌-ℤ◌, Bool, true, false, ◌&&◌, nat_le, List, [], ◌∷◌, ◌++◌, replicate, length, length-append, slice_get, Option, Some, None, is_some, refl, sym, ap, subst, ◌∙◌, true≢false, arith}
+use Rattle.std.proofs.Common.{◌≡◌, ℕ, zero, suc, ◌+◌, ◌*◌, ◌-◌, ◌<◌, ◌≤◌, ◌^◌, ℤ, unsigned_abs, ◌-ℤ◌, Bool, true, false, ◌&&◌, nat_le, List, [], ◌∷◌, ◌++◌, replicate, length, length-append, slice_get, Some, is_some, refl, sym, ap, subst, ◌∙◌, true≢false, arith}
 use Rattle.std.proofs.lemmas.Nat.{mul-le}
 use Rattle.std.proofs.lemmas.Grind.{flat_map-append}
 use Rattle.std.proofs.lemmas.List.Folds.{list_all-append}
-use Rattle.std.specs.List.{list_all, flat_map}
+use Rattle.std.specs.List.{list_all}
 use Rattle.pearl_value.specs.declared.kind.Kind.{Kind}
-use Rattle.pearl_scope.specs.declared.kinds.Kinds.{Kinds}
-use Rattle.pearl_scope.specs.Kinds.{no_kinds, one_kind, joined_kinds, kinds_among}
+use Rattle.pearl_scope.specs.Kinds.{joined_kinds, kinds_among}
 use Rattle.pearl_scope.specs.Shapes.{Shape, OfKind, OfFields, Fields, NoField, MoreField}
-use Rattle.pearl_scope.specs.Layout.{Leaf, leaves_of, leaves_of_fields, elements, leaf_slots, slots_of, is_sound_leaf}
+use Rattle.pearl_scope.specs.Layout.{leaves_of, leaves_of_fields, elements, leaf_slots, slots_of, is_sound_leaf}
 use Rattle.pearl_scope.specs.Runs.{shape_slots, field_slots, AreFew, AreFewIn, drop_fields, tails_of}
 use Rattle.pearl_scope.proofs.Counting.{elements-append}
 use Rattle.pearl_scope.proofs.KindSets.{kinds-append, kinds-run}

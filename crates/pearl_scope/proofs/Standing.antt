@@ -1,24 +1,23 @@
 -- What forms stand for: it stays where more forms come, and fields are found by their names.
-use Rattle.std.proofs.Common.{◌≡◌, ℕ, zero, suc, ◌+◌, ◌*◌, ◌-◌, ◌<◌, ℤ, Bool, true, false, cond, List, [], ◌∷◌, ◌++◌, map, length, take, drop, slice_get, Option, Some, None, bytes_eq, refl, sym, ap, subst, ◌∙◌, true≢false, is_some, arith}
+use Rattle.std.proofs.Common.{◌≡◌, ℕ, zero, suc, ◌+◌, ◌-◌, ◌<◌, Bool, true, false, cond, List, [], ◌∷◌, ◌++◌, length, take, drop, slice_get, Option, Some, None, bytes_eq, refl, sym, ap, subst, ◌∙◌, true≢false, is_some, arith}
 use Rattle.std.proofs.lemmas.List.{take-append-drop, take-append-le}
 use Rattle.std.proofs.lemmas.Option.{same_Some, none-some, slice_get_within}
 use Rattle.std.specs.Map.{lookup}
 use Rattle.arrayvec.specs.ArrayVec.{ArrayVec}
 use Rattle.pearl_value.specs.declared.kind.Kind.{Kind}
 use Rattle.pearl_scope.specs.Shapes.{Shape, OfKind, OfFields, Fields, NoField, MoreField}
-use Rattle.pearl_scope.specs.Layout.{leaves_of, leaves_of_fields}
 use Rattle.pearl_scope.specs.declared.types.Counts.{Counts}
 use Rattle.pearl_scope.specs.declared.types.TypeRef.{TypeRef}
 use Rattle.pearl_scope.specs.declared.types.TypeRef.TheVariants.{Basic, Struct}
 use Rattle.pearl_scope.specs.declared.types.FieldForm.{FieldForm}
 use Rattle.pearl_scope.specs.declared.types.StructForm.{StructForm}
-use Rattle.pearl_scope.specs.Counts.{cut, counts, counts_of}
+use Rattle.pearl_scope.specs.Counts.{counts, counts_of}
 use Rattle.pearl_scope.specs.declared.kinds.Kinds.{Kinds}
 use Rattle.pearl_scope.specs.Kinds.{one_kind, kinds_among}
 use Rattle.pearl_scope.specs.Runs.{shape_slots, field_slots, drop_fields, tails_of}
 use Rattle.pearl_scope.proofs.KindSets.{kinds-run}
 use Rattle.pearl_scope.proofs.ShapeSlots.{field_count, tail_at}
-use Rattle.pearl_scope.specs.Forms.{leaf_count, slot_count, IsField, StandsFor, FieldsStand, Matches, Component, component, IsComponent, MatchesComponent, append_fields}
+use Rattle.pearl_scope.specs.Forms.{leaf_count, slot_count, StandsFor, FieldsStand, component, MatchesComponent}
 
 slice_get_more : {X : Type 0} (xs ys : List X) (i : ℕ) (x : X) → slice_get xs i ≡ Some x → slice_get (xs ++ ys) i ≡ Some x
 slice_get_more [] ys i x h = absurd (true≢false (sym (ap is_some h)))

@@ -1,5 +1,5 @@
 -- Walks over the slots of a variable: from a type to its first leaf, and from each leaf to the next.
-use Rattle.std.proofs.Common.{◌≡◌, ℕ, zero, suc, ◌+◌, ◌*◌, ◌<◌, ◌≤◌, ◌^◌, ◌⊎◌, inl, inr, min, ℤ, Bool, true, false, nat_lt, List, [], ◌∷◌, ◌++◌, replicate, length, length-append, take, drop, get_or, slice_get, Option, Some, None, is_some, refl, sym, ap, subst, ◌∙◌, true≢false, append_assoc, append-nil, arith}
+use Rattle.std.proofs.Common.{◌≡◌, ℕ, zero, suc, ◌+◌, ◌*◌, ◌<◌, ◌≤◌, inl, inr, ℤ, true, false, nat_lt, List, [], ◌∷◌, ◌++◌, replicate, length, take, drop, get_or, slice_get, Option, Some, None, refl, sym, ap, subst, ◌∙◌, true≢false, append_assoc, append-nil, arith}
 use Rattle.std.proofs.lemmas.Bool.Decides.{nat_tests}
 use Rattle.std.proofs.lemmas.List.{take-append-drop}
 use Rattle.std.proofs.lemmas.Option.{same_Some, none-some}
@@ -19,14 +19,14 @@ use Rattle.pearl_scope.specs.declared.types.TypeRef.{TypeRef}
 use Rattle.pearl_scope.specs.declared.types.TypeRef.TheVariants.{Basic, Struct}
 use Rattle.pearl_scope.specs.Counts.{cut, counts, counts_of}
 use Rattle.pearl_scope.specs.Forms.{leaf_count, slot_count, StandsFor, FieldsStand}
-use Rattle.pearl_scope.specs.Kinds.{no_kinds, one_kind, joined_kinds, kinds_among}
+use Rattle.pearl_scope.specs.Kinds.{no_kinds, joined_kinds, kinds_among}
 use Rattle.pearl_scope.specs.Layout.{elements, leaves_of_fields}
 use Rattle.pearl_scope.specs.Runs.{shape_slots, field_slots, AreFew, AreFewIn, drop_fields, tails_of}
 use Rattle.pearl_scope.specs.Shapes.{Shape, OfKind, OfFields, Fields, NoField, MoreField}
 use Rattle.pearl_scope.specs.Walks.{run_slots, HasSlots, HasLeft, AllLeft, GoesOn, IsNext, FindsNext, Lists, kinds_of_next}
 use Rattle.pearl_scope.proofs.Building.{leaves_more}
 use Rattle.pearl_scope.proofs.Counting.{cut_mul}
-use Rattle.pearl_scope.proofs.KindSets.{joined-none, kinds-append, kinds-run}
+use Rattle.pearl_scope.proofs.KindSets.{kinds-append, kinds-run}
 use Rattle.pearl_scope.proofs.ShapeSlots.{field_count, some_within, same_kinds, same_kinds_in, no_slots, no_slots_in}
 use Rattle.pearl_scope.proofs.Standing.{stands_more, fields_all, fields_counted, no_form}
 

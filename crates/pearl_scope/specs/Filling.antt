@@ -1,5 +1,5 @@
 -- How constants are put into slots that are listed as runs.
-use Rattle.std.specs.Prelude.{◌≡◌, ◌⊎◌, ℕ, ℤ, ◌+◌, ◌^◌, nat_lt, if◌then◌else◌, ◌≤◌, ◌<◌, Bool, true, false, List, [], ◌∷◌, ◌++◌, length, take, drop, Option, Some, None, slice_get}
+use Rattle.std.specs.Prelude.{◌≡◌, ◌⊎◌, ℕ, ℤ, zero, suc, ◌+◌, ◌^◌, nat_lt, if◌then◌else◌, ◌≤◌, ◌<◌, Bool, true, false, not, ◌||◌, List, [], ◌++◌, length, take, drop, Option, Some, None, slice_get}
 use Rattle.std.specs.List.{All, flat_map}
 use Rattle.pearl_value.specs.declared.kind.Kind.{Kind}
 use Rattle.pearl_value.specs.declared.kind.Kind.TheVariants as kind
@@ -31,6 +31,14 @@ fits_number sign value to = false
 abbrev pub fits_length : ShownConst → Sort → Option ℕ → Bool
 fits_length constant sort None = true
 fits_length constant sort (Some len) = fits_kind constant (kind_of_length sort len)
+
+abbrev pub fits_if : ShownConst → Bool → Kind → Bool
+fits_if constant is_asked kind = not is_asked || fits_kind constant kind
+
+-- the slots of so many variables in turn
+abbrev pub repeated : ℕ → List Kind → List Kind
+repeated zero slots = []
+repeated (suc n) slots = slots ++ repeated n slots
 
 abbrev pub AreFull : List Run → Type 0
 AreFull runs = All (λ (run : Run). 1 ≤ run.count) runs

@@ -1,10 +1,10 @@
 -- Which forms in a table stand for which shapes. A shape has each TYPE that it names written out; a form names others, which
 -- stand before it, by their numbers.
-use Rattle.std.specs.Prelude.{◌≡◌, ℕ, ◌+◌, ◌*◌, ℤ, Bool, true, false, ◌&&◌, not, if◌then◌else◌, List, [], ◌∷◌, ◌++◌, map, length, take, Option, Some, None, slice_get}
+use Rattle.std.specs.Prelude.{◌≡◌, ℕ, ◌+◌, ◌*◌, ℤ, if◌then◌else◌, List, [], ◌∷◌, ◌++◌, map, length, take, Option, Some, None, slice_get}
 use Rattle.std.specs.Str.{bytes_eq}
 use Rattle.arrayvec.specs.ArrayVec.{ArrayVec}
 use Rattle.pearl_tree.specs.declared.name.Name.{Name}
-use Rattle.pearl_tree.specs.Names.{text_of, has_repeats}
+use Rattle.pearl_tree.specs.Names.{text_of}
 use Rattle.pearl_scope.specs.Shapes.{Shape, OfKind, OfFields, Fields, NoField, MoreField}
 use Rattle.pearl_scope.specs.Layout.{leaves_of, leaves_of_fields, elements, slots_of}
 use Rattle.pearl_scope.specs.declared.types.Counts.{Counts}

@@ -1,5 +1,5 @@
 -- Which kinds are among some slots, as far as a constant that is put into all of them needs it.
-use Rattle.std.specs.Prelude.{ℕ, min, Bool, true, false, ◌||◌, List, [], ◌∷◌, Option, Some, None}
+use Rattle.std.specs.Prelude.{ℕ, min, true, false, ◌||◌, List, [], ◌∷◌, Option, Some, None}
 use Rattle.pearl_value.specs.declared.kind.Kind.{Kind}
 use Rattle.pearl_value.specs.declared.kind.Kind.TheVariants as kind
 use Rattle.pearl_scope.specs.declared.kinds.Kinds.{Kinds}

@@ -1,5 +1,5 @@
 -- Walks over the slots of a variable, run by run.
-use Rattle.std.specs.Prelude.{◌≡◌, ℕ, ◌+◌, ◌*◌, ◌≤◌, ◌⊎◌, ℤ, List, [], ◌∷◌, ◌++◌, length, replicate, Option, Some, None}
+use Rattle.std.specs.Prelude.{◌≡◌, ℕ, ◌*◌, ◌≤◌, ◌⊎◌, ℤ, List, [], ◌∷◌, ◌++◌, length, replicate, Option, Some, None}
 use Rattle.std.specs.List.{All, flat_map}
 use Rattle.pearl_value.specs.declared.kind.Kind.{Kind}
 use Rattle.pearl_scope.specs.declared.kinds.Kinds.{Kinds}
@@ -11,7 +11,7 @@ use Rattle.pearl_scope.specs.declared.types.StructForm.{StructForm}
 use Rattle.pearl_scope.specs.declared.types.TypeRef.{TypeRef}
 use Rattle.pearl_scope.specs.declared.types.TypeRef.TheVariants.{Struct}
 use Rattle.pearl_scope.specs.Counts.{cut}
-use Rattle.pearl_scope.specs.Forms.{StandsFor, FieldsStand, leaf_count}
+use Rattle.pearl_scope.specs.Forms.{StandsFor, leaf_count}
 use Rattle.pearl_scope.specs.Kinds.{no_kinds, one_kind, kinds_among}
 use Rattle.pearl_scope.specs.Layout.{elements, leaves_of_fields}
 use Rattle.pearl_scope.specs.Runs.{shape_slots, field_slots, AreFew, AreFewIn, drop_fields}

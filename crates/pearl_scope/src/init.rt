@@ -1,6 +1,6 @@
 // The rule S7: constants of INIT, and the slots that they are put into.
 
-ghost use Rattle.std.specs.Prelude.{◌≡◌, ◌++◌, [], ℕ, ◌+◌, List, Option, Some, true, map, drop, length, IfOk, OnOk};
+ghost use Rattle.std.specs.Prelude.{◌≡◌, ◌++◌, [], ℕ, ◌+◌, List, Option, Some, None, true, nat_lt, if◌then◌else◌, map, drop, length, IfOk, OnOk};
 ghost use Rattle.std.specs.List.{list_all, flat_map};
 ghost use Rattle.pearl_value.specs.declared.kind.Kind.{Kind as KindOf};
 ghost use Rattle.pearl_value.specs.Conversions as conversions;
@@ -9,7 +9,7 @@ ghost use Rattle.pearl_tree.specs.ShownDeclarations.{shown_names};
 ghost use Rattle.pearl_tree.specs.ShownLiterals.{shown_const};
 ghost use Rattle.pearl_scope.specs.Constants as spec;
 ghost use Rattle.pearl_scope.specs.Filling as filling;
-ghost use Rattle.pearl_scope.specs.Filling.{ahead, taken, AreFull, IsAhead, MatchesLeaves};
+ghost use Rattle.pearl_scope.specs.Filling.{ahead, repeated, taken, AreFull, IsAhead, MatchesLeaves};
 ghost use Rattle.pearl_scope.specs.Forming.{AllMatch, Grows};
 ghost use Rattle.pearl_scope.specs.Kinds.{kinds_among};
 ghost use Rattle.pearl_scope.specs.Layout.{Leaf, is_sound_leaf};
@@ -111,6 +111,12 @@ fn fits_length(constant: &Const, sort: Sort, len: Option<u8>) -> bool
     }
 }
 
+fn fits_if(constant: &Const, is_asked: bool, kind: Kind) -> bool
+    ensures { result ≡ filling.fits_if (shown_const constant.now) is_asked kind }
+{
+    !is_asked || fits_kind(constant, kind)
+}
+
 // Whether a constant fits all slots that have these kinds.
 fn fits_kinds(constant: &Const, kinds: Kinds) -> bool
     ensures { (slots : List KindOf) → kinds ≡ kinds_among slots →
@@ -119,9 +125,9 @@ fn fits_kinds(constant: &Const, kinds: Kinds) -> bool
     let fixed = fits_length(constant, Sort::Fixed, kinds.fixed);
     let bits = fits_length(constant, Sort::Bit, kinds.bits);
     let chars = fits_length(constant, Sort::Char, kinds.chars);
-    let clock = !kinds.clock || fits_kind(constant, Kind::Clock);
-    let span = !kinds.span || fits_kind(constant, Kind::Span);
-    fixed && bits && chars && clock && span
+    let clock = fits_if(constant, kinds.clock, Kind::Clock);
+    let span = fits_if(constant, kinds.span, Kind::Span);
+    fixed & bits & chars & clock & span
 }
 
 fn fits_runs(constant: &Const, mut runs: &[Run]) -> bool
@@ -136,27 +142,28 @@ fn fits_runs(constant: &Const, mut runs: &[Run]) -> bool
     true
 }
 
-// The slots of each of these names in turn, where those of one are listed and these kinds are among them.
+// The slots of so many names in turn, where those of one are listed and these kinds are among them.
 fn slots_of_names(
     alloc: Global,
     one: &Slots,
     whole: Kinds,
-    mut names: &[Name],
+    names: usize,
     most: usize,
 ) -> Result<Slots, NoMemory>
     ensures { IfOk result (λ all. (slots : List KindOf) → Lists one.now slots most → whole ≡ kinds_among slots →
-        Lists all (flat_map (λ name. slots) names.entry.now) most) }
+        Lists all (repeated names slots) most) }
 {
     let mut runs = Vec::new(alloc);
     let mut behind = NO_KINDS;
-    while let [_, rest @ ..] = names {
+    let mut left = names;
+    while left > 0 {
         if runs.len() >= most {
             behind = joined_kinds(behind, whole);
             return Ok(Slots { runs, behind });
         }
         runs.extend_from_slice(one.runs.as_slice())?;
         behind = one.behind;
-        names = rest;
+        left -= 1;
     }
     Ok(Slots { runs, behind })
 }
@@ -168,23 +175,27 @@ pub struct Spot {
     pub used: u32,
 }
 
+// How many slots of a run stand before the slot behind one, where the run has it.
+fn next_used(used: u32, count: u32) -> Option<u32>
+    ensures { result ≡ (if nat_lt (used + 1) count then Some (used + 1) else None) }
+{
+    let left = count.saturating_sub(used);
+    if left > 1 { Some(used + 1) } else { None }
+}
+
 // The slot behind one.
 fn after_one(runs: &[Run], spot: Spot) -> Spot
     ensures { (rest : List KindOf) (most : ℕ) → AreFull runs.now → IsAhead runs.now spot rest (most + 1) →
         IsAhead runs.now result rest most × (ahead runs.now result rest ≡ drop 1 (ahead runs.now spot rest)) }
 {
     match runs.get(spot.at) {
-        Some(run) => {
-            let used = spot.used.saturating_add(1);
-            if used < run.count {
-                Spot { at: spot.at, used }
-            } else {
-                Spot {
-                    at: spot.at + 1,
-                    used: 0,
-                }
-            }
-        }
+        Some(run) => match next_used(spot.used, run.count) {
+            Some(used) => Spot { at: spot.at, used },
+            None => Spot {
+                at: spot.at + 1,
+                used: 0,
+            },
+        },
         None => spot,
     }
 }
@@ -202,7 +213,9 @@ fn misses(constant: &Const, is_last: bool, runs: &[Run], spot: Spot, behind: Kin
             if !is_last {
                 return false;
             }
-            !fits_runs(constant, &runs[spot.at + 1..]) || !fits_kinds(constant, behind)
+            let fits_rest = fits_runs(constant, &runs[spot.at + 1..])
+                & fits_kinds(constant, behind);
+            !fits_rest
         }
         None => true,
     }
@@ -211,21 +224,22 @@ fn misses(constant: &Const, is_last: bool, runs: &[Run], spot: Spot, behind: Kin
 // Tells each constant that misses its slots, the first of which are listed.
 fn tell_misses(
     faults: &mut Vec<RuleFault>,
-    mut init: &[Const],
+    init: &[Const],
     runs: &[Run],
     behind: Kinds,
 ) -> Result<(), NoMemory>
     ensures { OnOk result ((rest : List KindOf) → behind ≡ kinds_among rest → AreFull runs.now →
-        IsAhead runs.now (record { at = 0; used = 0 }) rest (length init.entry.now) →
+        IsAhead runs.now (record { at = 0; used = 0 }) rest (length init.now) →
         faults.new.items ≡ faults.old.items ++
-        spec.missing_slots (ahead runs.now (record { at = 0; used = 0 }) rest) (map shown_const init.entry.now)) }
+        spec.missing_slots (ahead runs.now (record { at = 0; used = 0 }) rest) (map shown_const init.now)) }
 {
     let mut spot = Spot { at: 0, used: 0 };
-    while let [constant, rest @ ..] = init {
-        let missed = misses(constant, rest.is_empty(), runs, spot, behind);
+    let mut left = init.len();
+    for constant in init {
+        left = left.saturating_sub(1);
+        let missed = misses(constant, left == 0, runs, spot, behind);
         fault_if(faults, missed, constant.place, rule::S7)?;
         spot = after_one(runs, spot);
-        init = rest;
     }
     Ok(())
 }
@@ -254,7 +268,7 @@ fn missing_slots(
 {
     let one = slots_of(alloc, forms, form.part, form.sizes.elements, init.len())?;
     let whole = kinds_of(forms, form.part);
-    let all = slots_of_names(alloc, &one, whole, names, init.len())?;
+    let all = slots_of_names(alloc, &one, whole, names.len(), init.len())?;
     tell_misses(faults, init, all.runs.as_slice(), all.behind)?;
     Ok(())
 }
@@ -281,9 +295,10 @@ fn missing_of(
 {
     match form {
         Some(form) => {
-            if is_sound_item(forms, form) {
-                missing_slots(alloc, faults, forms, form, names, init)?;
+            if !is_sound_item(forms, form) {
+                return Ok(());
             }
+            missing_slots(alloc, faults, forms, form, names, init)?;
             Ok(())
         }
         None => Ok(()),
@@ -314,7 +329,14 @@ pub(crate) fn s7_at(
                 return Ok(());
             }
             let form = item_form(alloc, scopes, lengths, known, *scope, *types, item)?;
-            missing_of(alloc, faults, known.forms.as_slice(), form, item.names.as_slice(), init)?;
+            missing_of(
+                alloc,
+                faults,
+                known.forms.as_slice(),
+                form,
+                item.names.as_slice(),
+                init,
+            )?;
             Ok(())
         }
         Part::Used { .. } => Ok(()),

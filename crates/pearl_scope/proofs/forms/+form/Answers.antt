@@ -1,4 +1,4 @@
-use Rattle.std.proofs.Common.{None, option_map, List, ℤ, ◌≡◌, sym, ap, subst, ◌∙◌, take, drop, refl, true, ◌+◌}
+use Rattle.std.proofs.Common.{None, option_map, List, ℤ, ◌≡◌, sym, ap, subst, ◌∙◌, take, drop, refl, ◌+◌}
 use Rattle.pearl_scope.specs.Forms.{Matches, IsForm, StandsFor, FieldsStand, append_fields}
 use Rattle.pearl_scope.specs.Forming.{Made, around_of, struct_shape, sizes_of}
 use Rattle.pearl_tree.specs.ShownDeclarations.{shown_names, shown_typing}

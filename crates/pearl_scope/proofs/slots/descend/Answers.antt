@@ -1,6 +1,5 @@
-use Rattle.std.proofs.Common.{Some, ◌++◌, refl, sym, subst, take}
+use Rattle.std.proofs.Common.{◌++◌, refl, subst}
 use Rattle.std.proofs.lemmas.Option.{slice_get_read, slice_get_past}
-use Rattle.pearl_scope.specs.Walks.{GoesOn}
 use Rattle.pearl_scope.proofs.Walking.{Descends, descends_first, descends_last, no_descent, no_next, descends_more}
 use Rattle.pearl_scope.proofs.slots.descend.Goals as goal
 

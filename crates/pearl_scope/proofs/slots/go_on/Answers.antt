@@ -1,6 +1,6 @@
-use Rattle.std.proofs.Common.{refl, subst, ap, ◌++◌, ◌∷◌, [], sym, ◌∙◌}
+use Rattle.std.proofs.Common.{refl, subst}
 use Rattle.std.proofs.lemmas.Option.{slice_get_read, slice_get_past}
-use Rattle.pearl_scope.specs.Walks.{AllLeft, GoesOn}
+use Rattle.pearl_scope.specs.Walks.{AllLeft}
 use Rattle.pearl_scope.proofs.Walking.{frame_gone, frame_done, frame_next, onward_goes, Onward}
 use Rattle.pearl_scope.proofs.slots.go_on.Goals as goal
 

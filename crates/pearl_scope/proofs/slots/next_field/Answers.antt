@@ -1,4 +1,4 @@
-use Rattle.std.proofs.Common.{◌≡◌, ◌<◌, ◌^◌, length, Some, None, sym, ap, ◌∙◌, refl, arith}
+use Rattle.std.proofs.Common.{length, sym, ap, ◌∙◌, refl, arith}
 use Rattle.std.proofs.lemmas.Option.{slice_get_within}
 use Rattle.std.specs.List.{slice_get}
 use Rattle.pearl_scope.proofs.Walking.{field_there, no_field, skips_none, skips_more, skips_found, skips_all}

@@ -1,6 +1,6 @@
 use Rattle.std.proofs.Common.{◌≡◌, ◌≤◌, [], sym, subst, ap, ◌∙◌, length, vec_len, refl, arith}
 use Rattle.pearl_scope.specs.Kinds.{joined_kinds}
-use Rattle.pearl_scope.specs.Walks.{AllLeft, GoesOn, kinds_of_next}
+use Rattle.pearl_scope.specs.Walks.{AllLeft, kinds_of_next}
 use Rattle.pearl_scope.proofs.Walking.{Walked, walked_none, walked_more, walked_all, walked_enough}
 use Rattle.pearl_scope.proofs.slots.slots_of.Goals as goal
 
