@@ -1,14 +1,17 @@
 -- How counts of leaves are made of those of their parts.
-use Rattle.std.proofs.Common.{◌≡◌, ℕ, zero, suc, ◌+◌, ◌*◌, ◌<◌, ◌≤◌, ◌^◌, max, ℤ, unsigned_abs, ◌-ℤ◌, Bool, true, false, ◌&&◌, nat_le, List, [], ◌∷◌, ◌++◌, map, length, length-append, refl, sym, ap, ◌∙◌, append_assoc, append-nil, arith, inl, inr, mul-add, ⊎_elim, ◌⊎◌}
+use Rattle.std.proofs.Common.{◌≡◌, ℕ, zero, suc, ◌+◌, ◌*◌, ◌<◌, ◌≤◌, ◌^◌, min, max, ℤ, unsigned_abs, ◌-ℤ◌, Bool, true, false, ◌&&◌, nat_le, List, [], ◌∷◌, ◌++◌, map, length, length-append, refl, sym, ap, ◌∙◌, append_assoc, append-nil, arith, inl, inr, mul-add, ⊎_elim, ◌⊎◌}
 use Rattle.std.proofs.Math.Nat.{mul-zero, mul_comm, mul_assoc, mul-le-mul_left}
 use Rattle.std.proofs.lemmas.Nat.{mul-le}
 use Rattle.std.proofs.lemmas.Bool.{cases_lt, lt-leb, le-leb}
 use Rattle.std.proofs.lemmas.Bool.Decides.{nat_tests}
 use Rattle.std.proofs.lemmas.List.{map-append, length-map, length-replicate}
 use Rattle.std.proofs.lemmas.Grind.{flat_map-append}
-use Rattle.std.specs.List.{list_all}
+use Rattle.std.proofs.lemmas.List.Folds.{list_all-append}
+use Rattle.std.specs.List.{list_all, flat_map}
+use Rattle.pearl_value.specs.declared.kind.Kind.{Kind}
 use Rattle.pearl_scope.specs.Shapes.{Shape, OfKind, OfFields, Fields, NoField, MoreField}
 use Rattle.pearl_scope.specs.Layout.{Leaf, leaves_of, leaves_of_fields, elements, leaf_slots, slots_of, is_sound_leaf}
+use Rattle.pearl_scope.specs.declared.types.Counts.{Counts}
 use Rattle.pearl_scope.specs.Counts.{cut, joined, within, most, dimensions_of, elements_of, counts, counts_of, has_sound_leaves}
 
 pub cut_add : (a b : ℕ) → cut (a + b) ≡ cut (cut a + cut b)

@@ -9,6 +9,7 @@ use Rattle.pearl_scope.specs.declared.scope.SortedName.{SortedName}
 use Rattle.pearl_scope.specs.ScopeNames.{ScopeNames}
 use Rattle.pearl_tree.specs.Names.{text_of}
 use Rattle.pearl_scope.specs.Meanings.{names_in, outer_of, first_sort, sort_through, is_control_sort, is_control, sort_in_while, sort_from}
+use Rattle.pearl_scope.specs.declared.meaning.Found.{Found}
 use Rattle.pearl_scope.specs.FirstNames.{first_index}
 use Rattle.pearl_scope.specs.Found.{found_in, found_through, found_in_while, found_from, sort_at}
 use Rattle.pearl_scope.proofs.FirstNames.{bytes_symm}

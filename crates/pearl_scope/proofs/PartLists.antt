@@ -17,10 +17,10 @@ use Rattle.pearl_tree.specs.ShownExpressions.{shown_expr, shown_primary, shown_s
 use Rattle.pearl_tree.specs.ShownDeclarations.{shown_typing}
 use Rattle.pearl_scope.specs.declared.scope.View.{View}
 use Rattle.pearl_scope.specs.declared.part.Part.{Part as CodePart}
-use Rattle.pearl_scope.specs.Parts.{Used, Bounds, Struct, expr_parts, primary_parts, selectors_parts, selector_parts, exprs_parts, ref_parts, typing_parts, fields_parts}
+use Rattle.pearl_scope.specs.Parts.{Part, Used, Bounds, Struct, expr_parts, primary_parts, selectors_parts, selector_parts, exprs_parts, ref_parts, typing_parts, fields_parts}
 use Rattle.pearl_scope.specs.Forming.{fields_shown}
 use Rattle.pearl_scope.proofs.FieldsMade.{struct_shown}
-use Rattle.pearl_scope.specs.PartLists.{shown_part, parts_in, selector_list_parts, field_list_parts}
+use Rattle.pearl_scope.specs.PartLists.{shown_part, parts_in, selector_list_parts, field_parts, field_list_parts}
 
 pub parts_in-nil : parts_in [] ≡ []
 unfolding parts_in

@@ -9,7 +9,7 @@ use Rattle.pearl_scope.specs.Counts.{cut}
 use Rattle.pearl_scope.specs.declared.types.Sizes.{Sizes}
 use Rattle.pearl_scope.specs.Forming.{sizes_of}
 use Rattle.pearl_scope.proofs.Counting.{cut_mul, elements-append}
-use Rattle.pearl_scope.proofs.Lists.{one_taken, cut_at}
+use Rattle.pearl_scope.proofs.Lists.{one_taken, cut_at, all_taken}
 
 -- what a loop over bounds has found: all so far are sound
 pub record SizedSo (sizes : Sizes) (bounds : List Bound) : Type 0 where

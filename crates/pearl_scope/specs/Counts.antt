@@ -1,7 +1,7 @@
 -- Counts of types, cut off at a limit.
 use Rattle.std.specs.Prelude.{ℕ, zero, suc, ◌+◌, ◌*◌, ◌^◌, min, max, Bool, ◌&&◌, nat_le, List, [], ◌∷◌, length}
-use Rattle.pearl_scope.specs.Shapes.{Shape}
-use Rattle.pearl_scope.specs.Layout.{Leaf, leaves_of, elements, slots_of}
+use Rattle.pearl_scope.specs.Shapes.{Shape, Fields}
+use Rattle.pearl_scope.specs.Layout.{Leaf, leaves_of, leaves_of_fields, elements, slots_of}
 use Rattle.pearl_scope.specs.declared.types.Counts.{Counts}
 
 abbrev pub cut : ℕ → ℕ

@@ -1,11 +1,13 @@
 -- How forms are made of written types.
-use Rattle.std.specs.Prelude.{◌≡◌, ℕ, ℤ, false, List, [], ◌∷◌, ◌++◌, length, Option, Some}
+use Rattle.std.specs.Prelude.{◌≡◌, ℕ, ℤ, Bool, false, List, [], ◌∷◌, ◌++◌, length, Option, Some, None, option_map}
+use Rattle.pearl_tree.specs.declared.name.Name.{Name}
 use Rattle.pearl_tree.specs.declared.typing.Field.{Field}
+use Rattle.pearl_tree.specs.declared.typing.Bound.{Bound}
 use Rattle.pearl_tree.specs.ShownDeclarations.{ShownFields, NoFields, MoreFields, OfStruct, shown_names, shown_typing}
 use Rattle.pearl_scope.specs.ScopeNames.{ScopeNames}
 use Rattle.pearl_scope.specs.declared.length.DefaultLength.{DefaultLength}
 use Rattle.pearl_tree.specs.Names.{has_repeats}
-use Rattle.pearl_scope.specs.Shapes.{Shape, Fields, Around, shape_of, fields_of, field_names}
+use Rattle.pearl_scope.specs.Shapes.{Shape, Fields, Around, shape_of, fields_of, field_names, sound_bounds}
 use Rattle.pearl_scope.specs.Layout.{elements}
 use Rattle.pearl_scope.specs.declared.types.TypeRef.{TypeRef}
 use Rattle.pearl_scope.specs.declared.types.StructForm.{StructForm}

@@ -1,4 +1,4 @@
-use Rattle.std.proofs.Common.{refl, sym, subst, Some, None}
+use Rattle.std.proofs.Common.{refl, sym, ap, ◌∙◌, subst, Some, None, Option}
 use Rattle.std.proofs.lemmas.Option.{slice_get_read, slice_get_past}
 use Rattle.pearl_scope.specs.Shapes.{meant_shape}
 use Rattle.pearl_scope.specs.Forms.{Matches}

@@ -1,4 +1,4 @@
-use Rattle.std.proofs.Common.{ap, ◌∙◌, is_some, ◌∷◌, []}
+use Rattle.std.proofs.Common.{◌≡◌, ap, ◌∙◌, is_some, option_map, ◌∷◌, []}
 use Rattle.pearl_scope.specs.Counts.{cut}
 use Rattle.pearl_scope.specs.Layout.{elements}
 use Rattle.pearl_scope.specs.Shapes.{is_sound_pair, bound_pair}

@@ -1,4 +1,4 @@
-use Rattle.std.proofs.Common.{subst, ap, ◌∙◌, Some}
+use Rattle.std.proofs.Common.{◌≡◌, sym, subst, ap, ◌∙◌, Some, None}
 use Rattle.pearl_scope.specs.Forms.{Matches}
 use Rattle.pearl_scope.proofs.ItemCounts.{within_counted, no_form_counted}
 use Rattle.pearl_scope.proofs.layout.counts_within.Goals as goal

@@ -1,4 +1,4 @@
-use Rattle.std.proofs.Common.{leb, sym, ap, ◌∙◌, arith, rules}
+use Rattle.std.proofs.Common.{◌≡◌, ◌≤◌, ◌∷◌, [], ◌++◌, true, false, length, leb, sym, ap, subst, ◌∙◌, arith, rules}
 use Rattle.std.proofs.lemmas.List.Sorted.{IsPartitionPoint-from_clause, IsPartitionedBy-leb}
 use Rattle.pearl_scope.specs.declared.length.Step.{Step}
 use Rattle.pearl_scope.proofs.Steps.{picked, picked_at, picked_last}

@@ -1,4 +1,4 @@
-use Rattle.std.proofs.Common.{◌≡◌, sym, subst, ◌∙◌, take, drop, true, ◌+◌}
+use Rattle.std.proofs.Common.{◌≡◌, ◌++◌, ◌∷◌, [], sym, ap, subst, ◌∙◌, take, drop, true, ◌+◌}
 use Rattle.pearl_tree.specs.Names.{has_repeats}
 use Rattle.pearl_scope.specs.Shapes.{NoField, with_fields}
 use Rattle.pearl_scope.specs.Forms.{IsForm, append_fields}

@@ -1,4 +1,4 @@
-use Rattle.std.proofs.Common.{subst}
+use Rattle.std.proofs.Common.{sym, ◌∙◌, ap, subst}
 use Rattle.pearl_scope.specs.Forms.{StandsFor}
 use Rattle.pearl_scope.proofs.Standing.{basic_counts, struct_counts}
 use Rattle.pearl_scope.proofs.types.counts_of.Goals as goal
