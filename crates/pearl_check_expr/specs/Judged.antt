@@ -15,9 +15,9 @@ use Rattle.pearl_tree.specs.declared.rule.TheConstants as rule
 use Rattle.pearl_tree.specs.Faults.{fault_if}
 use Rattle.pearl_tree.specs.Names.{text_of}
 use Rattle.pearl_tree.specs.ShownExpressions.{ShownExpr, OfOperand, OfDyadic, ShownPrimary, OfLiteral, OfRef, OfGroup, OfNow, OfTry, OfLimit, ShownSelectors, NoSelectors, MoreSelectors, ShownSelector, OfSubscripts, OfComponent, ShownExprs, NoExprs, MoreExprs, ShownRef}
-use Rattle.pearl_scope.specs.declared.scope.View.{View}
-use Rattle.pearl_scope.specs.Tables.{Parameter, Sense, Semaphore, Table}
-use Rattle.pearl_check_expr.specs.Senses.{sense_from, Callee, callee_of, is_fixed}
+use Rattle.pearl_names.specs.declared.scope.View.{View}
+use Rattle.pearl_names.specs.Tables.{Parameter, Sense, Semaphore, Table, sense_from}
+use Rattle.pearl_check_expr.specs.Senses.{Callee, callee_of, is_fixed}
 use Rattle.pearl_check_expr.specs.Literals.{literal_kind}
 use Rattle.pearl_check_expr.specs.Kinds.{suits_kind, is_kind}
 use Rattle.pearl_check_expr.specs.Standings.{Judged, faulty, Standing, Broken, Open, Walked, walked_on, variable_start, subscripted, selected, as_value, faults_of}
@@ -147,13 +147,13 @@ abbrev mutual
   pub judged_primary : Table → View → ShownPrimary → Judged
   judged_primary table view (OfLiteral part) = record { kind = literal_kind table.lengths part; faults = [] }
   judged_primary table view (OfRef name selectors place) =
-      called_or (callee_of (sense_from table.scopes view (text_of name))) (λ callee. judged_call table view name callee selectors)
-      (as_value name (along table view name (variable_start name (sense_from table.scopes view (text_of name))) selectors))
+      called_or (callee_of (sense_from table view (text_of name))) (λ callee. judged_call table view name callee selectors)
+      (as_value name (along table view name (variable_start name (sense_from table view (text_of name))) selectors))
   judged_primary table view (OfGroup inner place) = judged table view inner
   judged_primary table view (OfNow place) = record { kind = Some kind.Clock; faults = [] }
-  judged_primary table view (OfTry name place) = try_judged name (sense_from table.scopes view (text_of name))
+  judged_primary table view (OfTry name place) = try_judged name (sense_from table view (text_of name))
   judged_primary table view (OfLimit dimension side name selectors ref_place place) =
-      limit_judged name (dimension_of dimension) (along table view name (variable_start name (sense_from table.scopes view (text_of name))) selectors)
+      limit_judged name (dimension_of dimension) (along table view name (variable_start name (sense_from table view (text_of name))) selectors)
 
   -- the selectors of a reference, one after the other
   pub along : Table → View → Name → Walked → ShownSelectors → Walked
@@ -198,8 +198,8 @@ abbrev mutual
   -- an argument for an IDENT parameter, and what it is as an expression. S21: it is no variable
   pub ident_argument : Table → View → Option Kind → Judged → ShownExpr → Argument
   ident_argument table view to value (OfOperand [] (OfRef name selectors ref_place) place) =
-      if is_some (callee_of (sense_from table.scopes view (text_of name)))
+      if is_some (callee_of (sense_from table view (text_of name)))
       then no_variable place value
-      else variable_argument place (is_fixed (sense_from table.scopes view (text_of name))) to
-      (as_value name (along table view name (variable_start name (sense_from table.scopes view (text_of name))) selectors))
+      else variable_argument place (is_fixed (sense_from table view (text_of name))) to
+      (as_value name (along table view name (variable_start name (sense_from table view (text_of name))) selectors))
   ident_argument table view to value expr = no_variable (expr_place expr) value

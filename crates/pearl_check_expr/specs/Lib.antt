@@ -1,4 +1,4 @@
--- what a name stands for where it is seen
+-- what is asked of what a name stands for
 pub mod Senses
 -- the kinds of literals
 pub mod Literals

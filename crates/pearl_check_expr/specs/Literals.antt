@@ -5,9 +5,9 @@ use Rattle.pearl_value.specs.declared.kind.Kind.TheVariants as kind
 use Rattle.pearl_value.specs.Conversions.{fits_fixed}
 use Rattle.pearl_tree.specs.declared.typing.Sort.TheVariants.{Fixed}
 use Rattle.pearl_tree.specs.ShownLiterals.{ShownLiteral, OfNumber, OfBits, OfText, OfClock, OfDuration}
-use Rattle.pearl_scope.specs.declared.length.DefaultLength.{DefaultLength}
-use Rattle.pearl_scope.specs.Lengths.{length_at}
-use Rattle.pearl_scope.specs.Durations.{is_too_long}
+use Rattle.pearl_names.specs.declared.length.DefaultLength.{DefaultLength}
+use Rattle.pearl_names.specs.Lengths.{length_at}
+use Rattle.pearl_names.specs.Durations.{is_too_long}
 
 -- a number has the default length where its value fits, and else length 63
 abbrev pub fixed_length : ℕ → ℕ → ℕ

@@ -5,10 +5,10 @@ use Rattle.pearl_tree.specs.declared.name.Name.{Name}
 use Rattle.pearl_tree.specs.declared.rule.TheConstants as rule
 use Rattle.pearl_tree.specs.Names.{text_of}
 use Rattle.pearl_tree.specs.ShownExpressions.{ShownExpr, ShownExprs, NoExprs, MoreExprs, ShownSelectors, ShownRef}
-use Rattle.pearl_scope.specs.declared.scope.View.{View}
-use Rattle.pearl_scope.specs.declared.scope.View.TheVariants.{Within, WhileOf}
-use Rattle.pearl_scope.specs.Tables.{Sense, Table}
-use Rattle.pearl_check_expr.specs.Senses.{sense_from, Callee, callee_of}
+use Rattle.pearl_names.specs.declared.scope.View.{View}
+use Rattle.pearl_names.specs.declared.scope.View.TheVariants.{Within, WhileOf}
+use Rattle.pearl_names.specs.Tables.{Sense, Table, sense_from}
+use Rattle.pearl_check_expr.specs.Senses.{Callee, callee_of}
 use Rattle.pearl_check_expr.specs.Standings.{Judged, faulty, variable_start, as_value, faults_of}
 use Rattle.pearl_check_expr.specs.Judged.{judged, judged_all, along, arguments, call_faults, is_well_called, if_well}
 
@@ -21,7 +21,7 @@ pub data ShownSubject : Type 0 where
 abbrev pub target_judged : Table → View → ShownRef → Judged
 target_judged table view target =
     as_value target.name
-    (along table view target.name (variable_start target.name (sense_from table.scopes view (text_of target.name))) target.selectors)
+    (along table view target.name (variable_start target.name (sense_from table view (text_of target.name))) target.selectors)
 
 -- a call statement needs no result
 abbrev pub statement_called : Table → View → Name → ShownExprs → Callee → Judged
@@ -44,5 +44,5 @@ subject_judged table scope (OfValue expr) = judged table (Within scope) expr
 subject_judged table scope (OfWhile expr) = judged table (WhileOf scope) expr
 subject_judged table scope (OfTarget target) = target_judged table (Within scope) target
 subject_judged table scope (OfCallStatement name exprs) =
-    call_judged table (Within scope) name exprs (sense_from table.scopes (Within scope) (text_of name))
-    (callee_of (sense_from table.scopes (Within scope) (text_of name)))
+    call_judged table (Within scope) name exprs (sense_from table (Within scope) (text_of name))
+    (callee_of (sense_from table (Within scope) (text_of name)))

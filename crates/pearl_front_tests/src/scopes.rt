@@ -2,12 +2,15 @@
 
 use crate::cases::{STOP, places_of, source_of, tokens_of};
 use arrayvec::ArrayVec;
+use pearl_names::duration::is_too_long;
+use pearl_names::length::{is_length, kind_of_basic, lengths_set};
+use pearl_names::meaning::sort_from;
+use pearl_names::scope::{NameSort, View};
+use pearl_names::sense::{Form, Sense};
+use pearl_names::sorted::names_of_module;
+use pearl_names::table::table_of;
+use pearl_names::types::TypeRef;
 use pearl_parse::parse::parse;
-use pearl_scope::collect::names_of_module;
-use pearl_scope::duration::is_too_long;
-use pearl_scope::length::{is_length, kind_of_basic, lengths_set};
-use pearl_scope::meaning::sort_from;
-use pearl_scope::scope::{NameSort, View};
 use pearl_tree::literal::{Duration, Secs};
 use pearl_tree::name::Number;
 use pearl_tree::tree::Tree;
@@ -74,6 +77,60 @@ fn names_mean_their_innermost_declaration(rt: HostRuntime) -> Result<(), Fail> {
             "{name:?}"
         );
     }
+    Ok(())
+}
+
+// Names seen from somewhere, and the kind that each is found to have without dimensions.
+fn kinds() -> &'static [(View, &'static [u8], Option<Kind>)] {
+    &[
+        (View::Within(0), b"a", Some(Kind::Fixed(15))),
+        (View::Within(2), b"a", Some(Kind::Bits(1))),
+        (View::Within(2), b"b", Some(Kind::Fixed(15))),
+        (View::Within(1), b"x", Some(Kind::Fixed(15))),
+        (View::WhileOf(2), b"i", Some(Kind::Fixed(15))),
+        (View::Within(1), b"i", None),
+        (View::Within(0), b"u", None),
+    ]
+}
+
+fn kind_of_form(form: &Form) -> Option<Kind> {
+    match form.part {
+        TypeRef::Basic(kind) if form.bounds.is_empty() => Some(kind),
+        _ => None,
+    }
+}
+
+fn kind_of(sense: Option<&Sense>) -> Option<Kind> {
+    match sense {
+        Some(
+            Sense::Variable {
+                form: Some(form),
+                ..
+            },
+        ) => kind_of_form(form),
+        Some(Sense::Control(kind)) => Some(*kind),
+        Some(Sense::Parameter(parameter)) => parameter.kind,
+        _ => None,
+    }
+}
+
+#[test]
+fn names_stand_for_what_declares_them(rt: HostRuntime) -> Result<(), Fail> {
+    let Some(tree) = tree_of(rt.alloc(), MODULE) else {
+        assert!(rt; false, "no tree");
+        return Ok(());
+    };
+    let table = table_of(rt.alloc(), &tree)?;
+    for &(view, name, want) in kinds() {
+        let found = kind_of(table.sense_from(view, &text_of(name)));
+        assert_eq!(rt; found, want, "{name:?}");
+    }
+    let Some(Sense::Procedure(called)) = table.sense_from(View::Within(0), &text_of(b"p")) else {
+        assert!(rt; false, "no procedure");
+        return Ok(());
+    };
+    assert_eq!(rt; called.parameters.len(), 1);
+    assert!(rt; called.result.is_none());
     Ok(())
 }
 

@@ -3,17 +3,18 @@ use Rattle.std.proofs.Common.{◌≡◌, ℕ, ◌+◌, ◌<◌, List, [], ◌∷
 use Rattle.std.proofs.lemmas.Grind.{flat_map-append}
 use Rattle.std.specs.List.{flat_map}
 use Rattle.pearl_tree.specs.declared.fault.RuleFault.{RuleFault}
-use Rattle.pearl_scope.specs.declared.forms.Types.{Types}
-use Rattle.pearl_scope.specs.declared.length.DefaultLength.{DefaultLength}
+use Rattle.pearl_names.specs.declared.forms.Types.{Types}
+use Rattle.pearl_names.specs.declared.length.DefaultLength.{DefaultLength}
 use Rattle.pearl_scope.specs.declared.part.Part.{Part as CodePart}
-use Rattle.pearl_scope.specs.Forming.{AllMatch, Grows}
+use Rattle.pearl_names.specs.Forming.{AllMatch, Grows}
 use Rattle.pearl_scope.specs.PartLists.{shown_part, parts_in}
 use Rattle.pearl_scope.specs.Parts.{Part}
-use Rattle.pearl_scope.specs.Rules.{Known, part_faults, faults_in}
-use Rattle.pearl_scope.specs.ScopeNames.{ScopeNames}
-use Rattle.pearl_scope.specs.Shapes.{Shape}
-use Rattle.pearl_scope.proofs.FieldsMade.{all_match_more, grows_more, grows_none}
-use Rattle.pearl_scope.proofs.Lists.{one_taken}
+use Rattle.pearl_scope.specs.Rules.{part_faults, faults_in}
+use Rattle.pearl_names.specs.Known.{Known}
+use Rattle.pearl_names.specs.ScopeNames.{ScopeNames}
+use Rattle.pearl_names.specs.Shapes.{Shape}
+use Rattle.pearl_names.proofs.FieldsMade.{all_match_more, grows_more, grows_none}
+use Rattle.pearl_names.proofs.Lists.{one_taken}
 use Rattle.pearl_scope.proofs.PartLists.{parts_in-nil, parts_in-append, parts_in-cons}
 
 -- what was told of these parts

@@ -1,66 +1,25 @@
 -- Small modules and their faults. Each stands between `MODULE(m);PROBLEM;` and `MODEND;`, so that its first byte is 18.
 use Prim.Native.String.{String}
-use Rattle.std.specs.Prelude.{◌≡◌, ℕ, ◌+◌, pos, false, true, List, [], ◌∷◌, Some, None, codes}
+use Rattle.std.specs.Prelude.{◌≡◌, ℕ, false, true, List, [], ◌∷◌, Some, None, codes}
 use Rattle.std.proofs.Common.{refl}
-use Rattle.pearl_value.specs.declared.kind.Kind.TheVariants as kind
 use Rattle.pearl_tree.specs.declared.fault.RuleFault.{RuleFault}
-use Rattle.pearl_tree.specs.declared.name.Name.{Name}
-use Rattle.pearl_tree.specs.declared.name.Number.{Number}
 use Rattle.pearl_tree.specs.declared.literal.Sign.TheVariants.{Plus}
 use Rattle.pearl_tree.specs.declared.literal.Duration.TheVariants.{Hours}
-use Rattle.pearl_tree.specs.declared.typing.Bound.{Bound}
-use Rattle.pearl_tree.specs.declared.typing.Sort.TheVariants.{Fixed, Bit, Char}
+use Rattle.pearl_tree.specs.declared.typing.Sort.TheVariants.{Fixed, Char}
 use Rattle.pearl_tree.specs.declared.typing.Basic.TheVariants.{Sized, Duration}
 use Rattle.pearl_tree.specs.declared.tree.TaskHead.TheVariants.{PrioFirst}
-use Rattle.pearl_tree.specs.ShownLiterals.{OfNumber, OfBits, OfText, OfDuration, ShownConst}
+use Rattle.pearl_tree.specs.ShownLiterals.{OfText, OfDuration}
 use Rattle.pearl_tree.specs.ShownExpressions.{ShownExpr, OfOperand, OfRef, NoSelectors}
-use Rattle.pearl_tree.specs.ShownDeclarations.{ShownNames, OfOne, OfSeveral, ShownTyping, OfBasic, OfStruct, OfNamed, NoFields, MoreFields, ShownItem, OfItem, OfSema}
+use Rattle.pearl_tree.specs.ShownDeclarations.{OfOne, OfSeveral, OfBasic, OfStruct, OfNamed, NoFields, MoreFields, OfItem, OfSema}
 use Rattle.pearl_tree.specs.ShownStatements.{ShownStmt, OfRepeat, NoStmts}
-use Rattle.pearl_tree.specs.ShownModules.{ShownDecl, OfLength, OfType, OfDeclare, OfTask, OfProc, ShownTree}
-use Rattle.pearl_scope.specs.Sorts.{sorted_names, names_of_scopes}
-use Rattle.pearl_scope.specs.Layout.{item_leaves}
-use Rattle.pearl_scope.specs.Rules.{broken, faults_in, known_of, around}
-use Rattle.pearl_scope.specs.Shapes.{OfKind}
-use Rattle.pearl_scope.specs.Tables.{table_of, NewType, Variable, Procedure, OwnParameter, Control}
-
-abbrev name : String → ℕ → Name
-name text place = record { text = record { items = codes text }; place = place }
-
-abbrev number : ℕ → ℕ → Number
-number value place = record { value = value; place = place }
+use Rattle.pearl_tree.specs.ShownModules.{ShownDecl, OfLength, OfType, OfDeclare, OfTask}
+use Rattle.pearl_names.specs.Sorts.{sorted_names, names_of_scopes}
+use Rattle.pearl_names.specs.FirstNames.{repeated}
+use Rattle.pearl_names.proofs.Examples.{name, number, source, upto, between, fixed, item, declare, constant, tabled}
+use Rattle.pearl_scope.specs.Rules.{broken, faults_in}
 
 abbrev fault : ℕ → ℕ → RuleFault
 fault place rule = record { place = place; rule = rule }
-
-abbrev source : List ShownDecl → ShownTree
-source declarations =
-    record { name = None; system = None; declarations = declarations; modend = 0; semicolon = true; place = 0 }
-
--- a bound with one number
-abbrev upto : ℕ → ℕ → Bound
-upto value place =
-    record { first = record { minus = false; number = number value place; place = place }; second = None; place = place }
-
--- a bound with two numbers
-abbrev between : ℕ → ℕ → ℕ → Bound
-between low high place = record {
-  first = record { minus = false; number = number low place; place = place };
-  second = Some (record { minus = false; number = number high (place + 2); place = place + 2 });
-  place = place;
-}
-
-abbrev fixed : ℕ → ShownTyping
-fixed place = OfBasic (Sized Fixed None place)
-
-abbrev item : ShownNames → List Bound → ShownTyping → List ShownConst → ShownItem
-item names bounds part init =
-    record { names = names; bounds = bounds; inv = false; part = part; init = init; place = 22 }
-
-abbrev declare : ShownItem → ShownDecl
-declare item = OfDeclare (OfItem item ∷ []) 18
-
-abbrev constant : ℕ → ℕ → ShownConst
-constant value place = record { sign = None; literal = OfNumber (number value place); place = place }
 
 abbrev task : List ShownStmt → ShownDecl
 task statements =
@@ -72,67 +31,67 @@ named text place = OfOperand [] (OfRef (name text place) NoSelectors place) plac
 
 -- DCL (a,a) FIXED;
 twice : broken (source (declare (item (OfSeveral (name "a" 23 ∷ name "a" 25 ∷ []) 22) [] (fixed 28) []) ∷ [])) ≡ fault 25 1 ∷ []
-unfolding faults_in names_of_scopes sorted_names
+unfolding faults_in repeated names_of_scopes sorted_names
 twice = refl
 
 -- DCL x u;
 undeclared : broken (source (declare (item (OfOne (name "x" 22)) [] (OfNamed (name "u" 24)) []) ∷ [])) ≡ fault 24 2 ∷ []
-unfolding faults_in names_of_scopes sorted_names
+unfolding faults_in repeated names_of_scopes sorted_names
 undeclared = refl
 
 -- TYPE t STRUCT[a t];
 names_itself :
     broken (source (OfType (name "t" 23)
     (OfStruct (MoreFields (OfOne (name "a" 32)) [] (OfNamed (name "t" 34)) 32 NoFields) 25) 18 ∷ [])) ≡ fault 34 3 ∷ []
-unfolding faults_in names_of_scopes sorted_names
+unfolding faults_in repeated names_of_scopes sorted_names
 names_itself = refl
 
 -- DCL u FIXED,x u;
 names_a_variable :
     broken (source (OfDeclare (OfItem (item (OfOne (name "u" 22)) [] (fixed 24) []) ∷
     OfItem (item (OfOne (name "x" 30)) [] (OfNamed (name "u" 32)) []) ∷ []) 18 ∷ [])) ≡ fault 32 3 ∷ []
-unfolding faults_in names_of_scopes sorted_names
+unfolding faults_in repeated names_of_scopes sorted_names
 names_a_variable = refl
 
 -- LENGTH FIXED(64); sets nothing, LENGTH FIXED(3); makes 8 too great for x
 lengths_hold :
     broken (source (OfLength Fixed (number 64 31) 18 ∷ OfLength Fixed (number 3 48) 35 ∷
     declare (item (OfOne (name "x" 55)) [] (fixed 57) (constant 8 68 ∷ [])) ∷ [])) ≡ fault 31 4 ∷ fault 68 7 ∷ []
-unfolding faults_in names_of_scopes sorted_names
+unfolding faults_in repeated names_of_scopes sorted_names
 lengths_hold = refl
 
 -- DCL d DURATION INIT(305420 HRS); is above 2^40 milliseconds, and breaks S4 alone
 too_long :
     broken (source (declare (item (OfOne (name "d" 22)) [] (OfBasic (Duration 24))
     (record { sign = None; literal = OfDuration (Hours (number 305420 38) None None 38); place = 38 } ∷ [])) ∷ [])) ≡ fault 38 4 ∷ []
-unfolding faults_in names_of_scopes sorted_names
+unfolding faults_in repeated names_of_scopes sorted_names
 too_long = refl
 
 -- DCL a(0:3000000000) FIXED;
 out_of_range :
     broken (source (declare (item (OfOne (name "a" 22)) (between 0 3000000000 24 ∷ []) (fixed 38) []) ∷ [])) ≡ fault 24 5 ∷ []
-unfolding faults_in names_of_scopes sorted_names
+unfolding faults_in repeated names_of_scopes sorted_names
 out_of_range = refl
 
 -- DCL x STRUCT[n(70000) FIXED];
 too_many_elements :
     broken (source (declare (item (OfOne (name "x" 22)) []
     (OfStruct (MoreFields (OfOne (name "n" 31)) (upto 70000 33 ∷ []) (fixed 40) 31 NoFields) 24) []) ∷ [])) ≡ fault 22 5 ∷ []
-unfolding faults_in names_of_scopes sorted_names
+unfolding faults_in repeated names_of_scopes sorted_names
 too_many_elements = refl
 
 -- TYPE t STRUCT[n(1,1,1,1) FIXED]; has no leaves
 type_has_no_leaves :
     broken (source (OfType (name "t" 23)
     (OfStruct (MoreFields (OfOne (name "n" 32)) (upto 1 34 ∷ upto 1 36 ∷ upto 1 38 ∷ upto 1 40 ∷ []) (fixed 43) 32 NoFields) 25) 18 ∷ [])) ≡ []
-unfolding faults_in names_of_scopes sorted_names
+unfolding faults_in repeated names_of_scopes sorted_names
 type_has_no_leaves = refl
 
 -- DCL x STRUCT[(n,n) FIXED];
 field_twice :
     broken (source (declare (item (OfOne (name "x" 22)) []
     (OfStruct (MoreFields (OfSeveral (name "n" 32 ∷ name "n" 34 ∷ []) 31) [] (fixed 37) 31 NoFields) 24) []) ∷ [])) ≡ fault 34 6 ∷ []
-unfolding faults_in names_of_scopes sorted_names
+unfolding faults_in repeated names_of_scopes sorted_names
 field_twice = refl
 
 -- DCL a STRUCT[n FIXED,c CHAR] INIT(1); the last constant is repeated, also into the slot of c
@@ -140,27 +99,27 @@ repeated_constant :
     broken (source (declare (item (OfOne (name "a" 22)) []
     (OfStruct (MoreFields (OfOne (name "n" 31)) [] (fixed 33) 31
     (MoreFields (OfOne (name "c" 39)) [] (OfBasic (Sized Char None 41)) 39 NoFields)) 24) (constant 1 52 ∷ [])) ∷ [])) ≡ fault 52 7 ∷ []
-unfolding faults_in names_of_scopes sorted_names
+unfolding faults_in repeated names_of_scopes sorted_names
 repeated_constant = refl
 
 -- DCL (a,b) FIXED INIT(1,2,3);
 more_than_slots :
     broken (source (declare (item (OfSeveral (name "a" 23 ∷ name "b" 25 ∷ []) 22) [] (fixed 28)
     (constant 1 39 ∷ constant 2 41 ∷ constant 3 43 ∷ [])) ∷ [])) ≡ fault 43 7 ∷ []
-unfolding faults_in names_of_scopes sorted_names
+unfolding faults_in repeated names_of_scopes sorted_names
 more_than_slots = refl
 
 -- DCL c CHAR INIT(+'a');
 signed_text :
     broken (source (declare (item (OfOne (name "c" 22)) [] (OfBasic (Sized Char None 24))
     (record { sign = Some Plus; literal = OfText (codes "a") 35; place = 34 } ∷ [])) ∷ [])) ≡ fault 34 7 ∷ []
-unfolding faults_in names_of_scopes sorted_names
+unfolding faults_in repeated names_of_scopes sorted_names
 signed_text = refl
 
 -- DCL k INV FIXED;
 inv_without_init :
     broken (source (declare (record (item (OfOne (name "k" 22)) [] (fixed 28) []) { inv = true }) ∷ [])) ≡ fault 22 8 ∷ []
-unfolding faults_in names_of_scopes sorted_names
+unfolding faults_in repeated names_of_scopes sorted_names
 inv_without_init = refl
 
 -- DCL (s,t) SEMA PRESET(1,2147483648,3);
@@ -170,68 +129,23 @@ presets :
       preset = number 1 40 ∷ number 2147483648 42 ∷ number 3 53 ∷ [];
       place = 22;
     }) ∷ []) 18 ∷ [])) ≡ fault 42 9 ∷ fault 53 9 ∷ []
-unfolding faults_in names_of_scopes sorted_names
+unfolding faults_in repeated names_of_scopes sorted_names
 presets = refl
 
 -- t:TASK;FOR i FROM i WHILE i REPEAT END;END; the control variable is not visible in FROM
 control_variable :
     broken (source (task (OfRepeat (Some (name "i" 29)) (Some (named "i" 36)) None None (Some (named "i" 44)) [] NoStmts 53 25 ∷ []) ∷ [])) ≡ fault 36 2 ∷ []
-unfolding faults_in names_of_scopes sorted_names
+unfolding faults_in repeated names_of_scopes sorted_names
 control_variable = refl
 
 -- t:TASK;WHILE j REPEAT DCL j FIXED;END;END; what the body declares is not visible in WHILE
 body_variable :
     broken (source (task (OfRepeat None None None None (Some (named "j" 31))
     (record { items = item (OfOne (name "j" 44)) [] (fixed 46) [] ∷ []; place = 40 } ∷ []) NoStmts 40 25 ∷ []) ∷ [])) ≡ fault 31 2 ∷ []
-unfolding faults_in names_of_scopes sorted_names
+unfolding faults_in repeated names_of_scopes sorted_names
 body_variable = refl
 
--- DCL s(2) STRUCT [n FIXED,t(3) CHAR(2)];
-abbrev structures : ShownItem
-structures =
-    item (OfOne (name "s" 22)) (upto 2 24 ∷ [])
-    (OfStruct (MoreFields (OfOne (name "n" 35)) [] (fixed 37) 35
-    (MoreFields (OfOne (name "t" 43)) (upto 3 45 ∷ []) (OfBasic (Sized Char (Some (number 2 53)) 48)) 43 NoFields)) 27) []
-
--- it is laid out field by field
-laid_out :
-    item_leaves (around (known_of (source (declare structures ∷ []))) 0 0) structures ≡
-    Some (record { path = codes "n" ∷ []; bounds = (pos 1, pos 2) ∷ []; kind = kind.Fixed 31 } ∷
-    record { path = codes "t" ∷ []; bounds = (pos 1, pos 2) ∷ (pos 1, pos 3) ∷ []; kind = kind.Chars 2 } ∷ [])
-unfolding faults_in names_of_scopes sorted_names
-laid_out = refl
-
--- LENGTH BIT(3);TYPE u BIT;DCL x u INV INIT('1'B);p:PROC(a FIXED IDENT);FOR i REPEAT END;END;
-abbrev tabled : ShownTree
-tabled = source (
-    OfLength Bit (number 3 29) 18 ∷
-    OfType (name "u" 37) (OfBasic (Sized Bit None 39)) 32 ∷
-    declare (record (item (OfOne (name "x" 47)) [] (OfNamed (name "u" 53)) (record { sign = None; literal = OfBits 1 1 60; place = 60 } ∷ [])) { inv = true }) ∷
-    OfProc (name "p" 66) (record { names = OfOne (name "a" 73); basic = Sized Fixed None 75; ident = true; place = 73 } ∷ []) None (record {
-      declarations = [];
-      statements = OfRepeat (Some (name "i" 94)) None None None None [] NoStmts 103 90 ∷ [];
-      place = 90;
-    }) 66 ∷ [])
-
--- what its names stand for, scope by scope
-stands_for :
-    (table_of tabled).scopes ≡
-    record {
-      outer = None;
-      names =
-          record { name = codes "u"; sense = NewType } ∷
-          record { name = codes "x"; sense = Variable (Some (record { bounds = []; shape = OfKind (kind.Bits 3) })) true } ∷
-          record { name = codes "p"; sense = Procedure (record { kind = Some (kind.Fixed 31); ident = true } ∷ []) None } ∷ [];
-    } ∷
-    record {
-      outer = Some 0;
-      names = record { name = codes "a"; sense = OwnParameter (record { kind = Some (kind.Fixed 31); ident = true }) } ∷ [];
-    } ∷
-    record { outer = Some 1; names = record { name = codes "i"; sense = Control (kind.Fixed 31) } ∷ [] } ∷ []
-unfolding faults_in names_of_scopes sorted_names
-stands_for = refl
-
--- and it has no fault
+-- a module of many sorts of names has no fault
 sound : broken tabled ≡ []
-unfolding faults_in names_of_scopes sorted_names
+unfolding faults_in repeated names_of_scopes sorted_names
 sound = refl

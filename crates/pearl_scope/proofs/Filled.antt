@@ -1,5 +1,5 @@
 -- Constants and the runs that they are put into.
-use Rattle.std.proofs.Common.{◌≡◌, ℕ, zero, suc, ◌+◌, ◌-◌, ◌<◌, ◌≤◌, ◌⊎◌, ⊎_elim, inl, inr, min, Bool, true, false, cond, ◌&&◌, ◌||◌, not, nat_lt, nat_eq, List, [], ◌∷◌, ◌++◌, map, replicate, length, length-append, drop, get_or, slice_get, Option, Some, None, refl, sym, ap, subst, ◌∙◌, true≢false, append_assoc, append-nil, arith}
+use Rattle.std.proofs.Common.{◌≡◌, ℕ, ℤ, zero, suc, ◌+◌, ◌-◌, ◌<◌, ◌≤◌, ◌⊎◌, ⊎_elim, inl, inr, min, Bool, true, false, cond, ◌&&◌, ◌||◌, not, nat_lt, nat_eq, List, [], ◌∷◌, ◌++◌, map, replicate, length, length-append, drop, get_or, slice_get, Option, Some, None, refl, sym, ap, subst, ◌∙◌, true≢false, append_assoc, append-nil, arith}
 use Rattle.std.proofs.lemmas.List.Elements.{All-nil, All-append}
 use Rattle.std.proofs.lemmas.List.Folds.{list_all-append}
 use Rattle.std.proofs.lemmas.Grind.{flat_map-append}
@@ -14,25 +14,26 @@ use Rattle.pearl_tree.specs.declared.name.Name.{Name}
 use Rattle.pearl_tree.specs.Faults.{fault_if}
 use Rattle.pearl_tree.specs.ShownLiterals.{ShownConst, shown_const}
 use Rattle.pearl_scope.specs.declared.init.Spot.{Spot}
-use Rattle.pearl_scope.specs.declared.kinds.Kinds.{Kinds}
-use Rattle.pearl_scope.specs.declared.layout.ItemForm.{ItemForm}
-use Rattle.pearl_scope.specs.declared.slots.Run.{Run}
-use Rattle.pearl_scope.specs.declared.slots.Slots.{Slots}
-use Rattle.pearl_scope.specs.declared.types.Counts.{Counts}
-use Rattle.pearl_scope.specs.declared.types.StructForm.{StructForm}
+use Rattle.pearl_names.specs.declared.kinds.Kinds.{Kinds}
+use Rattle.pearl_names.specs.declared.layout.Laid.{Laid}
+use Rattle.pearl_names.specs.declared.slots.Run.{Run}
+use Rattle.pearl_names.specs.declared.slots.Slots.{Slots}
+use Rattle.pearl_names.specs.declared.types.Counts.{Counts}
+use Rattle.pearl_names.specs.declared.types.StructForm.{StructForm}
 use Rattle.pearl_scope.specs.Constants.{fits_kind, misses, missing_slots, slots_taken, is_empty}
-use Rattle.pearl_scope.specs.Counts.{within, counts_of, has_sound_leaves}
-use Rattle.pearl_scope.specs.Filling.{AreFull, ahead, taken, repeated, IsWithin, IsAhead, HasLeaves}
-use Rattle.pearl_scope.specs.Forms.{StandsFor}
-use Rattle.pearl_scope.specs.Kinds.{least, no_kinds, joined_kinds, kinds_among}
-use Rattle.pearl_scope.specs.Layout.{Leaf, leaves_of, elements, slots_of, is_sound_leaf}
+use Rattle.pearl_names.specs.Counts.{within, counts_of, has_sound_leaves}
+use Rattle.pearl_scope.specs.Filling.{AreFull, ahead, taken, repeated, IsWithin, IsAhead, HasLeaves, MatchesLeaves}
+use Rattle.pearl_names.specs.Forming.{IsLaid}
+use Rattle.pearl_names.specs.Forms.{StandsFor}
+use Rattle.pearl_names.specs.Kinds.{least, no_kinds, joined_kinds, kinds_among}
+use Rattle.pearl_names.specs.Layout.{Leaf, leaves_of, elements, slots_of, is_sound_leaf, leaves_within}
 use Rattle.pearl_scope.specs.Rules.{slots_of_names, missing_of}
-use Rattle.pearl_scope.specs.Runs.{shape_slots}
-use Rattle.pearl_scope.specs.Shapes.{Shape}
-use Rattle.pearl_scope.specs.Walks.{run_slots, HasSlots, Lists}
-use Rattle.pearl_scope.proofs.Counting.{counts_of_variable, sound_counts}
-use Rattle.pearl_scope.proofs.KindSets.{kinds-append}
-use Rattle.pearl_scope.proofs.ShapeSlots.{slots_of_shape, few_in_shape, elements_some, same_kinds}
+use Rattle.pearl_names.specs.Runs.{shape_slots}
+use Rattle.pearl_names.specs.Shapes.{Shape}
+use Rattle.pearl_names.specs.Walks.{run_slots, HasSlots, Lists}
+use Rattle.pearl_names.proofs.Counting.{counts_of_variable, sound_counts}
+use Rattle.pearl_names.proofs.KindSets.{kinds-append}
+use Rattle.pearl_names.proofs.ShapeSlots.{slots_of_shape, few_in_shape, elements_some, same_kinds}
 
 and_same : (x : Bool) → (x && x) ≡ x
 and_same true = refl
@@ -381,7 +382,7 @@ repeated_names (name ∷ names) slots = ap (λ l. slots ++ l) (repeated_names na
 some_of : (leaves own : List Leaf) → Some leaves ≡ Some own → leaves ≡ own
 some_of leaves own h = same_Some leaves own h
 
-pub item_slots : (forms : List StructForm) (form : ItemForm) (leaves : List Leaf) → HasLeaves forms form (Some leaves) → list_all is_sound_leaf leaves ≡ true →
+pub item_slots : (forms : List StructForm) (form : Laid) (leaves : List Leaf) → HasLeaves forms form (Some leaves) → list_all is_sound_leaf leaves ≡ true →
     HasSlots forms form.part form.sizes.elements (slots_of leaves)
 item_slots forms form leaves has sound =
     let own = some_of leaves (leaves_of [] has.bounds has.shape) has.is in record {
@@ -394,7 +395,7 @@ item_slots forms form leaves has sound =
       is = ap slots_of own ∙ slots_of_shape [] has.bounds has.shape;
     }
 
-pub item_kinds : (forms : List StructForm) (form : ItemForm) (leaves : List Leaf) (whole : Kinds) → HasLeaves forms form (Some leaves) →
+pub item_kinds : (forms : List StructForm) (form : Laid) (leaves : List Leaf) (whole : Kinds) → HasLeaves forms form (Some leaves) →
     ((shape : Shape) → StandsFor forms form.part shape → whole ≡ kinds_among (shape_slots 1 shape)) → whole ≡ kinds_among (slots_of leaves)
 item_kinds forms form leaves whole has tells =
     let own = some_of leaves (leaves_of [] has.bounds has.shape) has.is in
@@ -417,7 +418,7 @@ item_told names leaves init all old new lists tells =
     by (inl h) = inl (omega (arith, h))
     by (inr h) = inr h
 
-pub item_sound : (forms : List StructForm) (form : ItemForm) (leaves : List Leaf) (each : Counts) → HasLeaves forms form (Some leaves) → ((shape : Shape) → StandsFor forms form.part shape → each ≡ counts_of shape) →
+pub item_sound : (forms : List StructForm) (form : Laid) (leaves : List Leaf) (each : Counts) → HasLeaves forms form (Some leaves) → ((shape : Shape) → StandsFor forms form.part shape → each ≡ counts_of shape) →
     has_sound_leaves (within form.sizes.dimensions form.sizes.elements each) ≡ list_all is_sound_leaf leaves
 item_sound forms form leaves each has tells =
     let own = some_of leaves (leaves_of [] has.bounds has.shape) has.is in
@@ -429,3 +430,13 @@ pub item_missing : (names : List Name) (init : List ShownConst) (leaves : List L
     missing_of names init (Some leaves) ≡ cond sound (missing_slots (slots_of_names names leaves) init) []
 item_missing names init leaves true h = rw (← h) refl
 item_missing names init leaves false h = rw (← h) refl
+
+-- the leaves of a variable
+pub laid_leaves : (forms : List StructForm) (laid : Option Laid) (bounds : Option (List (ℤ × ℤ))) (shape : Option Shape) → IsLaid forms laid bounds shape →
+    MatchesLeaves forms laid (leaves_within bounds shape)
+laid_leaves forms (Some laid) (Some bounds) (Some shape) h = record { bounds = bounds; shape = shape; stands = h.1; sized = h.0; is = refl }
+laid_leaves forms None (Some bounds) (Some shape) h = absurd h
+laid_leaves forms (Some laid) None shape h = absurd h
+laid_leaves forms (Some laid) (Some bounds) None h = absurd h
+laid_leaves forms None None shape h = refl
+laid_leaves forms None (Some bounds) None h = refl

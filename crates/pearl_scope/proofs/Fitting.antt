@@ -13,12 +13,12 @@ use Rattle.pearl_tree.specs.declared.literal.Sign.TheVariants.{Plus, Minus}
 use Rattle.pearl_tree.specs.declared.typing.Sort.{Sort}
 use Rattle.pearl_tree.specs.declared.typing.Sort.TheVariants.{Fixed, Bit, Char}
 use Rattle.pearl_tree.specs.ShownLiterals.{ShownLiteral, OfNumber, OfBits, OfText, OfClock, OfDuration, ShownConst}
-use Rattle.pearl_scope.specs.declared.kinds.Kinds.{Kinds}
+use Rattle.pearl_names.specs.declared.kinds.Kinds.{Kinds}
 use Rattle.pearl_scope.specs.Constants.{signed, fits_kind}
 use Rattle.pearl_scope.specs.Filling.{end_of_fixed, fits_length, fits_if}
-use Rattle.pearl_scope.specs.Durations.{is_too_long}
-use Rattle.pearl_scope.specs.Lengths.{kind_of_length}
-use Rattle.pearl_scope.specs.Kinds.{least, one_kind, joined_kinds, kinds_among}
+use Rattle.pearl_names.specs.Durations.{is_too_long}
+use Rattle.pearl_names.specs.Lengths.{kind_of_length}
+use Rattle.pearl_names.specs.Kinds.{least, one_kind, joined_kinds, kinds_among}
 
 -- the range of FIXED by natural numbers
 abbrev fits_plain : ℕ → Option Sign → ℕ → Bool

@@ -15,12 +15,12 @@ use Rattle.pearl_tree.specs.declared.expression.Selector.{Selector, Subscripts, 
 use Rattle.pearl_tree.specs.declared.expression.Ref.{Ref, Row_of-Selector, end_of-Selector, more_of-Selector, items-the_row-Selector, items_hidden-the_row-Selector-0}
 use Rattle.pearl_tree.specs.ShownExpressions.{shown_expr, shown_primary, shown_selectors, shown_selector, shown_exprs, shown_selector_list, shown_ref}
 use Rattle.pearl_tree.specs.ShownDeclarations.{shown_typing}
-use Rattle.pearl_scope.specs.declared.scope.View.{View}
+use Rattle.pearl_names.specs.declared.scope.View.{View}
 use Rattle.pearl_scope.specs.declared.part.Part.{Part as CodePart}
-use Rattle.pearl_scope.specs.Parts.{Part, Used, Bounds, Struct, expr_parts, primary_parts, selectors_parts, selector_parts, exprs_parts, ref_parts, typing_parts, fields_parts}
-use Rattle.pearl_scope.specs.Forming.{fields_shown}
-use Rattle.pearl_scope.proofs.FieldsMade.{struct_shown}
-use Rattle.pearl_scope.specs.PartLists.{shown_part, parts_in, selector_list_parts, field_parts, field_list_parts}
+use Rattle.pearl_scope.specs.Parts.{Used, Bounds, Struct, expr_parts, primary_parts, selectors_parts, selector_parts, exprs_parts, ref_parts, typing_parts, fields_parts}
+use Rattle.pearl_names.specs.Forming.{fields_shown}
+use Rattle.pearl_names.proofs.FieldsMade.{struct_shown}
+use Rattle.pearl_scope.specs.PartLists.{shown_part, parts_in, selector_list_parts, field_list_parts}
 
 pub parts_in-nil : parts_in [] ≡ []
 unfolding parts_in

@@ -1,14 +1,14 @@
 -- The parts of statements are those of their places.
-use Rattle.std.proofs.Common.{◌≡◌, ℕ, ◌+◌, Bool, true, List, [], ◌∷◌, ◌++◌, refl, sym, ap, ◌∙◌, append_assoc}
+use Rattle.std.proofs.Common.{◌≡◌, ℕ, ◌+◌, true, ◌++◌, refl, ap, ◌∙◌, append_assoc}
 use Rattle.std.proofs.lemmas.List.{append-nil}
 use Rattle.std.proofs.lemmas.Grind.{flat_map-append}
 use Rattle.std.specs.List.{flat_map}
 use Rattle.pearl_tree.specs.ShownStatements.{ShownStmt, OfIf, OfCase, OfRepeat, OfBegin, ShownStmts, NoStmts, MoreStmts, ShownBranches, NoBranches, MoreBranches, ShownOtherwise, NoOtherwise, OfOtherwise}
-use Rattle.pearl_scope.specs.Scopes.{scopes_in, scopes_in_all, scopes_in_branches}
-use Rattle.pearl_scope.specs.declared.scope.View.TheVariants.{Within}
-use Rattle.pearl_scope.specs.Parts.{Part, expr_parts, loop_parts, body_decl_parts, simple_parts, stmt_parts, all_parts, branches_parts, otherwise_parts}
+use Rattle.pearl_names.specs.Scopes.{scopes_in, scopes_in_all, scopes_in_branches}
+use Rattle.pearl_names.specs.declared.scope.View.TheVariants.{Within}
+use Rattle.pearl_scope.specs.Parts.{expr_parts, loop_parts, body_decl_parts, simple_parts, stmt_parts, all_parts, branches_parts, otherwise_parts}
 use Rattle.pearl_scope.specs.declared.places.Spot.{Spot}
-use Rattle.pearl_scope.specs.Placed.{Placed, placed_stmt, placed_all, placed_branches, placed_otherwise, parts_at}
+use Rattle.pearl_scope.specs.Placed.{placed_stmt, placed_all, placed_branches, placed_otherwise, parts_at}
 
 mutual
   pub parts_placed : (types : ℕ) (spot : Spot) (next : ℕ) (statement : ShownStmt) →

@@ -4,12 +4,12 @@ use Rattle.std.proofs.lemmas.List.{map-append, append-nil}
 use Rattle.pearl_tree.specs.declared.statement.Stmt.{Stmt}
 use Rattle.pearl_tree.specs.declared.statement.Branch.{Branch}
 use Rattle.pearl_tree.specs.ShownStatements.{ShownStmt, shown_stmt}
-use Rattle.pearl_scope.specs.Listed.{stmts_shown, branches_shown}
-use Rattle.pearl_scope.specs.Scopes.{as_stmts, scopes_in, scopes_in_all, scopes_in_branches}
+use Rattle.pearl_names.specs.Listed.{stmts_shown, branches_shown}
+use Rattle.pearl_names.specs.Scopes.{as_stmts, scopes_in, scopes_in_all, scopes_in_branches}
 use Rattle.pearl_scope.specs.declared.places.Spot.{Spot}
 use Rattle.pearl_scope.specs.declared.places.Place.{Place}
 use Rattle.pearl_scope.specs.Placed.{Placed, placed_at, placed_in, placed_stmt, placed_all, placed_branches}
-use Rattle.pearl_scope.proofs.Lists.{one_taken}
+use Rattle.pearl_names.proofs.Lists.{one_taken}
 
 pub placed_in-nil : placed_in [] ≡ []
 unfolding placed_in

@@ -1,5 +1,5 @@
 -- Names that were seen, by their texts, and those that repeat one before.
-use Rattle.std.proofs.Common.{◌≡◌, ℕ, suc, ◌+◌, ◌<◌, Bool, true, false, cond, ◌||◌, List, [], ◌∷◌, ◌++◌, map, Option, Some, None, is_some, bytes_eq, refl, sym, ap, subst, ◌∙◌, append_assoc, append-nil, length, take, get_or}
+use Rattle.std.proofs.Common.{◌≡◌, ℕ, ◌+◌, ◌<◌, Bool, true, false, cond, ◌||◌, List, [], ◌∷◌, ◌++◌, Option, Some, None, is_some, bytes_eq, refl, sym, ap, subst, ◌∙◌, append_assoc, append-nil, length, take, get_or}
 use Rattle.arrayvec.specs.ArrayVec.{ArrayVec}
 use Rattle.pearl_tree.specs.declared.fault.RuleFault.{RuleFault}
 use Rattle.pearl_tree.specs.declared.name.Name.{Name}
@@ -7,12 +7,12 @@ use Rattle.pearl_tree.specs.declared.typing.Field.{Field}
 use Rattle.pearl_tree.specs.ShownDeclarations.{shown_names}
 use Rattle.pearl_tree.specs.Faults.{fault_if}
 use Rattle.pearl_tree.specs.Names.{text_of, names_of, is_among, repeats}
-use Rattle.pearl_scope.specs.Shapes.{field_names}
-use Rattle.pearl_scope.specs.FirstNames.{number_of, or_else, HasNoted}
-use Rattle.pearl_scope.specs.Forming.{fields_shown}
+use Rattle.pearl_names.specs.Shapes.{field_names}
+use Rattle.pearl_names.specs.FirstNames.{number_of, or_else, HasNoted}
+use Rattle.pearl_names.specs.Forming.{fields_shown}
 use Rattle.pearl_scope.specs.Seen.{Sees}
-use Rattle.pearl_scope.proofs.FirstNames.{bytes_symm}
-use Rattle.pearl_scope.proofs.Lists.{one_taken}
+use Rattle.pearl_names.proofs.FirstNames.{bytes_symm}
+use Rattle.pearl_names.proofs.Lists.{one_taken}
 
 repeats_append : (rule : ℕ) (before a b : List Name) → repeats rule before (a ++ b) ≡ repeats rule before a ++ repeats rule (before ++ a) b
 repeats_append rule before [] b = ap (λ l. repeats rule l b) (sym (append-nil before))

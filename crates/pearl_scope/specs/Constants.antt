@@ -8,7 +8,7 @@ use Rattle.pearl_tree.specs.declared.fault.RuleFault.{RuleFault}
 use Rattle.pearl_tree.specs.declared.literal.Sign.{Sign}
 use Rattle.pearl_tree.specs.declared.literal.Sign.TheVariants.{Minus}
 use Rattle.pearl_tree.specs.ShownLiterals.{ShownLiteral, OfNumber, OfBits, OfText, OfClock, OfDuration, ShownConst}
-use Rattle.pearl_scope.specs.Durations.{is_too_long}
+use Rattle.pearl_names.specs.Durations.{is_too_long}
 use Rattle.pearl_tree.specs.Faults.{fault_if}
 
 -- a sign may stand before FIXED and DURATION

@@ -8,16 +8,16 @@ use Rattle.pearl_tree.specs.declared.literal.Sign.{Sign}
 use Rattle.pearl_tree.specs.declared.typing.Sort.{Sort}
 use Rattle.pearl_tree.specs.ShownLiterals.{ShownConst}
 use Rattle.pearl_scope.specs.declared.init.Spot.{Spot}
-use Rattle.pearl_scope.specs.declared.layout.ItemForm.{ItemForm}
-use Rattle.pearl_scope.specs.declared.slots.Run.{Run}
-use Rattle.pearl_scope.specs.declared.types.StructForm.{StructForm}
+use Rattle.pearl_names.specs.declared.layout.Laid.{Laid}
+use Rattle.pearl_names.specs.declared.slots.Run.{Run}
+use Rattle.pearl_names.specs.declared.types.StructForm.{StructForm}
 use Rattle.pearl_scope.specs.Constants.{signed, fits_kind}
-use Rattle.pearl_scope.specs.Forming.{sizes_of}
-use Rattle.pearl_scope.specs.Forms.{StandsFor}
-use Rattle.pearl_scope.specs.Layout.{Leaf, leaves_of}
-use Rattle.pearl_scope.specs.Lengths.{kind_of_length}
-use Rattle.pearl_scope.specs.Shapes.{Shape}
-use Rattle.pearl_scope.specs.Walks.{run_slots}
+use Rattle.pearl_names.specs.Forming.{sizes_of}
+use Rattle.pearl_names.specs.Forms.{StandsFor}
+use Rattle.pearl_names.specs.Layout.{Leaf, leaves_of}
+use Rattle.pearl_names.specs.Lengths.{kind_of_length}
+use Rattle.pearl_names.specs.Shapes.{Shape}
+use Rattle.pearl_names.specs.Walks.{run_slots}
 
 -- 2 to the power of a length, and no more than 2 to the power 64
 abbrev pub end_of_fixed : ℕ → ℕ
@@ -62,13 +62,13 @@ taken true slots = slots
 taken false slots = take 1 slots
 
 -- a variable of this form has these leaves
-pub record HasLeaves (forms : List StructForm) (form : ItemForm) (leaves : Option (List Leaf)) : Type 0 where
+pub record HasLeaves (forms : List StructForm) (form : Laid) (leaves : Option (List Leaf)) : Type 0 where
   pub bounds : List (ℤ × ℤ)
   pub shape : Shape
   pub stands : StandsFor forms form.part shape
   pub sized : form.sizes ≡ sizes_of bounds
   pub is : leaves ≡ Some (leaves_of [] bounds shape)
 
-abbrev pub MatchesLeaves : List StructForm → Option ItemForm → Option (List Leaf) → Type 0
+abbrev pub MatchesLeaves : List StructForm → Option Laid → Option (List Leaf) → Type 0
 MatchesLeaves forms None leaves = leaves ≡ None
 MatchesLeaves forms (Some form) leaves = HasLeaves forms form leaves

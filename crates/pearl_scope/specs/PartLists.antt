@@ -5,11 +5,11 @@ use Rattle.pearl_tree.specs.declared.expression.Selector.{Selector}
 use Rattle.pearl_tree.specs.declared.typing.Field.{Field}
 use Rattle.pearl_tree.specs.ShownExpressions.{shown_selector}
 use Rattle.pearl_tree.specs.ShownDeclarations.{shown_item, shown_sema, shown_typing}
-use Rattle.pearl_scope.specs.declared.scope.View.{View}
+use Rattle.pearl_names.specs.declared.scope.View.{View}
 use Rattle.pearl_scope.specs.declared.part.Part.{Part as CodePart}
 use Rattle.pearl_scope.specs.declared.part.Part.TheVariants as part
 use Rattle.pearl_scope.specs.Parts.{Part, Used, UsedAsType, Length, Lasts, Bounds, Struct, Item, Sema, selector_parts, typing_parts}
-use Rattle.pearl_scope.specs.Forming.{fields_shown}
+use Rattle.pearl_names.specs.Forming.{fields_shown}
 
 abbrev pub shown_part : CodePart → Part
 shown_part (part.Used view name) = Used view name.now

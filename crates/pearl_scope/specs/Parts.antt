@@ -16,9 +16,9 @@ use Rattle.pearl_tree.specs.ShownExpressions.{ShownExpr, OfOperand, OfDyadic, Sh
 use Rattle.pearl_tree.specs.ShownDeclarations.{ShownTyping, OfBasic, OfStruct, OfNamed, ShownFields, NoFields, MoreFields, ShownItem, ShownSema, ShownDeclared, OfItem, OfSema, ShownSpec, OfInterrupt, OfDation, ShownParam}
 use Rattle.pearl_tree.specs.ShownStatements.{ShownPeriodEnd, OfUntil, OfDuring, ShownPeriod, ShownStart, OfAt, OfAfter, OfWhen, OfAll, ShownOnce, OnceAt, OnceAfter, OnceWhen, ShownBodyDecl, ShownStmt, OfAssign, OfCall, OfIf, OfCase, OfRepeat, OfBegin, OfReturn, OfActivate, OfContinue, OfResume, OfOnTask, OfOnSemas, OfOnInterrupt, OfPut, OfGet, OfSend, OfTake, ShownStmts, NoStmts, MoreStmts, ShownBranches, NoBranches, MoreBranches, ShownOtherwise, NoOtherwise, OfOtherwise}
 use Rattle.pearl_tree.specs.ShownModules.{ShownBody, ShownDecl, OfLength, OfType, OfDeclare, OfSpecify, OfTask, OfProc, ShownTree}
-use Rattle.pearl_scope.specs.Scopes.{scopes_in, scopes_in_all, scopes_in_branches, as_stmts, scopes_in_decl, types_in}
-use Rattle.pearl_scope.specs.declared.scope.View.{View}
-use Rattle.pearl_scope.specs.declared.scope.View.TheVariants.{Within, WhileOf}
+use Rattle.pearl_names.specs.Scopes.{scopes_in, scopes_in_all, scopes_in_branches, as_stmts, scopes_in_decl, types_in}
+use Rattle.pearl_names.specs.declared.scope.View.{View}
+use Rattle.pearl_names.specs.declared.scope.View.TheVariants.{Within, WhileOf}
 
 pub data Part : Type 0 where
   -- a name that is used

@@ -1,9 +1,9 @@
 -- All statements of a module, each with where it stands.
 use Rattle.std.specs.Prelude.{ℕ, ◌+◌, true, false, List, [], ◌∷◌, ◌++◌, map}
 use Rattle.pearl_tree.specs.ShownStatements.{ShownStmt, OfIf, OfCase, OfRepeat, OfBegin, ShownStmts, NoStmts, MoreStmts, ShownBranches, NoBranches, MoreBranches, ShownOtherwise, NoOtherwise, OfOtherwise, shown_stmt}
-use Rattle.pearl_scope.specs.Scopes.{scopes_in, scopes_in_all, scopes_in_branches}
+use Rattle.pearl_names.specs.Scopes.{scopes_in, scopes_in_all, scopes_in_branches}
 use Rattle.std.specs.List.{flat_map}
-use Rattle.pearl_scope.specs.declared.scope.View.TheVariants.{Within}
+use Rattle.pearl_names.specs.declared.scope.View.TheVariants.{Within}
 use Rattle.pearl_scope.specs.Parts.{Part, expr_parts, loop_parts, body_decl_parts, simple_parts}
 use Rattle.pearl_scope.specs.declared.places.Spot.{Spot}
 use Rattle.pearl_scope.specs.declared.places.Place.{Place}

@@ -1,5 +1,5 @@
 -- The rules S1 to S9, one after the other, and the faults of a module in them.
-use Rattle.std.specs.Prelude.{ℕ, ◌-◌, ◌^◌, Bool, true, false, ◌&&◌, ◌||◌, not, nat_le, nat_lt, List, [], ◌∷◌, ◌++◌, length, take, map, Option, Some, None, is_none}
+use Rattle.std.specs.Prelude.{ℕ, ◌-◌, ◌^◌, Bool, true, false, ◌&&◌, ◌||◌, not, nat_le, nat_lt, List, [], ◌∷◌, ◌++◌, length, Option, Some, None, is_none}
 use Rattle.std.specs.List.{list_all, flat_map}
 use Rattle.pearl_value.specs.declared.kind.Kind.{Kind}
 use Rattle.pearl_tree.specs.declared.fault.RuleFault.{RuleFault}
@@ -7,45 +7,25 @@ use Rattle.pearl_tree.specs.declared.name.Name.{Name}
 use Rattle.pearl_tree.specs.declared.name.Number.{Number}
 use Rattle.pearl_tree.specs.ShownLiterals.{ShownConst}
 use Rattle.pearl_tree.specs.ShownModules.{ShownTree}
-use Rattle.pearl_scope.specs.declared.length.DefaultLength.{DefaultLength}
 use Rattle.pearl_tree.specs.Faults.{fault_if}
-use Rattle.pearl_scope.specs.Lengths.{is_length, lengths_set}
+use Rattle.pearl_names.specs.Lengths.{is_length}
 use Rattle.pearl_tree.specs.Durations.{place_of_duration}
-use Rattle.pearl_scope.specs.Durations.{is_too_long}
+use Rattle.pearl_names.specs.Durations.{is_too_long}
 use Rattle.pearl_tree.specs.Names.{text_of as name_text, names_of, repeats}
-use Rattle.pearl_scope.specs.declared.scope.NameSort.{NameSort}
-use Rattle.pearl_scope.specs.declared.scope.NameSort.TheVariants.{NewType as TypeNumber}
-use Rattle.pearl_scope.specs.ScopeNames.{ScopeNames}
-use Rattle.pearl_scope.specs.Scopes.{scopes_of}
-use Rattle.pearl_scope.specs.Sorts.{names_of_scopes}
-use Rattle.pearl_scope.specs.Meanings.{sort_from, sort_within}
-use Rattle.pearl_scope.specs.Shapes.{Shape, Around, field_names, is_sound_pair, bound_pair, shapes_after}
-use Rattle.pearl_scope.specs.Layout.{Leaf, item_leaves, is_sound_leaf, slots_of}
+use Rattle.pearl_names.specs.declared.scope.NameSort.{NameSort}
+use Rattle.pearl_names.specs.declared.scope.NameSort.TheVariants.{NewType as TypeNumber}
+use Rattle.pearl_names.specs.ScopeNames.{ScopeNames}
+use Rattle.pearl_names.specs.FirstNames.{repeated}
+use Rattle.pearl_names.specs.Known.{Known, known_of, around}
+use Rattle.pearl_names.specs.Found.{sort_from, sort_within}
+use Rattle.pearl_names.specs.Shapes.{field_names, is_sound_pair, bound_pair}
+use Rattle.pearl_names.specs.Layout.{Leaf, item_leaves, is_sound_leaf, slots_of}
 use Rattle.pearl_scope.specs.Constants.{missing_slots, wrong_signs}
 use Rattle.pearl_scope.specs.Parts.{Part, Used, UsedAsType, Length, Lasts, Bounds, Struct, Item, Sema, parts_of}
 
--- what is known of a module before its rules are asked
-pub record Known : Type 0 where
-  pub scopes : List ScopeNames
-  pub lengths : List DefaultLength
-  -- the shapes of its TYPEs, by their numbers
-  pub shapes : List (Option Shape)
-
-abbrev pub known_of : ShownTree → Known
-known_of tree = record {
-  scopes = names_of_scopes (scopes_of tree);
-  lengths = lengths_set tree.declarations;
-  shapes = shapes_after (names_of_scopes (scopes_of tree)) (lengths_set tree.declarations) [] tree.declarations;
-}
-
--- what is seen from a scope where so many TYPEs stand before
-abbrev pub around : Known → (scope types : ℕ) → Around
-around known scope types =
-    record { scopes = known.scopes; lengths = known.lengths; shapes = take types known.shapes; scope = scope }
-
 -- S1: a name is declared twice in one scope
 abbrev pub s1 : ScopeNames → List RuleFault
-s1 scope = repeats 1 [] (map (λ entry. entry.name) scope.names)
+s1 scope = repeated scope.names
 
 -- S2: a name is used that no visible scope declares
 abbrev pub s2 : List ScopeNames → Part → List RuleFault

@@ -1,34 +1,34 @@
 // The rule S7: constants of INIT, and the slots that they are put into.
 
-ghost use Rattle.std.specs.Prelude.{◌≡◌, ◌++◌, [], ℕ, ◌+◌, List, Option, Some, None, true, nat_lt, if◌then◌else◌, map, drop, length, IfOk, OnOk};
+ghost use Rattle.std.specs.Prelude.{◌≡◌, ◌++◌, [], ℕ, ◌+◌, List, Option, Some, None, true, nat_lt, if◌then◌else◌, map, take, drop, length, IfOk, OnOk};
 ghost use Rattle.std.specs.List.{list_all, flat_map};
 ghost use Rattle.pearl_value.specs.declared.kind.Kind.{Kind as KindOf};
 ghost use Rattle.pearl_value.specs.Conversions as conversions;
 ghost use Rattle.pearl_tree.specs.Names.{names_of};
-ghost use Rattle.pearl_tree.specs.ShownDeclarations.{shown_names};
+ghost use Rattle.pearl_tree.specs.ShownDeclarations.{shown_names, shown_item};
 ghost use Rattle.pearl_tree.specs.ShownLiterals.{shown_const};
 ghost use Rattle.pearl_scope.specs.Constants as spec;
 ghost use Rattle.pearl_scope.specs.Filling as filling;
 ghost use Rattle.pearl_scope.specs.Filling.{ahead, repeated, taken, AreFull, IsAhead, MatchesLeaves};
-ghost use Rattle.pearl_scope.specs.Forming.{AllMatch, Grows};
-ghost use Rattle.pearl_scope.specs.Kinds.{kinds_among};
-ghost use Rattle.pearl_scope.specs.Layout.{Leaf, is_sound_leaf};
+ghost use Rattle.pearl_names.specs.Forming.{AllMatch, Grows, around_of};
+ghost use Rattle.pearl_names.specs.Kinds.{kinds_among};
+ghost use Rattle.pearl_names.specs.Layout.{Leaf, item_leaves, is_sound_leaf};
 ghost use Rattle.pearl_scope.specs.PartLists.{shown_part};
 ghost use Rattle.pearl_scope.specs.Rules as rules_spec;
-ghost use Rattle.pearl_scope.specs.Shapes.{Shape};
-ghost use Rattle.pearl_scope.specs.Walks.{Lists};
-ghost use Rattle.pearl_scope.specs.declared.slots.Run.{Run as RunOf};
+ghost use Rattle.pearl_names.specs.Shapes.{Shape};
+ghost use Rattle.pearl_names.specs.Walks.{Lists};
+ghost use Rattle.pearl_names.specs.declared.slots.Run.{Run as RunOf};
 
-use crate::duration::is_too_long;
-use crate::forms::Types;
-use crate::kinds::{Kinds, NO_KINDS, joined_kinds};
-use crate::layout::{ItemForm, has_sound_leaves, item_form};
-use crate::length::{Lengths, kind_of_length};
-use crate::names::ScopeTable;
 use crate::part::Part;
 use crate::rules::fault_if;
-use crate::slots::{Run, Slots, slots_of};
-use crate::types::{StructForm, counts_of, kinds_of, within};
+use pearl_names::duration::is_too_long;
+use pearl_names::forms::Types;
+use pearl_names::kinds::{Kinds, NO_KINDS, joined_kinds};
+use pearl_names::layout::{Laid, has_sound_leaves, item_laid};
+use pearl_names::length::{Lengths, kind_of_length};
+use pearl_names::names::ScopeTable;
+use pearl_names::slots::{Run, Slots, slots_of};
+use pearl_names::types::{StructForm, counts_of, kinds_of, within};
 use pearl_tree::declaration::Item;
 use pearl_tree::fault::RuleFault;
 use pearl_tree::literal::{Const, Literal, Sign};
@@ -258,7 +258,7 @@ fn missing_slots(
     alloc: Global,
     faults: &mut Vec<RuleFault>,
     forms: &[StructForm],
-    form: ItemForm,
+    form: Laid,
     names: &[Name],
     init: &[Const],
 ) -> Result<(), NoMemory>
@@ -274,7 +274,7 @@ fn missing_slots(
 }
 
 // Whether no leaf of a variable has too many dimensions or elements.
-fn is_sound_item(forms: &[StructForm], form: ItemForm) -> bool
+fn is_sound_item(forms: &[StructForm], form: Laid) -> bool
     ensures { (leaves : List Leaf) → MatchesLeaves forms.now (Some form) (Some leaves) → result ≡ list_all is_sound_leaf leaves }
 {
     let each = counts_of(forms, form.part);
@@ -286,7 +286,7 @@ fn missing_of(
     alloc: Global,
     faults: &mut Vec<RuleFault>,
     forms: &[StructForm],
-    form: Option<ItemForm>,
+    form: Option<Laid>,
     names: &[Name],
     init: &[Const],
 ) -> Result<(), NoMemory>
@@ -303,6 +303,25 @@ fn missing_of(
         }
         None => Ok(()),
     }
+}
+
+fn form_of_item(
+    alloc: Global,
+    scopes: &[ScopeTable],
+    lengths: &Lengths,
+    known: &mut Types,
+    scope: u32,
+    types: u32,
+    item: &Item,
+) -> Result<Option<Laid>, NoMemory>
+    ensures grows { OnOk result (Grows known.old.forms.items known.new.forms.items) }
+    ensures named { OnOk result (known.new.named.items ≡ known.old.named.items) }
+    ensures form { IfOk result (λ form. (shapes : List (Option Shape)) →
+        AllMatch known.old.forms.items known.old.named.items shapes →
+        MatchesLeaves known.new.forms.items form (item_leaves (around_of scopes.now lengths.now scope (take types shapes)) (shown_item item.now))) }
+{
+    let form = item_laid(alloc, scopes, lengths, known, scope, types, item)?;
+    Ok(form)
 }
 
 /// S7: at each constant of INIT that has no slot left, or doesn't suit or fit one that it is put into, and at each sign
@@ -328,7 +347,7 @@ pub(crate) fn s7_at(
             if init.is_empty() {
                 return Ok(());
             }
-            let form = item_form(alloc, scopes, lengths, known, *scope, *types, item)?;
+            let form = form_of_item(alloc, scopes, lengths, known, *scope, *types, item)?;
             missing_of(
                 alloc,
                 faults,

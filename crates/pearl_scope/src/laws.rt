@@ -1,11 +1,6 @@
-// What holds of the scopes and faults of every module.
+// What holds of the faults of every module.
 
-ghost use Rattle.pearl_scope.specs.Laws.{OuterIsEarlier, HasOneList};
-
-/// A scope stands within one of a smaller number, if it stands within one.
-pub fn outer_is_earlier()
-    ensures { OuterIsEarlier }
-{}
+ghost use Rattle.pearl_scope.specs.Laws.{HasOneList};
 
 /// The rules S1 to S9 that a module breaks have one list, by place and then by rule.
 pub fn one_list()

@@ -1,21 +1,21 @@
 // The parts of a module's declarations.
-#![tactic(auto, using(crate::proofs::PartLists::part_steps, crate::proofs::Placing::place_steps, crate::proofs::Lists::list_steps, std::proofs::lemmas::Grind::common_steps))]
+#![tactic(auto, using(crate::proofs::PartLists::part_steps, crate::proofs::Placing::place_steps, pearl_names::proofs::Lists::list_steps, std::proofs::lemmas::Grind::common_steps))]
 
 ghost use Rattle.std.specs.Prelude.{◌≡◌, ◌+◌, ◌++◌, map, IfOk, OnOk, false};
 ghost use Rattle.std.specs.List.{flat_map};
 ghost use Rattle.pearl_tree.specs.ShownModules.{shown_body, shown_decl, shown_tree};
-ghost use Rattle.pearl_scope.specs.Listed.{stmts_shown};
-ghost use Rattle.pearl_scope.specs.Scopes.{as_stmts, scopes_in_all, scopes_in_decl};
+ghost use Rattle.pearl_names.specs.Listed.{stmts_shown};
+ghost use Rattle.pearl_names.specs.Scopes.{as_stmts, scopes_in_all, scopes_in_decl};
 ghost use Rattle.pearl_scope.specs.Parts as spec;
 ghost use Rattle.pearl_scope.specs.PartLists.{parts_in};
 ghost use Rattle.pearl_scope.specs.Placed.{placed_in, parts_at};
 
-use crate::collect::types_after;
 use crate::part::{
     Part, add_all_declared, add_body_declarations, add_params, add_returns, add_specs, add_typing,
 };
 use crate::places::{Place, Spot, place_body};
 use crate::statement_part::add_place;
+use pearl_names::collect::types_after;
 use pearl_tree::statement::Body;
 use pearl_tree::tree::{Decl, Tree};
 use std::alloc::{AllocError as NoMemory, Global};

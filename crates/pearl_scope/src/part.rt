@@ -1,6 +1,6 @@
 // The parts of a module in which a rule on names, types and declarations may be broken, in the order of the text: those of
 // expressions, types and declarations.
-#![tactic(auto, using(crate::proofs::PartLists::part_steps, crate::proofs::Lists::list_steps, std::proofs::lemmas::Grind::common_steps))]
+#![tactic(auto, using(crate::proofs::PartLists::part_steps, pearl_names::proofs::Lists::list_steps, std::proofs::lemmas::Grind::common_steps))]
 
 ghost use Rattle.std.specs.Prelude.{◌≡◌, ◌++◌, ◌∷◌, [], map, option_map, OnOk};
 ghost use Rattle.std.specs.List.{flat_map};
@@ -11,7 +11,7 @@ ghost use Rattle.pearl_tree.specs.ShownStatements.{shown_body_decl};
 ghost use Rattle.pearl_scope.specs.Parts as spec;
 ghost use Rattle.pearl_scope.specs.PartLists.{parts_in, selector_list_parts, field_list_parts};
 
-use crate::scope::View;
+use pearl_names::scope::View;
 use pearl_tree::declaration::{Class, Declared, Item, Param, Sema, Spec};
 use pearl_tree::expression::{Expr, Primary, Ref, Selector};
 use pearl_tree::literal::{Const, Duration, Literal};

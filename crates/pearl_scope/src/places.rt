@@ -3,8 +3,8 @@
 
 ghost use Rattle.std.specs.Prelude.{◌≡◌, ◌+◌, ◌++◌, ◌∷◌, [], IfOk, OnOk};
 ghost use Rattle.pearl_tree.specs.ShownStatements.{shown_stmt};
-ghost use Rattle.pearl_scope.specs.Listed.{stmts_shown, branches_shown, otherwise_shown};
-ghost use Rattle.pearl_scope.specs.Scopes.{scopes_in, scopes_in_all, scopes_in_branches, scopes_in_otherwise};
+ghost use Rattle.pearl_names.specs.Listed.{stmts_shown, branches_shown, otherwise_shown};
+ghost use Rattle.pearl_names.specs.Scopes.{scopes_in, scopes_in_all, scopes_in_branches, scopes_in_otherwise};
 ghost use Rattle.pearl_scope.specs.Placed as spec;
 
 use pearl_tree::parts::Parts;

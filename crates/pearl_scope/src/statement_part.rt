@@ -1,5 +1,5 @@
 // The parts of statements, apart from those of the statements within them, and of declarations.
-#![tactic(auto, using(crate::proofs::PartLists::part_steps, crate::proofs::Lists::list_steps, std::proofs::lemmas::Grind::common_steps))]
+#![tactic(auto, using(crate::proofs::PartLists::part_steps, pearl_names::proofs::Lists::list_steps, std::proofs::lemmas::Grind::common_steps))]
 
 ghost use Rattle.std.specs.Prelude.{◌≡◌, ◌++◌, ◌∷◌, [], map, option_map, OnOk};
 ghost use Rattle.std.specs.List.{flat_map};
@@ -14,7 +14,7 @@ use crate::part::{
     use_names,
 };
 use crate::places::Place;
-use crate::scope::View;
+use pearl_names::scope::View;
 use pearl_tree::statement::{
     Activate, Assign, Call, Continue, Get, OnTask, Once, Period, PeriodEnd, Put, Repeat, Send,
     Start, Stmt, Take,

@@ -2,7 +2,7 @@ use Rattle.std.proofs.Common.{◌≡◌, length}
 use Rattle.std.specs.List.{list_all}
 use Rattle.pearl_tree.specs.ShownLiterals.{shown_const}
 use Rattle.pearl_scope.specs.Constants.{fits_kind}
-use Rattle.pearl_scope.specs.declared.slots.Run.{Run}
+use Rattle.pearl_names.specs.declared.slots.Run.{Run}
 use Rattle.pearl_scope.proofs.init.fits_runs.Given as goal
 
 abbrev pub invariant-loop-runs : goal.invariant-loop-runs

@@ -1,5 +1,5 @@
 use Rattle.std.proofs.Common.{ap, ◌∙◌}
-use Rattle.pearl_scope.specs.Counts.{has_sound_leaves}
+use Rattle.pearl_names.specs.Counts.{has_sound_leaves}
 use Rattle.pearl_scope.proofs.Filled.{item_sound}
 use Rattle.pearl_scope.proofs.init.is_sound_item.Goals as goal
 

@@ -3,7 +3,7 @@ use Rattle.std.proofs.lemmas.Option.{slice_get_read}
 use Rattle.pearl_tree.specs.ShownLiterals.{shown_const}
 use Rattle.std.proofs.lemmas.List.{take_rest}
 use Rattle.std.specs.List.{list_all}
-use Rattle.pearl_scope.specs.declared.slots.Run.{Run}
+use Rattle.pearl_names.specs.declared.slots.Run.{Run}
 use Rattle.pearl_scope.specs.Constants.{fits_kind, misses}
 use Rattle.pearl_scope.specs.Filling.{ahead, taken}
 use Rattle.pearl_scope.proofs.Filled.{misses_first, fits_first, fits_last}

@@ -3,8 +3,8 @@ use Rattle.pearl_value.specs.declared.kind.Kind.{Kind}
 use Rattle.pearl_tree.specs.ShownLiterals.{shown_const}
 use Rattle.pearl_scope.specs.Constants.{missing_slots}
 use Rattle.pearl_scope.specs.Filling.{AreFull, IsAhead, ahead}
-use Rattle.pearl_scope.specs.Kinds.{kinds_among}
-use Rattle.pearl_scope.specs.Layout.{slots_of}
+use Rattle.pearl_names.specs.Kinds.{kinds_among}
+use Rattle.pearl_names.specs.Layout.{slots_of}
 use Rattle.pearl_scope.proofs.Filled.{item_slots, item_kinds, item_told}
 use Rattle.pearl_scope.proofs.init.missing_slots.Goals as goal
 

@@ -1,7 +1,7 @@
 use Rattle.std.proofs.Common.{◌≡◌, List}
 use Rattle.pearl_value.specs.declared.kind.Kind.{Kind}
-use Rattle.pearl_scope.specs.Kinds.{kinds_among}
-use Rattle.pearl_scope.specs.Walks.{Lists}
+use Rattle.pearl_names.specs.Kinds.{kinds_among}
+use Rattle.pearl_names.specs.Walks.{Lists}
 use Rattle.pearl_scope.proofs.Filled.{Repeats}
 use Rattle.pearl_scope.proofs.init.slots_of_names.Given as goal
 

@@ -1,7 +1,7 @@
 use Rattle.std.proofs.Common.{◌≡◌, ◌+◌, length, List}
 use Rattle.pearl_value.specs.declared.kind.Kind.{Kind}
 use Rattle.pearl_scope.specs.Filling.{AreFull, IsAhead}
-use Rattle.pearl_scope.specs.Kinds.{kinds_among}
+use Rattle.pearl_names.specs.Kinds.{kinds_among}
 use Rattle.pearl_scope.proofs.Filled.{Told}
 use Rattle.pearl_scope.proofs.init.tell_misses.Given as goal
 

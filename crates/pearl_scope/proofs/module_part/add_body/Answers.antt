@@ -2,7 +2,7 @@ use Rattle.std.proofs.Common.{◌≡◌, ◌+◌, ◌++◌, List, map, ap, ◌�
 use Rattle.std.specs.List.{flat_map}
 use Rattle.pearl_tree.specs.declared.statement.BodyDecl.{BodyDecl}
 use Rattle.pearl_tree.specs.ShownStatements.{shown_body_decl}
-use Rattle.pearl_scope.specs.Listed.{stmts_shown}
+use Rattle.pearl_names.specs.Listed.{stmts_shown}
 use Rattle.pearl_scope.specs.Parts.{Part, body_decl_parts}
 use Rattle.pearl_scope.specs.PartLists.{parts_in}
 use Rattle.pearl_scope.specs.Placed.{placed_in, placed_body, parts_at}

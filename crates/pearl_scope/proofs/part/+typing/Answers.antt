@@ -1,6 +1,6 @@
 use Rattle.std.proofs.Common.{◌≡◌, ◌++◌, ◌∷◌, [], ap, ◌∙◌, append_assoc}
 use Rattle.pearl_tree.specs.ShownDeclarations.{shown_typing}
-use Rattle.pearl_scope.specs.Forming.{fields_shown}
+use Rattle.pearl_names.specs.Forming.{fields_shown}
 use Rattle.pearl_scope.specs.Parts.{Struct, typing_parts}
 use Rattle.pearl_scope.specs.PartLists.{parts_in, field_list_parts}
 use Rattle.pearl_scope.proofs.PartLists.{parts_in-push, struct_parts}

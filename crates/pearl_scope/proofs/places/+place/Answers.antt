@@ -1,4 +1,4 @@
-use Rattle.std.proofs.Common.{◌≡◌, ℕ, ◌+◌, ◌++◌, ◌∷◌, sym, ap, subst, ◌∙◌, map, option_map, arith, true}
+use Rattle.std.proofs.Common.{◌≡◌, ℕ, ◌+◌, ◌++◌, ◌∷◌, sym, ap, subst, ◌∙◌, arith, true}
 use Rattle.pearl_tree.specs.declared.statement.Begin.{Begin}
 use Rattle.pearl_tree.specs.declared.statement.Case as case_
 use Rattle.pearl_tree.specs.declared.statement.Case.{out-Case}
@@ -6,11 +6,11 @@ use Rattle.pearl_tree.specs.declared.statement.If as if_
 use Rattle.pearl_tree.specs.declared.statement.If.{out-If}
 use Rattle.pearl_tree.specs.declared.statement.Repeat.{Repeat}
 use Rattle.pearl_tree.specs.ShownStatements.{ShownStmt, shown_stmt}
-use Rattle.pearl_scope.specs.Listed.{stmts_shown, branches_shown, otherwise_shown}
-use Rattle.pearl_scope.specs.Scopes.{scopes_in, scopes_in_all, scopes_in_branches, scopes_in_otherwise}
+use Rattle.pearl_names.specs.Listed.{stmts_shown, branches_shown, otherwise_shown}
+use Rattle.pearl_names.specs.Scopes.{scopes_in, scopes_in_all, scopes_in_branches, scopes_in_otherwise}
 use Rattle.pearl_scope.specs.declared.places.Spot.{Spot}
 use Rattle.pearl_scope.specs.Placed.{Placed, placed_in, placed_stmt, placed_all, placed_branches, placed_otherwise}
-use Rattle.pearl_scope.proofs.StatementRows.{if_shown, case_shown, repeat_shown, begin_shown}
+use Rattle.pearl_names.proofs.StatementRows.{if_shown, case_shown, repeat_shown, begin_shown}
 use Rattle.pearl_scope.proofs.Placing.{put_at, put_two, put_more, branches_put}
 use Rattle.pearl_scope.proofs.places.«+place».Goals as goal
 

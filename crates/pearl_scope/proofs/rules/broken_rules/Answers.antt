@@ -2,11 +2,12 @@ use Rattle.std.proofs.Common.{◌≡◌, ◌++◌, [], map, ap, subst, ◌∙◌
 use Rattle.std.specs.List.{flat_map}
 use Rattle.pearl_tree.specs.Faults.{ListFaults}
 use Rattle.pearl_tree.specs.ShownModules.{shown_decl, shown_tree}
-use Rattle.pearl_scope.specs.Forming.{AllMatch}
+use Rattle.pearl_names.specs.Forming.{AllMatch}
 use Rattle.pearl_scope.specs.PartLists.{parts_in}
 use Rattle.pearl_scope.specs.Parts.{parts_of}
-use Rattle.pearl_scope.specs.Rules.{known_of, s1, part_faults, broken}
-use Rattle.pearl_scope.specs.Shapes.{shapes_after}
+use Rattle.pearl_scope.specs.Rules.{s1, part_faults, broken}
+use Rattle.pearl_names.specs.Known.{known_of}
+use Rattle.pearl_names.specs.Shapes.{shapes_after}
 use Rattle.pearl_scope.proofs.Asking.{all_asked}
 use Rattle.pearl_scope.proofs.rules.broken_rules.Goals as goal
 

@@ -1,5 +1,5 @@
 use Rattle.std.proofs.Common.{sym, ap, ◌∙◌, not}
-use Rattle.pearl_scope.proofs.ItemCounts.{unsound_counts, no_counts}
+use Rattle.pearl_scope.proofs.Unsound.{unsound_counts, no_counts}
 use Rattle.pearl_scope.proofs.rules.has_unsound_leaf.Goals as goal
 
 pub returns-in-Some : goal.returns-in-Some

@@ -1,8 +1,8 @@
 use Rattle.std.proofs.Common.{◌++◌, [], ap, ◌∙◌}
 use Rattle.pearl_tree.specs.Names.{repeats}
-use Rattle.pearl_scope.specs.Forming.{fields_shown}
-use Rattle.pearl_scope.specs.Shapes.{field_names}
-use Rattle.pearl_scope.proofs.Lists.{all_taken}
+use Rattle.pearl_names.specs.Forming.{fields_shown}
+use Rattle.pearl_names.specs.Shapes.{field_names}
+use Rattle.pearl_names.proofs.Lists.{all_taken}
 use Rattle.pearl_scope.proofs.Seen.{told_no_field, told_field}
 use Rattle.pearl_scope.proofs.rules.repeated_fields.Goals as goal
 

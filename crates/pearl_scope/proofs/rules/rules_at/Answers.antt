@@ -1,9 +1,10 @@
 use Rattle.std.proofs.Common.{◌++◌, sym, subst, ◌∙◌}
-use Rattle.pearl_scope.specs.Forming.{AllMatch}
+use Rattle.pearl_names.specs.Forming.{AllMatch}
 use Rattle.pearl_scope.specs.PartLists.{shown_part}
-use Rattle.pearl_scope.specs.Rules.{Known, s2, s3, s4, s5, s6, s7, s8, s9}
+use Rattle.pearl_scope.specs.Rules.{s2, s3, s4, s5, s6, s7, s8, s9}
+use Rattle.pearl_names.specs.Known.{Known}
 use Rattle.pearl_scope.proofs.Asking.{adds}
-use Rattle.pearl_scope.proofs.FieldsMade.{all_match_more, grows_more}
+use Rattle.pearl_names.proofs.FieldsMade.{all_match_more, grows_more}
 use Rattle.pearl_scope.proofs.rules.rules_at.Goals as goal
 
 pub returns-clause-grows : goal.returns-clause-grows

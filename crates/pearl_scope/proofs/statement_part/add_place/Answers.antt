@@ -1,4 +1,4 @@
-use Rattle.std.proofs.Common.{◌≡◌, ℕ, ◌++◌, subst, ap, sym, ◌∙◌, map, option_map}
+use Rattle.std.proofs.Common.{◌≡◌, ◌++◌, subst, ap, ◌∙◌, map, option_map}
 use Rattle.std.specs.List.{flat_map}
 use Rattle.std.specs.Result.{OnOk}
 use Rattle.pearl_tree.specs.declared.statement.Begin.{Begin}
@@ -9,11 +9,11 @@ use Rattle.pearl_tree.specs.declared.statement.If.{out-If}
 use Rattle.pearl_tree.specs.declared.statement.Repeat.{Repeat}
 use Rattle.pearl_tree.specs.ShownExpressions.{shown_expr}
 use Rattle.pearl_tree.specs.ShownStatements.{ShownStmt, shown_stmt, shown_body_decl}
-use Rattle.pearl_scope.specs.declared.scope.View.TheVariants.{Within}
-use Rattle.pearl_scope.specs.Parts.{Part, expr_parts, loop_parts, body_decl_parts}
+use Rattle.pearl_names.specs.declared.scope.View.TheVariants.{Within}
+use Rattle.pearl_scope.specs.Parts.{expr_parts, loop_parts, body_decl_parts}
 use Rattle.pearl_scope.specs.PartLists.{parts_in}
 use Rattle.pearl_scope.specs.Placed.{placed_at, parts_at}
-use Rattle.pearl_scope.proofs.StatementRows.{if_shown, case_shown, repeat_shown, begin_shown}
+use Rattle.pearl_names.proofs.StatementRows.{if_shown, case_shown, repeat_shown, begin_shown}
 use Rattle.pearl_scope.proofs.statement_part.add_place.Goals as goal
 
 pub returns-in-If : goal.returns-in-If

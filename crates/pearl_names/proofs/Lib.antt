@@ -1,0 +1,22 @@
+pub mod Lists
+pub mod StatementRows
+pub mod Collecting
+pub mod Sorting
+pub mod DeclLists
+pub mod FirstNames
+pub mod Repeating
+pub mod HeldAt
+pub mod Holding
+pub mod Laid
+pub mod Counting
+pub mod Standing
+pub mod Building
+pub mod FieldsMade
+pub mod Sized
+pub mod TypesMade
+pub mod Steps
+mod Outers
+pub mod Examples
+pub mod KindSets
+pub mod ShapeSlots
+pub mod Walking

@@ -1,0 +1,172 @@
+// How a variable is laid out, by counts.
+
+ghost use Rattle.std.specs.Prelude.{◌≡◌, ℤ, List, [], Option, Some, take, option_map, IfOk, OnOk};
+ghost use Rattle.pearl_tree.specs.ShownDeclarations.{shown_item, shown_typing};
+ghost use Rattle.pearl_names.specs.Counts.{counts, has_sound_leaves as has_sound};
+ghost use Rattle.pearl_names.specs.Forming.{AllMatch, Grows, IsLaid, around_of, sizes_of};
+ghost use Rattle.pearl_names.specs.Layout.{item_leaves, leaves_of, leaves_within};
+ghost use Rattle.pearl_names.specs.Forms.{Matches, StandsFor};
+ghost use Rattle.pearl_names.specs.Shapes.{Shape, shape_of, sound_bounds};
+ghost use Rattle.pearl_names.specs.Tables.{sound_form, form_of as sound_form_of};
+ghost use Rattle.pearl_names.specs.declared.types.StructForm.{StructForm as StructFormOf};
+
+use crate::forms::{Types, form_of, sizes_of_bounds};
+use crate::length::Lengths;
+use crate::names::ScopeTable;
+use crate::types::{Counts, Sizes, StructForm, TypeRef, counts_of, within};
+use pearl_tree::declaration::Item;
+use std::alloc::{AllocError as NoMemory, Global};
+
+// What the TYPEs are that stand before, where so many do.
+fn first_types(named: &[Option<TypeRef>], types: u32) -> &[Option<TypeRef>]
+    ensures { result.now ≡ take types named.now }
+{
+    let types = types as usize;
+    if types <= named.len() {
+        &named[..types]
+    } else {
+        named
+    }
+}
+
+/// How many dimensions and elements a variable has, and the type of these.
+#[derive(Clone, Copy, PartialEq, Eq, Debug)]
+pub struct Laid {
+    pub sizes: Sizes,
+    pub part: TypeRef,
+}
+
+fn laid_of(sizes: Sizes, part: Option<TypeRef>) -> Option<Laid>
+    ensures { (forms : List StructFormOf) (bounds : List (ℤ × ℤ)) (shape : Option Shape) → sizes ≡ sizes_of bounds →
+        Matches forms part shape → IsLaid forms result (Some bounds) shape }
+{
+    match part {
+        Some(part) => Some(Laid { sizes, part }),
+        None => None,
+    }
+}
+
+/// What the variables of an item are, where so many TYPEs stand before it. Where a rule is broken in its bounds or type
+/// they are nothing.
+pub fn item_laid(
+    alloc: Global,
+    scopes: &[ScopeTable],
+    lengths: &Lengths,
+    known: &mut Types,
+    scope: u32,
+    types: u32,
+    item: &Item,
+) -> Result<Option<Laid>, NoMemory>
+    ensures grows { OnOk result (Grows known.old.forms.items known.new.forms.items) }
+    ensures named { OnOk result (known.new.named.items ≡ known.old.named.items) }
+    ensures laid { IfOk result (λ laid. (shapes : List (Option Shape)) →
+        AllMatch known.old.forms.items known.old.named.items shapes →
+        IsLaid known.new.forms.items laid (sound_bounds item.now.bounds.items.items)
+        (shape_of (around_of scopes.now lengths.now scope (take types shapes)) (shown_typing item.now.typing))) }
+{
+    let sizes = match sizes_of_bounds(item.bounds.as_slice()) {
+        Some(sizes) => sizes,
+        None => return Ok(None),
+    };
+    let named = first_types(known.named.as_slice(), types);
+    let part = form_of(
+        alloc,
+        scopes,
+        lengths,
+        named,
+        scope,
+        &mut known.forms,
+        &item.typing,
+    )?;
+    let laid = laid_of(sizes, part);
+    Ok(laid)
+}
+
+fn counts_of_laid(forms: &[StructForm], laid: Laid) -> Counts
+    ensures { (bounds : List (ℤ × ℤ)) (shape : Shape) → laid.sizes ≡ sizes_of bounds → StandsFor forms.now laid.part shape →
+        result ≡ counts (leaves_of [] bounds shape) }
+{
+    within(
+        laid.sizes.dimensions,
+        laid.sizes.elements,
+        counts_of(forms, laid.part),
+    )
+}
+
+fn counts_within(forms: &[StructForm], laid: Option<Laid>) -> Option<Counts>
+    ensures { (bounds : Option (List (ℤ × ℤ))) (shape : Option Shape) → IsLaid forms.now laid bounds shape →
+        result ≡ option_map counts (leaves_within bounds shape) }
+{
+    match laid {
+        Some(laid) => Some(counts_of_laid(forms, laid)),
+        None => None,
+    }
+}
+
+/// The counts of the variables of an item, where so many TYPEs stand before it. Where a rule is broken in its bounds or
+/// type there are none.
+pub fn item_counts(
+    alloc: Global,
+    scopes: &[ScopeTable],
+    lengths: &Lengths,
+    known: &mut Types,
+    scope: u32,
+    types: u32,
+    item: &Item,
+) -> Result<Option<Counts>, NoMemory>
+    ensures grows { OnOk result (Grows known.old.forms.items known.new.forms.items) }
+    ensures named { OnOk result (known.new.named.items ≡ known.old.named.items) }
+    ensures counts { IfOk result (λ found. (shapes : List (Option Shape)) →
+        AllMatch known.old.forms.items known.old.named.items shapes →
+        found ≡ option_map counts (item_leaves (around_of scopes.now lengths.now scope (take types shapes)) (shown_item item.now))) }
+{
+    let laid = item_laid(alloc, scopes, lengths, known, scope, types, item)?;
+    let found = counts_within(known.forms.as_slice(), laid);
+    Ok(found)
+}
+
+/// Whether no leaf has more than three dimensions or more than 65,536 elements.
+pub fn has_sound_leaves(counts: Counts) -> bool
+    ensures { result ≡ has_sound counts }
+{
+    counts.dimensions <= 3 && counts.greatest <= 65_536
+}
+
+fn sound_within(forms: &[StructForm], laid: Option<Laid>) -> Option<TypeRef>
+    ensures { (bounds : Option (List (ℤ × ℤ))) (shape : Option Shape) → IsLaid forms.now laid bounds shape →
+        Matches forms.now result (option_map (λ form. form.shape) (sound_form bounds shape)) }
+{
+    match laid {
+        Some(laid) => {
+            if has_sound_leaves(counts_of_laid(forms, laid)) {
+                Some(laid.part)
+            } else {
+                None
+            }
+        }
+        None => None,
+    }
+}
+
+/// The type of the elements of an item's variables, where no rule is broken in its bounds or type and its leaves are
+/// sound.
+pub fn sound_part(
+    alloc: Global,
+    scopes: &[ScopeTable],
+    lengths: &Lengths,
+    known: &mut Types,
+    scope: u32,
+    types: u32,
+    item: &Item,
+) -> Result<Option<TypeRef>, NoMemory>
+    ensures grows { OnOk result (Grows known.old.forms.items known.new.forms.items) }
+    ensures named { OnOk result (known.new.named.items ≡ known.old.named.items) }
+    ensures part { IfOk result (λ part. (shapes : List (Option Shape)) →
+        AllMatch known.old.forms.items known.old.named.items shapes →
+        Matches known.new.forms.items part (option_map (λ form. form.shape)
+        (sound_form_of (around_of scopes.now lengths.now scope (take types shapes)) (shown_item item.now)))) }
+{
+    let laid = item_laid(alloc, scopes, lengths, known, scope, types, item)?;
+    let part = sound_within(known.forms.as_slice(), laid);
+    Ok(part)
+}

@@ -1,0 +1,281 @@
+// TYPEs by number, with counts of what they would have if each TYPE were written out.
+
+ghost use Rattle.std.specs.Prelude.{◌≡◌, ◌+◌, ◌*◌, true, false, is_none, IfOk, OnOk, ◌++◌, List, ℤ};
+ghost use Rattle.std.specs.Map.{lookup};
+ghost use Rattle.std.specs.Str.{bytes_eq};
+ghost use Rattle.pearl_names.specs.declared.types.Counts.{Counts as CountsOf};
+ghost use Rattle.pearl_names.specs.Shapes.{Shape, OfFields, Fields, NoField, with_fields};
+ghost use Rattle.pearl_tree.specs.Names.{has_repeats};
+ghost use Rattle.pearl_tree.specs.declared.name.Name.{Name as NameOf};
+ghost use Rattle.pearl_names.specs.declared.types.StructForm.{StructForm as StructFormOf};
+ghost use Rattle.pearl_names.specs.Counts as spec;
+ghost use Rattle.pearl_names.specs.Kinds.{kinds_among};
+ghost use Rattle.pearl_names.specs.Runs.{shape_slots, field_slots, drop_fields, tails_of as tails_in};
+ghost use Rattle.pearl_names.specs.Forms.{StandsFor, FieldsStand, MatchesComponent, component, Adds, IsForm, IsPart, AreNamed, append_fields};
+ghost use Rattle.pearl_names.specs.declared.types.TypeRef.TheVariants.{Struct};
+
+use crate::kinds::{Kinds, NO_KINDS, joined_kinds, one_kind};
+use crate::names::copy_text;
+use arrayvec::ArrayVec;
+use indexmap::IndexMap;
+use pearl_tree::name::Name;
+use pearl_value::kind::Kind;
+use std::alloc::{AllocError as NoMemory, Global};
+
+/// How many leaves and slots a type has, how many dimensions a leaf has at most, and how many elements. Each is cut off
+/// at 2^31, since types that name types have counts of any size.
+#[derive(Clone, Copy, PartialEq, Eq, Debug)]
+pub struct Counts {
+    pub leaves: u32,
+    pub slots: u32,
+    pub dimensions: u32,
+    pub greatest: u32,
+}
+
+const LIMIT: u64 = 1 << 31;
+
+pub(crate) fn cut(n: u64) -> u32
+    ensures { result ≡ spec.cut n }
+{
+    if n < LIMIT { n as u32 } else { LIMIT as u32 }
+}
+
+pub(crate) fn cut_sum(a: u32, b: u32) -> u32
+    ensures { result ≡ spec.cut (a + b) }
+{
+    cut(u64::from(a) + u64::from(b))
+}
+
+pub(crate) fn cut_product(a: u32, b: u32) -> u32
+    ensures { result ≡ spec.cut (a * b) }
+{
+    cut(u64::from(a) * u64::from(b))
+}
+
+/// The counts of what has these parts.
+pub fn joined(a: Counts, b: Counts) -> Counts
+    ensures { result ≡ spec.joined a b }
+{
+    Counts {
+        leaves: cut_sum(a.leaves, b.leaves),
+        slots: cut_sum(a.slots, b.slots),
+        dimensions: u32::max(a.dimensions, b.dimensions),
+        greatest: u32::max(a.greatest, b.greatest),
+    }
+}
+
+/// The counts of an array of so many dimensions and elements.
+pub fn within(dimensions: u32, elements: u32, part: Counts) -> Counts
+    ensures { result ≡ spec.within dimensions elements part }
+{
+    if part.leaves == 0 {
+        return part;
+    }
+    Counts {
+        leaves: part.leaves,
+        slots: cut_product(elements, part.slots),
+        dimensions: cut_sum(dimensions, part.dimensions),
+        greatest: cut_product(elements, part.greatest),
+    }
+}
+
+/// What a field or a variable is: of a basic kind, or of the STRUCT of this number.
+#[derive(Clone, Copy, PartialEq, Eq, Debug)]
+pub enum TypeRef {
+    Basic(Kind),
+    Struct(u32),
+}
+
+/// A field: how many dimensions and elements it has, of what type they are, and how many leaves and slots stand before it.
+#[derive(Clone, Copy, PartialEq, Eq, Debug)]
+pub struct FieldForm {
+    pub part: TypeRef,
+    pub dimensions: u32,
+    pub elements: u32,
+    pub leaf: u32,
+    pub slot: u32,
+}
+
+/// The fields of a STRUCT by their names, its counts, and which kinds are among its last fields: of none, of one, and so
+/// on up to all.
+#[derive(Drop)]
+pub struct StructForm {
+    pub fields: IndexMap<ArrayVec<u8, 63>, FieldForm>,
+    pub counts: Counts,
+    pub tails: Vec<Kinds>,
+}
+
+fn field_named(form: &StructForm, text: &ArrayVec<u8, 63>) -> Option<FieldForm>
+    ensures { result ≡ lookup (λ key. bytes_eq text.now.items key.items) form.now.fields.entries }
+{
+    match form.fields.get(text) {
+        Some(field) => Some(*field),
+        None => None,
+    }
+}
+
+/// The field of a name in the STRUCT of a number.
+pub fn field_of(forms: &[StructForm], number: u32, text: &ArrayVec<u8, 63>) -> Option<FieldForm>
+    ensures { (fields : Fields) → StandsFor forms.now (Struct number) (OfFields fields) →
+        MatchesComponent forms.now result (component 0 0 fields text.now.items) }
+{
+    match forms.get(number as usize) {
+        Some(form) => field_named(form, text),
+        None => None,
+    }
+}
+
+pub(crate) const NONE: Counts = Counts {
+    leaves: 0,
+    slots: 0,
+    dimensions: 0,
+    greatest: 0,
+};
+
+const ONE: Counts = Counts {
+    leaves: 1,
+    slots: 1,
+    dimensions: 0,
+    greatest: 1,
+};
+
+fn counts_at(forms: &[StructForm], number: u32) -> Counts
+    ensures { (fields : Fields) → StandsFor forms.now (Struct number) (OfFields fields) → result ≡ spec.counts_of (OfFields fields) }
+{
+    match forms.get(number as usize) {
+        Some(form) => form.counts,
+        None => NONE,
+    }
+}
+
+/// The counts of a type.
+pub fn counts_of(forms: &[StructForm], part: TypeRef) -> Counts
+    ensures { (shape : Shape) → StandsFor forms.now part shape → result ≡ spec.counts_of shape }
+{
+    match part {
+        TypeRef::Basic(_) => ONE,
+        TypeRef::Struct(number) => counts_at(forms, number),
+    }
+}
+
+fn kinds_behind(form: &StructForm, next: usize) -> Kinds
+    ensures { (forms : List StructFormOf) (fields : Fields) → FieldsStand forms 0 0 form.now.fields.entries fields →
+        form.now.tails.items ≡ tails_in fields → result ≡ kinds_among (field_slots 1 (drop_fields next fields)) }
+{
+    let left = form.fields.len().saturating_sub(next);
+    match form.tails.get(left) {
+        Some(kinds) => *kinds,
+        None => NO_KINDS,
+    }
+}
+
+// The kinds among the fields of a STRUCT from an index on.
+pub(crate) fn kinds_from(forms: &[StructForm], number: u32, next: usize) -> Kinds
+    ensures { (fields : Fields) → StandsFor forms.now (Struct number) (OfFields fields) →
+        result ≡ kinds_among (field_slots 1 (drop_fields next fields)) }
+{
+    match forms.get(number as usize) {
+        Some(form) => kinds_behind(form, next),
+        None => NO_KINDS,
+    }
+}
+
+/// The kinds among the slots of a type.
+pub fn kinds_of(forms: &[StructForm], part: TypeRef) -> Kinds
+    ensures { (shape : Shape) → StandsFor forms.now part shape → result ≡ kinds_among (shape_slots 1 shape) }
+{
+    match part {
+        TypeRef::Basic(kind) => one_kind(kind),
+        TypeRef::Struct(number) => kinds_from(forms, number, 0),
+    }
+}
+
+// The kinds among the fields from one on, where those among the fields behind it are known.
+fn kinds_with(forms: &[StructForm], form: &StructForm, index: usize, behind: Kinds) -> Kinds
+    ensures { (fields : Fields) → FieldsStand forms.now 0 0 form.now.fields.entries fields →
+        behind ≡ kinds_among (field_slots 1 (drop_fields (index + 1) fields)) →
+        result ≡ kinds_among (field_slots 1 (drop_fields index fields)) }
+{
+    match form.fields.get_index(index) {
+        Some((_, field)) => joined_kinds(kinds_of(forms, field.part), behind),
+        None => NO_KINDS,
+    }
+}
+
+// The kinds among the last fields of a form that has all its fields.
+pub(crate) fn tails_of(
+    alloc: Global,
+    forms: &[StructForm],
+    form: &StructForm,
+) -> Result<Vec<Kinds>, NoMemory>
+    ensures { IfOk result (λ tails. (fields : Fields) → FieldsStand forms.now 0 0 form.now.fields.entries fields →
+        tails.items ≡ tails_in fields) }
+{
+    let mut left = form.fields.len();
+    let mut kinds = NO_KINDS;
+    let mut tails = Vec::new(alloc);
+    tails.push(kinds)?;
+    while left > 0 {
+        left -= 1;
+        kinds = kinds_with(forms, form, left, kinds);
+        tails.push(kinds)?;
+    }
+    Ok(tails)
+}
+
+// Adds a field where no field has its name, and answers whether none had it.
+pub(crate) fn add_field(
+    form: &mut StructForm,
+    name: &ArrayVec<u8, 63>,
+    field: FieldForm,
+    each: Counts,
+) -> Result<bool, NoMemory>
+    ensures fresh { IfOk result (λ fresh. fresh ≡ is_none (lookup (λ key. bytes_eq name.now.items key.items) form.old.fields.entries)) }
+    ensures added { IfOk result (λ fresh. fresh ≡ true → Adds form.old name.now field each form.new) }
+{
+    if form.fields.contains_key(name) {
+        return Ok(false);
+    }
+    let key = copy_text(name)?;
+    let placed = FieldForm {
+        leaf: form.counts.leaves,
+        slot: form.counts.slots,
+        ..field
+    };
+    match form.fields.insert(key, placed) {
+        Ok(_) => {}
+        Err(_) => return Err(NoMemory),
+    }
+    form.counts = joined(form.counts, each);
+    Ok(true)
+}
+
+// Adds a field of each of these names. It ends at a name that a field has, and answers whether there was none.
+pub(crate) fn add_fields(
+    form: &mut StructForm,
+    names: &[Name],
+    field: FieldForm,
+    each: Counts,
+) -> Result<bool, NoMemory>
+    ensures fresh { IfOk result (λ fresh. (before : List NameOf) → AreNamed form.old.fields.entries before →
+        fresh ≡ true → AreNamed form.new.fields.entries (before ++ names.now) × (has_repeats before names.now ≡ false)) }
+    ensures twice { IfOk result (λ fresh. (before : List NameOf) → AreNamed form.old.fields.entries before →
+        fresh ≡ false → has_repeats before names.now ≡ true) }
+    ensures added { IfOk result (λ fresh. (forms : List StructFormOf) (fields : Fields) (bounds : List (ℤ × ℤ)) (shape : Shape) → fresh ≡ true →
+        IsForm forms form.old fields → IsPart forms field each bounds shape →
+        IsForm forms form.new (append_fields fields (with_fields names.now bounds shape NoField))) }
+{
+    for name in names {
+        if !add_field(form, &name.text, field, each)? {
+            return Ok(false);
+        }
+    }
+    Ok(true)
+}
+
+/// How many dimensions and elements some bounds have.
+#[derive(Clone, Copy, PartialEq, Eq, Debug)]
+pub struct Sizes {
+    pub dimensions: u32,
+    pub elements: u32,
+}

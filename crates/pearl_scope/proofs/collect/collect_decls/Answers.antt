@@ -1,6 +1,0 @@
-use Rattle.pearl_scope.proofs.DeclLists.{one_more_scopes}
-use Rattle.pearl_scope.proofs.collect.collect_decls.Goals as goal
-
-pub loop-decl-preserved : goal.loop-decl-preserved
-loop-decl-preserved c =
-    one_more_scopes _ _ _ _ _ c.decl-item.result c.loop-decl-test.true c.decl-item.is c.loop-decl.invariant c.in_ok-collect_decl.ensures

@@ -1,9 +1,0 @@
-use Rattle.std.proofs.Common.{◌≡◌, ap, ◌∙◌, is_some, option_map, ◌∷◌, []}
-use Rattle.pearl_scope.specs.Counts.{cut}
-use Rattle.pearl_scope.specs.Layout.{elements}
-use Rattle.pearl_scope.specs.Shapes.{is_sound_pair, bound_pair}
-use Rattle.pearl_scope.proofs.ItemCounts.{some_if}
-use Rattle.pearl_scope.proofs.forms.is_sound_bound.Goals as goal
-
-pub returns : goal.returns
-returns c = c.is_some.ensures ∙ ap is_some c.elements_of.ensures ∙ some_if (λ pair. cut (elements (pair ∷ []))) (is_sound_pair (bound_pair c.args.bound.now)) (bound_pair c.args.bound.now)

@@ -1,9 +1,0 @@
-use Rattle.std.proofs.Common.{take, map, []}
-use Rattle.pearl_tree.specs.ShownModules.{shown_decl}
-use Rattle.pearl_scope.specs.Shapes.{shapes_after}
-use Rattle.pearl_scope.specs.Forming.{AllMatch}
-use Rattle.pearl_scope.proofs.forms.types_of.Given as goal
-
-abbrev pub invariant-loop-decl : goal.invariant-loop-decl
-invariant-loop-decl l =
-    AllMatch l.types.forms.items l.types.named.items (shapes_after l.scopes l.lengths [] (map shown_decl (take l.decl-index l.decls)))

@@ -1,6 +1,0 @@
-use Rattle.std.proofs.Common.{take}
-use Rattle.pearl_scope.proofs.Repeating.{Noted}
-use Rattle.pearl_scope.proofs.names.ScopeTable.new.Given as goal
-
-abbrev pub invariant-loop-entry : goal.invariant-loop-entry
-invariant-loop-entry l = Noted (take l.entry-index l.entry-items) l.first.entries l.repeats.items l.number
