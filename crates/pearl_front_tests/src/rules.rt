@@ -2,7 +2,7 @@
 
 use crate::cases::{STOP, places_of, source_of, tokens_of};
 use pearl_parse::parse::parse;
-use pearl_scope::rules::faults_but_s7;
+use pearl_scope::rules::broken_rules;
 use std::alloc::{AllocError, Global};
 use std::test::Fail;
 
@@ -32,6 +32,31 @@ fn modules() -> &'static [(&'static str, &'static str)] {
         "MODULE;PROBLEM;TYPE t STRUCT[(a,b)(256) FIXED];DCL ^c(257) t,d(256) t;MODEND" => "S5 ";
         "MODULE;PROBLEM;TYPE t STRUCT[a FIXED,^a BIT];MODEND" => "S6 ";
         "MODULE;PROBLEM;TYPE t STRUCT[a FIXED,b STRUCT[a FIXED]];DCL a t;MODEND" => "";
+        "MODULE;PROBLEM;DCL (a,b) FIXED INIT(1,2,^3,^4),c(2) BIT INIT('1'B,'1'B,^'1'B);MODEND" => "S7 S7 S7 ";
+        "MODULE;PROBLEM;DCL (a,b)(2) FIXED INIT(1,2,3,4);MODEND" => "";
+        "MODULE;PROBLEM;DCL a FIXED(3) INIT(7),b FIXED(3) INIT(-8),c FIXED(3) INIT(^8),d FIXED(3) INIT(^-9);MODEND"
+            => "S7 S7 ";
+        "MODULE;PROBLEM;DCL a BIT(3) INIT('111'B),b BIT(2) INIT(^'111'B),c BIT(3) INIT('1'B);MODEND" => "S7 ";
+        "MODULE;PROBLEM;DCL a CHAR(3) INIT('ab'),b CHAR(3) INIT('abc'),c CHAR(3) INIT(^'abcd');MODEND" => "S7 ";
+        "MODULE;PROBLEM;DCL a FIXED INIT(^'1'B),b BIT INIT(^1),c CHAR INIT(^1 SEC),d CLOCK INIT(^'a');MODEND"
+            => "S7 S7 S7 S7 ";
+        "MODULE;PROBLEM;DCL a CLOCK INIT(12:00:00),b DURATION INIT(1 SEC),c CLOCK INIT(^1 SEC),d DURATION INIT(^12:00:00);MODEND"
+            => "S7 S7 ";
+        "MODULE;PROBLEM;DCL a FIXED INIT(-1,^+1),b DURATION INIT(-1 SEC),c DURATION INIT(+1 SEC);MODEND" => "S7 ";
+        "MODULE;PROBLEM;DCL a BIT INIT(^-'1'B),b CHAR INIT(^+'a'),c CLOCK INIT(^-12:00:00);MODEND" => "S7 S7 S7 ";
+        "MODULE;PROBLEM;DCL a STRUCT[(b,c) FIXED,d CHAR(2),e FIXED(3)] INIT(1,2,'ab',7);MODEND" => "";
+        "MODULE;PROBLEM;DCL a STRUCT[b CHAR(2),(c,d) FIXED] INIT('a',1);MODEND" => "";
+        "MODULE;PROBLEM;DCL a STRUCT[b FIXED,c CHAR(2),d FIXED] INIT(^1);MODEND" => "S7 ";
+        "MODULE;PROBLEM;DCL a STRUCT[b FIXED,c FIXED(3)] INIT(1,7),d STRUCT[b FIXED,c FIXED(3)] INIT(^8);MODEND" => "S7 ";
+        "MODULE;PROBLEM;DCL a(2) STRUCT[b FIXED,c CHAR] INIT(1,2,'a');MODEND" => "";
+        "MODULE;PROBLEM;DCL a(2) STRUCT[b FIXED,c CHAR] INIT(1,^'a',^2,'a');MODEND" => "S7 S7 ";
+        "MODULE;PROBLEM;TYPE t STRUCT[b(2) FIXED,c CHAR];DCL (x,y) STRUCT[d(2) t,e BIT] INIT(1,2,3,4,'a','b','1'B,^'1'B);MODEND"
+            => "S7 ";
+        "MODULE;PROBLEM;TYPE t STRUCT[b(2) FIXED,c CHAR];DCL (x,y) STRUCT[d(2) t,e BIT] INIT(1,2,3,4,'a','b','1'B,^5);MODEND"
+            => "S7 ";
+        "MODULE;PROBLEM;DCL (x,y) STRUCT[b FIXED,c CHAR] INIT(1,'a',2,'b'),(z,u) STRUCT[b FIXED,c CHAR] INIT(1,^'a');MODEND"
+            => "S7 ";
+        "MODULE;PROBLEM;TYPE t STRUCT[b(2) FIXED,c CHAR];DCL ^x(300,300) t INIT('a');MODEND" => "S5 ";
         "MODULE;PROBLEM;DCL (^a,b) INV FIXED;MODEND" => "S8 ";
         "MODULE;PROBLEM;DCL (a,b) INV FIXED INIT(1);MODEND" => "";
         "MODULE;PROBLEM;DCL (a,b) SEMA PRESET(1,2,^3);MODEND" => "S9 ";
@@ -107,7 +132,7 @@ fn shown(alloc: Global, case: &[u8]) -> Result<String, AllocError> {
         text.push_str("no tree")?;
         return Ok(text);
     };
-    let faults = faults_but_s7(alloc, &tree)?;
+    let faults = broken_rules(alloc, &tree)?;
     let mut marks = places.as_slice().iter();
     for fault in faults.as_slice() {
         if marks.next() != Some(&fault.place) {

@@ -30,7 +30,7 @@ leaves_in fields = length (leaves_of_fields [] [] fields)
 abbrev slots_in : Fields → ℕ
 slots_in fields = length (slots_of (leaves_of_fields [] [] fields))
 
-leaves_more : (name : List ℕ) (bounds : List (ℤ × ℤ)) (shape : Shape) (rest : Fields) → leaves_in (MoreField name bounds shape rest) ≡ leaf_count shape + leaves_in rest
+pub leaves_more : (name : List ℕ) (bounds : List (ℤ × ℤ)) (shape : Shape) (rest : Fields) → leaves_in (MoreField name bounds shape rest) ≡ leaf_count shape + leaves_in rest
 leaves_more name bounds shape rest =
     length-append (leaves_of (name ∷ []) bounds shape) (leaves_of_fields [] [] rest)
     ∙ ap (λ n. n + leaves_in rest) (ap length (leaves_behind (name ∷ []) bounds shape) ∙ length-map (leaves_of [] [] shape) (behind (name ∷ []) bounds))

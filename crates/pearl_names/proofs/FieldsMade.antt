@@ -1,5 +1,6 @@
 -- The forms of written types, field by field.
-use Rattle.std.proofs.Common.{◌≡◌, ℕ, zero, suc, ℤ, Bool, true, false, cond, ◌||◌, List, [], ◌∷◌, ◌++◌, map, length, slice_get, Option, Some, None, option_map, refl, sym, ap, subst, ◌∙◌, append_assoc, append-nil}
+use Rattle.std.proofs.Common.{◌≡◌, ℕ, zero, suc, ℤ, Bool, true, false, cond, ◌||◌, List, [], ◌∷◌, ◌++◌, map, length, take, slice_get, Option, Some, None, option_map, refl, sym, ap, subst, ◌∙◌, append_assoc, append-nil}
+use Rattle.std.proofs.Math.Seq.{take-append_seam}
 use Rattle.std.proofs.lemmas.Option.{same_Some, none-some}
 use Rattle.pearl_tree.specs.declared.typing.Field.{Field}
 use Rattle.pearl_tree.specs.ShownDeclarations.{MoreFields, OfStruct, shown_names, shown_typing}
@@ -18,6 +19,7 @@ use Rattle.pearl_names.specs.Forms.{StandsFor, FieldsStand, Matches, IsForm, Are
 use Rattle.pearl_names.specs.Forming.{fields_shown, AllMatch, Grows, Has, Made, sizes_of, struct_shape}
 use Rattle.pearl_names.specs.declared.types.Sizes.{Sizes}
 use Rattle.pearl_names.specs.Counts.{counts}
+use Rattle.pearl_names.specs.Runs.{tails_of}
 use Rattle.pearl_names.proofs.Standing.{stands_more, fields_more}
 
 -- the form of a TYPE, by its number
@@ -229,13 +231,21 @@ last_of [] form = refl
 last_of (f ∷ forms) form = last_of forms form
 
 -- the form is kept behind the others
-pub kept : (old now new : List StructForm) (named : List (Option TypeRef)) (around : List (Option Shape) → Around) (form : StructForm) (fields : List Field) (part : TypeRef) → Made old now named around form fields →
-    new ≡ now ++ form ∷ [] → part ≡ Struct (length now) → (shapes : List (Option Shape)) → AllMatch old named shapes → Matches new (Some part) (struct_shape (around shapes) fields)
+pub kept : (old now new : List StructForm) (named : List (Option TypeRef)) (around : List (Option Shape) → Around) (form tailed : StructForm) (fields : List Field) (part : TypeRef) → Made old now named around form fields →
+    tailed ≡ record form { tails = tailed.tails } → ((own : Fields) → FieldsStand now 0 0 form.fields.entries own → tailed.tails.items ≡ tails_of own) →
+    new ≡ now ++ tailed ∷ [] → part ≡ Struct (length now) → (shapes : List (Option Shape)) → AllMatch old named shapes → Matches new (Some part) (struct_shape (around shapes) fields)
 unfolding StandsFor
-kept old now new named around form fields part made is number shapes all =
+kept old now new named around form tailed fields part made same tails is number shapes all =
     let has = made.has shapes all in
-    rw (is, number, made.once, has.is)
-    (form, last_of now form, fields_more now (form ∷ []) 0 0 form.fields.entries has.shape has.stands.stand, has.stands.counted)
+    let entries = ap (λ f. f.fields.entries) same in
+    let earlier : take (length now) (now ++ tailed ∷ []) ≡ now = take-append_seam now (tailed ∷ []) in
+    rw (is, number, made.once, has.is) (
+      tailed,
+      last_of now tailed,
+      subst (λ l. FieldsStand l 0 0 tailed.fields.entries has.shape) (sym earlier) (subst (λ es. FieldsStand now 0 0 es has.shape) (sym entries) has.stands.stand),
+      ap (λ f. f.counts) same ∙ has.stands.counted,
+      tails has.shape has.stands.stand,
+    )
 
 pub kept_grows : (old now new : List StructForm) (form : StructForm) → Grows old now → new ≡ now ++ form ∷ [] → Grows old new
 kept_grows old now new form grows is = grows_more old now new grows (record { more = form ∷ []; is = is })

@@ -17,3 +17,6 @@ pub mod TypesMade
 pub mod Steps
 mod Outers
 pub mod Examples
+pub mod KindSets
+pub mod ShapeSlots
+pub mod Walking

@@ -1,6 +1,7 @@
 -- What forms stand for: it stays where more forms come, and fields are found by their names.
-use Rattle.std.proofs.Common.{◌≡◌, ℕ, zero, suc, ◌+◌, Bool, true, false, cond, List, [], ◌∷◌, ◌++◌, slice_get, Option, Some, None, bytes_eq, refl, sym, ap, ◌∙◌, true≢false, is_some}
-use Rattle.std.proofs.lemmas.Option.{same_Some, none-some}
+use Rattle.std.proofs.Common.{◌≡◌, ℕ, zero, suc, ◌+◌, ◌-◌, ◌<◌, Bool, true, false, cond, List, [], ◌∷◌, ◌++◌, length, take, drop, slice_get, Option, Some, None, bytes_eq, refl, sym, ap, subst, ◌∙◌, true≢false, is_some, arith}
+use Rattle.std.proofs.lemmas.List.{take-append-drop, take-append-le}
+use Rattle.std.proofs.lemmas.Option.{same_Some, none-some, slice_get_within}
 use Rattle.std.specs.Map.{lookup}
 use Rattle.arrayvec.specs.ArrayVec.{ArrayVec}
 use Rattle.pearl_value.specs.declared.kind.Kind.{Kind}
@@ -11,6 +12,11 @@ use Rattle.pearl_names.specs.declared.types.TypeRef.TheVariants.{Basic, Struct}
 use Rattle.pearl_names.specs.declared.types.FieldForm.{FieldForm}
 use Rattle.pearl_names.specs.declared.types.StructForm.{StructForm}
 use Rattle.pearl_names.specs.Counts.{counts, counts_of}
+use Rattle.pearl_names.specs.declared.kinds.Kinds.{Kinds}
+use Rattle.pearl_names.specs.Kinds.{one_kind, kinds_among}
+use Rattle.pearl_names.specs.Runs.{shape_slots, field_slots, drop_fields, tails_of}
+use Rattle.pearl_names.proofs.KindSets.{kinds-run}
+use Rattle.pearl_names.proofs.ShapeSlots.{field_count, tail_at}
 use Rattle.pearl_names.specs.Forms.{leaf_count, slot_count, StandsFor, FieldsStand, component, MatchesComponent}
 
 slice_get_more : {X : Type 0} (xs ys : List X) (i : ℕ) (x : X) → slice_get xs i ≡ Some x → slice_get (xs ++ ys) i ≡ Some x
@@ -24,7 +30,9 @@ mutual
   pub stands_more : (forms more : List StructForm) (part : TypeRef) (shape : Shape) → StandsFor forms part shape → StandsFor (forms ++ more) part shape
   stands_more forms more (Basic kind) (OfKind to) h = h
   stands_more forms more (Struct number) (OfFields fields) h =
-      (h.0, slice_get_more forms more number h.0 h.1, fields_more forms more 0 0 h.0.fields.entries fields h.2, h.3)
+      let inside : number < length forms = slice_get_within forms number h.0 h.1 in
+      let same = take-append-le number forms more (omega (arith, inside)) in
+      (h.0, slice_get_more forms more number h.0 h.1, subst (λ l. FieldsStand l 0 0 h.0.fields.entries fields) (sym same) h.2, h.3, h.4)
   stands_more forms more (Basic kind) (OfFields fields) h = absurd h
   stands_more forms more (Struct number) (OfKind kind) h = absurd h
 
@@ -35,6 +43,12 @@ mutual
       (h.0, stands_more forms more entry.1.part shape h.1, fields_more forms more _ _ entries rest h.2)
   fields_more forms more leaves slots [] (MoreField name bounds shape rest) h = absurd h
   fields_more forms more leaves slots (entry ∷ entries) NoField h = absurd h
+
+-- what stands among the first forms stands among all
+pub fields_all : (forms : List StructForm) (n leaves slots : ℕ) (entries : List (ArrayVec ℕ × FieldForm)) (fields : Fields) →
+    FieldsStand (take n forms) leaves slots entries fields → FieldsStand forms leaves slots entries fields
+fields_all forms n leaves slots entries fields h =
+    subst (λ l. FieldsStand l leaves slots entries fields) (take-append-drop n forms) (fields_more (take n forms) (drop n forms) leaves slots entries fields h)
 
 -- a field is found by its name
 pub found_field : (forms : List StructForm) (leaves slots : ℕ) (entries : List (ArrayVec ℕ × FieldForm)) (fields : Fields) (text : List ℕ) →
@@ -58,7 +72,7 @@ pub field_answer : (forms : List StructForm) (number : ℕ) (fields : Fields) (t
 unfolding StandsFor
 field_answer forms number fields text form answer at is h =
     let same : form ≡ h.0 = same_Some form h.0 (sym at ∙ h.1) in
-    rw (is, same) (found_field forms 0 0 h.0.fields.entries fields text h.2)
+    rw (is, same) (found_field forms 0 0 h.0.fields.entries fields text (fields_all forms number 0 0 h.0.fields.entries fields h.2))
 
 pub no_form : (forms : List StructForm) (number : ℕ) (fields : Fields) → slice_get forms number ≡ None → StandsFor forms (Struct number) (OfFields fields) → ⊥
 unfolding StandsFor
@@ -82,3 +96,38 @@ pub struct_counts : (forms : List StructForm) (number : ℕ) (shape : Shape) (an
 unfolding StandsFor
 struct_counts forms number (OfKind kind) answer tells h = absurd h
 struct_counts forms number (OfFields fields) answer tells h = tells fields h
+
+-- the kinds among the fields from one on
+pub fields_counted : (forms : List StructForm) (leaves slots : ℕ) (entries : List (ArrayVec ℕ × FieldForm)) (fields : Fields) →
+    FieldsStand forms leaves slots entries fields → length entries ≡ field_count fields
+unfolding StandsFor
+fields_counted forms leaves slots [] NoField h = refl
+fields_counted forms leaves slots (entry ∷ entries) (MoreField name bounds shape rest) h =
+    ap suc (fields_counted forms (leaves + leaf_count shape) (slots + slot_count bounds shape) entries rest h.2)
+fields_counted forms leaves slots [] (MoreField name bounds shape rest) h = absurd h
+fields_counted forms leaves slots (entry ∷ entries) NoField h = absurd h
+
+pub tail_found : (forms : List StructForm) (form : StructForm) (fields : Fields) (next : ℕ) → FieldsStand forms 0 0 form.fields.entries fields → form.tails.items ≡ tails_of fields →
+    slice_get form.tails.items (length form.fields.entries - next) ≡ Some (kinds_among (field_slots 1 (drop_fields next fields)))
+tail_found forms form fields next h tails = rw (tails, fields_counted forms 0 0 form.fields.entries fields h) (tail_at fields next)
+
+pub kinds_answer : (forms : List StructForm) (number : ℕ) (fields : Fields) (next : ℕ) (form : StructForm) (answer : Kinds) → slice_get forms number ≡ Some form →
+    ((early : List StructForm) (own : Fields) → FieldsStand early 0 0 form.fields.entries own → form.tails.items ≡ tails_of own → answer ≡ kinds_among (field_slots 1 (drop_fields next own))) →
+    StandsFor forms (Struct number) (OfFields fields) → answer ≡ kinds_among (field_slots 1 (drop_fields next fields))
+unfolding StandsFor
+kinds_answer forms number fields next form answer at tells h =
+    let same : form ≡ h.0 = same_Some form h.0 (sym at ∙ h.1) in
+    tells (take number forms) fields (subst (λ f. FieldsStand (take number forms) 0 0 f.fields.entries fields) (sym same) h.2) (ap (λ f. f.tails.items) same ∙ h.4)
+
+-- the kinds of a basic type, and of a STRUCT
+pub basic_kinds : (forms : List StructForm) (kind : Kind) (shape : Shape) → StandsFor forms (Basic kind) shape → one_kind kind ≡ kinds_among (shape_slots 1 shape)
+unfolding StandsFor
+basic_kinds forms kind (OfKind to) h = ap one_kind h ∙ sym (kinds-run 1 to (omega arith))
+basic_kinds forms kind (OfFields fields) h = absurd h
+
+pub struct_kinds : (forms : List StructForm) (number : ℕ) (shape : Shape) (answer : Kinds) →
+    ((fields : Fields) → StandsFor forms (Struct number) (OfFields fields) → answer ≡ kinds_among (field_slots 1 fields)) →
+    StandsFor forms (Struct number) shape → answer ≡ kinds_among (shape_slots 1 shape)
+unfolding StandsFor
+struct_kinds forms number (OfKind kind) answer tells h = absurd h
+struct_kinds forms number (OfFields fields) answer tells h = tells fields h

@@ -1,6 +1,6 @@
--- Which forms in a table stand for which shapes. A shape has each TYPE that it names written out; a form names the others
--- by their numbers.
-use Rattle.std.specs.Prelude.{◌≡◌, ℕ, ◌+◌, ◌*◌, ℤ, if◌then◌else◌, List, [], ◌∷◌, ◌++◌, map, length, Option, Some, None, slice_get}
+-- Which forms in a table stand for which shapes. A shape has each TYPE that it names written out; a form names others, which
+-- stand before it, by their numbers.
+use Rattle.std.specs.Prelude.{◌≡◌, ℕ, ◌+◌, ◌*◌, ℤ, if◌then◌else◌, List, [], ◌∷◌, ◌++◌, map, length, take, Option, Some, None, slice_get}
 use Rattle.std.specs.Str.{bytes_eq}
 use Rattle.arrayvec.specs.ArrayVec.{ArrayVec}
 use Rattle.pearl_tree.specs.declared.name.Name.{Name}
@@ -12,6 +12,7 @@ use Rattle.pearl_names.specs.declared.types.TypeRef.{TypeRef}
 use Rattle.pearl_names.specs.declared.types.TypeRef.TheVariants.{Basic, Struct}
 use Rattle.pearl_names.specs.declared.types.FieldForm.{FieldForm}
 use Rattle.pearl_names.specs.declared.types.StructForm.{StructForm}
+use Rattle.pearl_names.specs.Runs.{tails_of}
 use Rattle.pearl_names.specs.Counts.{cut, counts, counts_of, joined, within}
 
 abbrev pub leaf_count : Shape → ℕ
@@ -32,8 +33,8 @@ unfoldable mutual
   pub StandsFor : List StructForm → TypeRef → Shape → Type 0
   StandsFor forms (Basic kind) (OfKind to) = kind ≡ to
   StandsFor forms (Struct number) (OfFields fields) =
-      (form : StructForm) × (slice_get forms number ≡ Some form) × FieldsStand forms 0 0 form.fields.entries fields ×
-      (form.counts ≡ counts (leaves_of_fields [] [] fields))
+      (form : StructForm) × (slice_get forms number ≡ Some form) × FieldsStand (take number forms) 0 0 form.fields.entries fields ×
+      (form.counts ≡ counts (leaves_of_fields [] [] fields)) × (form.tails.items ≡ tails_of fields)
   StandsFor forms part shape = ⊥
 
   pub FieldsStand : List StructForm → (leaves slots : ℕ) → List (ArrayVec ℕ × FieldForm) → Fields → Type 0

@@ -24,10 +24,16 @@ pub mod Shapes
 pub mod Layout
 -- how many leaves, slots and dimensions a type has, cut off above the limits
 pub mod Counts
+-- which kinds are among some slots
+pub mod Kinds
+-- the slots of types that are written out
+pub mod Runs
 -- the TYPEs of a module by number, with their counts
 pub mod Forms
 -- what each STRUCT adds to the TYPEs by number
 pub mod Forming
+-- walks over the slots of a variable, run by run
+pub mod Walks
 -- what is known of a module before its rules are asked
 pub mod Known
 -- what each name of a scope stands for, with all that is asked of it where it is used

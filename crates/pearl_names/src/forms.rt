@@ -23,7 +23,7 @@ use crate::scope::NameSort;
 use crate::sense::Bounds;
 use crate::types::{
     Counts, FieldForm, NONE, Sizes, StructForm, TypeRef, add_field, add_fields, counts_of, cut,
-    cut_product, cut_sum, within,
+    cut_product, cut_sum, tails_of, within,
 };
 use indexmap::IndexMap;
 use pearl_tree::name::{Name, Names};
@@ -295,6 +295,7 @@ fn form_of_struct(
     let mut form = StructForm {
         fields: IndexMap::new(alloc),
         counts: NONE,
+        tails: Vec::new(alloc),
     };
     for field in fields.as_slice() {
         let sizes = match sizes_of_bounds(field.bounds.as_slice()) {
@@ -309,6 +310,7 @@ fn form_of_struct(
             return Ok(None);
         }
     }
+    form.tails = tails_of(alloc, forms.as_slice(), &form)?;
     let part = keep(forms, form)?;
     Ok(Some(part))
 }

@@ -41,7 +41,8 @@ pub fn is_length(sort: Sort, n: u64) -> bool
     1 <= n && n <= u64::from(longest(sort))
 }
 
-fn kind_of_length(sort: Sort, len: u8) -> Kind
+/// The kind of this sort and length.
+pub fn kind_of_length(sort: Sort, len: u8) -> Kind
     ensures { result ≡ spec.kind_of_length sort len }
 {
     match sort {

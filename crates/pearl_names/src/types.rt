@@ -9,9 +9,12 @@ ghost use Rattle.pearl_tree.specs.Names.{has_repeats};
 ghost use Rattle.pearl_tree.specs.declared.name.Name.{Name as NameOf};
 ghost use Rattle.pearl_names.specs.declared.types.StructForm.{StructForm as StructFormOf};
 ghost use Rattle.pearl_names.specs.Counts as spec;
-ghost use Rattle.pearl_names.specs.Forms.{StandsFor, MatchesComponent, component, Adds, IsForm, IsPart, AreNamed, append_fields};
+ghost use Rattle.pearl_names.specs.Kinds.{kinds_among};
+ghost use Rattle.pearl_names.specs.Runs.{shape_slots, field_slots, drop_fields, tails_of as tails_in};
+ghost use Rattle.pearl_names.specs.Forms.{StandsFor, FieldsStand, MatchesComponent, component, Adds, IsForm, IsPart, AreNamed, append_fields};
 ghost use Rattle.pearl_names.specs.declared.types.TypeRef.TheVariants.{Struct};
 
+use crate::kinds::{Kinds, NO_KINDS, joined_kinds, one_kind};
 use crate::names::copy_text;
 use arrayvec::ArrayVec;
 use indexmap::IndexMap;
@@ -93,11 +96,13 @@ pub struct FieldForm {
     pub slot: u32,
 }
 
-/// The fields of a STRUCT by their names, and its counts.
+/// The fields of a STRUCT by their names, its counts, and which kinds are among its last fields: of none, of one, and so
+/// on up to all.
 #[derive(Drop)]
 pub struct StructForm {
     pub fields: IndexMap<ArrayVec<u8, 63>, FieldForm>,
     pub counts: Counts,
+    pub tails: Vec<Kinds>,
 }
 
 fn field_named(form: &StructForm, text: &ArrayVec<u8, 63>) -> Option<FieldForm>
@@ -151,6 +156,71 @@ pub fn counts_of(forms: &[StructForm], part: TypeRef) -> Counts
         TypeRef::Basic(_) => ONE,
         TypeRef::Struct(number) => counts_at(forms, number),
     }
+}
+
+fn kinds_behind(form: &StructForm, next: usize) -> Kinds
+    ensures { (forms : List StructFormOf) (fields : Fields) → FieldsStand forms 0 0 form.now.fields.entries fields →
+        form.now.tails.items ≡ tails_in fields → result ≡ kinds_among (field_slots 1 (drop_fields next fields)) }
+{
+    let left = form.fields.len().saturating_sub(next);
+    match form.tails.get(left) {
+        Some(kinds) => *kinds,
+        None => NO_KINDS,
+    }
+}
+
+// The kinds among the fields of a STRUCT from an index on.
+pub(crate) fn kinds_from(forms: &[StructForm], number: u32, next: usize) -> Kinds
+    ensures { (fields : Fields) → StandsFor forms.now (Struct number) (OfFields fields) →
+        result ≡ kinds_among (field_slots 1 (drop_fields next fields)) }
+{
+    match forms.get(number as usize) {
+        Some(form) => kinds_behind(form, next),
+        None => NO_KINDS,
+    }
+}
+
+/// The kinds among the slots of a type.
+pub fn kinds_of(forms: &[StructForm], part: TypeRef) -> Kinds
+    ensures { (shape : Shape) → StandsFor forms.now part shape → result ≡ kinds_among (shape_slots 1 shape) }
+{
+    match part {
+        TypeRef::Basic(kind) => one_kind(kind),
+        TypeRef::Struct(number) => kinds_from(forms, number, 0),
+    }
+}
+
+// The kinds among the fields from one on, where those among the fields behind it are known.
+fn kinds_with(forms: &[StructForm], form: &StructForm, index: usize, behind: Kinds) -> Kinds
+    ensures { (fields : Fields) → FieldsStand forms.now 0 0 form.now.fields.entries fields →
+        behind ≡ kinds_among (field_slots 1 (drop_fields (index + 1) fields)) →
+        result ≡ kinds_among (field_slots 1 (drop_fields index fields)) }
+{
+    match form.fields.get_index(index) {
+        Some((_, field)) => joined_kinds(kinds_of(forms, field.part), behind),
+        None => NO_KINDS,
+    }
+}
+
+// The kinds among the last fields of a form that has all its fields.
+pub(crate) fn tails_of(
+    alloc: Global,
+    forms: &[StructForm],
+    form: &StructForm,
+) -> Result<Vec<Kinds>, NoMemory>
+    ensures { IfOk result (λ tails. (fields : Fields) → FieldsStand forms.now 0 0 form.now.fields.entries fields →
+        tails.items ≡ tails_in fields) }
+{
+    let mut left = form.fields.len();
+    let mut kinds = NO_KINDS;
+    let mut tails = Vec::new(alloc);
+    tails.push(kinds)?;
+    while left > 0 {
+        left -= 1;
+        kinds = kinds_with(forms, form, left, kinds);
+        tails.push(kinds)?;
+    }
+    Ok(tails)
 }
 
 // Adds a field where no field has its name, and answers whether none had it.

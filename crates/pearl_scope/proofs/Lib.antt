@@ -5,3 +5,5 @@ pub mod Seen
 pub mod Unsound
 pub mod Asking
 mod Examples
+pub mod Fitting
+pub mod Filled

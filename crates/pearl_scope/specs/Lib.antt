@@ -1,5 +1,7 @@
 -- constants of INIT, and the slots that they are put into
 pub mod Constants
+-- how constants are put into slots that are listed as runs
+pub mod Filling
 -- the parts of a module in which a rule on names and types may be broken
 pub mod Parts
 -- the statements of a module with where they stand

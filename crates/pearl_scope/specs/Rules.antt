@@ -115,14 +115,11 @@ abbrev pub s9 : Part → List RuleFault
 s9 (Sema sema) = unfit_presets (length (names_of sema.names)) sema.preset
 s9 part = []
 
--- the rules other than S1 and S7
-abbrev pub but_s7 : Known → Part → List RuleFault
-but_s7 known part =
-    s2 known.scopes part ++
-    (s3 known.scopes part ++ (s4 part ++ (s5 known part ++ (s6 part ++ (s8 part ++ s9 part)))))
-
+-- the rules other than S1
 abbrev pub part_faults : Known → Part → List RuleFault
-part_faults known part = but_s7 known part ++ s7 known part
+part_faults known part =
+    s2 known.scopes part ++
+    (s3 known.scopes part ++ (s4 part ++ (s5 known part ++ (s6 part ++ (s7 known part ++ (s8 part ++ s9 part))))))
 
 -- what is broken in these parts
 unfoldable pub faults_in : Known → List Part → List RuleFault
@@ -131,7 +128,3 @@ faults_in known parts = flat_map (part_faults known) parts
 -- the rules S1 to S9 that a module breaks, in no order and perhaps more than once
 abbrev pub broken : ShownTree → List RuleFault
 broken tree = flat_map s1 (known_of tree).scopes ++ faults_in (known_of tree) (parts_of tree)
-
--- those of them that are other than S7
-abbrev pub broken_but_s7 : ShownTree → List RuleFault
-broken_but_s7 tree = flat_map s1 (known_of tree).scopes ++ flat_map (but_s7 (known_of tree)) (parts_of tree)

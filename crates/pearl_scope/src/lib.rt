@@ -1,6 +1,7 @@
 // Which of the static rules on names, types and declarations (S1 to S9) a module breaks.
 #![tactic(auto)]
 
+pub mod init;
 pub mod laws;
 pub mod module_part;
 pub mod part;

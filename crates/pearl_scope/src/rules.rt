@@ -16,6 +16,7 @@ ghost use Rattle.pearl_scope.specs.Seen.{Sees};
 ghost use Rattle.pearl_scope.specs.Rules as spec;
 ghost use Rattle.pearl_scope.specs.PartLists.{shown_part, parts_in};
 
+use crate::init::s7_at;
 use crate::module_part::parts_of_module;
 use crate::part::Part;
 use arrayvec::ArrayVec;
@@ -40,7 +41,12 @@ use std::alloc::{AllocError as NoMemory, Global};
 const GREATEST_PRESET: u64 = (1 << 31) - 1;
 
 // Tells a fault where the test is true.
-fn fault_if(faults: &mut Vec<RuleFault>, broken: bool, place: u32, rule: u8) -> Result<(), NoMemory>
+pub(crate) fn fault_if(
+    faults: &mut Vec<RuleFault>,
+    broken: bool,
+    place: u32,
+    rule: u8,
+) -> Result<(), NoMemory>
     ensures { OnOk result (faults.new.items ≡ faults.old.items ++ faults_spec.fault_if broken place rule) }
 {
     if broken {
@@ -279,7 +285,7 @@ fn s5_at(
     }
 }
 
-// The rules other than S1 and S7.
+// The rules other than S1.
 fn rules_at(
     alloc: Global,
     faults: &mut Vec<RuleFault>,
@@ -292,13 +298,14 @@ fn rules_at(
     ensures named { OnOk result (types.new.named.items ≡ types.old.named.items) }
     ensures faults { OnOk result ((shapes : List (Option Shape)) → AllMatch types.old.forms.items types.old.named.items shapes →
         faults.new.items ≡ faults.old.items ++
-        spec.but_s7 (record { scopes = scopes.now; lengths = lengths.now; shapes = shapes }) (shown_part part.now)) }
+        spec.part_faults (record { scopes = scopes.now; lengths = lengths.now; shapes = shapes }) (shown_part part.now)) }
 {
     s2_at(faults, scopes, part)?;
     s3_at(faults, scopes, part)?;
     s4_at(faults, part)?;
     s5_at(alloc, faults, scopes, lengths, types, part)?;
     s6_at(alloc, faults, part)?;
+    s7_at(alloc, faults, scopes, lengths, types, part)?;
     s8_at(faults, part)?;
     s9_at(faults, part)?;
     Ok(())
@@ -314,7 +321,7 @@ fn rules_at_all(
 ) -> Result<(), NoMemory>
     ensures { OnOk result ((shapes : List (Option Shape)) → AllMatch types.old.forms.items types.old.named.items shapes →
         faults.new.items ≡ faults.old.items ++
-        flat_map (spec.but_s7 (record { scopes = scopes.now; lengths = lengths.now; shapes = shapes })) (parts_in parts.now)) }
+        flat_map (spec.part_faults (record { scopes = scopes.now; lengths = lengths.now; shapes = shapes })) (parts_in parts.now)) }
 {
     for part in parts {
         rules_at(alloc, faults, scopes, lengths, types, part)?;
@@ -322,9 +329,9 @@ fn rules_at_all(
     Ok(())
 }
 
-/// Where a module breaks the rules S1 to S6, S8 and S9. S7, on INIT, isn't asked.
-pub fn faults_but_s7(alloc: Global, tree: &Tree) -> Result<Vec<RuleFault>, NoMemory>
-    ensures { IfOk result (λ faults. ListFaults (spec.broken_but_s7 (shown_tree tree.now)) faults.items) }
+/// Where a module breaks the rules S1 to S9.
+pub fn broken_rules(alloc: Global, tree: &Tree) -> Result<Vec<RuleFault>, NoMemory>
+    ensures { IfOk result (λ faults. ListFaults (spec.broken (shown_tree tree.now)) faults.items) }
 {
     let scopes = names_of_module(alloc, tree)?;
     let lengths = lengths_set(alloc, tree)?;

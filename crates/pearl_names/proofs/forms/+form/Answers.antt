@@ -1,5 +1,5 @@
 use Rattle.std.proofs.Common.{None, option_map, List, ℤ, ◌≡◌, sym, ap, subst, ◌∙◌, take, drop, refl, ◌+◌}
-use Rattle.pearl_names.specs.Forms.{Matches, IsForm, StandsFor, append_fields}
+use Rattle.pearl_names.specs.Forms.{Matches, IsForm, StandsFor, FieldsStand, append_fields}
 use Rattle.pearl_names.specs.Forming.{Made, around_of, struct_shape, sizes_of}
 use Rattle.pearl_tree.specs.ShownDeclarations.{shown_names, shown_typing}
 use Rattle.pearl_tree.specs.Names.{names_of}
@@ -64,8 +64,9 @@ form_of_struct-returns-then-not-branch-clause-form t c = λ shapes all.
 pub form_of_struct-returns-clause-form : goal.form_of_struct-returns-clause-form
 form_of_struct-returns-clause-form t c = λ shapes all.
     let arounds = around_of c.args.scopes.now c.args.lengths.now c.args.scope in
-    kept c.args.forms.now.items c.loop-field.forms.items _ c.args.named.now arounds c.loop-field.form c.args.fields.now.items.items _
+    kept c.args.forms.now.items c.loop-field.forms.items _ c.args.named.now arounds c.loop-field.form _ c.args.fields.now.items.items _
     (subst (Made c.args.forms.now.items c.loop-field.forms.items c.args.named.now arounds c.loop-field.form) (all_taken c.args.fields.now.items.items c.loop-field.field-index (rw (← c.as_slice-field-items.ensures) c.loop-field-test.false)) c.loop-field.invariant)
+    refl (λ own h. c.in_ok-form.ensures own (subst (λ l. FieldsStand l 0 0 c.loop-field.form.fields.entries own) (sym c.as_slice-2.ensures.value) h))
     c.in_ok-part-2.ensures.kept c.in_ok-part-2.ensures.number shapes all
 
 pub form_of-returns-in-Basic-clause-form : goal.form_of-returns-in-Basic-clause-form

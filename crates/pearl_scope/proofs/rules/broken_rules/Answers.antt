@@ -5,10 +5,11 @@ use Rattle.pearl_tree.specs.ShownModules.{shown_decl, shown_tree}
 use Rattle.pearl_names.specs.Forming.{AllMatch}
 use Rattle.pearl_scope.specs.PartLists.{parts_in}
 use Rattle.pearl_scope.specs.Parts.{parts_of}
-use Rattle.pearl_scope.specs.Rules.{s1, but_s7, broken_but_s7}
+use Rattle.pearl_scope.specs.Rules.{s1, part_faults, broken}
 use Rattle.pearl_names.specs.Known.{known_of}
 use Rattle.pearl_names.specs.Shapes.{shapes_after}
-use Rattle.pearl_scope.proofs.rules.faults_but_s7.Goals as goal
+use Rattle.pearl_scope.proofs.Asking.{all_asked}
+use Rattle.pearl_scope.proofs.rules.broken_rules.Goals as goal
 
 pub returns : goal.returns
 returns c =
@@ -26,7 +27,8 @@ returns c =
     let repeated = c.as_slice-2.ensures.value ∙ scopes in
     let first : c.s1_faults.new.faults.items ≡ flat_map s1 known.scopes =
     c.in_ok-s1_faults.ensures ∙ (λ i. c.new-found.ensures.items i ++ flat_map s1 (repeated i)) in
-    let told : c.rules_at_all.new.faults.items ≡ broken_but_s7 tree =
+    let told : c.rules_at_all.new.faults.items ≡ broken tree =
     c.in_ok-rules_at_all.ensures known.shapes all
-    ∙ (λ i. first i ++ flat_map (but_s7 (record { scopes = asked i; lengths = lengths i; shapes = known.shapes })) (parts i)) in
+    ∙ (λ i. first i ++ flat_map (part_faults (record { scopes = asked i; lengths = lengths i; shapes = known.shapes })) (parts i))
+    ∙ ap (λ l. flat_map s1 known.scopes ++ l) (all_asked known (parts_of tree)) in
     subst (λ l. ListFaults l c.in_order.result.items) told c.in_order.ensures
