@@ -1,15 +1,16 @@
--- How far a reference has come: which bounds of arrays are open yet, and the shape of what it names.
-use Rattle.std.specs.Prelude.{ℕ, ℤ, Bool, true, false, ◌&&◌, ◌==◌, not, if◌then◌else◌, List, [], ◌∷◌, ◌++◌, length, Option, Some, None, is_some}
+-- How far a reference has come: how many dimensions of an array are open yet, and the shape of what it names. Numbers of
+-- dimensions are cut off at 2^31, as those of types are.
+use Rattle.std.specs.Prelude.{ℕ, zero, suc, ℤ, Bool, true, false, ◌&&◌, ◌==◌, if◌then◌else◌, List, [], ◌∷◌, ◌++◌, length, Option, Some, None, is_some, option_map}
 use Rattle.std.specs.List.{list_all, flat_map}
-use Rattle.std.specs.Str.{bytes_eq}
 use Rattle.pearl_value.specs.declared.kind.Kind.{Kind}
 use Rattle.pearl_value.specs.declared.kind.Kind.TheVariants as kind
 use Rattle.pearl_tree.specs.declared.fault.RuleFault.{RuleFault}
 use Rattle.pearl_tree.specs.declared.name.Name.{Name}
 use Rattle.pearl_tree.specs.declared.rule.TheConstants as rule
-use Rattle.pearl_tree.specs.Faults.{fault_if}
 use Rattle.pearl_tree.specs.Names.{text_of}
-use Rattle.pearl_names.specs.Shapes.{Shape, OfKind, OfFields, Fields, NoField, MoreField}
+use Rattle.pearl_names.specs.Shapes.{Shape, OfKind, OfFields, Fields}
+use Rattle.pearl_names.specs.Counts.{cut}
+use Rattle.pearl_names.specs.Forms.{Component, component}
 use Rattle.pearl_names.specs.Tables.{Form, Parameter, Sense, Variable, Control, OwnParameter}
 
 -- the kind of an expression, none where it has a fault, and the rules that are broken in it
@@ -19,12 +20,12 @@ pub record Judged : Type 0 where
 
 -- that a rule is broken makes a fault; the expression has no kind
 abbrev pub faulty : ℕ → ℕ → List RuleFault → Judged
-faulty place rule faults = record { kind = None; faults = record { place = place; rule = rule } ∷ faults }
+faulty place rule faults = record { kind = None; faults = faults ++ record { place = place; rule = rule } ∷ [] }
 
 pub data Standing : Type 0 where
   -- a rule is broken, or a declaration that is needed is missing
   Broken : Standing
-  Open : (bounds : List (ℤ × ℤ)) (shape : Shape) → Standing
+  Open : (dimensions : ℕ) (shape : Shape) → Standing
 
 -- where a reference stands, and the rules that are broken on the way there
 pub record Walked : Type 0 where
@@ -32,68 +33,95 @@ pub record Walked : Type 0 where
   pub faults : List RuleFault
 
 abbrev pub stopped : ℕ → ℕ → List RuleFault → Walked
-stopped place rule faults = record { standing = Broken; faults = record { place = place; rule = rule } ∷ faults }
+stopped place rule faults = record { standing = Broken; faults = faults ++ record { place = place; rule = rule } ∷ [] }
 
 abbrev pub walked_on : Standing → List RuleFault → Walked
 walked_on standing faults = record { standing = standing; faults = faults }
 
 abbrev pub form_standing : Option Form → Standing
 form_standing None = Broken
-form_standing (Some form) = Open form.bounds form.shape
+form_standing (Some form) = Open (cut (length form.bounds)) form.shape
 
 abbrev pub kind_standing : Option Kind → Standing
 kind_standing None = Broken
-kind_standing (Some kind) = Open [] (OfKind kind)
+kind_standing (Some kind) = Open 0 (OfKind kind)
 
--- a name that must be a variable. S16: it is of another sort
+-- where a variable stands
+abbrev pub standing_of : Sense → Option Standing
+standing_of (Variable form inv) = Some (form_standing form)
+standing_of (Control kind) = Some (kind_standing (Some kind))
+standing_of (OwnParameter parameter) = Some (kind_standing parameter.kind)
+standing_of sense = None
+
+-- S16: it is no variable
+abbrev pub start_at : Name → Option Standing → Walked
+start_at name None = stopped name.place rule.S16 []
+start_at name (Some standing) = walked_on standing []
+
+-- a name that must be a variable
 abbrev pub variable_start : Name → Option Sense → Walked
 variable_start name None = walked_on Broken []
-variable_start name (Some (Variable form inv)) = walked_on (form_standing form) []
-variable_start name (Some (Control kind)) = walked_on (kind_standing (Some kind)) []
-variable_start name (Some (OwnParameter parameter)) = walked_on (kind_standing parameter.kind) []
-variable_start name (Some sense) = stopped name.place rule.S16 []
+variable_start name (Some sense) = start_at name (standing_of sense)
 
-abbrev pub is_fixed_or_unknown : Judged → Bool
-is_fixed_or_unknown judged = is_so judged.kind
-  where
-    is_so : Option Kind → Bool
-    is_so None = true
-    is_so (Some (kind.Fixed len)) = true
-    is_so (Some other) = false
+abbrev pub is_fixed_or_unknown : Option Kind → Bool
+is_fixed_or_unknown None = true
+is_fixed_or_unknown (Some (kind.Fixed len)) = true
+is_fixed_or_unknown (Some other) = false
 
 abbrev pub faults_of : List Judged → List RuleFault
 faults_of parts = flat_map (λ (part : Judged). part.faults) parts
 
--- subscripts. S17: there are not as many as dimensions, or one isn't FIXED; what is no array has no dimension
+abbrev pub all_fixed : List Judged → Bool
+all_fixed parts = list_all (λ (part : Judged). is_fixed_or_unknown part.kind) parts
+
+abbrev pub all_known : List Judged → Bool
+all_known parts = list_all (λ (part : Judged). is_some part.kind) parts
+
+-- a step behind others
+abbrev pub behind : List RuleFault → Walked → Walked
+behind before walked = walked_on walked.standing (before ++ walked.faults)
+
+abbrev pub element_standing : Bool → Shape → Standing
+element_standing true shape = Open 0 shape
+element_standing false shape = Broken
+
+-- an element. S17: there are not as many subscripts as dimensions, or one isn't FIXED; what is no array has no dimension
+abbrev pub element_of : Name → Standing → List Judged → Walked
+element_of name Broken parts = walked_on Broken []
+element_of name (Open dimensions shape) parts =
+    if length parts == dimensions && all_fixed parts then walked_on (element_standing (all_known parts) shape) []
+    else stopped name.place rule.S17 []
+
 abbrev pub subscripted : Name → Standing → List Judged → Walked
-subscripted name Broken parts = walked_on Broken (faults_of parts)
-subscripted name (Open bounds shape) parts =
-    if length parts == length bounds && list_all is_fixed_or_unknown parts
-    then walked_on (if list_all (λ (part : Judged). is_some part.kind) parts then Open [] shape else Broken) (faults_of parts)
-    else stopped name.place rule.S17 (faults_of parts)
+subscripted name standing parts = behind (faults_of parts) (element_of name standing parts)
 
--- the field of this name
-abbrev pub field_standing : Fields → List ℕ → Option Standing
-field_standing NoField text = None
-field_standing (MoreField name bounds shape rest) text =
-    if bytes_eq name text then Some (Open bounds shape) else field_standing rest text
+abbrev pub field_standing : Component → Standing
+field_standing field = Open (cut (length field.bounds)) field.shape
 
-abbrev pub to_field : Name → Option Standing → Walked
-to_field component None = stopped component.place rule.S18 []
-to_field component (Some standing) = walked_on standing []
+abbrev pub to_field : Name → Option Component → Walked
+to_field name None = stopped name.place rule.S18 []
+to_field name (Some field) = walked_on (field_standing field) []
 
--- a component. S17: an array has no subscripts; S18: there is no such field
+-- S18: there is no such field
+abbrev pub field_of : Shape → Name → Walked
+field_of (OfFields fields) name = to_field name (component 0 0 fields (text_of name))
+field_of (OfKind kind) name = stopped name.place rule.S18 []
+
+-- a component. S17: an array has no subscripts
 abbrev pub selected : Name → Standing → Name → Walked
-selected name Broken component = walked_on Broken []
-selected name (Open [] (OfFields fields)) component = to_field component (field_standing fields (text_of component))
-selected name (Open [] (OfKind kind)) component = stopped component.place rule.S18 []
-selected name (Open (pair ∷ bounds) shape) component = stopped name.place rule.S17 []
+selected name Broken field = walked_on Broken []
+selected name (Open zero shape) field = field_of shape field
+selected name (Open (suc n) shape) field = stopped name.place rule.S17 []
 
 -- what is read or written. S19: it is a whole array or structure
+abbrev pub value_of : Name → Standing → Judged
+value_of name Broken = record { kind = None; faults = [] }
+value_of name (Open zero (OfKind kind)) = record { kind = Some kind; faults = [] }
+value_of name (Open zero (OfFields fields)) = faulty name.place rule.S19 []
+value_of name (Open (suc n) shape) = faulty name.place rule.S19 []
+
+abbrev pub judged_behind : List RuleFault → Judged → Judged
+judged_behind before judged = record { kind = judged.kind; faults = before ++ judged.faults }
+
 abbrev pub as_value : Name → Walked → Judged
-as_value name walked = of walked.standing
-  where
-    of : Standing → Judged
-    of Broken = record { kind = None; faults = walked.faults }
-    of (Open [] (OfKind kind)) = record { kind = Some kind; faults = walked.faults }
-    of (Open bounds shape) = faulty name.place rule.S19 walked.faults
+as_value name walked = judged_behind walked.faults (value_of name walked.standing)

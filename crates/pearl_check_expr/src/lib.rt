@@ -1,4 +1,12 @@
 // The kinds of expressions, and the static rules on them: S15 to S22.
 #![tactic(auto)]
 
-pub mod subject;
+pub mod argument;
+pub mod callee;
+pub mod kinds;
+pub mod literal;
+pub mod operator;
+pub mod rows;
+pub mod standing;
+pub mod tell;
+pub mod walk;

@@ -1,0 +1,4 @@
+pub mod Shown
+pub mod Standings
+pub mod Walking
+pub mod Judging

@@ -1,0 +1,28 @@
+// Broken rules, as they are found.
+
+ghost use Rattle.std.specs.Prelude.{◌≡◌, ◌++◌, ◌∷◌, [], OnOk};
+ghost use Rattle.pearl_tree.specs.Faults as spec;
+
+use pearl_tree::fault::RuleFault;
+use std::alloc::AllocError as NoMemory;
+
+pub(crate) fn tell(found: &mut Vec<RuleFault>, place: u32, rule: u8) -> Result<(), NoMemory>
+    ensures { OnOk result (found.new.items ≡ found.old.items ++ record { place = place; rule = rule } ∷ []) }
+{
+    found.push(RuleFault { place, rule })?;
+    Ok(())
+}
+
+pub(crate) fn tell_if(
+    found: &mut Vec<RuleFault>,
+    broken: bool,
+    place: u32,
+    rule: u8,
+) -> Result<(), NoMemory>
+    ensures { OnOk result (found.new.items ≡ found.old.items ++ spec.fault_if broken place rule) }
+{
+    if broken {
+        found.push(RuleFault { place, rule })?;
+    }
+    Ok(())
+}
