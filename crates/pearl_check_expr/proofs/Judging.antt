@@ -1,5 +1,5 @@
 -- What parts answer and add, put together.
-use Rattle.std.proofs.Common.{◌≡◌, ℕ, ◌==◌, ◌&&◌, not, Bool, true, false, List, [], ◌∷◌, ◌++◌, length, map, Option, Some, None, is_some, refl, sym, ap, ◌∙◌, append-nil, append_assoc}
+use Rattle.std.proofs.Common.{◌≡◌, ◌==◌, ◌&&◌, not, Bool, true, false, List, [], ◌∷◌, ◌++◌, length, map, Option, is_some, refl, sym, ap, ◌∙◌, append-nil, append_assoc}
 use Rattle.std.proofs.lemmas.List.{length-map}
 use Rattle.std.proofs.lemmas.List.Folds.{list_all-append}
 use Rattle.std.proofs.lemmas.Grind.{flat_map-append}
@@ -9,17 +9,17 @@ use Rattle.pearl_tree.specs.declared.name.Name.{Name}
 use Rattle.pearl_tree.specs.declared.expression.Monadic.{Monadic}
 use Rattle.pearl_tree.specs.declared.expression.Expr.{Expr}
 use Rattle.pearl_tree.specs.Faults.{fault_if}
-use Rattle.pearl_tree.specs.ShownExpressions.{shown_expr, shown_expr_list}
+use Rattle.pearl_tree.specs.ShownExpressions.{shown_expr_list}
 use Rattle.pearl_names.specs.declared.scope.View.{View}
 use Rattle.pearl_names.specs.declared.sense.Signature.{Signature}
 use Rattle.pearl_names.specs.declared.types.StructForm.{StructForm}
 use Rattle.pearl_names.specs.Holding.{parameter_of}
-use Rattle.pearl_names.specs.Tables.{Table, Parameter}
+use Rattle.pearl_names.specs.Tables.{Table}
 use Rattle.pearl_check_expr.specs.declared.standing.Standing.{Standing as Reached}
 use Rattle.pearl_check_expr.specs.declared.standing.Subscripts.{Subscripts}
-use Rattle.pearl_check_expr.specs.Standings.{Judged, Standing, Walked, walked_on, behind, judged_behind, is_fixed_or_unknown, faults_of, all_fixed, all_known, element_of, subscripted}
+use Rattle.pearl_check_expr.specs.Standings.{Judged, Standing, Walked, behind, is_fixed_or_unknown, faults_of, all_fixed, all_known, element_of, subscripted}
 use Rattle.pearl_check_expr.specs.Judged.{with_monadics, monadic_result, Argument, all_well, argument_faults, arguments, called}
-use Rattle.pearl_check_expr.specs.Answers.{of_kind, IsJudged, StandsAt, IsWalked, AreSubscripts, AreJudged, IsArgument, AreArguments, callee_in}
+use Rattle.pearl_check_expr.specs.Answers.{of_kind, IsJudged, IsWalked, AreJudged, IsArgument, AreArguments, callee_in}
 use Rattle.pearl_check_expr.proofs.Walking.{AreKnown, arguments_length}
 
 pub two_added : {X : Type 0} (old mid new a b : List X) → mid ≡ old ++ a → new ≡ mid ++ b → new ≡ old ++ (a ++ b)

@@ -1,5 +1,5 @@
 -- What nodes show whose lists are fields.
-use Rattle.std.proofs.Common.{◌≡◌, ℕ, List, [], ◌∷◌, Option, Box, Global, refl, sym, ap, ◌∙◌}
+use Rattle.std.proofs.Common.{◌≡◌, ℕ, Option, Box, Global, refl, ap, ◌∙◌}
 use mathlib.Core.Former.{Count}
 use Rattle.pearl_tree.specs.declared.parts.Parts.{Parts}
 use Rattle.pearl_tree.specs.declared.name.Number.{Number}

@@ -1,6 +1,5 @@
 -- Where references stand, in memory and in the definitions.
-use Rattle.std.proofs.Common.{◌==◌, ◌&&◌, cond, ◌≡◌, ◌≢◌, ℕ, zero, suc, ◌+◌, ◌<◌, ◌^◌, min, ℤ, Bool, true, false, List, [], ◌∷◌, ◌++◌, length, map, Option, Some, None, refl, sym, ap, ◌∙◌, subst, append-nil, arith}
-use Rattle.std.proofs.lemmas.List.{length-map}
+use Rattle.std.proofs.Common.{◌==◌, ◌&&◌, cond, ◌≡◌, ◌≢◌, ℕ, zero, suc, false, List, [], length, Option, Some, None, refl, sym, ap, ◌∙◌, subst, append-nil}
 use Rattle.pearl_value.specs.declared.kind.Kind.{Kind}
 use Rattle.pearl_tree.specs.declared.fault.RuleFault.{RuleFault}
 use Rattle.pearl_tree.specs.declared.name.Name.{Name}
@@ -13,8 +12,8 @@ use Rattle.pearl_names.specs.Forms.{StandsFor, Component, component, MatchesComp
 use Rattle.pearl_check_expr.specs.declared.standing.Standing.{Standing as Reached}
 use Rattle.pearl_check_expr.specs.declared.standing.Standing.TheVariants as reached
 use Rattle.pearl_check_expr.specs.declared.standing.Subscripts.{Subscripts}
-use Rattle.pearl_check_expr.specs.Standings.{Judged, faulty, Standing, Broken, Open, Walked, walked_on, stopped, start_at, all_fixed, all_known, kind_standing, element_of, element_standing, to_field, field_of, selected, value_of}
-use Rattle.pearl_check_expr.specs.Answers.{StandsAt, StandsIf, IsWalked, IsJudged, AreSubscripts}
+use Rattle.pearl_check_expr.specs.Standings.{Judged, faulty, Standing, Broken, Open, walked_on, stopped, start_at, all_fixed, all_known, element_of, element_standing, to_field, field_of, selected, value_of}
+use Rattle.pearl_check_expr.specs.Answers.{StandsAt, StandsIf, IsWalked, AreSubscripts}
 
 pub kind_stands : (forms : List StructForm) (kind : Kind) → StandsAt forms (reached.Open 0 (Basic kind)) (Open 0 (OfKind kind))
 unfolding StandsFor

@@ -1,6 +1,5 @@
 -- References, subscripts and arguments, one after the other.
-use Rattle.std.proofs.Common.{◌≡◌, ℕ, zero, suc, ◌+◌, Bool, true, false, ◌&&◌, List, [], ◌∷◌, ◌++◌, length, map, slice_get, Option, Some, None, is_some, refl, sym, ap, ◌∙◌, subst, append-nil, append_assoc}
-use Rattle.pearl_value.specs.declared.kind.Kind.{Kind}
+use Rattle.std.proofs.Common.{◌≡◌, suc, Bool, List, [], ◌∷◌, ◌++◌, length, slice_get, Some, None, refl, sym, ap, ◌∙◌, append-nil, append_assoc}
 use Rattle.pearl_tree.specs.declared.fault.RuleFault.{RuleFault}
 use Rattle.pearl_tree.specs.declared.name.Name.{Name}
 use Rattle.pearl_tree.specs.declared.expression.Expr.{Expr}
@@ -9,8 +8,7 @@ use Rattle.pearl_tree.specs.ShownExpressions.{shown_expr, shown_selector, shown_
 use Rattle.pearl_names.specs.declared.scope.View.{View}
 use Rattle.pearl_names.specs.Tables.{Table, Parameter}
 use Rattle.pearl_check_expr.specs.Standings.{Judged, Walked, walked_on, behind, faults_of, all_fixed, all_known}
-use Rattle.pearl_check_expr.specs.Judged.{judged, along, step, judged_all, beyond, beyond_one, Argument, argument_of, arguments}
-use Rattle.pearl_check_expr.specs.Answers.{IsJudged, IsWalked, AreArguments}
+use Rattle.pearl_check_expr.specs.Judged.{judged, along, step, judged_all, beyond, beyond_one, argument_of, arguments}
 
 pub along_push : (table : Table) (view : View) (name : Name) (before : Walked) (xs : List Selector) (x : Selector) →
     along table view name before (shown_selector_list (xs ++ x ∷ [])) ≡

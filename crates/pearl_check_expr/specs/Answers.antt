@@ -1,5 +1,5 @@
 -- What is answered and added, against what the definitions say: a kind and broken rules, or where a reference stands.
-use Rattle.std.specs.Prelude.{◌≡◌, ℕ, Bool, List, [], ◌++◌, map, length, Option, Some, None}
+use Rattle.std.specs.Prelude.{◌≡◌, Bool, List, [], ◌++◌, map, length, Option, Some, None}
 use Rattle.pearl_value.specs.declared.kind.Kind.{Kind}
 use Rattle.pearl_tree.specs.declared.fault.RuleFault.{RuleFault}
 use Rattle.pearl_names.specs.declared.types.StructForm.{StructForm}

@@ -10,3 +10,5 @@ pub mod Standings
 pub mod Judged
 -- what is answered and added, against what the definitions say
 pub mod Answers
+-- what is asked for its kind, and what it is found to be
+pub mod Subjects

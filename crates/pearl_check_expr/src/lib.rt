@@ -8,5 +8,6 @@ pub mod literal;
 pub mod operator;
 pub mod rows;
 pub mod standing;
+pub mod subject;
 pub mod tell;
 pub mod walk;

@@ -23,7 +23,7 @@ use std::alloc::AllocError as NoMemory;
 
 /// How far a reference has come.
 #[derive(Clone, Copy)]
-pub enum Standing {
+pub(crate) enum Standing {
     /// A rule is broken, or a declaration that is needed is missing.
     Broken,
     /// At a part of this type, of whose array so many dimensions are open.
@@ -143,7 +143,7 @@ pub(crate) fn is_fixed_or_unknown(kind: Option<Kind>) -> bool
 /// What is asked of subscripts as a whole: how many there are, whether each that has a kind is FIXED, and whether each
 /// has one.
 #[derive(Clone, Copy)]
-pub struct Subscripts {
+pub(crate) struct Subscripts {
     pub count: usize,
     pub fixed: bool,
     pub known: bool,
@@ -198,7 +198,9 @@ fn field_standing(field: FieldForm) -> Standing
     ensures { result ≡ Standing.Open field.dimensions field.part }
 {
     let FieldForm {
-        dimensions, part, ..
+        dimensions,
+        part,
+        ..
     } = field;
     Standing::Open { dimensions, part }
 }

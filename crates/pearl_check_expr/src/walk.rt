@@ -12,7 +12,9 @@ use crate::argument::fitted;
 use crate::callee::{callee_of, result_kind, try_kind};
 use crate::literal::literal_kind;
 use crate::operator::{with_dyadic, with_monadics};
-use crate::standing::{Standing, Subscripts, element_of, is_fixed_or_unknown, limit_of, selected, start, value_of};
+use crate::standing::{
+    Standing, Subscripts, element_of, is_fixed_or_unknown, limit_of, selected, start, value_of,
+};
 use crate::tell::{tell, tell_if};
 use pearl_names::scope::View;
 use pearl_names::sense::{Parameter, Signature};
@@ -37,11 +39,7 @@ fn parameter_at(parameters: &[Parameter], index: usize) -> Option<Parameter>
 pub(crate) fn if_well(well: bool, signature: &Signature) -> Option<Kind>
     ensures { result ≡ spec.if_well well (spec.result_kind (callee_in signature.now)) }
 {
-    if well {
-        result_kind(signature)
-    } else {
-        None
-    }
+    if well { result_kind(signature) } else { None }
 }
 
 /// The kind of an expression.
@@ -99,7 +97,9 @@ fn judge_primary(
             Ok(kind)
         }
         Primary::Limit {
-            dimension, array, ..
+            dimension,
+            array,
+            ..
         } => {
             let kind = judge_limit(table, view, found, *dimension, array)?;
             Ok(kind)
@@ -217,7 +217,8 @@ fn step(
             Ok(element)
         }
         Selector::Component {
-            name: component, ..
+            name: component,
+            ..
         } => {
             let field = selected(table.forms(), found, name, standing, component)?;
             Ok(field)
@@ -312,7 +313,8 @@ fn judge_first(
             Ok(well)
         }
         Selector::Component {
-            name: component, ..
+            name: component,
+            ..
         } => {
             judge_arguments(table, view, found, name, signature, &[])?;
             tell(found, component.place, rule::S18)?;
@@ -357,7 +359,8 @@ fn judge_beyond_one(
             Ok(())
         }
         Selector::Component {
-            name: component, ..
+            name: component,
+            ..
         } => {
             tell(found, component.place, rule::S18)?;
             Ok(())

@@ -1,5 +1,4 @@
-use Rattle.std.proofs.Common.{sym, subst, ◌∙◌}
-use Rattle.pearl_check_expr.specs.Answers.{IsWalked, StandsAt}
+use Rattle.std.proofs.Common.{sym, ◌∙◌}
 use Rattle.pearl_check_expr.proofs.Standings.{no_element}
 use Rattle.pearl_check_expr.proofs.standing.element_of.Goals as goal
 

@@ -1,6 +1,3 @@
-use Rattle.std.proofs.Common.{sym, subst}
-use Rattle.pearl_check_expr.specs.Standings.{field_of}
-use Rattle.pearl_check_expr.specs.Answers.{IsWalked}
 use Rattle.pearl_check_expr.proofs.Standings.{found_field, missed_field}
 use Rattle.pearl_check_expr.proofs.standing.field_at.Goals as goal
 

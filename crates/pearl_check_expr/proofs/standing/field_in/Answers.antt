@@ -1,5 +1,3 @@
-use Rattle.std.proofs.Common.{sym, subst}
-use Rattle.pearl_names.specs.Forms.{StandsFor}
 use Rattle.pearl_check_expr.proofs.Standings.{no_field}
 use Rattle.pearl_check_expr.proofs.standing.field_in.Goals as goal
 

@@ -1,6 +1,4 @@
-use Rattle.std.proofs.Common.{sym, subst, ap, Some, refl, [], append-nil}
-use Rattle.pearl_names.specs.Forms.{StandsFor}
-use Rattle.pearl_check_expr.specs.Answers.{IsJudged}
+use Rattle.std.proofs.Common.{sym, refl, append-nil}
 use Rattle.pearl_check_expr.proofs.Standings.{kind_value, no_kind}
 use Rattle.pearl_check_expr.proofs.standing.kind_in.Goals as goal
 

@@ -1,6 +1,3 @@
-use Rattle.std.proofs.Common.{sym, subst}
-use Rattle.pearl_check_expr.specs.Standings.{kind_standing}
-use Rattle.pearl_check_expr.specs.Answers.{StandsAt}
 use Rattle.pearl_check_expr.proofs.Standings.{kind_stands}
 use Rattle.pearl_check_expr.proofs.standing.kind_standing.Goals as goal
 

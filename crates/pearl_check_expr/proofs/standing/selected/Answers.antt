@@ -1,4 +1,3 @@
-use Rattle.std.proofs.Common.{sym, subst}
 use Rattle.pearl_check_expr.proofs.Standings.{component_of_array}
 use Rattle.pearl_check_expr.proofs.standing.selected.Goals as goal
 

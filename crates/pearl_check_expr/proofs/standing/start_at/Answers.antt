@@ -1,5 +1,3 @@
-use Rattle.std.proofs.Common.{sym, subst}
-use Rattle.pearl_check_expr.specs.Answers.{IsWalked}
 use Rattle.pearl_check_expr.proofs.Standings.{no_start}
 use Rattle.pearl_check_expr.proofs.standing.start_at.Goals as goal
 
