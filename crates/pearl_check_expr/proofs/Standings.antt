@@ -19,7 +19,7 @@ pub kind_stands : (forms : List StructForm) (kind : Kind) → StandsAt forms (re
 unfolding StandsFor
 kind_stands forms kind = (refl, refl)
 
-pub no_field : (forms : List StructForm) (kind : Kind) (shape : Shape) (name : Name) → StandsFor forms (Basic kind) shape → field_of shape name ≡ stopped name.place 18 []
+pub no_field : (forms : List StructForm) (kind : Kind) (shape : Shape) (name : Name) → StandsFor forms (Basic kind) shape → field_of shape name ≡ stopped name.place 18
 unfolding StandsFor
 no_field forms kind (OfKind to) name h = refl
 no_field forms kind (OfFields fields) name h = absurd h
@@ -31,25 +31,25 @@ kind_value forms kind (OfKind to) name h = ap (λ k. record { kind = Some k; fau
 kind_value forms kind (OfFields fields) name h = absurd h
 
 pub no_kind : (forms : List StructForm) (number : ℕ) (shape : Shape) (name : Name) → StandsFor forms (Struct number) shape →
-    value_of name (Open 0 shape) ≡ faulty name.place 19 []
+    value_of name (Open 0 shape) ≡ faulty name.place 19
 unfolding StandsFor
 no_kind forms number (OfKind to) name h = absurd h
 no_kind forms number (OfFields fields) name h = refl
 
 pub whole_array : (forms : List StructForm) (number : ℕ) (part : TypeRef) (from : Standing) (name : Name) → number ≢ 0 →
-    StandsAt forms (reached.Open number part) from → value_of name from ≡ faulty name.place 19 []
+    StandsAt forms (reached.Open number part) from → value_of name from ≡ faulty name.place 19
 whole_array forms number part Broken name more h = absurd h
 whole_array forms number part (Open zero shape) name more h = absurd (more h.0)
 whole_array forms number part (Open (suc n) shape) name more h = refl
 
 pub component_of_array : (forms : List StructForm) (number : ℕ) (part : TypeRef) (from : Standing) (name component : Name) → number ≢ 0 →
-    StandsAt forms (reached.Open number part) from → selected name from component ≡ stopped name.place 17 []
+    StandsAt forms (reached.Open number part) from → selected name from component ≡ stopped name.place 17
 component_of_array forms number part Broken name component more h = absurd h
 component_of_array forms number part (Open zero shape) name component more h = absurd (more h.0)
 component_of_array forms number part (Open (suc n) shape) name component more h = refl
 
 pub no_start : (forms : List StructForm) (standing : Option Reached) (of : Option Standing) (name : Name) → standing ≡ None → StandsIf forms standing of →
-    start_at name of ≡ stopped name.place 16 []
+    start_at name of ≡ stopped name.place 16
 no_start forms None None name is h = refl
 no_start forms (Some reached) of name is h = cc
 no_start forms None (Some standing) name is h = absurd h
@@ -57,12 +57,12 @@ no_start forms None (Some standing) name is h = absurd h
 -- subscripts that don't fit
 pub no_element : (forms : List StructForm) (number : ℕ) (part : TypeRef) (from : Standing) (subscripts : Subscripts) (parts : List Judged) (name : Name) →
     (subscripts.count == number) && subscripts.fixed ≡ false → StandsAt forms (reached.Open number part) from → AreSubscripts subscripts parts →
-    element_of name from parts ≡ stopped name.place 17 []
+    element_of name from parts ≡ stopped name.place 17
 no_element forms number part Broken subscripts parts name not_so h are = absurd h
 no_element forms number part (Open dimensions shape) subscripts parts name not_so h are =
     let e : (length parts == dimensions) && all_fixed parts ≡ false =
     (λ i. (sym are.count i == sym h.0 i) && sym are.fixed i) ∙ not_so in
-    ap (λ b. cond b (walked_on (element_standing (all_known parts) shape) []) (stopped name.place 17 [])) e
+    ap (λ b. cond b (walked_on (element_standing (all_known parts) shape) []) (stopped name.place 17)) e
 
 -- a field in memory is that of the shape
 pub found_field : (forms : List StructForm) (number : ℕ) (shape : Shape) (name : Name) (field : FieldForm) (found : Option FieldForm) (old : List RuleFault) →
@@ -81,12 +81,12 @@ found_field forms number (OfFields fields) name field found old is matches h =
 pub missed_field : (forms : List StructForm) (number : ℕ) (shape : Shape) (name : Name) (found : Option FieldForm) →
     found ≡ None →
     ((fields : Fields) → StandsFor forms (Struct number) (OfFields fields) → MatchesComponent forms found (component 0 0 fields name.text.items)) →
-    StandsFor forms (Struct number) shape → field_of shape name ≡ stopped name.place 18 []
+    StandsFor forms (Struct number) shape → field_of shape name ≡ stopped name.place 18
 unfolding StandsFor
 missed_field forms number (OfKind kind) name found is matches h = absurd h
 missed_field forms number (OfFields fields) name found is matches h =
     by (component 0 0 fields name.text.items) (subst (λ f. MatchesComponent forms f (component 0 0 fields name.text.items)) is (matches fields h))
   where
-    by : (at : Option Component) → MatchesComponent forms None at → to_field name at ≡ stopped name.place 18 []
+    by : (at : Option Component) → MatchesComponent forms None at → to_field name at ≡ stopped name.place 18
     by None m = refl
     by (Some of) m = absurd m

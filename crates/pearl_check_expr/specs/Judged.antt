@@ -24,7 +24,7 @@ use Rattle.pearl_check_expr.specs.Standings.{Judged, faulty, judged_behind, Stan
 
 -- the kind of a result. S15: an operator has no row for its operands
 abbrev pub result_of : ℕ → Option Kind → Judged
-result_of place None = faulty place rule.S15 []
+result_of place None = faulty place rule.S15
 result_of place (Some kind) = record { kind = Some kind; faults = [] }
 
 abbrev pub monadic_result : Monadic → Option Kind → Judged
@@ -50,7 +50,7 @@ with_dyadic dyadic left right = judged_behind (left.faults ++ right.faults) (dya
 abbrev pub try_judged : Name → Option Sense → Judged
 try_judged name None = record { kind = None; faults = [] }
 try_judged name (Some sense) =
-    if is_semaphore sense then record { kind = Some (kind.Bits 1); faults = [] } else faulty name.place rule.S16 []
+    if is_semaphore sense then record { kind = Some (kind.Bits 1); faults = [] } else faulty name.place rule.S16
 
 abbrev pub dimension_of : Option Number → ℕ
 dimension_of None = 1
@@ -62,7 +62,7 @@ limit_of name dimension Broken = record { kind = None; faults = [] }
 limit_of name dimension (Open dimensions shape) =
     if nat_le 1 dimension && nat_le dimension dimensions
     then record { kind = Some (kind.Fixed 31); faults = [] }
-    else faulty name.place rule.S17 []
+    else faulty name.place rule.S17
 
 abbrev pub limit_judged : Name → ℕ → Walked → Judged
 limit_judged name dimension walked = judged_behind walked.faults (limit_of name dimension walked.standing)

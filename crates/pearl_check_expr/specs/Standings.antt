@@ -19,8 +19,8 @@ pub record Judged : Type 0 where
   pub faults : List RuleFault
 
 -- that a rule is broken makes a fault; the expression has no kind
-abbrev pub faulty : ℕ → ℕ → List RuleFault → Judged
-faulty place rule faults = record { kind = None; faults = faults ++ record { place = place; rule = rule } ∷ [] }
+abbrev pub faulty : ℕ → ℕ → Judged
+faulty place rule = record { kind = None; faults = record { place = place; rule = rule } ∷ [] }
 
 pub data Standing : Type 0 where
   -- a rule is broken, or a declaration that is needed is missing
@@ -32,8 +32,8 @@ pub record Walked : Type 0 where
   pub standing : Standing
   pub faults : List RuleFault
 
-abbrev pub stopped : ℕ → ℕ → List RuleFault → Walked
-stopped place rule faults = record { standing = Broken; faults = faults ++ record { place = place; rule = rule } ∷ [] }
+abbrev pub stopped : ℕ → ℕ → Walked
+stopped place rule = record { standing = Broken; faults = record { place = place; rule = rule } ∷ [] }
 
 abbrev pub walked_on : Standing → List RuleFault → Walked
 walked_on standing faults = record { standing = standing; faults = faults }
@@ -55,7 +55,7 @@ standing_of sense = None
 
 -- S16: it is no variable
 abbrev pub start_at : Name → Option Standing → Walked
-start_at name None = stopped name.place rule.S16 []
+start_at name None = stopped name.place rule.S16
 start_at name (Some standing) = walked_on standing []
 
 -- a name that must be a variable
@@ -90,7 +90,7 @@ abbrev pub element_of : Name → Standing → List Judged → Walked
 element_of name Broken parts = walked_on Broken []
 element_of name (Open dimensions shape) parts =
     if length parts == dimensions && all_fixed parts then walked_on (element_standing (all_known parts) shape) []
-    else stopped name.place rule.S17 []
+    else stopped name.place rule.S17
 
 abbrev pub subscripted : Name → Standing → List Judged → Walked
 subscripted name standing parts = behind (faults_of parts) (element_of name standing parts)
@@ -99,26 +99,26 @@ abbrev pub field_standing : Component → Standing
 field_standing field = Open (cut (length field.bounds)) field.shape
 
 abbrev pub to_field : Name → Option Component → Walked
-to_field name None = stopped name.place rule.S18 []
+to_field name None = stopped name.place rule.S18
 to_field name (Some field) = walked_on (field_standing field) []
 
 -- S18: there is no such field
 abbrev pub field_of : Shape → Name → Walked
 field_of (OfFields fields) name = to_field name (component 0 0 fields (text_of name))
-field_of (OfKind kind) name = stopped name.place rule.S18 []
+field_of (OfKind kind) name = stopped name.place rule.S18
 
 -- a component. S17: an array has no subscripts
 abbrev pub selected : Name → Standing → Name → Walked
 selected name Broken field = walked_on Broken []
 selected name (Open zero shape) field = field_of shape field
-selected name (Open (suc n) shape) field = stopped name.place rule.S17 []
+selected name (Open (suc n) shape) field = stopped name.place rule.S17
 
 -- what is read or written. S19: it is a whole array or structure
 abbrev pub value_of : Name → Standing → Judged
 value_of name Broken = record { kind = None; faults = [] }
 value_of name (Open zero (OfKind kind)) = record { kind = Some kind; faults = [] }
-value_of name (Open zero (OfFields fields)) = faulty name.place rule.S19 []
-value_of name (Open (suc n) shape) = faulty name.place rule.S19 []
+value_of name (Open zero (OfFields fields)) = faulty name.place rule.S19
+value_of name (Open (suc n) shape) = faulty name.place rule.S19
 
 abbrev pub judged_behind : List RuleFault → Judged → Judged
 judged_behind before judged = record { kind = judged.kind; faults = before ++ judged.faults }

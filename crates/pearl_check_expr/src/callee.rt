@@ -77,7 +77,7 @@ pub(crate) fn is_fixed(sense: Option<&Sense>) -> bool
 }
 
 fn no_semaphore(found: &mut Vec<RuleFault>, name: &Name) -> Result<Option<Kind>, NoMemory>
-    ensures { IfOk result (λ kind. IsJudged kind found.old.items found.new.items (faulty name.now.place 16 [])) }
+    ensures { IfOk result (λ kind. IsJudged kind found.old.items found.new.items (faulty name.now.place 16)) }
 {
     tell(found, name.place, rule::S16)?;
     Ok(None)

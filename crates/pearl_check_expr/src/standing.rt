@@ -67,7 +67,7 @@ fn kind_standing(kind: Option<Kind>) -> Standing
 
 // Tells a broken rule. The reference comes no further.
 fn stop(found: &mut Vec<RuleFault>, place: u32, rule: u8) -> Result<Standing, NoMemory>
-    ensures { IfOk result (λ standing. (forms : List StructFormOf) → IsWalked forms standing found.old.items found.new.items (spec.stopped place rule [])) }
+    ensures { IfOk result (λ standing. (forms : List StructFormOf) → IsWalked forms standing found.old.items found.new.items (spec.stopped place rule)) }
 {
     tell(found, place, rule)?;
     Ok(Standing::Broken)
@@ -262,15 +262,15 @@ pub(crate) fn selected(
                 let field = field_in(forms, found, part, component)?;
                 Ok(field)
             } else {
-                let stopped = stop(found, name.place, rule::S17)?;
-                Ok(stopped)
+                let array = stop(found, name.place, rule::S17)?;
+                Ok(array)
             }
         }
     }
 }
 
 fn whole(found: &mut Vec<RuleFault>, name: &Name) -> Result<Option<Kind>, NoMemory>
-    ensures { IfOk result (λ kind. IsJudged kind found.old.items found.new.items (spec.faulty name.now.place 19 [])) }
+    ensures { IfOk result (λ kind. IsJudged kind found.old.items found.new.items (spec.faulty name.now.place 19)) }
 {
     tell(found, name.place, rule::S19)?;
     Ok(None)
