@@ -2,3 +2,4 @@ pub mod Shown
 pub mod Standings
 pub mod Walking
 pub mod Judging
+pub mod Faultless

@@ -12,3 +12,5 @@ pub mod Judged
 pub mod Answers
 -- what is asked for its kind, and what it is found to be
 pub mod Subjects
+-- what holds of every subject
+pub mod Laws

@@ -4,6 +4,7 @@
 pub mod argument;
 pub mod callee;
 pub mod kinds;
+pub mod laws;
 pub mod literal;
 pub mod operator;
 pub mod rows;
