@@ -1,5 +1,5 @@
 -- Where references stand, in memory and in the definitions.
-use Rattle.std.proofs.Common.{◌==◌, ◌&&◌, cond, ◌≡◌, ◌≢◌, ℕ, zero, suc, false, List, [], length, Option, Some, None, refl, sym, ap, ◌∙◌, subst, append-nil}
+use Rattle.std.proofs.Common.{◌<◌, ◌==◌, ◌&&◌, cond, ◌≡◌, ℕ, zero, suc, false, List, [], length, Option, Some, None, refl, sym, ap, ◌∙◌, subst, append-nil, arith}
 use Rattle.pearl_value.specs.declared.kind.Kind.{Kind}
 use Rattle.pearl_tree.specs.declared.fault.RuleFault.{RuleFault}
 use Rattle.pearl_tree.specs.declared.name.Name.{Name}
@@ -36,16 +36,10 @@ unfolding StandsFor
 no_kind forms number (OfKind to) name h = absurd h
 no_kind forms number (OfFields fields) name h = refl
 
-pub whole_array : (forms : List StructForm) (number : ℕ) (part : TypeRef) (from : Standing) (name : Name) → number ≢ 0 →
-    StandsAt forms (reached.Open number part) from → value_of name from ≡ faulty name.place 19
-whole_array forms number part Broken name more h = absurd h
-whole_array forms number part (Open zero shape) name more h = absurd (more h.0)
-whole_array forms number part (Open (suc n) shape) name more h = refl
-
-pub component_of_array : (forms : List StructForm) (number : ℕ) (part : TypeRef) (from : Standing) (name component : Name) → number ≢ 0 →
+pub component_of_array : (forms : List StructForm) (number : ℕ) (part : TypeRef) (from : Standing) (name component : Name) → 0 < number →
     StandsAt forms (reached.Open number part) from → selected name from component ≡ stopped name.place 17
 component_of_array forms number part Broken name component more h = absurd h
-component_of_array forms number part (Open zero shape) name component more h = absurd (more h.0)
+component_of_array forms number part (Open zero shape) name component more h = absurd (omega (arith, more, h.0))
 component_of_array forms number part (Open (suc n) shape) name component more h = refl
 
 pub no_start : (forms : List StructForm) (standing : Option Reached) (of : Option Standing) (name : Name) → standing ≡ None → StandsIf forms standing of →

@@ -258,12 +258,12 @@ pub(crate) fn selected(
     match standing {
         Standing::Broken => Ok(Standing::Broken),
         Standing::Open { dimensions, part } => {
-            if dimensions == 0 {
+            if dimensions > 0 {
+                let stopped = stop(found, name.place, rule::S17)?;
+                Ok(stopped)
+            } else {
                 let field = field_in(forms, found, part, component)?;
                 Ok(field)
-            } else {
-                let array = stop(found, name.place, rule::S17)?;
-                Ok(array)
             }
         }
     }
