@@ -15,6 +15,8 @@ mod devices;
 #[cfg(test)]
 mod expressions;
 #[cfg(test)]
+mod kinds;
+#[cfg(test)]
 mod modules;
 #[cfg(test)]
 mod rules;
