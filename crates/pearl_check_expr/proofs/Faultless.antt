@@ -14,12 +14,12 @@ use Rattle.pearl_tree.specs.Names.{name_text}
 use Rattle.pearl_tree.specs.ShownExpressions.{ShownExpr, OfOperand, OfDyadic, ShownPrimary, OfLiteral, OfRef, OfGroup, OfNow, OfTry, OfLimit, ShownSelectors, NoSelectors, MoreSelectors, ShownSelector, OfSubscripts, OfComponent, ShownExprs, NoExprs, MoreExprs}
 use Rattle.pearl_names.specs.declared.scope.View.{View}
 use Rattle.pearl_names.specs.declared.scope.View.TheVariants.{Within, WhileOf}
-use Rattle.pearl_names.specs.Shapes.{Shape, OfKind, OfFields}
+use Rattle.pearl_names.specs.Shapes.{OfKind, OfFields}
 use Rattle.pearl_names.specs.Forms.{Component, component}
 use Rattle.pearl_names.specs.Tables.{Parameter, Sense, Table, sense_from}
 use Rattle.pearl_check_expr.specs.Senses.{Callee, callee_of, is_fixed, is_semaphore}
 use Rattle.pearl_check_expr.specs.Standings.{Judged, faulty, judged_behind, Standing, Broken, Open, Walked, stopped, walked_on, behind, standing_of, start_at, variable_start, faults_of, all_fixed, all_known, element_standing, subscripted, to_field, selected, as_value}
-use Rattle.pearl_check_expr.specs.Judged.{result_of, monadic_result, with_monadic, with_monadics, dyadic_result, with_dyadic, try_judged, limit_judged, misfits, differs, Argument, argument_behind, value_argument, no_variable, variable_argument, named_argument, plain_name, ident_argument, expr_place, fitted, argument_of, all_well, argument_faults, called_with, applied_on, component_of_call, if_well, result_kind, call_value, is_last, called_or, judged, judged_primary, along, step, judged_all, applied, first_applied, beyond, arguments, called}
+use Rattle.pearl_check_expr.specs.Judged.{result_of, monadic_result, with_monadic, with_monadics, dyadic_result, with_dyadic, try_judged, limit_judged, misfits, differs, Argument, value_argument, no_variable, variable_argument, named_argument, plain_name, ident_argument, expr_place, fitted, argument_of, all_well, argument_faults, called_with, applied_on, if_well, result_kind, call_value, is_last, called_or, judged, judged_primary, along, step, judged_all, applied, first_applied, beyond, arguments, called}
 use Rattle.pearl_check_expr.specs.Subjects.{ShownSubject, OfValue, OfWhile, OfTarget, OfCallStatement, called_or_not, subject_judged}
 use Rattle.pearl_check_expr.specs.Laws.{HasNoFault}
 

@@ -24,7 +24,7 @@ pub record IsJudged (kind : Option Kind) (old new : List RuleFault) (judged : Ju
   pub same : kind ≡ judged.kind
   pub added : new ≡ old ++ judged.faults
 
--- the same whatever the table in memory holds
+-- the same of each table of names that the one in memory holds
 abbrev pub Judges : SenseTable → Option Kind → (old new : List RuleFault) → (Table → Judged) → Type 0
 Judges held kind old new judged = (table : Table) → HoldsTable held table → IsJudged kind old new (judged table)
 
@@ -56,7 +56,7 @@ pub record IsArgument (well : Bool) (old new : List RuleFault) (argument : Argum
   pub same : well ≡ argument.well
   pub added : new ≡ old ++ argument.faults
 
--- of these parts, and their faults are added
+-- the subscripts are these parts, whose faults are added to the old ones
 pub record AreJudged (subscripts : Subscripts) (old new : List RuleFault) (parts : List Judged) : Type 0 where
   pub whole : AreSubscripts subscripts parts
   pub added : new ≡ old ++ faults_of parts
