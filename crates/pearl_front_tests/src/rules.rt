@@ -2,7 +2,7 @@
 
 use crate::cases::{STOP, places_of, source_of, tokens_of};
 use pearl_parse::parse::parse;
-use pearl_scope::rules::broken_rules;
+use pearl_scope::scopes;
 use std::alloc::{AllocError, Global};
 use std::test::Fail;
 
@@ -132,7 +132,7 @@ fn shown(alloc: Global, case: &[u8]) -> Result<String, AllocError> {
         text.push_str("no tree")?;
         return Ok(text);
     };
-    let faults = broken_rules(alloc, &tree)?;
+    let (_, faults) = scopes(alloc, &tree)?;
     let mut marks = places.as_slice().iter();
     for fault in faults.as_slice() {
         if marks.next() != Some(&fault.place) {

@@ -62,8 +62,8 @@ fn s1_of(faults: &mut Vec<RuleFault>, scope: &ScopeTable) -> Result<(), NoMemory
     Ok(())
 }
 
-/// S1: at each name that is declared twice in one scope.
-pub fn s1_faults(faults: &mut Vec<RuleFault>, scopes: &[ScopeTable]) -> Result<(), NoMemory>
+// S1: at each name that is declared twice in one scope.
+fn s1_faults(faults: &mut Vec<RuleFault>, scopes: &[ScopeTable]) -> Result<(), NoMemory>
     ensures { OnOk result (faults.new.items ≡ faults.old.items ++ flat_map spec.s1 scopes.now) }
 {
     for scope in scopes {
@@ -330,7 +330,7 @@ fn rules_at_all(
 }
 
 /// Where a module breaks the rules S1 to S9.
-pub fn broken_rules(alloc: Global, tree: &Tree) -> Result<Vec<RuleFault>, NoMemory>
+pub(crate) fn broken_rules(alloc: Global, tree: &Tree) -> Result<Vec<RuleFault>, NoMemory>
     ensures { IfOk result (λ faults. ListFaults (spec.broken (shown_tree tree.now)) faults.items) }
 {
     let scopes = names_of_module(alloc, tree)?;
