@@ -3,3 +3,5 @@ pub mod Standings
 pub mod Walking
 pub mod Judging
 pub mod Faultless
+pub mod Suiting
+pub mod Undeclared

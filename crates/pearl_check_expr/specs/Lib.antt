@@ -12,5 +12,5 @@ pub mod Judged
 pub mod Answers
 -- what is asked for its kind, and what it is found to be
 pub mod Subjects
--- what holds of every subject
+-- what holds of every subject, and of the kinds and names in it
 pub mod Laws
