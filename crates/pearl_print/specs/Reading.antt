@@ -1,5 +1,5 @@
 -- What the text of tokens is read as, and in which order it has bits.
-use Rattle.std.specs.Prelude.{◌≡◌, ℕ, ◌/◌, if◌then◌else◌, List, ◌++◌, length, map, Some, All}
+use Rattle.std.specs.Prelude.{◌≡◌, ℕ, ◌/◌, if◌then◌else◌, List, ◌++◌, length, map, Some, All, codes}
 use Rattle.pearl_tree.specs.declared.token.What.{What}
 use Rattle.pearl_tree.specs.declared.token.What.TheVariants as what
 use Rattle.pearl_tree.specs.declared.literal.Literal.{Literal}
