@@ -3,3 +3,8 @@ pub mod Ways
 pub mod Weights
 pub mod FirstFaults
 pub mod Examples
+pub mod EachSort
+pub mod RoleExamples
+pub mod NameExamples
+pub mod SizeExamples
+pub mod FormatExamples
