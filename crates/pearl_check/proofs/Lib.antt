@@ -1,3 +1,5 @@
+pub mod Adding
+pub mod AskedLists
 pub mod Tests
 pub mod Ways
 pub mod Weights

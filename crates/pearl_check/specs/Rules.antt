@@ -16,7 +16,7 @@ use Rattle.pearl_check.specs.Asked.{asked_at}
 use Rattle.pearl_check.specs.Calls.{Caller, s28}
 use Rattle.pearl_check.specs.Dations.{s32}
 use Rattle.pearl_check.specs.Formats.{s33}
-use Rattle.pearl_check.specs.Roles.{part_faults, role_faults}
+use Rattle.pearl_check.specs.Roles.{part_faults, role_faults, asked_faults}
 use Rattle.pearl_check.specs.Routines.{RoutineSort, Task, Procedure, Routine, routines_of, statements_of}
 use Rattle.pearl_check.specs.Sizes.{Declared, declared_in, procedure_callers, all_callers, s34}
 use Rattle.pearl_check.specs.Statements.{s24, s26, s27, s31}
@@ -68,6 +68,21 @@ routine_part_faults table routine =
 -- the rules S15 to S22
 abbrev pub broken_in_parts : ShownTree → List RuleFault
 broken_in_parts tree = flat_map (routine_part_faults (table_of tree)) (routines_of tree)
+
+-- S24 and S26
+abbrev pub own_faults : Table → Placed → List RuleFault
+own_faults table place = s24 table place.spot.scope place.statement ++ s26 place.spot.in_loop place.statement
+
+-- S15 to S26 and S29, of a statement apart from those within it
+abbrev pub place_faults : Table → Placed → List RuleFault
+place_faults table place = flat_map (asked_faults table) (asked_at place) ++ own_faults table place
+
+abbrev pub routine_place_faults : Table → Routine → List RuleFault
+routine_place_faults table routine = flat_map (place_faults table) (statements_of routine)
+
+-- the rules S15 to S26 and S29 that the statements of a module break
+abbrev pub statements_broken : Table → ShownTree → List RuleFault
+statements_broken table tree = flat_map (routine_place_faults table) (routines_of tree)
 
 -- the rules S1 to S34 that a module breaks, in no order and perhaps more than once
 abbrev pub all_broken : ShownTree → List RuleFault

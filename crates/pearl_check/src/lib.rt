@@ -2,4 +2,9 @@
 // that a module breaks.
 #![tactic(auto)]
 
+pub mod asked;
 pub mod laws;
+mod roles;
+pub mod rules;
+mod statements;
+mod tell;

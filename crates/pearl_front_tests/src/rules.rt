@@ -100,14 +100,13 @@ fn breaks_s2(alloc: Global, case: &str) -> Result<bool, AllocError> {
     let mut module = String::new(alloc);
     write!(module, "MODULE;PROBLEM;t:TASK;{case}END;MODEND")?;
     let found = shown(alloc, module.as_bytes())?;
-    let wanted = case.as_bytes().iter().filter(|byte| **byte == STOP).count();
-    let mut left = found.as_str();
-    let mut told: usize = 0;
-    while let Some(rest) = left.strip_prefix("S2 ") {
-        told = told.saturating_add(1);
-        left = rest;
+    let mut wanted = String::new(alloc);
+    for &byte in case.as_bytes() {
+        if byte == STOP {
+            wanted.push_str("S2 ")?;
+        }
     }
-    Ok(left.is_empty() && told == wanted)
+    Ok(found.as_str() == wanted.as_str())
 }
 
 #[test]
