@@ -17,9 +17,9 @@ use Rattle.pearl_tree.specs.ShownModules.{OfDeclare}
 use Rattle.pearl_names.specs.Sorts.{sorted_names, names_of_scopes}
 use Rattle.pearl_names.specs.Tables.{Sense, Variable, Control, OwnParameter, NewType, Semaphore, Interrupt, AlphicDation, BasicDation, Task, Procedure}
 use Rattle.pearl_check.proofs.EachSort.{name, number, fault, reference, variable, source, task, doing, with_each_name, parts_with_each_name, told}
-use Rattle.pearl_check.specs.Asked.{TaskName, SemaphoreName, InterruptName, DationName}
+use Rattle.pearl_check.specs.declared.asked.NameRole.TheVariants as name_role
 use Rattle.pearl_check.specs.Dations.{takes_no_put, gives_no_get, takes_no_send, gives_no_take}
-use Rattle.pearl_check.specs.Roles.{is_named_so}
+use Rattle.pearl_check.specs.Roles.{role_of, is_role}
 use Rattle.pearl_check.specs.Rules.{broken}
 
 -- a sense of each sort
@@ -42,16 +42,16 @@ only_interrupt = false ∷ false ∷ false ∷ false ∷ false ∷ true ∷ fals
 abbrev only_dation : List Bool
 only_dation = false ∷ false ∷ false ∷ false ∷ false ∷ false ∷ true ∷ true ∷ false ∷ false ∷ []
 
-task_names : map (is_named_so TaskName) senses ≡ only_task
+task_names : map (λ sense. is_role name_role.Task (role_of sense)) senses ≡ only_task
 task_names = refl
 
-semaphore_names : map (is_named_so SemaphoreName) senses ≡ only_semaphore
+semaphore_names : map (λ sense. is_role name_role.Semaphore (role_of sense)) senses ≡ only_semaphore
 semaphore_names = refl
 
-interrupt_names : map (is_named_so InterruptName) senses ≡ only_interrupt
+interrupt_names : map (λ sense. is_role name_role.Interrupt (role_of sense)) senses ≡ only_interrupt
 interrupt_names = refl
 
-dation_names : map (is_named_so DationName) senses ≡ only_dation
+dation_names : map (λ sense. is_role name_role.Dation (role_of sense)) senses ≡ only_dation
 dation_names = refl
 
 -- A name that isn't declared, the last, breaks S2 alone.

@@ -12,7 +12,7 @@ use Rattle.pearl_tree.specs.ShownExpressions.{ShownExpr}
 use Rattle.pearl_tree.specs.ShownStatements.{ShownPeriod, ShownStart, OfAt, OfAfter, OfWhen, OfAll, ShownPeriodEnd, OfUntil, OfDuring, OnceAt, OnceAfter, ShownStmt, OfAssign, OfIf, OfCase, OfRepeat, OfBegin, OfActivate, OfContinue, OfResume, OfGet, OfTake, ShownStmts, NoStmts, MoreStmts, NoBranches, MoreBranches, NoOtherwise}
 use Rattle.pearl_names.specs.Sorts.{sorted_names, names_of_scopes}
 use Rattle.pearl_check.proofs.EachSort.{name, number, fault, reference, variable, literal, one, loop, locals, doing, with_each_kind, told}
-use Rattle.pearl_check.specs.Asked.{Plain, Condition, Count, Moment, Lapse, Priority}
+use Rattle.pearl_check.specs.declared.asked.Role.TheVariants.{Plain, Condition, Count, Moment, Lapse, Priority}
 use Rattle.pearl_check.specs.Roles.{is_for_role}
 use Rattle.pearl_check.specs.Rules.{broken}
 
