@@ -23,8 +23,6 @@ mod rules;
 #[cfg(test)]
 mod scopes;
 #[cfg(test)]
-mod statement_rules;
-#[cfg(test)]
 mod statements;
 #[cfg(test)]
 mod texts;
