@@ -8,11 +8,12 @@ use Rattle.pearl_tree.specs.declared.name.Name.{Name}
 use Rattle.pearl_tree.specs.Names.{name_text, is_among, has_repeats}
 use Rattle.pearl_names.specs.Shapes.{Shape, Fields, NoField, MoreField, with_fields}
 use Rattle.pearl_names.specs.Layout.{leaves_of, leaves_of_fields, leaf_slots, slots_of}
+use Rattle.pearl_names.specs.declared.sense.Bounds.{Bounds}
 use Rattle.pearl_names.specs.declared.types.Counts.{Counts}
 use Rattle.pearl_names.specs.declared.types.FieldForm.{FieldForm}
 use Rattle.pearl_names.specs.declared.types.StructForm.{StructForm}
-use Rattle.pearl_names.specs.Counts.{cut, counts, counts_of, joined, within}
-use Rattle.pearl_names.specs.Forms.{leaf_count, slot_count, StandsFor, FieldsStand, IsForm, IsPart, AreNamed, Adds, append_fields}
+use Rattle.pearl_names.specs.Counts.{cut, counts, counts_of, joined, within, behind_name}
+use Rattle.pearl_names.specs.Forms.{leaf_count, slot_count, StandsFor, FieldsStand, HasBounds, AllBounded, IsForm, IsPart, AreNamed, Adds, append_fields, pair_of}
 use Rattle.pearl_names.proofs.FirstNames.{bytes_symm}
 use Rattle.pearl_names.proofs.Counting.{counts-append, counts_of_field, leaves_behind, slots-behind, behind}
 use Rattle.std.proofs.lemmas.List.{length-map}
@@ -63,9 +64,56 @@ fields_append forms leaves slots (e ∷ es) bs (MoreField name bounds shape rest
 fields_append forms leaves slots [] bs (MoreField name bounds shape rest) b one two = absurd one
 fields_append forms leaves slots (e ∷ es) bs NoField b one two = absurd one
 
+bounded_append : (all : List Bounds) (es bs : List (ArrayVec ℕ × FieldForm)) (a b : Fields) → AllBounded all es a → AllBounded all bs b →
+    AllBounded all (es ++ bs) (append_fields a b)
+bounded_append all [] bs NoField b one two = two
+bounded_append all (e ∷ es) bs (MoreField name bounds shape rest) b one two = (one.0, bounded_append all es bs rest b one.1 two)
+bounded_append all [] bs (MoreField name bounds shape rest) b one two = absurd one
+bounded_append all (e ∷ es) bs NoField b one two = absurd one
+
+-- where more bounds come
+bounded_more : (all more : List Bounds) (es : List (ArrayVec ℕ × FieldForm)) (a : Fields) → AllBounded all es a → AllBounded (all ++ more) es a
+bounded_more all more [] NoField h = tt
+bounded_more all more (e ∷ es) (MoreField name bounds shape rest) h = (
+  record {
+    before = h.0.before;
+    own = h.0.own;
+    behind = h.0.behind ++ more;
+    is = ap (λ l. l ++ more) h.0.is ∙ append_assoc h.0.before (h.0.own ++ h.0.behind) more ∙ ap (λ l. h.0.before ++ l) (append_assoc h.0.own h.0.behind more);
+    first = h.0.first;
+    past = h.0.past;
+    pairs = h.0.pairs;
+  },
+  bounded_more all more es rest h.1,
+)
+bounded_more all more [] (MoreField name bounds shape rest) h = absurd h
+bounded_more all more (e ∷ es) NoField h = absurd h
+
+pub form_wider : (forms : List StructForm) (form now : StructForm) (own : List Bounds) (fields : Fields) → now.fields.entries ≡ form.fields.entries → now.counts ≡ form.counts →
+    now.bounds.items ≡ form.bounds.items ++ own → IsForm forms form fields → IsForm forms now fields
+form_wider forms form now own fields entries counted wider is = record {
+  stand = subst (λ es. FieldsStand forms 0 0 es fields) (sym entries) is.stand;
+  counted = counted ∙ is.counted;
+  bounded = subst (λ l. AllBounded l now.fields.entries fields) (sym wider)
+      (subst (λ es. AllBounded (form.bounds.items ++ own) es fields) (sym entries) (bounded_more form.bounds.items own form.fields.entries fields is.bounded));
+}
+
+-- bounds that were put behind the others
+pub bounds_behind : (old new own : List Bounds) (field : FieldForm) (bounds : List (ℤ × ℤ)) → new ≡ old ++ own → field.first ≡ length old → field.past ≡ length old + length own →
+    map pair_of own ≡ bounds → HasBounds new field bounds
+bounds_behind old new own field bounds is first past pairs = record {
+  before = old;
+  own = own;
+  behind = [];
+  is = is ∙ ap (λ l. old ++ l) (sym (append-nil own));
+  first = first;
+  past = past;
+  pairs = pairs;
+}
+
 -- one field more
 pub form_more : (forms : List StructForm) (old new : StructForm) (key : ArrayVec ℕ) (field : FieldForm) (each : Counts) (fields : Fields) (bounds : List (ℤ × ℤ)) (shape : Shape) →
-    Adds old key field each new → IsForm forms old fields → IsPart forms field each bounds shape →
+    Adds old key field each new → IsForm forms old fields → IsPart forms old.bounds.items field each bounds shape →
     IsForm forms new (append_fields fields (MoreField key.items bounds shape NoField))
 unfolding StandsFor counts
 form_more forms old new key field each fields bounds shape adds is part = record {
@@ -85,11 +133,26 @@ form_more forms old new key field each fields bounds shape adds is part = record
       ∙ (λ i. joined (is.counted i) (counted_each i))
       ∙ sym (counts-append (leaves_of_fields [] [] fields) (leaves_of (key.items ∷ []) bounds shape))
       ∙ ap counts (ap (λ t. leaves_of_fields [] [] fields ++ t) (sym (append-nil (leaves_of (key.items ∷ []) bounds shape))) ∙ sym (leaves_append [] [] fields (MoreField key.items bounds shape NoField)));
+  bounded = subst (λ b. AllBounded b.items new.fields.entries (append_fields fields (MoreField key.items bounds shape NoField))) (sym adds.2)
+      (subst (λ es. AllBounded old.bounds.items es (append_fields fields (MoreField key.items bounds shape NoField))) (sym adds.0)
+      (bounded_append old.bounds.items old.fields.entries _ fields (MoreField key.items bounds shape NoField) is.bounded (placed, tt)));
 }
   where
-    counted_each : each ≡ counts (leaves_of (key.items ∷ []) bounds shape)
+    placed : HasBounds old.bounds.items (record field { leaf = old.counts.leaves; slot = old.counts.slots }) bounds
+    placed = record {
+      before = part.bounded.before;
+      own = part.bounded.own;
+      behind = part.bounded.behind;
+      is = part.bounded.is;
+      first = part.bounded.first;
+      past = part.bounded.past;
+      pairs = part.bounded.pairs;
+    }
+
+    counted_each : behind_name (1 + length key.items) each ≡ counts (leaves_of (key.items ∷ []) bounds shape)
     counted_each =
-        part.each ∙ (λ i. within (part.dimensions i) (part.count i) (counts_of shape)) ∙ sym (counts_of_field key.items bounds shape)
+        ap (behind_name (1 + length key.items)) (part.each ∙ (λ i. within (part.dimensions i) (part.count i) (counts_of shape)))
+        ∙ sym (counts_of_field key.items bounds shape)
 
 repeats-more : (before names : List Name) (name : Name) →
     has_repeats before (names ++ name ∷ []) ≡ (has_repeats before names || is_among (before ++ names) (name_text name))
@@ -167,13 +230,15 @@ append_none (MoreField name bounds shape rest) = ap (λ t. MoreField name bounds
 -- what a loop over names has added so far
 pub record Added (old now : StructForm) (field : FieldForm) (each : Counts) (names : List Name) : Type 0 where
   pub named : (before : List Name) → AreNamed old.fields.entries before → AreNamed now.fields.entries (before ++ names) × (has_repeats before names ≡ false)
-  pub built : (forms : List StructForm) (fields : Fields) (bounds : List (ℤ × ℤ)) (shape : Shape) → IsForm forms old fields → IsPart forms field each bounds shape →
+  pub built : (forms : List StructForm) (fields : Fields) (bounds : List (ℤ × ℤ)) (shape : Shape) → IsForm forms old fields → IsPart forms old.bounds.items field each bounds shape →
       IsForm forms now (append_fields fields (with_fields names bounds shape NoField))
+  pub bounded : now.bounds ≡ old.bounds
 
 pub added_none : (form : StructForm) (field : FieldForm) (each : Counts) → Added form form field each []
 added_none form field each = record {
   named = λ before h. (h ∙ ap (map name_text) (sym (append-nil before)), refl);
   built = λ forms fields bounds shape is part. subst (IsForm forms form) (sym (append_none fields)) is;
+  bounded = refl;
 }
 
 pub added_more : (old now new : StructForm) (field : FieldForm) (each : Counts) (names : List Name) (name : Name) → Added old now field each names →
@@ -195,7 +260,9 @@ added_more old now new field each names name added fresh adds = record {
       subst (IsForm forms new)
       (append_twice fields (with_fields names bounds shape NoField) (MoreField (name_text name) bounds shape NoField)
       ∙ ap (append_fields fields) (sym (with_more names name bounds shape)))
-      (form_more forms now new name.text field each (append_fields fields (with_fields names bounds shape NoField)) bounds shape adds (added.built forms fields bounds shape is part) part);
+      (form_more forms now new name.text field each (append_fields fields (with_fields names bounds shape NoField)) bounds shape adds (added.built forms fields bounds shape is part)
+      (subst (λ b. IsPart forms b.items field each bounds shape) (sym added.bounded) part));
+  bounded = adds.2 ∙ added.bounded;
 }
   where
     not_true : (b : Bool) → not b ≡ true → b ≡ false

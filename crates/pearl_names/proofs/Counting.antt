@@ -5,14 +5,22 @@ use Rattle.std.proofs.lemmas.Nat.{mul-le}
 use Rattle.std.proofs.lemmas.Bool.{cases_lt, lt-leb, le-leb}
 use Rattle.std.proofs.lemmas.Bool.Decides.{nat_tests}
 use Rattle.std.proofs.lemmas.List.{map-append, length-map, length-replicate}
+use Rattle.std.proofs.lemmas.List.Sums.{sum_by-append}
 use Rattle.std.proofs.lemmas.Grind.{flat_map-append}
 use Rattle.std.specs.List.{list_all}
 use Rattle.pearl_names.specs.Shapes.{Shape, OfKind, OfFields, Fields, NoField, MoreField}
 use Rattle.pearl_names.specs.Layout.{Leaf, leaves_of, leaves_of_fields, elements, leaf_slots, slots_of, is_sound_leaf}
-use Rattle.pearl_names.specs.Counts.{cut, joined, within, most, dimensions_of, elements_of, counts, counts_of, has_sound_leaves}
+use Rattle.pearl_names.specs.declared.types.Counts.{Counts}
+use Rattle.pearl_names.specs.Counts.{cut, joined, within, behind_name, most, dimensions_of, elements_of, path_bytes, bytes_behind, counts, counts_of, has_sound_leaves}
 
 pub cut_add : (a b : ℕ) → cut (a + b) ≡ cut (cut a + cut b)
 cut_add a b = omega arith
+
+cut_second : (a b : ℕ) → cut (a + b) ≡ cut (a + cut b)
+cut_second a b = omega arith
+
+cut_again : (a : ℕ) → cut (0 + cut a) ≡ cut a
+cut_again a = omega arith
 
 cut_max : (a b : ℕ) → cut (max a b) ≡ max (cut a) (cut b)
 cut_max a b = omega arith
@@ -90,6 +98,7 @@ counts-append xs ys =
       slots = (ap cut slots ∙ cut_add (length (slots_of xs)) (length (slots_of ys))) i;
       dimensions = (ap cut (most-append dimensions_of xs ys) ∙ cut_max (most dimensions_of xs) (most dimensions_of ys)) i;
       greatest = (ap cut (most-append elements_of xs ys) ∙ cut_max (most elements_of xs) (most elements_of ys)) i;
+      longest = (ap cut (most-append bytes_behind xs ys) ∙ cut_max (most bytes_behind xs) (most bytes_behind ys)) i;
     }
 
 pub slots-behind : (path : List (List ℕ)) (bounds : List (ℤ × ℤ)) (xs : List Leaf) →
@@ -135,15 +144,52 @@ elements-behind path bounds [] = sym (mul-zero (elements bounds))
 elements-behind path bounds (x ∷ xs) =
     (λ i. max (elements-append bounds x.bounds i) (elements-behind path bounds xs i)) ∙ sym (mul-max (elements bounds) (elements x.bounds) (most elements_of xs))
 
-within-some : (dimensions count leaves slots most_dimensions greatest : ℕ) → 0 < leaves →
-    within dimensions count (record { leaves = leaves; slots = slots; dimensions = most_dimensions; greatest = greatest }) ≡
-    record { leaves = leaves; slots = cut (count * slots); dimensions = cut (dimensions + most_dimensions); greatest = cut (count * greatest) }
-within-some dimensions count zero slots most_dimensions greatest h = absurd (omega (arith, h))
-within-some dimensions count (suc n) slots most_dimensions greatest h = refl
+-- of at least one leaf
+bytes-behind : (path : List (List ℕ)) (bounds : List (ℤ × ℤ)) (x : Leaf) (xs : List Leaf) →
+    most bytes_behind (map (behind path bounds) (x ∷ xs)) ≡ path_bytes path + most bytes_behind (x ∷ xs)
+unfolding behind
+bytes-behind path bounds x [] = let e : _ = sum_by-append (λ field. 1 + length field) path x.path in omega (arith, e)
+bytes-behind path bounds x (y ∷ ys) =
+    let e : _ = sum_by-append (λ field. 1 + length field) path x.path in
+    let h : _ = bytes-behind path bounds y ys in omega (arith, e, h)
 
--- an array of what has these leaves
+within-some : (dimensions count leaves slots most_dimensions greatest longest : ℕ) → 0 < leaves →
+    within dimensions count (record { leaves = leaves; slots = slots; dimensions = most_dimensions; greatest = greatest; longest = longest }) ≡
+    record { leaves = leaves; slots = cut (count * slots); dimensions = cut (dimensions + most_dimensions); greatest = cut (count * greatest); longest = longest }
+within-some dimensions count zero slots most_dimensions greatest longest h = absurd (omega (arith, h))
+within-some dimensions count (suc n) slots most_dimensions greatest longest h = refl
+
+behind-some : (bytes leaves slots dimensions greatest longest : ℕ) → 0 < leaves →
+    behind_name bytes (record { leaves = leaves; slots = slots; dimensions = dimensions; greatest = greatest; longest = longest }) ≡
+    record { leaves = leaves; slots = slots; dimensions = dimensions; greatest = greatest; longest = cut (bytes + longest) }
+behind-some bytes zero slots dimensions greatest longest h = absurd (omega (arith, h))
+behind-some bytes (suc n) slots dimensions greatest longest h = refl
+
+-- an array of what has these leaves, and the same behind the names of fields
+module _ (bytes dimensions count : ℕ) (x : Leaf) (xs : List Leaf) where
+  abbrev array : Counts
+  array = record {
+    leaves = cut (length (x ∷ xs));
+    slots = cut (count * cut (length (slots_of (x ∷ xs))));
+    dimensions = cut (dimensions + cut (most dimensions_of (x ∷ xs)));
+    greatest = cut (count * cut (most elements_of (x ∷ xs)));
+    longest = cut (most bytes_behind (x ∷ xs));
+  }
+
+  array_counts : within dimensions count (counts (x ∷ xs)) ≡ array
+  unfolding counts
+  array_counts =
+      within-some dimensions count (cut (length (x ∷ xs))) (cut (length (slots_of (x ∷ xs)))) (cut (most dimensions_of (x ∷ xs)))
+      (cut (most elements_of (x ∷ xs))) (cut (most bytes_behind (x ∷ xs))) (omega arith)
+
+  named_counts : behind_name bytes (within dimensions count (counts (x ∷ xs))) ≡ record array { longest = cut (bytes + cut (most bytes_behind (x ∷ xs))) }
+  named_counts =
+      ap (behind_name bytes) array_counts
+      ∙ behind-some bytes array.leaves array.slots array.dimensions array.greatest array.longest (omega arith)
+
+-- an array of what has these leaves, behind the names of fields
 pub counts-behind : (path : List (List ℕ)) (bounds : List (ℤ × ℤ)) (xs : List Leaf) →
-    counts (map (behind path bounds) xs) ≡ within (cut (length bounds)) (cut (elements bounds)) (counts xs)
+    counts (map (behind path bounds) xs) ≡ behind_name (path_bytes path) (within (cut (length bounds)) (cut (elements bounds)) (counts xs))
 unfolding counts
 counts-behind path bounds [] = refl
 counts-behind path bounds (x ∷ xs) =
@@ -152,20 +198,35 @@ counts-behind path bounds (x ∷ xs) =
       slots = (ap cut (slots-behind path bounds (x ∷ xs)) ∙ cut_mul (elements bounds) (length (slots_of (x ∷ xs)))) i;
       dimensions = (ap cut (dimensions-behind path bounds x xs) ∙ cut_add (length bounds) (most dimensions_of (x ∷ xs))) i;
       greatest = (ap cut (elements-behind path bounds (x ∷ xs)) ∙ cut_mul (elements bounds) (most elements_of (x ∷ xs))) i;
+      longest = (ap cut (bytes-behind path bounds x xs) ∙ cut_second (path_bytes path) (most bytes_behind (x ∷ xs))) i;
     })
-    ∙ sym (within-some (cut (length bounds)) (cut (elements bounds)) (cut (length (x ∷ xs))) (cut (length (slots_of (x ∷ xs)))) (cut (most dimensions_of (x ∷ xs)))
-    (cut (most elements_of (x ∷ xs))) (omega arith))
+    ∙ sym (named_counts (path_bytes path) (cut (length bounds)) (cut (elements bounds)) x xs)
+
+-- behind no names
+behind-nothing : (dimensions count : ℕ) (xs : List Leaf) → behind_name 0 (within dimensions count (counts xs)) ≡ within dimensions count (counts xs)
+unfolding counts
+behind-nothing dimensions count [] = refl
+behind-nothing dimensions count (x ∷ xs) =
+    named_counts 0 dimensions count x xs
+    ∙ (λ i. record (array 0 dimensions count x xs) { longest = cut_again (most bytes_behind (x ∷ xs)) i })
+    ∙ sym (array_counts 0 dimensions count x xs)
 
 -- the counts of the leaves of a field
 pub counts_of_field : (name : List ℕ) (bounds : List (ℤ × ℤ)) (shape : Shape) →
-    counts (leaves_of (name ∷ []) bounds shape) ≡ within (cut (length bounds)) (cut (elements bounds)) (counts_of shape)
+    counts (leaves_of (name ∷ []) bounds shape) ≡ behind_name (1 + length name) (within (cut (length bounds)) (cut (elements bounds)) (counts_of shape))
 counts_of_field name bounds shape =
-    ap counts (leaves_behind (name ∷ []) bounds shape) ∙ counts-behind (name ∷ []) bounds (leaves_of [] [] shape)
+    let one : path_bytes (name ∷ []) ≡ 1 + length name = omega arith in
+    ap counts (leaves_behind (name ∷ []) bounds shape)
+    ∙ counts-behind (name ∷ []) bounds (leaves_of [] [] shape)
+    ∙ ap (λ n. behind_name n (within (cut (length bounds)) (cut (elements bounds)) (counts_of shape))) one
 
 -- the counts of the leaves of a variable
 pub counts_of_variable : (bounds : List (ℤ × ℤ)) (shape : Shape) →
     counts (leaves_of [] bounds shape) ≡ within (cut (length bounds)) (cut (elements bounds)) (counts_of shape)
-counts_of_variable bounds shape = ap counts (leaves_behind [] bounds shape) ∙ counts-behind [] bounds (leaves_of [] [] shape)
+counts_of_variable bounds shape =
+    ap counts (leaves_behind [] bounds shape)
+    ∙ counts-behind [] bounds (leaves_of [] [] shape)
+    ∙ behind-nothing (cut (length bounds)) (cut (elements bounds)) (leaves_of [] [] shape)
 
 cut_below : (n limit : ℕ) → limit < 2 ^ 31 → nat_le (cut n) limit ≡ nat_le n limit
 cut_below n limit h = by (cases_lt limit n)

@@ -1,5 +1,6 @@
 -- The forms of written types, field by field.
-use Rattle.std.proofs.Common.{◌≡◌, ℕ, zero, suc, ℤ, Bool, true, false, cond, ◌||◌, List, [], ◌∷◌, ◌++◌, map, length, take, slice_get, Option, Some, None, option_map, refl, sym, ap, subst, ◌∙◌, append_assoc, append-nil}
+use Rattle.std.proofs.Common.{◌≡◌, ℕ, zero, suc, ℤ, Bool, true, false, cond, ◌||◌, List, [], ◌∷◌, ◌++◌, map, length, take, slice_get, Option, Some, None, option_map, Result, Ok, Err, refl, sym, ap, subst, ◌∙◌, append_assoc, append-nil}
+use Rattle.std.specs.Result.{OnErr}
 use Rattle.std.proofs.Math.Seq.{take-append_seam}
 use Rattle.std.proofs.lemmas.Option.{same_Some, none-some}
 use Rattle.pearl_tree.specs.declared.typing.Field.{Field}
@@ -15,9 +16,9 @@ use Rattle.pearl_tree.specs.declared.typing.Typing.{Typing, Struct as Struct-typ
 use Rattle.pearl_names.specs.declared.types.TypeRef.{TypeRef}
 use Rattle.pearl_names.specs.declared.types.TypeRef.TheVariants.{Basic, Struct}
 use Rattle.pearl_names.specs.declared.types.StructForm.{StructForm}
-use Rattle.pearl_names.specs.Forms.{StandsFor, FieldsStand, Matches, IsForm, AreNamed, append_fields}
-use Rattle.pearl_names.specs.Forming.{fields_shown, AllMatch, Grows, Has, Made, sizes_of, struct_shape}
-use Rattle.pearl_names.specs.declared.types.Sizes.{Sizes}
+use Rattle.pearl_names.specs.Forms.{pair_of, StandsFor, FieldsStand, AllBounded, Matches, IsForm, AreNamed, append_fields}
+use Rattle.pearl_names.specs.Forming.{fields_shown, AllMatch, Grows, Has, Made, struct_shape}
+use Rattle.pearl_names.specs.declared.sense.Bounds.{Bounds}
 use Rattle.pearl_names.specs.Counts.{counts}
 use Rattle.pearl_names.specs.Runs.{tails_of}
 use Rattle.pearl_names.proofs.Standing.{stands_more, fields_more}
@@ -58,6 +59,11 @@ all_match_more old new named shapes grows h = subst (λ l. AllMatch l named shap
 pub grows_more : (a b c : List StructForm) → Grows a b → Grows b c → Grows a c
 grows_more a b c one two = record { more = one.more ++ two.more; is = two.is ∙ ap (λ t. t ++ two.more) one.is ∙ append_assoc a one.more two.more }
 
+-- what holds in any case holds after want of memory
+pub kept_on_err : {X E P : Type 0} (answer : Result X E) → P → OnErr answer P
+kept_on_err (Ok value) holds = tt
+kept_on_err (Err error) holds = holds
+
 pub grows_none : (a : List StructForm) → Grows a a
 grows_none a = record { more = []; is = sym (append-nil a) }
 
@@ -65,6 +71,7 @@ form_grows : (old new : List StructForm) (form : StructForm) (fields : Fields) �
 form_grows old new form fields grows is = record {
   stand = subst (λ l. FieldsStand l 0 0 form.fields.entries fields) (sym grows.is) (fields_more old grows.more 0 0 form.fields.entries fields is.stand);
   counted = is.counted;
+  bounded = is.bounded;
 }
 
 -- the fields of one list, and then those of another
@@ -127,7 +134,7 @@ repeats-append before (name ∷ a) b =
     or_assoc false b c = refl
 
 pub made_none : (old : List StructForm) (named : List (Option TypeRef)) (around : List (Option Shape) → Around) (form : StructForm) → form.fields.entries ≡ [] →
-    form.counts ≡ record { leaves = 0; slots = 0; dimensions = 0; greatest = 0 } → Made old old named around form []
+    form.counts ≡ record { leaves = 0; slots = 0; dimensions = 0; greatest = 0; longest = 0 } → Made old old named around form []
 unfolding StandsFor counts
 made_none old named around form empty zeros = record {
   grows = grows_none old;
@@ -136,20 +143,20 @@ made_none old named around form empty zeros = record {
   has = λ shapes h. record {
     shape = NoField;
     is = refl;
-    stands = record { stand = subst (λ l. FieldsStand old 0 0 l NoField) (sym empty) tt; counted = zeros };
+    stands = record { stand = subst (λ l. FieldsStand old 0 0 l NoField) (sym empty) tt; counted = zeros; bounded = subst (λ l. AllBounded form.bounds.items l NoField) (sym empty) tt };
   };
 }
 
-pub made_more : (old mid new : List StructForm) (named : List (Option TypeRef)) (around : List (Option Shape) → Around) (built now : StructForm) (xs : List Field) (x : Field) (sizes : Sizes) (part : TypeRef) →
+pub made_more : (old mid new : List StructForm) (named : List (Option TypeRef)) (around : List (Option Shape) → Around) (built now : StructForm) (xs : List Field) (x : Field) (own : List Bounds) (part : TypeRef) →
     Made old mid named around built xs → Grows mid new →
     ((shapes : List (Option Shape)) → AllMatch mid named shapes → Matches new (Some part) (shape_of (around shapes) (shown_typing x.typing))) →
-    Some sizes ≡ option_map sizes_of (sound_bounds x.bounds.items.items) →
+    Some (map pair_of own) ≡ sound_bounds x.bounds.items.items →
     ((before : List Name) → AreNamed built.fields.entries before → AreNamed now.fields.entries (before ++ names_of (shown_names x.names)) × (has_repeats before (names_of (shown_names x.names)) ≡ false)) →
-    ((fields : Fields) (bounds : List (ℤ × ℤ)) (shape : Shape) → IsForm new built fields → sizes ≡ sizes_of bounds → StandsFor new part shape →
+    ((fields : Fields) (bounds : List (ℤ × ℤ)) (shape : Shape) → IsForm new built fields → map pair_of own ≡ bounds → StandsFor new part shape →
     IsForm new now (append_fields fields (with_fields (names_of (shown_names x.names)) bounds shape NoField))) →
     Made old new named around now (xs ++ x ∷ [])
 unfolding joined_fields
-made_more old mid new named around built now xs x sizes part made grows matches sized fresh added = record {
+made_more old mid new named around built now xs x own part made grows matches sized fresh added = record {
   grows = grows_more old mid new made.grows grows;
   named_so = (fresh (field_names (fields_shown xs)) made.named_so).0 ∙ ap (map name_text) (sym names);
   once = ap (has_repeats []) names ∙ repeats-append [] (field_names (fields_shown xs)) (names_of (shown_names x.names))
@@ -163,14 +170,14 @@ made_more old mid new named around built now xs x sizes part made grows matches 
     names = names_joined xs (x ∷ []) ∙ ap (λ t. field_names (fields_shown xs) ++ t) (append-nil (names_of (shown_names x.names)))
 
     more : (shapes : List (Option Shape)) → Has (around shapes) mid built xs → (b : Option (List (ℤ × ℤ))) → sound_bounds x.bounds.items.items ≡ b →
-        (s : Option Shape) → shape_of (around shapes) (shown_typing x.typing) ≡ s → Some sizes ≡ option_map sizes_of b → Matches new (Some part) s → Has (around shapes) new now (xs ++ x ∷ [])
+        (s : Option Shape) → shape_of (around shapes) (shown_typing x.typing) ≡ s → Some (map pair_of own) ≡ b → Matches new (Some part) s → Has (around shapes) new now (xs ++ x ∷ [])
     more shapes has (Some bounds) eb (Some shape) es so h = record {
       shape = append_fields has.shape (with_fields (names_of (shown_names x.names)) bounds shape NoField);
       is = fields_joined (around shapes) xs (x ∷ [])
           ∙ (λ i. joined_fields (has.is i) (with_parts (names_of (shown_names x.names)) (eb i) (es i) (Some NoField)));
-      stands = added has.shape bounds shape (form_grows mid new built has.shape grows has.stands) (same_Some sizes (sizes_of bounds) so) h;
+      stands = added has.shape bounds shape (form_grows mid new built has.shape grows has.stands) (same_Some (map pair_of own) bounds so) h;
     }
-    more shapes has None eb s es so h = absurd (none-some sizes (sym so))
+    more shapes has None eb s es so h = absurd (none-some (map pair_of own) (sym so))
     more shapes has (Some bounds) eb None es so h = absurd h
 
 struct_none : (around : Around) (fields : List Field) → fields_of around (fields_shown fields) ≡ None → struct_shape around fields ≡ None
@@ -187,15 +194,11 @@ struct_twice : (around : Around) (fields : List Field) → has_repeats [] (field
 struct_twice around fields h = ap (λ b. cond b None (option_map OfFields (fields_of around (fields_shown fields)))) h
 
 -- a field has no sound bounds
-pub unsized : (new : List StructForm) (around : Around) (xs rest : List Field) (x : Field) → None ≡ option_map sizes_of (sound_bounds x.bounds.items.items) →
+pub unsized : (new : List StructForm) (around : Around) (xs rest : List Field) (x : Field) → None ≡ sound_bounds x.bounds.items.items →
     Matches new None (struct_shape around (xs ++ x ∷ rest))
 unsized new around xs rest x h =
     subst (Matches new None) (sym (struct_none around (xs ++ x ∷ rest) (no_fields around xs rest x
-    (ap (λ b. with_parts (names_of (shown_names x.names)) b (shape_of around (shown_typing x.typing)) (fields_of around (fields_shown rest))) (none_of (sound_bounds x.bounds.items.items) h))))) tt
-  where
-    none_of : (b : Option (List (ℤ × ℤ))) → None ≡ option_map sizes_of b → b ≡ None
-    none_of None h = refl
-    none_of (Some b) h = absurd (none-some (sizes_of b) h)
+    (ap (λ b. with_parts (names_of (shown_names x.names)) b (shape_of around (shown_typing x.typing)) (fields_of around (fields_shown rest))) (sym h))))) tt
 
 -- a field has no shape
 pub unshaped : (new : List StructForm) (around : Around) (xs rest : List Field) (x : Field) → Matches new None (shape_of around (shown_typing x.typing)) →
@@ -245,6 +248,7 @@ kept old now new named around form tailed fields part made same tails is number 
       subst (λ l. FieldsStand l 0 0 tailed.fields.entries has.shape) (sym earlier) (subst (λ es. FieldsStand now 0 0 es has.shape) (sym entries) has.stands.stand),
       ap (λ f. f.counts) same ∙ has.stands.counted,
       tails has.shape has.stands.stand,
+      subst (λ f. AllBounded f.bounds.items f.fields.entries has.shape) (sym same) has.stands.bounded,
     )
 
 pub kept_grows : (old now new : List StructForm) (form : StructForm) → Grows old now → new ≡ now ++ form ∷ [] → Grows old new

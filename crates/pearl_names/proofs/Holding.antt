@@ -15,9 +15,9 @@ use Rattle.pearl_names.specs.declared.sense.Sense.TheVariants as held
 use Rattle.pearl_names.specs.declared.types.StructForm.{StructForm}
 use Rattle.pearl_names.specs.declared.types.TypeRef.{TypeRef}
 use Rattle.pearl_names.specs.Forming.{AllMatch, Grows}
-use Rattle.pearl_names.specs.Forms.{Matches}
+use Rattle.pearl_names.specs.Forms.{pair_of, Matches}
 use Rattle.pearl_names.specs.Groups.{shown_meaning, group_entries, entries_in, shown_scope, scopes_in_list}
-use Rattle.pearl_names.specs.Holding.{pair_of, HoldsForm, HoldsSense, HoldsAll, HoldsSenses, HasPart}
+use Rattle.pearl_names.specs.Holding.{HoldsForm, HoldsSense, HoldsAll, HoldsSenses, HasPart}
 use Rattle.pearl_names.specs.Known.{Known, known_from}
 use Rattle.pearl_names.specs.Layout.{leaves_of, is_sound_leaf}
 use Rattle.pearl_names.specs.ScopeNames.{ScopeNames}

@@ -14,7 +14,7 @@ use Rattle.pearl_names.specs.declared.types.TypeRef.{TypeRef}
 use Rattle.pearl_names.specs.Counts.{counts, has_sound_leaves}
 use Rattle.pearl_names.specs.Forms.{StandsFor, Matches}
 use Rattle.pearl_names.specs.Forming.{AllMatch, IsLaid, sizes_of}
-use Rattle.pearl_names.specs.Holding.{pair_of}
+use Rattle.pearl_names.specs.Forms.{pair_of}
 use Rattle.pearl_names.specs.Layout.{leaves_of, leaves_within, is_sound_leaf}
 use Rattle.pearl_names.specs.Shapes.{Shape, sound_bound, sound_bounds}
 use Rattle.pearl_names.specs.Tables.{Form, sound_form}

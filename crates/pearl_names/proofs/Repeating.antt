@@ -4,6 +4,7 @@ use Rattle.std.proofs.lemmas.List.{map-append}
 use Rattle.pearl_tree.specs.declared.fault.RuleFault.{RuleFault}
 use Rattle.pearl_tree.specs.declared.name.Name.{Name}
 use Rattle.pearl_names.specs.declared.scope.SortedName.{SortedName}
+use Rattle.pearl_tree.specs.declared.rule.TheConstants as rule
 use Rattle.pearl_tree.specs.Faults.{fault_if}
 use Rattle.pearl_tree.specs.Names.{name_text, is_among, repeats}
 use Rattle.arrayvec.specs.ArrayVec.{ArrayVec}
@@ -36,12 +37,12 @@ among_found (entry ∷ names) text = by (among_found names text) (bytes_eq text 
     by rest false e = ap (λ b. b || is_among (map (λ entry. entry.name) names) text) (bytes_symm text (name_text entry.name) false e) ∙ rest ∙ some (first_index names text)
 
 pub repeated_push : (names : List SortedName) (entry : SortedName) →
-    repeated (names ++ entry ∷ []) ≡ repeated names ++ fault_if (is_some (first_index names (name_text entry.name))) entry.name.place 1
+    repeated (names ++ entry ∷ []) ≡ repeated names ++ fault_if (is_some (first_index names (name_text entry.name))) entry.name.place rule.S1
 unfolding repeated
 repeated_push names entry =
-    ap (repeats 1 []) (map-append (λ entry. entry.name) names (entry ∷ []))
-    ∙ repeats_push 1 [] (map (λ entry. entry.name) names) entry.name
-    ∙ ap (λ b. repeats 1 [] (map (λ entry. entry.name) names) ++ fault_if b entry.name.place 1) (among_found names (name_text entry.name))
+    ap (repeats rule.S1 []) (map-append (λ entry. entry.name) names (entry ∷ []))
+    ∙ repeats_push rule.S1 [] (map (λ entry. entry.name) names) entry.name
+    ∙ ap (λ b. repeats rule.S1 [] (map (λ entry. entry.name) names) ++ fault_if b entry.name.place rule.S1) (among_found names (name_text entry.name))
 
 -- of no names
 pub repeated_nil : repeated [] ≡ []
@@ -72,17 +73,17 @@ module _ (names : List SortedName) (entry : SortedName) (name : Name) (number : 
   new_name h after told = record {
     index = index_after;
     repeats = told ∙ has.repeats ∙ sym (append-nil (repeated names))
-        ∙ ap (λ b. repeated names ++ fault_if b entry.name.place 1) (found false h) ∙ sym (repeated_push names entry);
+        ∙ ap (λ b. repeated names ++ fault_if b entry.name.place rule.S1) (found false h) ∙ sym (repeated_push names entry);
   }
 
   -- a name before has it
-  pub old_name : true ≡ is_some (number_of old name.text.items) → (after : List RuleFault) → after ≡ faults ++ record { place = name.place; rule = 1 } ∷ [] →
+  pub old_name : true ≡ is_some (number_of old name.text.items) → (after : List RuleFault) → after ≡ faults ++ record { place = name.place; rule = rule.S1 } ∷ [] →
       HasNames (names ++ entry ∷ []) new after
   old_name h after told = record {
     index = index_after;
-    repeats = told ∙ ap (λ t. t ++ record { place = name.place; rule = 1 } ∷ []) has.repeats
-        ∙ ap (λ n. repeated names ++ record { place = n.place; rule = 1 } ∷ []) (sym same)
-        ∙ ap (λ b. repeated names ++ fault_if b entry.name.place 1) (found true h) ∙ sym (repeated_push names entry);
+    repeats = told ∙ ap (λ t. t ++ record { place = name.place; rule = rule.S1 } ∷ []) has.repeats
+        ∙ ap (λ n. repeated names ++ record { place = n.place; rule = rule.S1 } ∷ []) (sym same)
+        ∙ ap (λ b. repeated names ++ fault_if b entry.name.place rule.S1) (found true h) ∙ sym (repeated_push names entry);
   }
 
 -- the names that a loop has noted so far

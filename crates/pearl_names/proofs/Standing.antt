@@ -1,11 +1,12 @@
 -- What forms stand for: it stays where more forms come, and fields are found by their names.
-use Rattle.std.proofs.Common.{◌≡◌, ℕ, zero, suc, ◌+◌, ◌-◌, ◌<◌, Bool, true, false, cond, List, [], ◌∷◌, ◌++◌, length, take, drop, slice_get, Option, Some, None, bytes_eq, refl, sym, ap, subst, ◌∙◌, true≢false, is_some, arith}
+use Rattle.std.proofs.Common.{◌≡◌, ℕ, zero, suc, ◌+◌, ◌-◌, ◌<◌, ℤ, Bool, true, false, cond, List, [], ◌∷◌, ◌++◌, map, option_map, length, take, drop, slice_get, Option, Some, None, bytes_eq, refl, sym, ap, subst, ◌∙◌, true≢false, is_some, arith}
 use Rattle.std.proofs.lemmas.List.{take-append-drop, take-append-le}
 use Rattle.std.proofs.lemmas.Option.{same_Some, none-some, slice_get_within}
 use Rattle.std.specs.Map.{lookup}
 use Rattle.arrayvec.specs.ArrayVec.{ArrayVec}
 use Rattle.pearl_value.specs.declared.kind.Kind.{Kind}
 use Rattle.pearl_names.specs.Shapes.{Shape, OfKind, OfFields, Fields, NoField, MoreField}
+use Rattle.pearl_names.specs.declared.sense.Bounds.{Bounds}
 use Rattle.pearl_names.specs.declared.types.Counts.{Counts}
 use Rattle.pearl_names.specs.declared.types.TypeRef.{TypeRef}
 use Rattle.pearl_names.specs.declared.types.TypeRef.TheVariants.{Basic, Struct}
@@ -17,7 +18,7 @@ use Rattle.pearl_names.specs.Kinds.{one_kind, kinds_among}
 use Rattle.pearl_names.specs.Runs.{shape_slots, field_slots, drop_fields, tails_of}
 use Rattle.pearl_names.proofs.KindSets.{kinds-run}
 use Rattle.pearl_names.proofs.ShapeSlots.{field_count, tail_at}
-use Rattle.pearl_names.specs.Forms.{leaf_count, slot_count, StandsFor, FieldsStand, component, MatchesComponent}
+use Rattle.pearl_names.specs.Forms.{leaf_count, slot_count, pair_of, StandsFor, FieldsStand, AllBounded, FindsBounds, Component, component, MatchesComponent}
 
 slice_get_more : {X : Type 0} (xs ys : List X) (i : ℕ) (x : X) → slice_get xs i ≡ Some x → slice_get (xs ++ ys) i ≡ Some x
 slice_get_more [] ys i x h = absurd (true≢false (sym (ap is_some h)))
@@ -32,7 +33,7 @@ mutual
   stands_more forms more (Struct number) (OfFields fields) h =
       let inside : number < length forms = slice_get_within forms number h.0 h.1 in
       let same = take-append-le number forms more (omega (arith, inside)) in
-      (h.0, slice_get_more forms more number h.0 h.1, subst (λ l. FieldsStand l 0 0 h.0.fields.entries fields) (sym same) h.2, h.3, h.4)
+      (h.0, slice_get_more forms more number h.0 h.1, subst (λ l. FieldsStand l 0 0 h.0.fields.entries fields) (sym same) h.2, h.3, h.4, h.5)
   stands_more forms more (Basic kind) (OfFields fields) h = absurd h
   stands_more forms more (Struct number) (OfKind kind) h = absurd h
 
@@ -74,6 +75,49 @@ field_answer forms number fields text form answer at is h =
     let same : form ≡ h.0 = same_Some form h.0 (sym at ∙ h.1) in
     rw (is, same) (found_field forms 0 0 h.0.fields.entries fields text (fields_all forms number 0 0 h.0.fields.entries fields h.2))
 
+-- and so are its bounds
+pub found_bounds : (all : List Bounds) (forms : List StructForm) (leaves slots : ℕ) (entries : List (ArrayVec ℕ × FieldForm)) (fields : Fields) (text : List ℕ) →
+    FieldsStand forms leaves slots entries fields → AllBounded all entries fields →
+    FindsBounds all (lookup (λ key. bytes_eq text key.items) entries) (component leaves slots fields text)
+unfolding StandsFor
+found_bounds all forms leaves slots [] NoField text h b = tt
+found_bounds all forms leaves slots (entry ∷ entries) (MoreField name bounds shape rest) text h b =
+    rw h.0.named (by (bytes_eq text name) (found_bounds all forms (leaves + leaf_count shape) (slots + slot_count bounds shape) entries rest text h.2 b.1))
+  where
+    by : (c : Bool) → FindsBounds all (lookup (λ key. bytes_eq text key.items) entries) (component (leaves + leaf_count shape) (slots + slot_count bounds shape) rest text) →
+        FindsBounds all (cond c (Some entry.1) (lookup (λ key. bytes_eq text key.items) entries))
+        (cond c (Some (record { bounds = bounds; shape = shape; leaf = leaves; slot = slots })) (component (leaves + leaf_count shape) (slots + slot_count bounds shape) rest text))
+    by true inner = b.0
+    by false inner = inner
+found_bounds all forms leaves slots [] (MoreField name bounds shape rest) text h b = absurd h
+found_bounds all forms leaves slots (entry ∷ entries) NoField text h b = absurd h
+
+pub some_bounds : (all own : List Bounds) (answer : Option FieldForm) (field : FieldForm) (of : Option Component) → answer ≡ Some field → FindsBounds all answer of →
+    ((before mine behind : List Bounds) → all ≡ before ++ (mine ++ behind) → field.first ≡ length before → field.past ≡ length before + length mine → own ≡ mine) →
+    Some (map pair_of own) ≡ option_map (λ of. of.bounds) of
+some_bounds all own (Some found) field (Some of) is h reads =
+    let same : found ≡ field = same_Some found field is in
+    ap Some (ap (map pair_of) (reads h.before h.own h.behind h.is (ap (λ f. f.first) (sym same) ∙ h.first) (ap (λ f. f.past) (sym same) ∙ h.past)) ∙ h.pairs)
+some_bounds all own (Some found) field None is h reads = absurd h
+some_bounds all own None field of is h reads = absurd (none-some field is)
+
+pub no_bounds : (all : List Bounds) (answer : Option FieldForm) (of : Option Component) → answer ≡ None → FindsBounds all answer of →
+    None ≡ option_map (λ of. of.bounds) of
+no_bounds all None None is h = refl
+no_bounds all None (Some of) is h = absurd h
+no_bounds all (Some found) of is h = absurd (none-some found (sym is))
+
+pub bounds_answer : (forms : List StructForm) (number : ℕ) (fields : Fields) (text : List ℕ) (form : StructForm) (answer : Option (List (ℤ × ℤ))) →
+    slice_get forms number ≡ Some form →
+    ((early : List StructForm) (own : Fields) → FieldsStand early 0 0 form.fields.entries own → AllBounded form.bounds.items form.fields.entries own →
+    answer ≡ option_map (λ of. of.bounds) (component 0 0 own text)) →
+    StandsFor forms (Struct number) (OfFields fields) → answer ≡ option_map (λ of. of.bounds) (component 0 0 fields text)
+unfolding StandsFor
+bounds_answer forms number fields text form answer at tells h =
+    let same : form ≡ h.0 = same_Some form h.0 (sym at ∙ h.1) in
+    tells (take number forms) fields (subst (λ f. FieldsStand (take number forms) 0 0 f.fields.entries fields) (sym same) h.2)
+    (subst (λ f. AllBounded f.bounds.items f.fields.entries fields) (sym same) h.5)
+
 pub no_form : (forms : List StructForm) (number : ℕ) (fields : Fields) → slice_get forms number ≡ None → StandsFor forms (Struct number) (OfFields fields) → ⊥
 unfolding StandsFor
 no_form forms number fields at h = none-some h.0 (sym at ∙ h.1)
@@ -85,7 +129,7 @@ counts_answer forms number fields form at h = ap (λ f. f.counts) (same_Some for
 
 -- the counts of a basic type, and of a STRUCT
 pub basic_counts : (forms : List StructForm) (kind : Kind) (shape : Shape) → StandsFor forms (Basic kind) shape →
-    record { leaves = 1; slots = 1; dimensions = 0; greatest = 1 } ≡ counts_of shape
+    record { leaves = 1; slots = 1; dimensions = 0; greatest = 1; longest = 0 } ≡ counts_of shape
 unfolding StandsFor counts
 basic_counts forms kind (OfKind to) h = refl
 basic_counts forms kind (OfFields fields) h = absurd h

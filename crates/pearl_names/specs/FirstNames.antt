@@ -4,6 +4,7 @@ use Rattle.std.specs.Str.{bytes_eq}
 use Rattle.std.specs.Map.{lookup}
 use Rattle.arrayvec.specs.ArrayVec.{ArrayVec}
 use Rattle.pearl_tree.specs.declared.fault.RuleFault.{RuleFault}
+use Rattle.pearl_tree.specs.declared.rule.TheConstants as rule
 use Rattle.pearl_tree.specs.Names.{name_text, repeats}
 use Rattle.pearl_names.specs.declared.scope.SortedName.{SortedName}
 
@@ -33,7 +34,7 @@ pub record IsIndex (names : List SortedName) (entries : List (ArrayVec ℕ × �
 
 -- the names that have the text of one before, as rule S1 tells them
 unfoldable pub repeated : List SortedName → List RuleFault
-repeated names = repeats 1 [] (map (λ entry. entry.name) names)
+repeated names = repeats rule.S1 [] (map (λ entry. entry.name) names)
 
 -- what a scope keeps beside its names: the first of each text, and the repeats
 pub record HasNames (names : List SortedName) (entries : List (ArrayVec ℕ × ℕ)) (faults : List RuleFault) : Type 0 where

@@ -10,6 +10,7 @@ use Rattle.pearl_names.specs.Layout.{elements}
 use Rattle.pearl_names.specs.declared.types.TypeRef.{TypeRef}
 use Rattle.pearl_names.specs.declared.types.StructForm.{StructForm}
 use Rattle.pearl_names.specs.declared.types.Sizes.{Sizes}
+use Rattle.pearl_names.specs.declared.forms.Types.{Types}
 use Rattle.pearl_names.specs.declared.layout.Laid.{Laid}
 use Rattle.pearl_names.specs.Counts.{cut}
 use Rattle.pearl_names.specs.Forms.{StandsFor, Matches, IsForm, AreNamed}
@@ -28,6 +29,11 @@ AllMatch forms parts shapes = ⊥
 pub record Grows (old new : List StructForm) : Type 0 where
   pub more : List StructForm
   pub is : new ≡ old ++ more
+
+-- the TYPEs stay, and so do the forms that stood before
+pub record Keeps (old new : Types) : Type 0 where
+  pub grows : Grows old.forms.items new.forms.items
+  pub named : new.named.items ≡ old.named.items
 
 abbrev pub around_of : List ScopeNames → List DefaultLength → ℕ → List (Option Shape) → Around
 around_of scopes lengths scope shapes = record { scopes = scopes; lengths = lengths; shapes = shapes; scope = scope }

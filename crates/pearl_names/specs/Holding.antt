@@ -1,9 +1,8 @@
 -- Which table in memory holds which table of names. A TYPE stands there by its number, and is written out in the
 -- definition.
-use Rattle.std.specs.Prelude.{◌≡◌, ℕ, ℤ, List, [], ◌∷◌, map, Option, Some, None, option_map, slice_get}
+use Rattle.std.specs.Prelude.{◌≡◌, ℕ, List, [], ◌∷◌, map, Option, Some, None, option_map, slice_get}
 use Rattle.std.specs.Option.{option_and_then}
 use Rattle.pearl_names.specs.declared.meaning.Found.{Found}
-use Rattle.pearl_names.specs.declared.sense.Bounds.{Bounds}
 use Rattle.pearl_names.specs.declared.sense.Form.{Form as HeldForm}
 use Rattle.pearl_names.specs.declared.sense.Parameter.{Parameter as HeldParameter}
 use Rattle.pearl_names.specs.declared.sense.Sense.{Sense as HeldSense}
@@ -12,14 +11,11 @@ use Rattle.pearl_names.specs.declared.sense.ScopeSenses.{ScopeSenses}
 use Rattle.pearl_names.specs.declared.table.SenseTable.{SenseTable}
 use Rattle.pearl_names.specs.declared.types.StructForm.{StructForm}
 use Rattle.pearl_names.specs.declared.types.TypeRef.{TypeRef}
-use Rattle.pearl_names.specs.Forms.{StandsFor, Matches}
+use Rattle.pearl_names.specs.Forms.{pair_of, StandsFor, Matches}
 use Rattle.pearl_names.specs.Known.{Known, around}
 use Rattle.pearl_names.specs.Scopes.{Meaning}
 use Rattle.pearl_names.specs.Scopes as scopes
 use Rattle.pearl_names.specs.Tables.{Form, Parameter, Sense, Variable, Control, OwnParameter, NewType, Semaphore, Interrupt, AlphicDation, BasicDation, Task, Procedure, Table, form_of}
-
-abbrev pub pair_of : Bounds → ℤ × ℤ
-pair_of bounds = (bounds.lower, bounds.upper)
 
 abbrev pub HoldsForm : List StructForm → Option HeldForm → Option Form → Type 0
 HoldsForm forms None None = Unit {0}

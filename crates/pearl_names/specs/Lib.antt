@@ -22,13 +22,13 @@ pub mod Found
 pub mod Shapes
 -- as which leaves a variable is laid out
 pub mod Layout
--- how many leaves, slots and dimensions a type has, cut off above the limits
+-- how many leaves, slots and dimensions a type has, and how long the longest name of a leaf is, cut off above the limits
 pub mod Counts
 -- which kinds are among some slots
 pub mod Kinds
 -- the slots of types that are written out
 pub mod Runs
--- the TYPEs of a module by number, with their counts
+-- the TYPEs of a module by number, with their counts and the bounds of their fields
 pub mod Forms
 -- what each STRUCT adds to the TYPEs by number
 pub mod Forming

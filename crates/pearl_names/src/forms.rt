@@ -1,6 +1,6 @@
 // The forms of written types.
 
-ghost use Rattle.std.specs.Prelude.{◌≡◌, ◌++◌, ◌∷◌, [], List, ℕ, ℤ, true, false, Option, Some, None, if◌then◌else◌, option_map, map, IfOk, OnOk, length, int_le};
+ghost use Rattle.std.specs.Prelude.{◌≡◌, ◌+◌, ◌*◌, ◌++◌, ◌∷◌, [], List, ℕ, ℤ, true, false, Option, Some, None, if◌then◌else◌, option_map, map, IfOk, OnOk, OnErr, length, int_le};
 ghost use Rattle.std.specs.Option.{option_and_then};
 ghost use Rattle.pearl_tree.specs.declared.name.Name.{Name as NameOf};
 ghost use Rattle.pearl_tree.specs.ShownDeclarations.{shown_names, shown_typing};
@@ -12,8 +12,7 @@ ghost use Rattle.pearl_names.specs.Layout.{elements};
 ghost use Rattle.pearl_names.specs.Lengths.{kind_of_basic as kind_of};
 ghost use Rattle.pearl_names.specs.declared.types.TypeRef.TheVariants as type_ref;
 ghost use Rattle.pearl_names.specs.declared.types.StructForm.{StructForm as StructFormOf};
-ghost use Rattle.pearl_names.specs.Forms.{IsForm, IsPart, StandsFor, AreNamed, Matches, append_fields};
-ghost use Rattle.pearl_names.specs.Holding.{pair_of};
+ghost use Rattle.pearl_names.specs.Forms.{pair_of, IsForm, StandsFor, AreNamed, Matches, append_fields};
 ghost use Rattle.pearl_names.specs.Forming.{AllMatch, Grows, around_of, fields_shown, Made, sizes_of, struct_shape};
 
 use crate::length::{Lengths, kind_of_basic};
@@ -22,8 +21,8 @@ use crate::names::ScopeTable;
 use crate::scope::NameSort;
 use crate::sense::Bounds;
 use crate::types::{
-    Counts, FieldForm, NONE, Sizes, StructForm, TypeRef, add_field, add_fields, counts_of, cut,
-    cut_product, cut_sum, tails_of, within,
+    FieldForm, NONE, Sizes, StructForm, TypeRef, add_fields, counts_of, cut, cut_product, cut_sum,
+    tails_of, within,
 };
 use indexmap::IndexMap;
 use pearl_tree::name::{Name, Names};
@@ -31,7 +30,6 @@ use pearl_tree::parts::Parts;
 use pearl_tree::tree::Decl;
 use pearl_tree::typing::{Basic, Bound, Field, Int, Typing};
 use std::alloc::{AllocError as NoMemory, Global};
-use std::slice::from_ref;
 
 fn form_of_declared(named: &[Option<TypeRef>], sort: NameSort) -> Option<TypeRef>
     ensures { (forms : List StructFormOf) (shapes : List (Option Shape)) → AllMatch forms named.now shapes →
@@ -72,30 +70,6 @@ fn form_of_basic(lengths: &Lengths, basic: &Basic) -> Option<TypeRef>
     }
 }
 
-// Adds a field of each of these names. It answers whether no field had one of them.
-fn add_part(
-    form: &mut StructForm,
-    names: &Names,
-    field: FieldForm,
-    each: Counts,
-) -> Result<bool, NoMemory>
-    ensures fresh { IfOk result (λ fresh. (before : List NameOf) → AreNamed form.old.fields.entries before →
-        fresh ≡ true → AreNamed form.new.fields.entries (before ++ names_of (shown_names names.now)) × (has_repeats before (names_of (shown_names names.now)) ≡ false)) }
-    ensures twice { IfOk result (λ fresh. (before : List NameOf) → AreNamed form.old.fields.entries before →
-        fresh ≡ false → has_repeats before (names_of (shown_names names.now)) ≡ true) }
-    ensures added { IfOk result (λ fresh. (forms : List StructFormOf) (fields : Fields) (bounds : List (ℤ × ℤ)) (shape : Shape) → fresh ≡ true →
-        IsForm forms form.old fields → IsPart forms field each bounds shape →
-        IsForm forms form.new (append_fields fields (with_fields (names_of (shown_names names.now)) bounds shape NoField))) }
-{
-    match names {
-        Names::One(name) => {
-            let one = from_ref(name);
-            add_fields(form, one, field, each)
-        }
-        Names::Several { names, .. } => add_fields(form, names.as_slice(), field, each),
-    }
-}
-
 fn next_number(forms: &[StructForm]) -> Result<u32, NoMemory>
     ensures { IfOk result (λ number. number ≡ length forms.now) }
 {
@@ -109,18 +83,19 @@ fn next_number(forms: &[StructForm]) -> Result<u32, NoMemory>
 fn keep(forms: &mut Vec<StructForm>, form: StructForm) -> Result<TypeRef, NoMemory>
     ensures kept { OnOk result (forms.new.items ≡ forms.old.items ++ form ∷ []) }
     ensures number { IfOk result (λ part. part ≡ type_ref.Struct (length forms.old.items)) }
+    ensures err { OnErr result (forms.new.items ≡ forms.old.items) }
 {
     let number = next_number(forms.as_slice())?;
     forms.push(form)?;
     Ok(TypeRef::Struct(number))
 }
 
-// Adds fields of this type.
+// Adds fields of this type within these bounds. It answers whether no field had one of these names.
 fn add_written(
     forms: &[StructForm],
     form: &mut StructForm,
     names: &Names,
-    sizes: Sizes,
+    own: &[Bounds],
     part: TypeRef,
 ) -> Result<bool, NoMemory>
     ensures fresh { IfOk result (λ fresh. (before : List NameOf) → AreNamed form.old.fields.entries before →
@@ -128,19 +103,34 @@ fn add_written(
     ensures twice { IfOk result (λ fresh. (before : List NameOf) → AreNamed form.old.fields.entries before →
         fresh ≡ false → has_repeats before (names_of (shown_names names.now)) ≡ true) }
     ensures added { IfOk result (λ fresh. (fields : Fields) (bounds : List (ℤ × ℤ)) (shape : Shape) → fresh ≡ true →
-        IsForm forms.now form.old fields → sizes ≡ sizes_of bounds → StandsFor forms.now part shape →
+        IsForm forms.now form.old fields → map pair_of own.now ≡ bounds → StandsFor forms.now part shape →
         IsForm forms.now form.new (append_fields fields (with_fields (names_of (shown_names names.now)) bounds shape NoField))) }
 {
+    let sizes = sizes_within(own);
     let each = within(sizes.dimensions, sizes.elements, counts_of(forms, part));
+    let first = form.bounds.len();
+    form.bounds.extend_from_slice(own)?;
     let field = FieldForm {
         part,
+        first,
+        past: form.bounds.len(),
         dimensions: sizes.dimensions,
         elements: sizes.elements,
         leaf: 0,
         slot: 0,
     };
-    let fresh = add_part(form, names, field, each)?;
+    let fresh = add_fields(form, names.as_slice(), field, each)?;
     Ok(fresh)
+}
+
+// One dimension more, of so many elements.
+fn with_dimension(sizes: Sizes, elements: u32) -> Sizes
+    ensures { result ≡ record { dimensions = cut (sizes.dimensions + 1); elements = cut (sizes.elements * elements) } }
+{
+    Sizes {
+        dimensions: cut_sum(sizes.dimensions, 1),
+        elements: cut_product(sizes.elements, elements),
+    }
 }
 
 pub(crate) fn sizes_of_bounds(bounds: &[Bound]) -> Option<Sizes>
@@ -153,10 +143,7 @@ pub(crate) fn sizes_of_bounds(bounds: &[Bound]) -> Option<Sizes>
     for bound in bounds {
         match elements_of(bound) {
             Some(elements) => {
-                sizes = Sizes {
-                    dimensions: cut_sum(sizes.dimensions, 1),
-                    elements: cut_product(sizes.elements, elements),
-                };
+                sizes = with_dimension(sizes, elements);
             }
             None => return None,
         }
@@ -230,6 +217,20 @@ fn elements_within(bounds: Bounds) -> u32
     cut(last + 1)
 }
 
+// How many dimensions and elements there are within these bounds.
+pub(crate) fn sizes_within(bounds: &[Bounds]) -> Sizes
+    ensures { result ≡ sizes_of (map pair_of bounds.now) }
+{
+    let mut sizes = Sizes {
+        dimensions: 0,
+        elements: 1,
+    };
+    for own in bounds {
+        sizes = with_dimension(sizes, elements_within(*own));
+    }
+    sizes
+}
+
 // How many elements there are within a sound bound.
 fn elements_of(bound: &Bound) -> Option<u32>
     ensures { result ≡ option_map (λ pair. cut (elements (pair ∷ []))) (sound_bound bound.now) }
@@ -258,6 +259,7 @@ pub(crate) fn form_of(
     typing: &Typing,
 ) -> Result<Option<TypeRef>, NoMemory>
     ensures grows { OnOk result (Grows forms.old.items forms.new.items) }
+    ensures err { OnErr result (Grows forms.old.items forms.new.items) }
     ensures form { IfOk result (λ part. (shapes : List (Option Shape)) → AllMatch forms.old.items named.now shapes →
         Matches forms.new.items part (shape_of (around_of scopes.now lengths.now scope shapes) (shown_typing typing.now))) }
 {
@@ -289,24 +291,32 @@ fn form_of_struct(
     fields: &Parts<Field>,
 ) -> Result<Option<TypeRef>, NoMemory>
     ensures grows { OnOk result (Grows forms.old.items forms.new.items) }
+    ensures err { OnErr result (Grows forms.old.items forms.new.items) }
     ensures form { IfOk result (λ part. (shapes : List (Option Shape)) → AllMatch forms.old.items named.now shapes →
         Matches forms.new.items part (struct_shape (around_of scopes.now lengths.now scope shapes) fields.now.items.items)) }
 {
     let mut form = StructForm {
         fields: IndexMap::new(alloc),
+        bounds: Vec::new(alloc),
         counts: NONE,
         tails: Vec::new(alloc),
     };
     for field in fields.as_slice() {
-        let sizes = match sizes_of_bounds(field.bounds.as_slice()) {
-            Some(sizes) => sizes,
+        let own = match all_bounds(alloc, field.bounds.as_slice())? {
+            Some(own) => own,
             None => return Ok(None),
         };
         let part = match form_of(alloc, scopes, lengths, named, scope, forms, &field.typing)? {
             Some(part) => part,
             None => return Ok(None),
         };
-        if !add_written(forms.as_slice(), &mut form, &field.names, sizes, part)? {
+        if !add_written(
+            forms.as_slice(),
+            &mut form,
+            &field.names,
+            own.as_slice(),
+            part,
+        )? {
             return Ok(None);
         }
     }

@@ -1,18 +1,20 @@
 // How a variable is laid out, by counts.
 
-ghost use Rattle.std.specs.Prelude.{◌≡◌, ℤ, List, [], Option, Some, take, option_map, IfOk, OnOk};
+ghost use Rattle.std.specs.Prelude.{◌≡◌, ℤ, List, [], Option, Some, take, option_map, IfOk, OnOk, OnErr};
 ghost use Rattle.pearl_tree.specs.ShownDeclarations.{shown_item, shown_typing};
 ghost use Rattle.pearl_names.specs.Counts.{counts, has_sound_leaves as has_sound};
-ghost use Rattle.pearl_names.specs.Forming.{AllMatch, Grows, IsLaid, around_of, sizes_of};
+ghost use Rattle.pearl_names.specs.Forming.{AllMatch, Grows, Keeps, IsLaid, around_of, sizes_of};
 ghost use Rattle.pearl_names.specs.Layout.{item_leaves, leaves_of, leaves_within};
 ghost use Rattle.pearl_names.specs.Forms.{Matches, StandsFor};
 ghost use Rattle.pearl_names.specs.Shapes.{Shape, shape_of, sound_bounds};
-ghost use Rattle.pearl_names.specs.Tables.{sound_form, form_of as sound_form_of};
+ghost use Rattle.pearl_names.specs.Holding.{HoldsForm};
+ghost use Rattle.pearl_names.specs.Tables.{Form as FormOf, sound_form, form_of as sound_form_of};
 ghost use Rattle.pearl_names.specs.declared.types.StructForm.{StructForm as StructFormOf};
 
-use crate::forms::{Types, form_of, sizes_of_bounds};
+use crate::forms::{Types, form_of, sizes_of_bounds, sizes_within};
 use crate::length::Lengths;
 use crate::names::ScopeTable;
+use crate::sense::Form;
 use crate::types::{Counts, Sizes, StructForm, TypeRef, counts_of, within};
 use pearl_tree::declaration::Item;
 use std::alloc::{AllocError as NoMemory, Global};
@@ -59,6 +61,7 @@ pub fn item_laid(
 ) -> Result<Option<Laid>, NoMemory>
     ensures grows { OnOk result (Grows known.old.forms.items known.new.forms.items) }
     ensures named { OnOk result (known.new.named.items ≡ known.old.named.items) }
+    ensures err { OnErr result (Keeps known.old known.new) }
     ensures laid { IfOk result (λ laid. (shapes : List (Option Shape)) →
         AllMatch known.old.forms.items known.old.named.items shapes →
         IsLaid known.new.forms.items laid (sound_bounds item.now.bounds.items.items)
@@ -93,6 +96,17 @@ fn counts_of_laid(forms: &[StructForm], laid: Laid) -> Counts
     )
 }
 
+/// The counts of a variable of this form.
+pub fn form_counts(forms: &[StructForm], form: &Form) -> Counts
+    ensures { (of : FormOf) → HoldsForm forms.now (Some form.now) (Some of) → result ≡ counts (leaves_of [] of.bounds of.shape) }
+{
+    let laid = Laid {
+        sizes: sizes_within(form.bounds.as_slice()),
+        part: form.part,
+    };
+    counts_of_laid(forms, laid)
+}
+
 fn counts_within(forms: &[StructForm], laid: Option<Laid>) -> Option<Counts>
     ensures { (bounds : Option (List (ℤ × ℤ))) (shape : Option Shape) → IsLaid forms.now laid bounds shape →
         result ≡ option_map counts (leaves_within bounds shape) }
@@ -116,6 +130,7 @@ pub fn item_counts(
 ) -> Result<Option<Counts>, NoMemory>
     ensures grows { OnOk result (Grows known.old.forms.items known.new.forms.items) }
     ensures named { OnOk result (known.new.named.items ≡ known.old.named.items) }
+    ensures err { OnErr result (Keeps known.old known.new) }
     ensures counts { IfOk result (λ found. (shapes : List (Option Shape)) →
         AllMatch known.old.forms.items known.old.named.items shapes →
         found ≡ option_map counts (item_leaves (around_of scopes.now lengths.now scope (take types shapes)) (shown_item item.now))) }
@@ -161,6 +176,7 @@ pub fn sound_part(
 ) -> Result<Option<TypeRef>, NoMemory>
     ensures grows { OnOk result (Grows known.old.forms.items known.new.forms.items) }
     ensures named { OnOk result (known.new.named.items ≡ known.old.named.items) }
+    ensures err { OnErr result (Keeps known.old known.new) }
     ensures part { IfOk result (λ part. (shapes : List (Option Shape)) →
         AllMatch known.old.forms.items known.old.named.items shapes →
         Matches known.new.forms.items part (option_map (λ form. form.shape)

@@ -1,8 +1,9 @@
 // The table of names: what each name stands for where it is seen.
 
-ghost use Rattle.std.specs.Prelude.{◌≡◌, option_copied, IfOk};
+ghost use Rattle.std.specs.Prelude.{◌≡◌, [], option_copied, unwrap_or, slice_get, IfOk};
 ghost use Rattle.pearl_tree.specs.ShownModules.{shown_tree};
-ghost use Rattle.pearl_names.specs.Holding.{HoldsFound, HoldsTable, held_at};
+ghost use Rattle.pearl_names.specs.Found.{found_from, names_in};
+ghost use Rattle.pearl_names.specs.Holding.{HoldsAll, HoldsFound, HoldsTable, held_at};
 ghost use Rattle.pearl_names.specs.Tables as spec;
 
 use crate::collect::scopes_of_module;
@@ -10,7 +11,7 @@ use crate::forms::types_of;
 use crate::length::{Lengths, lengths_set};
 use crate::meaning::{Found, find_from};
 use crate::names::ScopeTable;
-use crate::scope::View;
+use crate::scope::{SortedName, View};
 use crate::sense::{ScopeSenses, Sense};
 use crate::senses::all_senses;
 use crate::sorted::names_of;
@@ -28,7 +29,7 @@ pub struct SenseTable {
     forms: Vec<StructForm>,
 }
 
-fn sense_at(scopes: &[ScopeSenses], found: Found) -> Option<&Sense>
+fn sense_in(scopes: &[ScopeSenses], found: Found) -> Option<&Sense>
     ensures { option_copied result ≡ held_at scopes.now found }
 {
     let scope = scopes.get(found.scope as usize)?;
@@ -36,13 +37,63 @@ fn sense_at(scopes: &[ScopeSenses], found: Found) -> Option<&Sense>
 }
 
 impl SenseTable {
+    /// The scopes with their names, by their numbers.
+    pub fn scopes(&self) -> &[ScopeTable]
+        ensures { result.now ≡ self.now.names.items }
+    {
+        self.names.as_slice()
+    }
+
+    /// What the names of the scopes stand for, in the same order.
+    pub fn senses(&self) -> &[ScopeSenses]
+        ensures { result.now ≡ self.now.senses.items }
+    {
+        self.senses.as_slice()
+    }
+
+    /// The names of the scope of a number, also those that are declared again.
+    pub fn names_in(&self, scope: u32) -> &[SortedName]
+        ensures { result.now ≡ names_in (slice_get self.now.names.items scope) }
+    {
+        match self.names.get(scope as usize) {
+            Some(scope) => scope.names(),
+            None => &[],
+        }
+    }
+
+    /// What the names of the scope of a number stand for, in the same order.
+    pub fn senses_in(&self, scope: u32) -> &[Sense]
+        ensures { (t : spec.Table) → HoldsTable self.now t →
+            HoldsAll self.now.forms.items result.now (unwrap_or (slice_get t.senses scope) []) }
+    {
+        match self.senses.get(scope as usize) {
+            Some(scope) => scope.senses.as_slice(),
+            None => &[],
+        }
+    }
+
+    /// The declared name that a name means where it is seen from there, if a visible scope declares it.
+    pub fn find_from(&self, view: View, text: &ArrayVec<u8, 63>) -> Option<Found>
+        ensures { (t : spec.Table) → HoldsTable self.now t → result ≡ found_from t.names view text.now.items }
+    {
+        find_from(self.names.as_slice(), view, text)
+    }
+
+    /// What a declared name stands for.
+    pub fn sense_at(&self, found: Found) -> Option<&Sense>
+        ensures { (t : spec.Table) → HoldsTable self.now t →
+            HoldsFound self.now.forms.items (option_copied result) (spec.sense_at t.senses found) }
+    {
+        sense_in(self.senses.as_slice(), found)
+    }
+
     /// What a name stands for where it is seen from there, if a visible scope declares it.
     pub fn sense_from(&self, view: View, text: &ArrayVec<u8, 63>) -> Option<&Sense>
         ensures { (t : spec.Table) → HoldsTable self.now t →
             HoldsFound self.now.forms.items (option_copied result) (spec.sense_from t view text.now.items) }
     {
-        let found = find_from(self.names.as_slice(), view, text)?;
-        sense_at(self.senses.as_slice(), found)
+        let found = self.find_from(view, text)?;
+        self.sense_at(found)
     }
 
     /// The default lengths of the module.

@@ -1,6 +1,6 @@
 // TYPEs by number, with counts of what they would have if each TYPE were written out.
 
-ghost use Rattle.std.specs.Prelude.{◌≡◌, ◌+◌, ◌*◌, true, false, is_none, IfOk, OnOk, ◌++◌, List, ℤ};
+ghost use Rattle.std.specs.Prelude.{◌≡◌, ◌+◌, ◌*◌, true, false, is_none, IfOk, OnOk, ◌++◌, List, ℤ, length, map, option_copied, option_map};
 ghost use Rattle.std.specs.Map.{lookup};
 ghost use Rattle.std.specs.Str.{bytes_eq};
 ghost use Rattle.pearl_names.specs.declared.types.Counts.{Counts as CountsOf};
@@ -11,25 +11,29 @@ ghost use Rattle.pearl_names.specs.declared.types.StructForm.{StructForm as Stru
 ghost use Rattle.pearl_names.specs.Counts as spec;
 ghost use Rattle.pearl_names.specs.Kinds.{kinds_among};
 ghost use Rattle.pearl_names.specs.Runs.{shape_slots, field_slots, drop_fields, tails_of as tails_in};
-ghost use Rattle.pearl_names.specs.Forms.{StandsFor, FieldsStand, MatchesComponent, component, Adds, IsForm, IsPart, AreNamed, append_fields};
+ghost use Rattle.pearl_names.specs.declared.sense.Bounds.{Bounds as BoundsOf};
+ghost use Rattle.pearl_names.specs.Forms.{pair_of, StandsFor, FieldsStand, AllBounded, MatchesComponent, component, Adds, IsForm, IsPart, AreNamed, append_fields};
 ghost use Rattle.pearl_names.specs.declared.types.TypeRef.TheVariants.{Struct};
 
 use crate::kinds::{Kinds, NO_KINDS, joined_kinds, one_kind};
 use crate::names::copy_text;
+use crate::sense::Bounds;
 use arrayvec::ArrayVec;
 use indexmap::IndexMap;
 use pearl_tree::name::Name;
 use pearl_value::kind::Kind;
 use std::alloc::{AllocError as NoMemory, Global};
 
-/// How many leaves and slots a type has, how many dimensions a leaf has at most, and how many elements. Each is cut off
-/// at 2^31, since types that name types have counts of any size.
+/// How many leaves and slots a type has, how many dimensions a leaf has at most, how many elements, and how many bytes
+/// the names of the fields that lead to it, each with a point before it. Each is cut off at 2^31, since types that name
+/// types have counts of any size.
 #[derive(Clone, Copy, PartialEq, Eq, Debug)]
 pub struct Counts {
     pub leaves: u32,
     pub slots: u32,
     pub dimensions: u32,
     pub greatest: u32,
+    pub longest: u32,
 }
 
 const LIMIT: u64 = 1 << 31;
@@ -61,6 +65,7 @@ pub fn joined(a: Counts, b: Counts) -> Counts
         slots: cut_sum(a.slots, b.slots),
         dimensions: u32::max(a.dimensions, b.dimensions),
         greatest: u32::max(a.greatest, b.greatest),
+        longest: u32::max(a.longest, b.longest),
     }
 }
 
@@ -76,6 +81,20 @@ pub fn within(dimensions: u32, elements: u32, part: Counts) -> Counts
         slots: cut_product(elements, part.slots),
         dimensions: cut_sum(dimensions, part.dimensions),
         greatest: cut_product(elements, part.greatest),
+        longest: part.longest,
+    }
+}
+
+// The counts of a part whose leaves stand behind the name of a field.
+fn behind_field(name: &ArrayVec<u8, 63>, part: Counts) -> Counts
+    ensures { result ≡ spec.behind_name (1 + length name.now.items) part }
+{
+    if part.leaves == 0 {
+        return part;
+    }
+    Counts {
+        longest: cut_sum(1 + name.len() as u32, part.longest),
+        ..part
     }
 }
 
@@ -86,21 +105,25 @@ pub enum TypeRef {
     Struct(u32),
 }
 
-/// A field: how many dimensions and elements it has, of what type they are, and how many leaves and slots stand before it.
+/// A field: of what type its elements are, which of its STRUCT's bounds are its own, how many dimensions and elements it
+/// has, and how many leaves and slots stand before it.
 #[derive(Clone, Copy, PartialEq, Eq, Debug)]
 pub struct FieldForm {
     pub part: TypeRef,
+    pub first: usize,
+    pub past: usize,
     pub dimensions: u32,
     pub elements: u32,
     pub leaf: u32,
     pub slot: u32,
 }
 
-/// The fields of a STRUCT by their names, its counts, and which kinds are among its last fields: of none, of one, and so
-/// on up to all.
+/// The fields of a STRUCT by their names, the bounds of all of them, its counts, and which kinds are among its last
+/// fields: of none, of one, and so on up to all.
 #[derive(Drop)]
 pub struct StructForm {
     pub fields: IndexMap<ArrayVec<u8, 63>, FieldForm>,
+    pub bounds: Vec<Bounds>,
     pub counts: Counts,
     pub tails: Vec<Kinds>,
 }
@@ -125,11 +148,49 @@ pub fn field_of(forms: &[StructForm], number: u32, text: &ArrayVec<u8, 63>) -> O
     }
 }
 
+fn bounds_from(all: &[Bounds], first: usize, past: usize) -> &[Bounds]
+    ensures { (before own behind : List BoundsOf) → all.now ≡ before ++ (own ++ behind) → first ≡ length before →
+        past ≡ length before + length own → result.now ≡ own }
+{
+    if first <= past && past <= all.len() {
+        &all[first..past]
+    } else {
+        &[]
+    }
+}
+
+fn own_bounds<'a>(form: &'a StructForm, text: &ArrayVec<u8, 63>) -> Option<&'a [Bounds]>
+    ensures { (forms : List StructFormOf) (fields : Fields) → FieldsStand forms 0 0 form.now.fields.entries fields →
+        AllBounded form.now.bounds.items form.now.fields.entries fields →
+        option_map (map pair_of) (option_copied result) ≡ option_map (λ of. of.bounds) (component 0 0 fields text.now.items) }
+{
+    match field_named(form, text) {
+        Some(field) => Some(bounds_from(form.bounds.as_slice(), field.first, field.past)),
+        None => None,
+    }
+}
+
+/// The bounds of the field of a name in the STRUCT of a number.
+pub fn field_bounds<'a>(
+    forms: &'a [StructForm],
+    number: u32,
+    text: &ArrayVec<u8, 63>,
+) -> Option<&'a [Bounds]>
+    ensures { (fields : Fields) → StandsFor forms.now (Struct number) (OfFields fields) →
+        option_map (map pair_of) (option_copied result) ≡ option_map (λ of. of.bounds) (component 0 0 fields text.now.items) }
+{
+    match forms.get(number as usize) {
+        Some(form) => own_bounds(form, text),
+        None => None,
+    }
+}
+
 pub(crate) const NONE: Counts = Counts {
     leaves: 0,
     slots: 0,
     dimensions: 0,
     greatest: 0,
+    longest: 0,
 };
 
 const ONE: Counts = Counts {
@@ -137,6 +198,7 @@ const ONE: Counts = Counts {
     slots: 1,
     dimensions: 0,
     greatest: 1,
+    longest: 0,
 };
 
 fn counts_at(forms: &[StructForm], number: u32) -> Counts
@@ -246,7 +308,7 @@ pub(crate) fn add_field(
         Ok(_) => {}
         Err(_) => return Err(NoMemory),
     }
-    form.counts = joined(form.counts, each);
+    form.counts = joined(form.counts, behind_field(name, each));
     Ok(true)
 }
 
@@ -262,7 +324,7 @@ pub(crate) fn add_fields(
     ensures twice { IfOk result (λ fresh. (before : List NameOf) → AreNamed form.old.fields.entries before →
         fresh ≡ false → has_repeats before names.now ≡ true) }
     ensures added { IfOk result (λ fresh. (forms : List StructFormOf) (fields : Fields) (bounds : List (ℤ × ℤ)) (shape : Shape) → fresh ≡ true →
-        IsForm forms form.old fields → IsPart forms field each bounds shape →
+        IsForm forms form.old fields → IsPart forms form.old.bounds.items field each bounds shape →
         IsForm forms form.new (append_fields fields (with_fields names.now bounds shape NoField))) }
 {
     for name in names {

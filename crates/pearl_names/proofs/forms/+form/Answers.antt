@@ -1,12 +1,12 @@
-use Rattle.std.proofs.Common.{None, option_map, List, ℤ, ◌≡◌, sym, ap, subst, ◌∙◌, take, drop, refl, ◌+◌}
-use Rattle.pearl_names.specs.Forms.{Matches, IsForm, StandsFor, FieldsStand, append_fields}
-use Rattle.pearl_names.specs.Forming.{Made, around_of, struct_shape, sizes_of}
+use Rattle.std.proofs.Common.{None, option_map, map, List, ℤ, ◌≡◌, sym, ap, subst, ◌∙◌, take, drop, refl, ◌+◌}
+use Rattle.pearl_names.specs.Forms.{pair_of, Matches, IsForm, StandsFor, FieldsStand, append_fields}
+use Rattle.pearl_names.specs.Forming.{Made, around_of, struct_shape}
 use Rattle.pearl_tree.specs.ShownDeclarations.{shown_names, shown_typing}
 use Rattle.pearl_tree.specs.Names.{names_of}
 use Rattle.pearl_names.specs.Lengths.{kind_of_basic}
 use Rattle.pearl_names.specs.Shapes.{Shape, OfKind, Fields, NoField, with_fields, shape_of, sound_bounds}
 use Rattle.pearl_names.proofs.Lists.{one_taken, all_taken, cut_at}
-use Rattle.pearl_names.proofs.FieldsMade.{made_none, made_more, unsized, unshaped, renamed, kept, grows_more, all_match_more, basic_matches, struct_shown}
+use Rattle.pearl_names.proofs.FieldsMade.{kept_on_err, made_none, made_more, unsized, unshaped, renamed, kept, grows_more, all_match_more, basic_matches, struct_shown}
 use Rattle.pearl_names.proofs.forms.«+form».Goals as goal
 
 pub form_of_struct-loop-field-init : goal.form_of_struct-loop-field-init
@@ -17,16 +17,20 @@ form_of_struct-loop-field-preserved t c =
     let fields = c.as_slice-field-items.result.now in
     let i = c.loop-field.field-index in
     let around = around_of c.args.scopes.now c.args.lengths.now c.args.scope in
-    rw (← c.as_slice-field-items.ensures) (subst (Made c.args.forms.now.items c.form_of.new.forms.items c.args.named.now around c.add_written.new.form)
+    let own = c.in-Some.own.items in
+    let built = c.loop-field.form in
+    let now = c.add_written.new.form in
+    rw (← c.as_slice-field-items.ensures) (subst (Made c.args.forms.now.items c.form_of.new.forms.items c.args.named.now around now)
     (sym (one_taken fields i c.field-item.result c.loop-field-test.true c.field-item.is))
-    (made_more c.args.forms.now.items c.loop-field.forms.items c.form_of.new.forms.items c.args.named.now around c.loop-field.form c.add_written.new.form (take i fields) c.field-item.result
-    c.in-Some.sizes c.in-Some-2.part (rw c.as_slice-field-items.ensures c.loop-field.invariant) c.in_ok-part.ensures.grows
+    (made_more c.args.forms.now.items c.loop-field.forms.items c.form_of.new.forms.items c.args.named.now around built now (take i fields) c.field-item.result
+    own c.in-Some-2.part (rw c.as_slice-field-items.ensures c.loop-field.invariant) c.in_ok-part.ensures.grows
     (λ shapes all. subst (λ p. Matches c.form_of.new.forms.items p (shape_of (around shapes) (shown_typing c.field-item.result.typing))) c.in-Some-2.is (c.in_ok-part.ensures.form shapes all))
-    (c.in-Some.ensures ∙ ap (λ b. option_map sizes_of (sound_bounds b)) c.as_slice.ensures)
+    (ap (option_map (λ found. map pair_of found.items)) (sym c.in-Some.is) ∙ c.in_ok-own.ensures ∙ ap sound_bounds c.as_slice.ensures)
     (λ before h. c.in_ok-add_written.ensures.fresh before h c.if-not-branch.false)
-    (subst (λ l. (fs : Fields) (bounds : List (ℤ × ℤ)) (shape : Shape) → IsForm l c.loop-field.form fs → c.in-Some.sizes ≡ sizes_of bounds → StandsFor l c.in-Some-2.part shape →
-    IsForm l c.add_written.new.form (append_fields fs (with_fields (names_of (shown_names c.field-item.result.names)) bounds shape NoField))) c.as_slice-in-loop-field.ensures.value
-    (λ fs bounds shape is so h. c.in_ok-add_written.ensures.added fs bounds shape c.if-not-branch.false is so h))))
+    (subst (λ l. (fs : Fields) (bounds : List (ℤ × ℤ)) (shape : Shape) → IsForm l built fs → map pair_of own ≡ bounds → StandsFor l c.in-Some-2.part shape →
+    IsForm l now (append_fields fs (with_fields (names_of (shown_names c.field-item.result.names)) bounds shape NoField))) c.as_slice-in-loop-field.ensures.value
+    (λ fs bounds shape is same h.
+    c.in_ok-add_written.ensures.added fs bounds shape c.if-not-branch.false is (ap (map pair_of) c.as_slice-in-loop-field-2.ensures.value ∙ same) h))))
 
 pub form_of_struct-returns-in-None-clause-form : goal.form_of_struct-returns-in-None-clause-form
 form_of_struct-returns-in-None-clause-form t c = λ shapes all.
@@ -34,7 +38,8 @@ form_of_struct-returns-in-None-clause-form t c = λ shapes all.
     let i = c.loop-field.field-index in
     let around = around_of c.args.scopes.now c.args.lengths.now c.args.scope shapes in
     rw (← c.as_slice-field-items.ensures) (subst (λ l. Matches c.loop-field.forms.items None (struct_shape around l)) (cut_at fields i c.field-item.result c.loop-field-test.true c.field-item.is)
-    (unsized c.loop-field.forms.items around (take i fields) (drop (i + 1) fields) c.field-item.result (c.in-None.ensures ∙ ap (λ b. option_map sizes_of (sound_bounds b)) c.as_slice.ensures)))
+    (unsized c.loop-field.forms.items around (take i fields) (drop (i + 1) fields) c.field-item.result
+    (ap (option_map (λ found. map pair_of found.items)) (sym c.in-None.is) ∙ c.in_ok-own.ensures ∙ ap sound_bounds c.as_slice.ensures)))
 
 pub form_of_struct-returns-in-None-2-clause-grows : goal.form_of_struct-returns-in-None-2-clause-grows
 form_of_struct-returns-in-None-2-clause-grows t c = grows_more _ _ _ c.loop-field.invariant.grows c.in_ok-part.ensures.grows
@@ -82,3 +87,11 @@ form_of-returns-in_ok-part-in-Struct-clause-form t c = λ shapes all.
     let around = around_of c.args.scopes.now c.args.lengths.now c.args.scope shapes in
     subst (λ s. Matches c.form_of_struct.new.forms.items c.in_ok-part-in-Struct.part (shape_of around s))
     (sym (ap shown_typing c.in-Struct.is ∙ struct_shown c.in-Struct.fields c.in-Struct.place)) (c.in_ok-part-in-Struct.ensures.form shapes all)
+
+pub form_of_struct-returns-in_err-part-clause-err : goal.form_of_struct-returns-in_err-part-clause-err
+form_of_struct-returns-in_err-part-clause-err t c =
+    kept_on_err c.from_residual-in_err-part.result (grows_more _ _ _ c.loop-field.invariant.grows c.in_err-part.ensures.err)
+
+pub form_of_struct-returns-in_err-add_written-clause-err : goal.form_of_struct-returns-in_err-add_written-clause-err
+form_of_struct-returns-in_err-add_written-clause-err t c =
+    kept_on_err c.from_residual-in_err-add_written.result (grows_more _ _ _ c.loop-field.invariant.grows c.in_ok-part.ensures.grows)

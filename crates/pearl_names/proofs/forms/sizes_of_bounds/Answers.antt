@@ -12,7 +12,7 @@ pub loop-bound-preserved : goal.loop-bound-preserved
 loop-bound-preserved c =
     let xs = c.args.bounds.now in
     let i = c.loop-bound.bound-index in
-    rw (c.cut_sum.ensures, c.cut_product.ensures) (sized_more c.loop-bound.sizes xs i (bound_at xs i) c.in-Some.elements c.loop-bound-test.true (own_bound xs i c.loop-bound-test.true)
+    rw c.with_dimension-sizes.ensures (sized_more c.loop-bound.sizes xs i (bound_at xs i) c.in-Some.elements c.loop-bound-test.true (own_bound xs i c.loop-bound-test.true)
     c.loop-bound.invariant c.in-Some.ensures)
 
 pub returns : goal.returns

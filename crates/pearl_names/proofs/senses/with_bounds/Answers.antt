@@ -1,5 +1,5 @@
 use Rattle.std.proofs.Common.{◌∙◌, sym, ap, map, option_map}
-use Rattle.pearl_names.specs.Holding.{pair_of}
+use Rattle.pearl_names.specs.Forms.{pair_of}
 use Rattle.pearl_names.proofs.Holding.{form_held, no_bounds}
 use Rattle.pearl_names.proofs.senses.with_bounds.Goals as goal
 
