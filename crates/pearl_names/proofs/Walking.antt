@@ -412,15 +412,14 @@ walked_more forms run next frames after runs slots so goes = record {
   full = All-push (λ (r : Run). 1 ≤ r.count) runs run so.full so.goes.2;
 }
 
-pub walked_all : (forms : List StructForm) (frames : List Frame) (found : Slots) (slots : List Kind) (most : ℕ) → found.behind ≡ no_kinds → length found.runs.items ≤ most →
-    Walked forms None frames found.runs.items slots → Lists found slots most
-walked_all forms frames found slots most none few so =
-    record { rest = []; is = so.is ∙ ap (λ l. flat_map run_slots found.runs.items ++ l) so.goes.0; behind = none; full = so.full; few = few; enough = inr refl }
+pub walked_all : (forms : List StructForm) (frames : List Frame) (found : Slots) (slots : List Kind) (most : ℕ) → found.behind ≡ no_kinds → Walked forms None frames found.runs.items slots → Lists found slots most
+walked_all forms frames found slots most none so =
+    record { rest = []; is = so.is ∙ ap (λ l. flat_map run_slots found.runs.items ++ l) so.goes.0; behind = none; full = so.full; enough = inr refl }
 
 pub walked_enough : (forms : List StructForm) (next : Option Run) (frames : List Frame) (found : Slots) (kinds : Kinds) (slots : List Kind) (most : ℕ) → found.behind ≡ joined_kinds (kinds_of_next next) kinds →
-    length found.runs.items ≤ most → most ≤ length found.runs.items → ((left : List Kind) → AllLeft forms frames left → kinds ≡ kinds_among left) → Walked forms next frames found.runs.items slots → Lists found slots most
-walked_enough forms next frames found kinds slots most behind few enough tells so =
-    record { rest = so.rest; is = so.is; behind = behind ∙ by next so.goes; full = so.full; few = few; enough = inl enough }
+    most ≤ length found.runs.items → ((left : List Kind) → AllLeft forms frames left → kinds ≡ kinds_among left) → Walked forms next frames found.runs.items slots → Lists found slots most
+walked_enough forms next frames found kinds slots most behind enough tells so =
+    record { rest = so.rest; is = so.is; behind = behind ∙ by next so.goes; full = so.full; enough = inl enough }
   where
     by : (n : Option Run) → GoesOn forms n frames so.rest → joined_kinds (kinds_of_next n) kinds ≡ kinds_among so.rest
     by None goes = tells [] goes.1 ∙ ap kinds_among (sym goes.0)

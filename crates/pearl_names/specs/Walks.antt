@@ -70,11 +70,10 @@ abbrev pub FindsNext : List StructForm → Option NextField → Fields → ℕ �
 FindsNext forms None fields from = length (leaves_of_fields [] [] (drop_fields from fields)) ≡ 0
 FindsNext forms (Some next) fields from = IsNext forms next fields from
 
--- the slots are those of the runs, and then others of these kinds. There are so many runs, or fewer where they are all.
+-- the slots are those of the runs, and then others of these kinds. There are so many runs, or they are all.
 pub record Lists (found : Slots) (slots : List Kind) (most : ℕ) : Type 0 where
   pub rest : List Kind
   pub is : slots ≡ flat_map run_slots found.runs.items ++ rest
   pub behind : found.behind ≡ kinds_among rest
   pub full : All (λ (run : Run). 1 ≤ run.count) found.runs.items
-  pub few : length found.runs.items ≤ most
   pub enough : (most ≤ length found.runs.items) ⊎ (rest ≡ [])

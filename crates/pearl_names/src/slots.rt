@@ -1,6 +1,6 @@
 // The slots of a variable, in runs of one kind, without all of them being listed: a variable may have 2^60.
 
-ghost use Rattle.std.specs.Prelude.{◌≡◌, ◌++◌, ◌≤◌, [], ℕ, List, Option, nat_lt, IfOk, OnOk, true, false};
+ghost use Rattle.std.specs.Prelude.{◌≡◌, ◌++◌, ◌≤◌, [], ℕ, List, Option, nat_lt, length, IfOk, OnOk, true, false};
 ghost use Rattle.pearl_value.specs.declared.kind.Kind.{Kind as KindOf};
 ghost use Rattle.pearl_names.specs.Forms.{StandsFor, FieldsStand, leaf_count};
 ghost use Rattle.pearl_names.specs.Kinds.{kinds_among};
@@ -182,7 +182,8 @@ pub fn slots_of(
     elements: u32,
     most: usize,
 ) -> Result<Slots, NoMemory>
-    ensures { IfOk result (λ found. (slots : List KindOf) → HasSlots forms.now part elements slots → Lists found slots most) }
+    ensures lists { IfOk result (λ found. (slots : List KindOf) → HasSlots forms.now part elements slots → Lists found slots most) }
+    ensures few { IfOk result (λ found. length found.runs.items ≤ most) }
 {
     let mut stack = Vec::new(alloc);
     let mut runs = Vec::new(alloc);

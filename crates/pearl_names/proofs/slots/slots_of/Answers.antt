@@ -11,9 +11,9 @@ loop-next-init c = rw c.new-runs.ensures.items (
       walked_none c.args.forms.now c.in_ok-next.next c.begin.new.stack.items slots (c.in_ok-next.ensures slots has (subst (λ l. AllLeft c.args.forms.now l []) (sym c.new-stack.ensures.items) refl)),
 )
 
-pub returns-in-None : goal.returns-in-None
-returns-in-None c = λ slots has.
-    walked_all c.args.forms.now c.loop-next.stack.items _ slots c.args.most refl c.loop-next.invariant.0
+pub returns-in-None-clause-lists : goal.returns-in-None-clause-lists
+returns-in-None-clause-lists c = λ slots has.
+    walked_all c.args.forms.now c.loop-next.stack.items _ slots c.args.most refl
     (subst (λ n. Walked c.args.forms.now n c.loop-next.stack.items c.loop-next.runs.items slots) c.in-None.is (c.loop-next.invariant.1 slots has))
 
 pub loop-next-preserved : goal.loop-next-preserved
@@ -28,11 +28,10 @@ loop-next-preserved c =
           (subst (λ n. Walked c.args.forms.now n c.loop-next.stack.items runs.items slots) c.in-Some.is (c.loop-next.invariant.1 slots has)) c.in_ok-next-2.ensures,
     )
 
-pub returns : goal.returns
-returns c = λ slots has.
+pub returns-clause-lists : goal.returns-clause-lists
+returns-clause-lists c = λ slots has.
     let kinds = c.all_kinds_left.result in
     let known : vec_len c.loop-next.runs ≡ length c.loop-next.runs.items = omega (arith, c.loop-next.runs.ok.0) in
     let behind : c.joined_kinds-behind.result ≡ joined_kinds (kinds_of_next c.loop-next.next) kinds = c.joined_kinds-behind.ensures ∙ ap (λ k. joined_kinds k kinds) c.kinds_of_run.ensures in
-    walked_enough c.args.forms.now c.loop-next.next c.loop-next.stack.items _ kinds slots c.args.most behind c.loop-next.invariant.0
-    (subst (λ n. c.args.most ≤ n) (c.len.ensures ∙ known) c.loop-next-test.false)
+    walked_enough c.args.forms.now c.loop-next.next c.loop-next.stack.items _ kinds slots c.args.most behind (subst (λ n. c.args.most ≤ n) (c.len.ensures ∙ known) c.loop-next-test.false)
     (λ left h. c.all_kinds_left.ensures left (subst (λ l. AllLeft c.args.forms.now l left) (sym c.as_slice.ensures.value) h)) (c.loop-next.invariant.1 slots has)
