@@ -1,5 +1,5 @@
 -- How counts of leaves are made of those of their parts.
-use Rattle.std.proofs.Common.{◌≡◌, ℕ, zero, suc, ◌+◌, ◌*◌, ◌<◌, ◌≤◌, ◌^◌, max, ℤ, unsigned_abs, ◌-ℤ◌, Bool, true, false, ◌&&◌, nat_le, List, [], ◌∷◌, ◌++◌, map, length, length-append, refl, sym, ap, ◌∙◌, append_assoc, append-nil, arith, inl, inr, mul-add, ⊎_elim, ◌⊎◌}
+use Rattle.std.proofs.Common.{◌≡◌, ℕ, zero, suc, ◌+◌, ◌*◌, ◌<◌, ◌≤◌, ◌^◌, max, ℤ, unsigned_abs, ◌-ℤ◌, Bool, true, false, ◌&&◌, ◌||◌, nat_le, nat_lt, List, [], ◌∷◌, ◌++◌, map, length, length-append, refl, sym, ap, ◌∙◌, append_assoc, append-nil, arith, inl, inr, mul-add, ⊎_elim, ◌⊎◌}
 use Rattle.std.proofs.Math.Nat.{mul-zero, mul_comm, mul_assoc, mul-le-mul_left}
 use Rattle.std.proofs.lemmas.Nat.{mul-le}
 use Rattle.std.proofs.lemmas.Bool.{cases_lt, lt-leb, le-leb}
@@ -7,7 +7,7 @@ use Rattle.std.proofs.lemmas.Bool.Decides.{nat_tests}
 use Rattle.std.proofs.lemmas.List.{map-append, length-map, length-replicate}
 use Rattle.std.proofs.lemmas.List.Sums.{sum_by-append}
 use Rattle.std.proofs.lemmas.Grind.{flat_map-append}
-use Rattle.std.specs.List.{list_all}
+use Rattle.std.specs.List.{list_all, list_any}
 use Rattle.pearl_names.specs.Shapes.{Shape, OfKind, OfFields, Fields, NoField, MoreField}
 use Rattle.pearl_names.specs.Layout.{Leaf, leaves_of, leaves_of_fields, elements, leaf_slots, slots_of, is_sound_leaf}
 use Rattle.pearl_names.specs.declared.types.Counts.{Counts}
@@ -257,3 +257,19 @@ pub sound_counts : (xs : List Leaf) → has_sound_leaves (counts xs) ≡ list_al
 unfolding counts
 sound_counts xs =
     (λ i. cut_below (most dimensions_of xs) 3 (omega arith) i && cut_below (most elements_of xs) 65536 (omega arith) i) ∙ sym (sound_leaves xs)
+
+lt_max : (bytes a b : ℕ) → nat_lt 1024 (bytes + max a b) ≡ (nat_lt 1024 (bytes + a) || nat_lt 1024 (bytes + b))
+lt_max bytes a b = grind (arith, nat_tests)
+
+lt_cut : (bytes n : ℕ) → nat_lt 1024 (bytes + cut n) ≡ nat_lt 1024 (bytes + n)
+lt_cut bytes n = grind (arith, nat_tests)
+
+long_leaves : (bytes : ℕ) (xs : List Leaf) → bytes ≤ 1024 → list_any (λ leaf. nat_lt 1024 (bytes + bytes_behind leaf)) xs ≡ nat_lt 1024 (bytes + most bytes_behind xs)
+long_leaves bytes [] few = grind (arith, nat_tests)
+long_leaves bytes (x ∷ xs) few =
+    ap (λ b. nat_lt 1024 (bytes + bytes_behind x) || b) (long_leaves bytes xs few) ∙ sym (lt_max bytes (bytes_behind x) (most bytes_behind xs))
+
+-- and they tell whether a leaf has a long name, where the variable's own name has so many bytes
+pub long_counts : (bytes : ℕ) (xs : List Leaf) → bytes ≤ 1024 → nat_lt 1024 (bytes + (counts xs).longest) ≡ list_any (λ leaf. nat_lt 1024 (bytes + path_bytes leaf.path)) xs
+unfolding counts
+long_counts bytes xs few = lt_cut bytes (most bytes_behind xs) ∙ sym (long_leaves bytes xs few)

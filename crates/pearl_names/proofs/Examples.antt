@@ -1,6 +1,6 @@
 -- Small modules and what their names stand for.
 use Prim.Native.String.{String}
-use Rattle.std.specs.Prelude.{◌≡◌, ℕ, ◌+◌, pos, false, true, List, [], ◌∷◌, Some, None, is_some, map, codes}
+use Rattle.std.specs.Prelude.{◌≡◌, ℕ, ◌+◌, pos, false, true, List, [], ◌∷◌, Some, None, is_some, map, option_map, codes}
 use Rattle.std.proofs.Common.{refl}
 use Rattle.pearl_value.specs.declared.kind.Kind.TheVariants as kind
 use Rattle.pearl_tree.specs.declared.name.Name.{Name}
@@ -15,6 +15,7 @@ use Rattle.pearl_tree.specs.ShownModules.{ShownDecl, OfLength, OfType, OfDeclare
 use Rattle.pearl_names.specs.Sorts.{sorted_names, names_of_scopes}
 use Rattle.pearl_names.specs.declared.scope.View.TheVariants.{Within, WhileOf}
 use Rattle.pearl_names.specs.Layout.{item_leaves}
+use Rattle.pearl_names.specs.Counts.{counts}
 use Rattle.pearl_names.specs.Known.{known_of, around}
 use Rattle.pearl_names.specs.Shapes.{OfKind}
 use Rattle.pearl_names.specs.Tables.{table_of, sense_from, NewType, Variable, Procedure, OwnParameter, Control}
@@ -69,6 +70,13 @@ laid_out :
     record { path = codes "t" ∷ []; bounds = (pos 1, pos 2) ∷ (pos 1, pos 3) ∷ []; kind = kind.Chars 2 } ∷ [])
 unfolding names_of_scopes sorted_names
 laid_out = refl
+
+-- behind the name of s each has two bytes, of which one is a point
+counted :
+    option_map counts (item_leaves (around (known_of (source (declare structures ∷ []))) 0 0) structures) ≡
+    Some (record { leaves = 2; slots = 8; dimensions = 2; greatest = 6; longest = 2 })
+unfolding names_of_scopes sorted_names counts
+counted = refl
 
 -- LENGTH BIT(3);TYPE u BIT;DCL x u INV INIT('1'B);p:PROC(a FIXED IDENT);FOR i REPEAT END;END;
 abbrev pub tabled : ShownTree

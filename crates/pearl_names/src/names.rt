@@ -40,7 +40,7 @@ pub fn note(
     }
 }
 
-fn after(number: u32) -> Result<u32, NoMemory>
+pub(crate) fn after(number: u32) -> Result<u32, NoMemory>
     ensures number { IfOk result (λ after. after ≡ number + 1) }
     ensures few { IfOk result (λ after. number + 1 < 2 ^ 32) }
 {

@@ -19,7 +19,7 @@ use crate::forms::{Types, all_bounds};
 use crate::group::{Group, Meaning, ScopeGroups};
 use crate::layout::sound_part;
 use crate::length::{Lengths, kind_of_basic};
-use crate::names::ScopeTable;
+use crate::names::{ScopeTable, after};
 use crate::sense::{Bounds, Form, Parameter, ScopeSenses, Sense, Signature};
 use crate::types::TypeRef;
 use pearl_tree::declaration::{Class, Direction, Item, Param};
@@ -233,15 +233,6 @@ fn senses_of(
         add_senses(alloc, &mut senses, lengths, part, group)?;
     }
     Ok(senses)
-}
-
-fn after(number: u32) -> Result<u32, NoMemory>
-    ensures { IfOk result (λ after. after ≡ number + 1) }
-{
-    match number.checked_add(1) {
-        Some(after) => Ok(after),
-        None => Err(NoMemory),
-    }
 }
 
 /// What the names of all scopes stand for, scope by scope.

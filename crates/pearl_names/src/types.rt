@@ -105,8 +105,8 @@ pub enum TypeRef {
     Struct(u32),
 }
 
-/// A field: of what type its elements are, which of its STRUCT's bounds are its own, how many dimensions and elements it
-/// has, and how many leaves and slots stand before it.
+/// A field: of what type its elements are, from which of its STRUCT's bounds on and up to which they are its own, how
+/// many dimensions and elements it has, and how many leaves and slots stand before it.
 #[derive(Clone, Copy, PartialEq, Eq, Debug)]
 pub struct FieldForm {
     pub part: TypeRef,

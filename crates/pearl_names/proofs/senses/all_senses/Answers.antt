@@ -16,7 +16,7 @@ loop-scope-preserved c =
     c.in_ok-senses.ensures.grows c.in_ok-senses.ensures.named
     (λ shapes all. subst (λ l. HoldsAll c.senses_of.new.types.forms.items c.in_ok-senses.senses.items
     (senses_of (known_from c.args.names.now c.args.lengths.now shapes) c.loop-scope.number (entries_in l))) c.as_slice.ensures.value (c.in_ok-senses.ensures.senses shapes all))
-    c.in_ok-push.ensures.items c.in_ok-number.ensures
+    c.in_ok-push.ensures.items c.in_ok-number.ensures.number
 
 pub returns : goal.returns
 returns c =
