@@ -12,6 +12,7 @@ ghost use Rattle.pearl_names.specs.Listed.{stmts_shown, branches_shown, otherwis
 ghost use Rattle.pearl_names.specs.Scopes as spec;
 
 use crate::group::{Group, Meaning, ScopeGroups};
+use crate::names::next_number;
 use pearl_tree::declaration::{Declared, Item, Param, Spec};
 use pearl_tree::name::{Name, Names};
 use pearl_tree::parts::Parts;
@@ -113,16 +114,6 @@ fn declare_control<'a>(
         declare_one(into, name, Meaning::Control(loop_place))?;
     }
     Ok(())
-}
-
-/// The number of the next scope.
-fn next_number(scopes: &[ScopeGroups<'_>]) -> Result<u32, NoMemory>
-    ensures { IfOk result (λ number. number ≡ length (scopes_in_list scopes.now)) }
-{
-    match u32::try_from(scopes.len()) {
-        Ok(number) => Ok(number),
-        Err(_) => Err(NoMemory),
-    }
 }
 
 /// Adds a scope, and answers its number.

@@ -17,7 +17,7 @@ ghost use Rattle.pearl_names.specs.Forming.{AllMatch, Grows, around_of, fields_s
 
 use crate::length::{Lengths, kind_of_basic};
 use crate::meaning::sort_within;
-use crate::names::ScopeTable;
+use crate::names::{ScopeTable, next_number};
 use crate::scope::NameSort;
 use crate::sense::Bounds;
 use crate::types::{
@@ -67,15 +67,6 @@ fn form_of_basic(lengths: &Lengths, basic: &Basic) -> Option<TypeRef>
     match kind_of_basic(lengths, basic) {
         Some(kind) => Some(TypeRef::Basic(kind)),
         None => None,
-    }
-}
-
-fn next_number(forms: &[StructForm]) -> Result<u32, NoMemory>
-    ensures { IfOk result (λ number. number ≡ length forms.now) }
-{
-    match u32::try_from(forms.len()) {
-        Ok(number) => Ok(number),
-        Err(_) => Err(NoMemory),
     }
 }
 

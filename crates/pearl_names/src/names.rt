@@ -50,6 +50,16 @@ pub(crate) fn after(number: u32) -> Result<u32, NoMemory>
     }
 }
 
+// The number behind those of these items.
+pub(crate) fn next_number<T>(items: &[T]) -> Result<u32, NoMemory>
+    ensures { IfOk result (λ number. number ≡ length items.now) }
+{
+    match u32::try_from(items.len()) {
+        Ok(number) => Ok(number),
+        Err(_) => Err(NoMemory),
+    }
+}
+
 // Notes the name of this number, and its fault where it repeats one before. It answers the next number.
 fn note_next(
     first: &mut IndexMap<ArrayVec<u8, 63>, u32>,
