@@ -270,6 +270,6 @@ long_leaves bytes (x ∷ xs) few =
     ap (λ b. nat_lt 1024 (bytes + bytes_behind x) || b) (long_leaves bytes xs few) ∙ sym (lt_max bytes (bytes_behind x) (most bytes_behind xs))
 
 -- and they tell whether a leaf has a long name, where the variable's own name has so many bytes
-pub long_counts : (bytes : ℕ) (xs : List Leaf) → bytes ≤ 1024 → nat_lt 1024 (bytes + (counts xs).longest) ≡ list_any (λ leaf. nat_lt 1024 (bytes + path_bytes leaf.path)) xs
+pub long_counts : (bytes : ℕ) (xs : List Leaf) → bytes ≤ 1024 → nat_lt 1024 (bytes + (counts xs).longest) ≡ list_any (λ leaf. nat_lt 1024 (bytes + bytes_behind leaf)) xs
 unfolding counts
 long_counts bytes xs few = lt_cut bytes (most bytes_behind xs) ∙ sym (long_leaves bytes xs few)

@@ -1,10 +1,11 @@
 // How a variable is laid out, by counts.
 
-ghost use Rattle.std.specs.Prelude.{◌≡◌, ℤ, List, [], Option, Some, take, option_map, IfOk, OnOk, OnErr};
+ghost use Rattle.std.specs.List.{list_any};
+ghost use Rattle.std.specs.Prelude.{◌≡◌, ◌+◌, nat_lt, length, ℤ, List, [], Option, Some, take, option_map, IfOk, OnOk, OnErr};
 ghost use Rattle.pearl_tree.specs.ShownDeclarations.{shown_item, shown_typing};
-ghost use Rattle.pearl_names.specs.Counts.{counts, has_sound_leaves as has_sound};
+ghost use Rattle.pearl_names.specs.Counts.{counts, counts as counts_of_leaves, bytes_behind, has_sound_leaves as has_sound};
 ghost use Rattle.pearl_names.specs.Forming.{AllMatch, Grows, Keeps, IsLaid, around_of, sizes_of};
-ghost use Rattle.pearl_names.specs.Layout.{item_leaves, leaves_of, leaves_within};
+ghost use Rattle.pearl_names.specs.Layout.{Leaf, item_leaves, leaves_of, leaves_within};
 ghost use Rattle.pearl_names.specs.Forms.{Matches, StandsFor};
 ghost use Rattle.pearl_names.specs.Shapes.{Shape, shape_of, sound_bounds};
 ghost use Rattle.pearl_names.specs.Holding.{HoldsForm};
@@ -16,6 +17,7 @@ use crate::length::Lengths;
 use crate::names::ScopeTable;
 use crate::sense::Form;
 use crate::types::{Counts, Sizes, StructForm, TypeRef, counts_of, within};
+use arrayvec::ArrayVec;
 use pearl_tree::declaration::Item;
 use std::alloc::{AllocError as NoMemory, Global};
 
@@ -145,6 +147,14 @@ pub fn has_sound_leaves(counts: Counts) -> bool
     ensures { result ≡ has_sound counts }
 {
     counts.dimensions <= 3 && counts.greatest <= 65_536
+}
+
+/// Whether a leaf of a variable of this name has more than 1,024 bytes in its own, where these are the variable's counts.
+pub fn has_long_leaf(name: &ArrayVec<u8, 63>, counts: Counts) -> bool
+    ensures { (leaves : List Leaf) → counts ≡ counts_of_leaves leaves →
+        result ≡ list_any (λ leaf. nat_lt 1024 (length name.now.items + bytes_behind leaf)) leaves }
+{
+    1_024 < name.len() as u64 + u64::from(counts.longest)
 }
 
 fn sound_within(forms: &[StructForm], laid: Option<Laid>) -> Option<TypeRef>
