@@ -5,7 +5,8 @@ use Rattle.pearl_program.specs.PlainExpressions.{PlainExpr, OfLiteral, OfRead, O
 use Rattle.pearl_program.specs.PlainStatements.{PlainPeriodEnd, OfUntil, OfDuring, PlainPeriod, PlainStart, OfAt, OfAfter, OfWhen, OfWhenAfter, PlainOnce, OnceAt, OnceAfter, OnceWhen, PlainCounter, PlainStmt, OfRenew, OfAssign, OfCallOf, OfIf, OfCase, OfRepeat, OfExit, OfReturn, OfActivate, OfContinue, OfResume, OfPut, OfGet, OfSend, OfTake, PlainStmts, NoStmts, MoreStmts, PlainBranches, NoBranches, MoreBranches}
 use Rattle.pearl_program.specs.PlainPrograms.{PlainRoutine, PlainProcedure}
 
--- what is taken together over the expressions of a statement: `one` of each value in them, and `call` of each call
+-- what is taken together over the expressions of a statement: `one` of each value in them, and `call` of each procedure
+-- that is called
 pub record Sizes : Type 0 where
   pub one : ℕ
   pub call : ℕ → ℕ
@@ -18,7 +19,7 @@ module _ (sizes : Sizes) where
     of_expr (OfRead variable) = sizes.both sizes.one (of_variable variable)
     of_expr (OfMonadic op operand) = of_expr operand
     of_expr (OfDyadic op left right) = sizes.both (of_expr left) (of_expr right)
-    of_expr (OfCall procedure arguments) = sizes.both (sizes.call procedure) (of_arguments arguments)
+    of_expr (OfCall procedure arguments) = sizes.both sizes.one (sizes.both (sizes.call procedure) (of_arguments arguments))
     of_expr OfNow = sizes.one
     of_expr (OfTry semaphore) = sizes.one
 
@@ -104,9 +105,9 @@ module _ (sizes : Sizes) where
     greatest_of_branches NoBranches = 0
     greatest_of_branches (MoreBranches statements rest) = max (greatest_of_all statements) (greatest_of_branches rest)
 
--- how many values stand in expressions; a call counts as one
+-- how many values stand in expressions; a call's result is one
 abbrev pub values : Sizes
-values = record { one = 1; call = λ procedure. 1; both = λ a b. a + b }
+values = record { one = 1; call = λ procedure. 0; both = λ a b. a + b }
 
 -- the greatest weight of those that are called, where procedures have these weights
 abbrev pub callees : List ℕ → Sizes

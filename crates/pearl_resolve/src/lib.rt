@@ -1,0 +1,2 @@
+// The program that a lawful source means. All of it stands in specs/.
+#![tactic(auto)]
