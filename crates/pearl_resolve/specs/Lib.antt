@@ -10,3 +10,5 @@ pub mod Statements
 pub mod Cells
 -- which program a module means
 pub mod Resolve
+-- what holds of scopes, cells and formats that statements go past
+pub mod Laws

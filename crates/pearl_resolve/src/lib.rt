@@ -1,2 +1,4 @@
-// The program that a lawful source means. All of it stands in specs/.
+// The program that a source means. What there is of it stands in specs/.
 #![tactic(auto)]
+
+pub mod laws;

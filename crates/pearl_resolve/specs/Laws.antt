@@ -1,0 +1,29 @@
+-- What holds of scopes, cells and formats that statements go past.
+use Rattle.std.specs.Prelude.{◌≡◌, ℕ, ◌+◌, List, length}
+use Rattle.pearl_value.specs.declared.kind.CellKind.{CellKind}
+use Rattle.pearl_format.specs.declared.item.Item.{Item}
+use Rattle.pearl_tree.specs.ShownStatements.{ShownStmts}
+use Rattle.pearl_tree.specs.ShownModules.{ShownBody}
+use Rattle.pearl_names.specs.Scopes.{scopes_in_all}
+use Rattle.pearl_resolve.specs.Numbers.{At, after_all, after_body, numbers_in_all}
+use Rattle.pearl_resolve.specs.Expressions.{Numbered}
+use Rattle.pearl_resolve.specs.Cells.{cells_in_all, routine_cells}
+use Rattle.pearl_resolve.specs.Resolve.{formats_in_all}
+
+-- from here to there the text has these scopes, each with the numbers of its names, these cells and these formats
+pub record GoesPast (from to : At) (scopes : ℕ) (numbers : List (List ℕ)) (cells : List CellKind) (formats : List (List Item)) : Type 0 where
+  pub each : length numbers ≡ scopes
+  pub next : to.next ≡ from.next + scopes
+  pub cell : to.cell ≡ from.cell + length cells
+  pub format : to.format ≡ from.format + length formats
+
+-- statements go past the scopes, cells and formats that they have
+abbrev pub StatementsGoPast : Type 0
+StatementsGoPast = (numbered : Numbered) (scope : ℕ) (at : At) (statements : ShownStmts) →
+    GoesPast at (after_all numbered.table at statements) (scopes_in_all statements)
+    (numbers_in_all numbered.table at statements) (cells_in_all numbered scope at statements) (formats_in_all statements)
+
+-- a routine has as many cells as its text goes past
+abbrev pub RoutinesHaveCells : Type 0
+RoutinesHaveCells = (numbered : Numbered) (at : At) (body : ShownBody) →
+    (after_body numbered.table at body).cell ≡ length (routine_cells numbered at body)

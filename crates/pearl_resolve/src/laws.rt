@@ -1,0 +1,13 @@
+// What holds of the scopes, cells and formats that statements go past.
+
+ghost use Rattle.pearl_resolve.specs.Laws.{RoutinesHaveCells, StatementsGoPast};
+
+/// Behind some statements the counters stand at what comes behind the scopes, cells and formats of these.
+pub fn statements_go_past()
+    ensures { StatementsGoPast }
+{}
+
+/// A routine has as many cells as its parameters, its variables, its loops and its GETs are given.
+pub fn routines_have_cells()
+    ensures { RoutinesHaveCells }
+{}
