@@ -12,3 +12,7 @@ pub mod SoundStatements
 pub mod Weights
 -- which programs are sound
 pub mod Sound
+-- what slots and cells hold at first
+pub mod FirstCells
+-- what holds of the kinds of expressions, and of first values
+pub mod Laws

@@ -2,6 +2,7 @@
 #![tactic(auto)]
 
 pub mod expression;
+pub mod laws;
 pub mod literal;
 pub mod prog;
 pub mod program;
