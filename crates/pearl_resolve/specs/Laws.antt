@@ -1,12 +1,16 @@
--- What holds of scopes, cells and formats that statements go past.
-use Rattle.std.specs.Prelude.{◌≡◌, ℕ, ◌+◌, List, length}
+-- What holds of the scopes, cells and formats that statements go past, and of the kinds of targets.
+use Rattle.std.specs.Prelude.{◌≡◌, ℕ, ◌+◌, List, length, Some}
+use Rattle.pearl_value.specs.declared.kind.Kind.{Kind}
 use Rattle.pearl_value.specs.declared.kind.CellKind.{CellKind}
 use Rattle.pearl_format.specs.declared.item.Item.{Item}
+use Rattle.pearl_tree.specs.ShownExpressions.{ShownRef}
 use Rattle.pearl_tree.specs.ShownStatements.{ShownStmts}
 use Rattle.pearl_tree.specs.ShownModules.{ShownBody}
 use Rattle.pearl_names.specs.Scopes.{scopes_in_all}
+use Rattle.pearl_names.specs.declared.scope.View.{View}
+use Rattle.pearl_check_expr.specs.Judged.{judged_variable}
 use Rattle.pearl_resolve.specs.Numbers.{At, after_all, after_body, numbers_in_all}
-use Rattle.pearl_resolve.specs.Expressions.{Numbered}
+use Rattle.pearl_resolve.specs.Expressions.{Numbered, target_kind}
 use Rattle.pearl_resolve.specs.Cells.{cells_in_all, routine_cells}
 use Rattle.pearl_resolve.specs.Resolve.{formats_in_all}
 
@@ -27,3 +31,8 @@ StatementsGoPast = (numbered : Numbered) (scope : ℕ) (at : At) (statements : S
 abbrev pub RoutinesHaveCells : Type 0
 RoutinesHaveCells = (numbered : Numbered) (at : At) (body : ShownBody) →
     (after_body numbered.table at body).cell ≡ length (routine_cells numbered at body)
+
+-- a target in which no rule is broken has the kind that is asked of it
+abbrev pub TargetsHaveTheirKind : Type 0
+TargetsHaveTheirKind = (numbered : Numbered) (view : View) (reference : ShownRef) (kind : Kind) →
+    (judged_variable numbered.table view reference).kind ≡ Some kind → target_kind numbered view reference ≡ kind

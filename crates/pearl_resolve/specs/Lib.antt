@@ -10,5 +10,5 @@ pub mod Statements
 pub mod Cells
 -- which program a module means
 pub mod Resolve
--- what holds of scopes, cells and formats that statements go past
+-- what holds of the scopes, cells and formats that statements go past, and of the kinds of targets
 pub mod Laws

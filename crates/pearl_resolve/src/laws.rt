@@ -1,6 +1,6 @@
-// What holds of the scopes, cells and formats that statements go past.
+// What holds of the scopes, cells and formats that statements go past, and of the kinds of targets.
 
-ghost use Rattle.pearl_resolve.specs.Laws.{RoutinesHaveCells, StatementsGoPast};
+ghost use Rattle.pearl_resolve.specs.Laws.{RoutinesHaveCells, StatementsGoPast, TargetsHaveTheirKind};
 
 /// Behind some statements the counters stand at what comes behind the scopes, cells and formats of these.
 pub fn statements_go_past()
@@ -10,4 +10,9 @@ pub fn statements_go_past()
 /// A routine has as many cells as its parameters, its variables, its loops and its GETs are given.
 pub fn routines_have_cells()
     ensures { RoutinesHaveCells }
+{}
+
+/// The kind of a target's cell is the one that the static rules ask of the target.
+pub fn targets_have_their_kind()
+    ensures { TargetsHaveTheirKind }
 {}
