@@ -1,3 +1,6 @@
 mod Examples
 pub mod Going
 pub mod Shapes
+pub mod Subscripting
+pub mod SoundWalks
+pub mod SoundParts

@@ -162,13 +162,13 @@ abbrev pub dimension_of : Option Number → ℕ
 dimension_of None = 1
 dimension_of (Some number) = number.value
 
+abbrev pub limit_value : Side → Option Bound → PlainExpr
+limit_value side None = no_value
+limit_value side (Some bound) = OfLiteral (Fixed 31 (side_of side bound))
+
 -- LWB and UPB are the bound that they name
 abbrev pub limit_of : Option Number → Side → Walk → PlainExpr
-limit_of dimension side walk = of (slice_get (open_bounds walk) (dimension_of dimension - 1))
-  where
-    of : Option Bound → PlainExpr
-    of None = no_value
-    of (Some bound) = OfLiteral (Fixed 31 (side_of side bound))
+limit_of dimension side walk = limit_value side (slice_get (open_bounds walk) (dimension_of dimension - 1))
 
 -- the operator that stands next to the operand is the innermost
 abbrev pub monadics_over : List Monadic → PlainExpr → PlainExpr
