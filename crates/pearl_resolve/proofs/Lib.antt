@@ -4,3 +4,4 @@ pub mod Shapes
 pub mod Subscripting
 pub mod SoundWalks
 pub mod SoundParts
+pub mod SoundExpressions

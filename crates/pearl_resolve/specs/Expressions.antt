@@ -25,6 +25,7 @@ use Rattle.pearl_names.specs.Shapes.{Shape, OfKind, OfFields}
 use Rattle.pearl_names.specs.Forms.{Component, component}
 use Rattle.pearl_names.specs.Tables.{Form, Parameter, Sense, Variable, Control, OwnParameter, Procedure, Table, sense_at}
 use Rattle.pearl_check_expr.specs.Literals.{fixed_length}
+use Rattle.pearl_check_expr.specs.Judged.{dimension_of}
 use Rattle.pearl_program.specs.declared.expression.Target.{Target}
 use Rattle.pearl_program.specs.declared.expression.Target.TheVariants.{Leaf, Own, Param}
 use Rattle.pearl_program.specs.declared.expression.Bound.{Bound}
@@ -157,10 +158,6 @@ side_of Upper bound = bound.upper
 -- the bounds of the array that a reference names, without those that have subscripts
 abbrev pub open_bounds : Walk → List Bound
 open_bounds walk = drop (count walk.subscripts) walk.bounds
-
-abbrev pub dimension_of : Option Number → ℕ
-dimension_of None = 1
-dimension_of (Some number) = number.value
 
 abbrev pub limit_value : Side → Option Bound → PlainExpr
 limit_value side None = no_value

@@ -1,16 +1,18 @@
--- What holds of the scopes, cells and formats that statements go past, and of the kinds of targets.
+-- What holds of the scopes, cells and formats that statements go past, and of what expressions and targets become.
 use Rattle.std.specs.Prelude.{◌≡◌, ℕ, ◌+◌, List, length, Some}
 use Rattle.pearl_value.specs.declared.kind.Kind.{Kind}
 use Rattle.pearl_value.specs.declared.kind.CellKind.{CellKind}
 use Rattle.pearl_format.specs.declared.item.Item.{Item}
-use Rattle.pearl_tree.specs.ShownExpressions.{ShownRef}
+use Rattle.pearl_tree.specs.ShownExpressions.{ShownExpr, ShownRef}
 use Rattle.pearl_tree.specs.ShownStatements.{ShownStmts}
 use Rattle.pearl_tree.specs.ShownModules.{ShownBody}
 use Rattle.pearl_names.specs.Scopes.{scopes_in_all}
 use Rattle.pearl_names.specs.declared.scope.View.{View}
-use Rattle.pearl_check_expr.specs.Judged.{judged_variable}
+use Rattle.pearl_check_expr.specs.Judged.{judged, judged_variable}
+use Rattle.pearl_program.specs.Typing.{Around, HasKind, IsVariable}
 use Rattle.pearl_resolve.specs.Numbers.{At, after_all, after_body, numbers_in_all}
-use Rattle.pearl_resolve.specs.Expressions.{Numbered, target_kind}
+use Rattle.pearl_resolve.specs.Expressions.{Numbered, resolve_expr, resolve_variable, target_kind}
+use Rattle.pearl_resolve.specs.SoundNames.{HasLiterals, SelectorsHaveLiterals, LeadNames}
 use Rattle.pearl_resolve.specs.Cells.{cells_in_all, routine_cells}
 use Rattle.pearl_resolve.specs.Resolve.{formats_in_all}
 
@@ -36,3 +38,12 @@ RoutinesHaveCells = (numbered : Numbered) (at : At) (body : ShownBody) →
 abbrev pub TargetsHaveTheirKind : Type 0
 TargetsHaveTheirKind = (numbered : Numbered) (view : View) (reference : ShownRef) (kind : Kind) →
     (judged_variable numbered.table view reference).kind ≡ Some kind → target_kind numbered view reference ≡ kind
+
+-- where names lead to what is there, what an expression becomes has the kind with which the expression is judged, and so
+-- has what a target becomes
+abbrev pub ExpressionsAreSound : Type 0
+ExpressionsAreSound = (numbered : Numbered) (view : View) (around : Around) → LeadNames numbered view around →
+    ((e : ShownExpr) → HasLiterals numbered.table.lengths e → (kind : Kind) →
+    (judged numbered.table view e).kind ≡ Some kind → HasKind around (resolve_expr numbered view e) kind) ×
+    ((reference : ShownRef) → SelectorsHaveLiterals numbered.table.lengths reference.selectors → (kind : Kind) →
+    (judged_variable numbered.table view reference).kind ≡ Some kind → IsVariable around (resolve_variable numbered view reference) kind)

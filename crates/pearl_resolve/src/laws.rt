@@ -1,6 +1,6 @@
-// What holds of the scopes, cells and formats that statements go past, and of the kinds of targets.
+// What holds of the scopes, cells and formats that statements go past, and of what expressions and targets become.
 
-ghost use Rattle.pearl_resolve.specs.Laws.{RoutinesHaveCells, StatementsGoPast, TargetsHaveTheirKind};
+ghost use Rattle.pearl_resolve.specs.Laws.{ExpressionsAreSound, RoutinesHaveCells, StatementsGoPast, TargetsHaveTheirKind};
 
 /// Behind some statements the counters stand at what comes behind the scopes, cells and formats of these.
 pub fn statements_go_past()
@@ -15,4 +15,10 @@ pub fn routines_have_cells()
 /// The kind of a target's cell is the one that the static rules ask of the target.
 pub fn targets_have_their_kind()
     ensures { TargetsHaveTheirKind }
+{}
+
+/// Where names lead to what is there, an expression in which no rule is broken becomes one of a program with the same
+/// kind, and so does a target.
+pub fn expressions_are_sound()
+    ensures { ExpressionsAreSound }
 {}
