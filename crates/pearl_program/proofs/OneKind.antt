@@ -1,5 +1,5 @@
 -- An expression has one kind at most, and so has a variable.
-use Rattle.std.specs.Prelude.{◌≡◌, ℕ, suc, ◌+◌, ◌-◌, ◌*◌, ◌<◌, ◌-ℤ◌, unsigned_abs, List, [], ◌∷◌, take, drop, replicate, Option, Some, None, unwrap_or, slice_get}
+use Rattle.std.specs.Prelude.{◌≡◌, ℕ, suc, ◌+◌, ◌*◌, ◌-ℤ◌, unsigned_abs, List, [], ◌∷◌, replicate, Option, Some, None, unwrap_or, slice_get}
 use Rattle.std.proofs.Common.{refl, ap, ◌∙◌, sym, subst, arith}
 use Rattle.pearl_value.specs.declared.kind.Kind.{Kind}
 use Rattle.pearl_value.specs.declared.kind.Kind.TheVariants.{Fixed}
@@ -11,7 +11,7 @@ use Rattle.pearl_program.specs.declared.expression.Target.TheVariants.{Leaf, Own
 use Rattle.pearl_program.specs.declared.expression.Bound.{Bound}
 use Rattle.pearl_program.specs.PlainExpressions.{PlainExpr, OfLiteral, OfRead, OfMonadic, OfDyadic, OfCall, OfNow, OfTry, PlainVariable, OfVariable}
 use Rattle.pearl_program.specs.PlainPrograms.{PlainLeaf}
-use Rattle.pearl_program.specs.Typing.{Signature, Around, elements, AreCells, IsLeafOf, Points, HasKind, IsVariable}
+use Rattle.pearl_program.specs.Typing.{Signature, Around, elements, IsLeafOf, Points, HasKind, IsVariable}
 
 some_one : {X : Type 0} {x y : X} → Some x ≡ Some y → x ≡ y
 some_one {x = x} same = ap (λ o. unwrap_or o x) same
@@ -22,8 +22,10 @@ elements_some [] = (0, refl)
 elements_some (bound ∷ rest) = by (elements rest) (elements_some rest)
   where
     by : (more : ℕ) → (n : ℕ) × (more ≡ suc n) → (n : ℕ) × ((unsigned_abs (bound.upper -ℤ bound.lower) + 1) * more ≡ suc n)
-    by more some = (unsigned_abs (bound.upper -ℤ bound.lower) * suc some.0 + some.0,
-        ap (λ m. (unsigned_abs (bound.upper -ℤ bound.lower) + 1) * m) some.1 ∙ omega arith)
+    by more some = (
+      unsigned_abs (bound.upper -ℤ bound.lower) * suc some.0 + some.0,
+      ap (λ m. (unsigned_abs (bound.upper -ℤ bound.lower) + 1) * m) some.1 ∙ omega arith,
+    )
 
 abbrev kind_of_cell : CellKind → Kind
 kind_of_cell (Plain kind) = kind

@@ -11,7 +11,7 @@ use Rattle.pearl_program.specs.declared.expression.Bound.{Bound}
 use Rattle.pearl_program.specs.declared.expression.Variable.{Variable, Row_of-Expr, end_of-Expr, more_of-Expr}
 use Rattle.pearl_program.specs.declared.expression.Argument.{Argument}
 use Rattle.pearl_program.specs.declared.expression.Argument as argument
-use Rattle.pearl_program.specs.declared.expression.Call.{Call, Row_of-Argument, end_of-Argument, more_of-Argument}
+use Rattle.pearl_program.specs.declared.expression.Call.{Row_of-Argument, end_of-Argument, more_of-Argument}
 use Rattle.pearl_program.specs.declared.expression.Expr.{Expr}
 use Rattle.pearl_program.specs.declared.expression.Expr as expr
 

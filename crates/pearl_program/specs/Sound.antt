@@ -11,7 +11,7 @@ use Rattle.pearl_format.specs.declared.item.Item.{Item}
 use Rattle.pearl_format.specs.Items.{HasWidth}
 use Rattle.pearl_program.specs.declared.table.Device.{Device}
 use Rattle.pearl_program.specs.declared.table.Device.TheVariants.{Interrupt, Terminal, Input, Output}
-use Rattle.pearl_program.specs.PlainPrograms.{PlainLeaf, PlainRoutine, PlainProcedure, PlainTask, PlainProg}
+use Rattle.pearl_program.specs.PlainPrograms.{PlainLeaf, PlainProcedure, PlainTask, PlainProg}
 use Rattle.pearl_program.specs.Typing.{Signature, Around}
 use Rattle.pearl_program.specs.SoundStatements.{IsIf, AreFirst, AreStmts}
 use Rattle.pearl_program.specs.Weights.{weight, weights_of}

@@ -1,6 +1,6 @@
 -- Small modules and the programs that they mean. Places are those that the parts would have in a source, as far as they matter.
 use Prim.Native.String.{String}
-use Rattle.std.specs.Prelude.{◌≡◌, ℕ, ◌+◌, pos, Bool, false, true, List, [], ◌∷◌, Some, None, codes}
+use Rattle.std.specs.Prelude.{◌≡◌, ℕ, pos, Bool, false, true, List, [], ◌∷◌, Some, None, codes}
 use Rattle.std.proofs.Common.{refl}
 use Rattle.pearl_value.specs.declared.kind.Kind.{Kind}
 use Rattle.pearl_value.specs.declared.kind.Kind.TheVariants as kind
@@ -21,15 +21,15 @@ use Rattle.pearl_tree.specs.declared.declaration.Class.TheVariants.{Alphic}
 use Rattle.pearl_tree.specs.declared.expression.Side.TheVariants.{Upper}
 use Rattle.pearl_tree.specs.declared.tree.TaskHead.TheVariants.{PrioFirst}
 use Rattle.pearl_tree.specs.ShownLiterals.{OfNumber, ShownConst}
-use Rattle.pearl_tree.specs.ShownExpressions.{ShownExpr, OfOperand, OfDyadic, OfLiteral, OfRef, OfLimit, ShownSelectors, NoSelectors, MoreSelectors, OfSubscripts, OfComponent, ShownExprs, NoExprs, MoreExprs, ShownRef}
-use Rattle.pearl_tree.specs.ShownDeclarations.{ShownNames, OfOne, ShownTyping, OfBasic, OfStruct, NoFields, MoreFields, ShownItem, OfItem, OfDation, ShownParam}
-use Rattle.pearl_tree.specs.ShownStatements.{ShownBodyDecl, ShownStmt, OfAssign, OfCall, OfRepeat, OfBegin, OfExit, OfGet, OfPut, OfReturn, ShownStmts, NoStmts, MoreStmts}
+use Rattle.pearl_tree.specs.ShownExpressions.{ShownExpr, OfOperand, OfDyadic, OfLiteral, OfRef, OfLimit, ShownSelectors, NoSelectors, MoreSelectors, OfSubscripts, OfComponent, NoExprs, MoreExprs, ShownRef}
+use Rattle.pearl_tree.specs.ShownDeclarations.{OfOne, ShownTyping, OfBasic, OfStruct, NoFields, MoreFields, ShownItem, OfItem, OfDation, ShownParam}
+use Rattle.pearl_tree.specs.ShownStatements.{ShownBodyDecl, ShownStmt, OfAssign, OfCall, OfRepeat, OfBegin, OfGet, OfReturn, NoStmts, MoreStmts}
 use Rattle.pearl_tree.specs.ShownModules.{ShownBody, ShownDecl, OfDeclare, OfSpecify, OfTask, OfProc, ShownTree}
 use Rattle.pearl_names.specs.Sorts.{sorted_names, names_of_scopes}
 use Rattle.pearl_names.specs.Tables.{table_of}
 use Rattle.pearl_system.specs.declared.device.SpecifiedDevice.{SpecifiedDevice}
 use Rattle.pearl_system.specs.declared.device.Role.TheVariants.{Terminal}
-use Rattle.pearl_program.specs.declared.expression.Target.TheVariants.{Leaf, Own, Param}
+use Rattle.pearl_program.specs.declared.expression.Target.TheVariants.{Leaf, Own}
 use Rattle.pearl_program.specs.declared.expression.Bound.{Bound as Bounds}
 use Rattle.pearl_program.specs.declared.table.Device.TheVariants as device
 use Rattle.pearl_program.specs.declared.table.Direction.TheVariants.{InOut}
@@ -130,25 +130,27 @@ looping = source (OfSpecify (OfDation (OfOne (name "tty" 0)) direction.InOut (Al
 
 -- control, step and limit, then n, then the value that comes in and where it goes
 looped : resolve (table_of looping) (terminal ∷ []) [] looping ≡ record {
-    leaves = record { name = codes "m.a"; values = record { kind = short; count = 2; constants = cell.Fixed 31 (pos 1) ∷ cell.Fixed 31 (pos 2) ∷ [] } } ∷
-        record { name = codes "m.b"; values = values 6 (3 ∷ []) } ∷ [];
-    semaphores = [];
-    devices = device.Terminal 1 InOut ∷ [];
-    formats = (record { code = code.F; width = 3 } ∷ []) ∷ [];
-    procedures = [];
-    tasks = record {
-      name = codes "t"; priority = 255; main = true;
-      routine = record {
-        cells = Plain short ∷ Plain short ∷ Plain short ∷ Plain short ∷ Plain short ∷ Plain short ∷ [];
-        body = then_ (plain_stmt.OfRepeat (Some (record { cell = 0; begin = None; step = None; end = Some (value 2) })) None
-            (then_ (plain_stmt.OfRenew 3 (values 1 (5 ∷ [])))
-            (then_ (plain_stmt.OfAssign
-                (plain.OfVariable (Leaf 1) (bounds 2 ∷ bounds 3 ∷ []) (plain.MoreExprs (plain.OfRead (own 0)) (plain.MoreExprs (value 2) plain.NoExprs)))
-                (plain.OfDyadic Add (plain.OfRead (own 3)) (value 3)))
-            (then_ (plain_stmt.OfGet (own 3 ∷ []) 0 0 4) plain_stmt.NoStmts)))) plain_stmt.NoStmts;
-      };
-    } ∷ [];
-  }
+  leaves = record { name = codes "m.a"; values = record { kind = short; count = 2; constants = cell.Fixed 31 (pos 1) ∷ cell.Fixed 31 (pos 2) ∷ [] } } ∷
+      record { name = codes "m.b"; values = values 6 (3 ∷ []) } ∷ [];
+  semaphores = [];
+  devices = device.Terminal 1 InOut ∷ [];
+  formats = (record { code = code.F; width = 3 } ∷ []) ∷ [];
+  procedures = [];
+  tasks = record {
+    name = codes "t";
+    priority = 255;
+    main = true;
+    routine = record {
+      cells = Plain short ∷ Plain short ∷ Plain short ∷ Plain short ∷ Plain short ∷ Plain short ∷ [];
+      body = then_ (plain_stmt.OfRepeat (Some (record { cell = 0; begin = None; step = None; end = Some (value 2) })) None
+          (then_ (plain_stmt.OfRenew 3 (values 1 (5 ∷ [])))
+          (then_ (plain_stmt.OfAssign
+          (plain.OfVariable (Leaf 1) (bounds 2 ∷ bounds 3 ∷ []) (plain.MoreExprs (plain.OfRead (own 0)) (plain.MoreExprs (value 2) plain.NoExprs)))
+          (plain.OfDyadic Add (plain.OfRead (own 3)) (value 3)))
+          (then_ (plain_stmt.OfGet (own 3 ∷ []) 0 0 4) plain_stmt.NoStmts)))) plain_stmt.NoStmts;
+    };
+  } ∷ [];
+}
 unfolding names_of_scopes sorted_names
 looped = refl
 
@@ -164,15 +166,17 @@ nesting = source (task [] (OfBegin (local (item "m" (upto 2 ∷ [])
 
 -- two cells of m.a, and behind them the six of m.b
 nested : resolve (table_of nesting) [] [] nesting ≡ no_tables (record {
-    name = codes "t"; priority = 255; main = true;
-    routine = record {
-      cells = Plain short ∷ Plain short ∷ Plain short ∷ Plain short ∷ Plain short ∷ Plain short ∷ Plain short ∷ Plain short ∷ [];
-      body = then_ (plain_stmt.OfRenew 0 (values 2 []))
-          (then_ (plain_stmt.OfRenew 2 (values 6 []))
-          (then_ (plain_stmt.OfAssign (plain.OfVariable (Own 2) (bounds 2 ∷ bounds 3 ∷ [])
-              (plain.MoreExprs (value 1) (plain.MoreExprs (value 2) plain.NoExprs))) (value 1)) plain_stmt.NoStmts));
-    };
-  } ∷ [])
+  name = codes "t";
+  priority = 255;
+  main = true;
+  routine = record {
+    cells = Plain short ∷ Plain short ∷ Plain short ∷ Plain short ∷ Plain short ∷ Plain short ∷ Plain short ∷ Plain short ∷ [];
+    body = then_ (plain_stmt.OfRenew 0 (values 2 []))
+        (then_ (plain_stmt.OfRenew 2 (values 6 []))
+        (then_ (plain_stmt.OfAssign (plain.OfVariable (Own 2) (bounds 2 ∷ bounds 3 ∷ [])
+        (plain.MoreExprs (value 1) (plain.MoreExprs (value 2) plain.NoExprs))) (value 1)) plain_stmt.NoStmts));
+  };
+} ∷ [])
 unfolding names_of_scopes sorted_names
 nested = refl
 
@@ -192,22 +196,26 @@ calling = source (
 
 -- b has the number 0, since a calls it
 called : resolve (table_of calling) [] (1 ∷ 0 ∷ []) calling ≡ record (no_tables (record {
-    name = codes "t"; priority = 255; main = true;
-    routine = record {
-      cells = Plain short ∷ [];
-      body = then_ (plain_stmt.OfRenew 0 (values 1 []))
-          (then_ (plain_stmt.OfCallOf 1 (plain.MoreArguments (plain.OfIdent (own 0))
-              (plain.MoreArguments (plain.OfValue (plain.OfDyadic Add (plain.OfCall 0 plain.NoArguments) (value 1))) plain.NoArguments)))
-          plain_stmt.NoStmts);
-    };
-  } ∷ [])) {
-    procedures = record {
-      params = 0; result = Some short;
-      routine = record { cells = []; body = then_ (plain_stmt.OfReturn (Some (value 7))) plain_stmt.NoStmts };
-    } ∷ record {
-      params = 2; result = None;
-      routine = record { cells = RefTo short ∷ Plain short ∷ []; body = then_ (plain_stmt.OfCallOf 0 plain.NoArguments) plain_stmt.NoStmts };
-    } ∷ [];
-  }
+  name = codes "t";
+  priority = 255;
+  main = true;
+  routine = record {
+    cells = Plain short ∷ [];
+    body = then_ (plain_stmt.OfRenew 0 (values 1 []))
+        (then_ (plain_stmt.OfCallOf 1 (plain.MoreArguments (plain.OfIdent (own 0))
+        (plain.MoreArguments (plain.OfValue (plain.OfDyadic Add (plain.OfCall 0 plain.NoArguments) (value 1))) plain.NoArguments)))
+        plain_stmt.NoStmts);
+  };
+} ∷ [])) {
+  procedures = record {
+    params = 0;
+    result = Some short;
+    routine = record { cells = []; body = then_ (plain_stmt.OfReturn (Some (value 7))) plain_stmt.NoStmts };
+  } ∷ record {
+    params = 2;
+    result = None;
+    routine = record { cells = RefTo short ∷ Plain short ∷ []; body = then_ (plain_stmt.OfCallOf 0 plain.NoArguments) plain_stmt.NoStmts };
+  } ∷ [];
+}
 unfolding names_of_scopes sorted_names
 called = refl

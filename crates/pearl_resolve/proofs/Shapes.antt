@@ -1,5 +1,5 @@
 -- References come to the shapes with which they are judged.
-use Rattle.std.specs.Prelude.{◌≡◌, ℕ, zero, suc, ◌==◌, ◌&&◌, length, Bool, true, false, if◌then◌else◌, List, [], ◌∷◌, Option, Some, None, option_map, unwrap_or}
+use Rattle.std.specs.Prelude.{◌≡◌, ℕ, zero, suc, ◌==◌, ◌&&◌, length, Bool, true, false, if◌then◌else◌, [], Option, Some, None, option_map, unwrap_or}
 use Rattle.std.specs.Option.{option_and_then}
 use Rattle.std.proofs.Common.{refl, ap, ◌∙◌, sym, subst}
 use Rattle.std.proofs.lemmas.Option.{none-some}
@@ -13,12 +13,12 @@ use Rattle.pearl_names.specs.declared.meaning.Found.{Found}
 use Rattle.pearl_names.specs.Found.{found_from}
 use Rattle.pearl_names.specs.Shapes.{Shape, OfKind, OfFields}
 use Rattle.pearl_names.specs.Forms.{Component, component}
-use Rattle.pearl_names.specs.Tables.{Form, Parameter, Sense, Variable, Control, OwnParameter, NewType, Semaphore, Interrupt, AlphicDation, BasicDation, Task, Procedure, Table, sense_at, sense_from}
+use Rattle.pearl_names.specs.Tables.{Form, Sense, Variable, Control, OwnParameter, NewType, Semaphore, Interrupt, AlphicDation, BasicDation, Task, Procedure, sense_at, sense_from}
 use Rattle.pearl_check_expr.specs.Standings as judged
 use Rattle.pearl_check_expr.specs.Standings.{Judged, Standing, Broken, Open, Walked, standing_of, start_at, variable_start, element_standing, value_of, walked_on, stopped}
 use Rattle.pearl_check_expr.specs.Judged as judging
 use Rattle.pearl_check_expr.specs.Judged.{walked_ref, judged_variable}
-use Rattle.pearl_resolve.specs.Expressions.{Numbered, Meant, number_at, meant_at, meant, Walk, walk_of, walk_from, to_field, field_of, kind_of_shape, along, step, walked, target_kind}
+use Rattle.pearl_resolve.specs.Expressions.{Numbered, number_at, meant_at, meant, Walk, walk_of, walk_from, to_field, field_of, kind_of_shape, along, step, walked, target_kind}
 
 -- a walk stands where a reference is judged to stand
 abbrev Stands : Standing → Walk → Type 0

@@ -1,5 +1,5 @@
 -- What an expression becomes has the kind with which the expression is judged.
-use Rattle.std.specs.Prelude.{◌≡◌, ℕ, zero, suc, ◌+◌, ◌-◌, ◌==◌, Bool, true, false, ◌&&◌, if◌then◌else◌, List, [], ◌∷◌, length, Option, Some, None, is_some, unwrap_or}
+use Rattle.std.specs.Prelude.{◌≡◌, ℕ, zero, suc, ◌==◌, Bool, true, false, ◌&&◌, if◌then◌else◌, List, [], ◌∷◌, length, Option, Some, None, is_some, unwrap_or}
 use Rattle.std.proofs.Common.{refl, ap, ◌∙◌, sym, subst, arith, true≢false}
 use Rattle.std.proofs.lemmas.Option.{none-some}
 use Rattle.std.proofs.lemmas.Bool.{eqb-true}
@@ -10,10 +10,10 @@ use Rattle.pearl_tree.specs.declared.rule.TheConstants as rule
 use Rattle.pearl_tree.specs.Names.{name_text}
 use Rattle.pearl_tree.specs.ShownExpressions.{ShownExpr, OfOperand, OfDyadic, ShownPrimary, OfLiteral, OfRef, OfGroup, OfNow, OfTry, OfLimit, ShownSelectors, NoSelectors, MoreSelectors, ShownSelector, OfSubscripts, OfComponent, ShownExprs, NoExprs, MoreExprs, ShownRef}
 use Rattle.pearl_names.specs.declared.scope.View.{View}
-use Rattle.pearl_names.specs.Shapes.{Shape, OfKind, OfFields}
-use Rattle.pearl_names.specs.Tables.{Parameter, Sense, sense_from}
+use Rattle.pearl_names.specs.Shapes.{OfKind, OfFields}
+use Rattle.pearl_names.specs.Tables.{Parameter, sense_from}
 use Rattle.pearl_check_expr.specs.Senses.{Callee, callee_of, is_fixed}
-use Rattle.pearl_check_expr.specs.Standings.{Judged, Standing, Broken, Open, Walked, variable_start, behind, as_value, value_of, all_fixed, all_known, is_fixed_or_unknown}
+use Rattle.pearl_check_expr.specs.Standings.{Standing, Broken, Open, Walked, variable_start, behind, as_value, value_of, all_fixed, all_known, is_fixed_or_unknown}
 use Rattle.pearl_check_expr.specs.Judged as judging
 use Rattle.pearl_check_expr.specs.Judged.{Argument, judged, judged_variable, judged_primary, judged_all, applied, first_applied, beyond, is_last, arguments, argument_of, fitted, ident_argument, variable_argument, no_variable, all_well, call_value, called_or, dimension_of, expr_place, result_kind, plain_name}
 use Rattle.pearl_program.specs.PlainExpressions.{PlainExpr, OfRead, PlainArguments, NoArguments}
@@ -63,12 +63,14 @@ module _ (numbered : Numbered) (view : View) (around : Around) (lead : LeadNames
   ref_sound name selectors (Some callee) found stands suits kind is =
       let parts = well_is (applied numbered.table view name callee selectors).well (result_kind callee) kind is in
       let there = lead.procedures name callee.parameters callee.result
-          (callee_is (sense_from numbered.table view (name_text name)) callee found) in
+      (callee_is (sense_from numbered.table view (name_text name)) callee found) in
       subst (λ parameters. HasKind around (resolved.called_or parameters (call_of name selectors) (read_of name selectors)) kind)
-      (sym (same_params numbered view name ∙ ap params_of_callee found))
-      (there.signature, there.there,
-      subst (λ cells. Suit around cells (resolve_call numbered view callee.parameters selectors)) (sym there.params) (suits callee parts.0),
-      there.gives kind parts.1)
+      (sym (same_params numbered view name ∙ ap params_of_callee found)) (
+        there.signature,
+        there.there,
+        subst (λ cells. Suit around cells (resolve_call numbered view callee.parameters selectors)) (sym there.params) (suits callee parts.0),
+        there.gives kind parts.1,
+      )
 
   -- an argument for an IDENT parameter
   named_suits : (place : ℕ) (name : Name) (selectors : ShownSelectors) (to value : Option Kind) (c : Option Callee) →
@@ -182,9 +184,10 @@ module _ (numbered : Numbered) (view : View) (around : Around) (lead : LeadNames
         let fixeds = both (is_fixed_or_unknown first.kind) (all_fixed others) fixed in
         let knowns = both (is_some first.kind) (all_known others) known in
         let some = some_of first.kind knowns.0 in
-        let one = fixed_is some.0 (subst (λ kind. is_fixed_or_unknown kind ≡ true) some.1 fixeds.0) in
-        ((one.0, subst (λ kind. HasKind around (resolve_expr numbered view e) kind) one.1 (expr_sound e lits.0 some.0 some.1)),
-        exprs_fixed rest lits.1 fixeds.1 knowns.1)
+        let one = fixed_is some.0 (subst (λ kind. is_fixed_or_unknown kind ≡ true) some.1 fixeds.0) in (
+          (one.0, subst (λ kind. HasKind around (resolve_expr numbered view e) kind) one.1 (expr_sound e lits.0 some.0 some.1)),
+          exprs_fixed rest lits.1 fixeds.1 knowns.1,
+        )
 
     call_suits : (name : Name) (callee : Callee) (selectors : ShownSelectors) → SelectorsHaveLiterals numbered.table.lengths selectors →
         (applied numbered.table view name callee selectors).well ≡ true →
@@ -212,10 +215,11 @@ module _ (numbered : Numbered) (view : View) (around : Around) (lead : LeadNames
     arguments_suit [] (MoreExprs e rest) lits same well = absurd (omega (arith, same))
     arguments_suit (parameter ∷ parameters) (MoreExprs e rest) lits same well =
         let wells = both (argument_of numbered.table view (Some parameter) e (judged numbered.table view e)).well
-            (all_well (arguments numbered.table view parameters rest)) well in
-        (argument_suits e parameter.ident parameter.kind (judged numbered.table view e).kind
-        (λ kind is. expr_sound e lits.0 kind is) wells.0,
-        arguments_suit parameters rest lits.1 (omega (arith, same)) wells.1)
+        (all_well (arguments numbered.table view parameters rest)) well in (
+          argument_suits e parameter.ident parameter.kind (judged numbered.table view e).kind
+              (λ kind is. expr_sound e lits.0 kind is) wells.0,
+          arguments_suit parameters rest lits.1 (omega (arith, same)) wells.1,
+        )
 
   pub target_sound : (reference : ShownRef) → SelectorsHaveLiterals numbered.table.lengths reference.selectors → (kind : Kind) →
       (judged_variable numbered.table view reference).kind ≡ Some kind → IsVariable around (resolve_variable numbered view reference) kind

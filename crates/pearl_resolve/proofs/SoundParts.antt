@@ -1,18 +1,16 @@
 -- What operators, TRY, LWB, UPB and arguments come to, where their parts have kinds.
-use Rattle.std.specs.Prelude.{◌≡◌, ◌↔◌, ℕ, zero, suc, ◌+◌, ◌-◌, ◌≤◌, ◌<◌, Bool, true, false, ◌&&◌, not, nat_le, if◌then◌else◌, List, [], ◌∷◌, length, drop, Option, Some, None, is_some, option_map, unwrap_or, slice_get}
+use Rattle.std.specs.Prelude.{◌≡◌, ℕ, zero, suc, ◌-◌, ◌<◌, Bool, true, false, ◌&&◌, not, nat_le, if◌then◌else◌, List, [], ◌∷◌, length, Option, Some, None, option_map, unwrap_or, slice_get}
 use Rattle.std.specs.Option.{option_and_then}
 use Rattle.std.specs.List.{AllByRecursion}
-use Rattle.std.proofs.Common.{refl, ap, ◌∙◌, sym, subst, arith, true≢false}
+use Rattle.std.proofs.Common.{refl, ap, sym, subst, arith, true≢false}
 use Rattle.std.proofs.lemmas.Int.{ints}
 use Rattle.std.proofs.lemmas.List.{length-drop}
 use Rattle.std.proofs.lemmas.Option.{none-some}
 use Rattle.std.proofs.lemmas.Bool.{eqb-true, leb-true}
 use Rattle.pearl_value.specs.declared.kind.Kind.{Kind}
 use Rattle.pearl_value.specs.declared.kind.Kind.TheVariants.{Fixed, Bits, Chars, Clock, Span}
-use Rattle.pearl_value.specs.Conversions.{SuitsKind}
 use Rattle.pearl_value.specs.Rows.{row1, row2}
 use Rattle.pearl_tree.specs.declared.name.Name.{Name}
-use Rattle.pearl_tree.specs.declared.name.Number.{Number}
 use Rattle.pearl_tree.specs.declared.expression.Monadic.{Monadic}
 use Rattle.pearl_tree.specs.declared.expression.Dyadic.{Dyadic}
 use Rattle.pearl_tree.specs.declared.expression.Side.{Side}
@@ -22,22 +20,19 @@ use Rattle.pearl_tree.specs.Names.{name_text}
 use Rattle.pearl_names.specs.declared.scope.View.{View}
 use Rattle.pearl_names.specs.declared.meaning.Found.{Found}
 use Rattle.pearl_names.specs.Found.{found_from}
-use Rattle.pearl_names.specs.Shapes.{Shape}
-use Rattle.pearl_names.specs.Tables.{Form, Parameter, Sense, Variable, Control, OwnParameter, NewType, Semaphore, Interrupt, AlphicDation, BasicDation, Task, Procedure, sense_at, sense_from}
+use Rattle.pearl_names.specs.Tables.{Parameter, Sense, Variable, Control, OwnParameter, NewType, Semaphore, Interrupt, AlphicDation, BasicDation, Task, Procedure, sense_at, sense_from}
 use Rattle.pearl_check_expr.specs.Kinds.{suits_kind, is_kind}
-use Rattle.pearl_check_expr.specs.Senses.{Callee, callee_of, is_fixed}
+use Rattle.pearl_check_expr.specs.Senses.{Callee, callee_of}
 use Rattle.pearl_check_expr.specs.Standings.{Judged, Standing, Broken, Open, is_fixed_or_unknown, faulty}
-use Rattle.pearl_check_expr.specs.Judged as judging
-use Rattle.pearl_check_expr.specs.Judged.{result_of, monadic_result, dyadic_result, with_monadic, with_monadics, try_judged, limit_of, misfits, differs, variable_argument, value_argument, if_well}
+use Rattle.pearl_check_expr.specs.Judged.{result_of, monadic_result, dyadic_result, with_monadics, try_judged, limit_of, variable_argument, value_argument, if_well}
 use Rattle.pearl_check_expr.proofs.Suiting.{suits_both}
 use Rattle.pearl_program.specs.declared.expression.Bound.{Bound}
-use Rattle.pearl_program.specs.PlainExpressions.{PlainExpr, OfRead, OfMonadic, PlainVariable, PlainArgument}
+use Rattle.pearl_program.specs.PlainExpressions.{PlainExpr, OfRead, PlainVariable}
 use Rattle.pearl_program.specs.Typing.{Around, IsBound, HasKind, IsVariable, SuitsParam}
-use Rattle.pearl_resolve.specs.Expressions as resolved
-use Rattle.pearl_resolve.specs.Expressions.{Numbered, Meant, number_at, meant_at, meant, Walk, count, params_of, handed, monadics_over, open_bounds, limit_value, side_of}
+use Rattle.pearl_resolve.specs.Expressions.{Numbered, number_at, meant_at, meant, Walk, count, params_of, handed, monadics_over, open_bounds, limit_value}
 use Rattle.pearl_resolve.specs.Cells.{param_cell}
-use Rattle.pearl_resolve.proofs.Subscripting.{both, some_of, sound_behind}
-use Rattle.pearl_resolve.proofs.SoundWalks.{StandsSound, IsSoundAt}
+use Rattle.pearl_resolve.proofs.Subscripting.{sound_behind}
+use Rattle.pearl_resolve.proofs.SoundWalks.{IsSoundAt}
 
 pub some_one : {X : Type 0} {x y : X} → Some x ≡ Some y → x ≡ y
 some_one {x = x} same = ap (λ o. unwrap_or o x) same

@@ -1,7 +1,6 @@
 -- References come to what is there, with a subscript for each bound on the way.
-use Rattle.std.specs.Prelude.{◌≡◌, ℕ, ℤ, zero, suc, ◌+◌, ◌-◌, ◌≤◌, ◌<◌, Bool, true, false, if◌then◌else◌, List, [], ◌∷◌, ◌++◌, length, map, take, drop, Option, Some, None, option_map, slice_get}
+use Rattle.std.specs.Prelude.{◌≡◌, ℕ, ℤ, zero, suc, ◌+◌, ◌≤◌, Bool, true, false, if◌then◌else◌, List, [], ◌∷◌, length, map, take, drop, Option, Some, None, option_map}
 use Rattle.std.specs.Option.{option_and_then}
-use Rattle.std.specs.List.{AllByRecursion}
 use Rattle.std.proofs.Common.{refl, ap, ◌∙◌, sym, subst, arith}
 use Rattle.std.proofs.lemmas.List.{length-append, length-map, take-append-drop, take-append-le}
 use Rattle.pearl_value.specs.declared.kind.Kind.{Kind}
@@ -13,16 +12,16 @@ use Rattle.pearl_names.specs.Counts.{cut}
 use Rattle.pearl_names.specs.Found.{found_from}
 use Rattle.pearl_names.specs.Shapes.{Shape, OfKind, OfFields}
 use Rattle.pearl_names.specs.Forms.{Component, component}
-use Rattle.pearl_names.specs.Tables.{Form, Parameter, Sense, Variable, Control, OwnParameter, NewType, Semaphore, Interrupt, AlphicDation, BasicDation, Task, Procedure, sense_at, sense_from}
+use Rattle.pearl_names.specs.Tables.{Form, Sense, Variable, Control, OwnParameter, NewType, Semaphore, Interrupt, AlphicDation, BasicDation, Task, Procedure, sense_at, sense_from}
 use Rattle.pearl_check_expr.specs.Standings as judged
 use Rattle.pearl_check_expr.specs.Standings.{Standing, Broken, Open, standing_of, start_at, variable_start, element_standing, walked_on, stopped}
 use Rattle.pearl_program.specs.declared.expression.Target.{Target}
 use Rattle.pearl_program.specs.declared.expression.Target.TheVariants.{Own}
 use Rattle.pearl_program.specs.declared.expression.Bound.{Bound}
-use Rattle.pearl_program.specs.PlainExpressions.{PlainExprs, NoExprs}
-use Rattle.pearl_program.specs.Typing.{Around, IsBound, IsVariable, AreSubscripts, Points}
+use Rattle.pearl_program.specs.PlainExpressions.{PlainExprs}
+use Rattle.pearl_program.specs.Typing.{Around, IsVariable, AreSubscripts}
 use Rattle.pearl_resolve.specs.Expressions.{Numbered, number_at, meant_at, meant, Walk, bound_of, own_or_param, target_in, begun, walk_of, walk_from, to_field, field_of, count, joined_exprs, variable_of}
-use Rattle.pearl_resolve.specs.SoundNames.{IsEnd, IsThere, Follows, Reaches, LeadNames}
+use Rattle.pearl_resolve.specs.SoundNames.{IsEnd, Follows, Reaches, LeadNames}
 use Rattle.pearl_resolve.proofs.Subscripting.{cut_small, AreAllFixed, count_joined, fixed_given, joined_given, sound_behind}
 
 pub record StandsSound (around : Around) (dimensions : ℕ) (shape : Shape) (walk : Walk) : Type 0 where
@@ -112,7 +111,7 @@ to_field_sound : (around : Around) (name : Name) (shape : Shape) (walk : Walk) (
 to_field_sound around name shape walk None is stands = tt
 to_field_sound around name shape walk (Some field) is stands =
     let reaches : Reaches around (to_field walk (Some field)) =
-        λ path. subst (λ f. Follows around (to_field walk f) path) is (stands.reaches (name ∷ path)) in
+    λ path. subst (λ f. Follows around (to_field walk f) path) is (stands.reaches (name ∷ path)) in
     let few = (reaches []).few in
     let a = length-append walk.bounds (map bound_of field.bounds) in
     let b = length-map field.bounds bound_of in
@@ -200,8 +199,9 @@ few_dropped (a ∷ b ∷ c ∷ d ∷ rest) few = absurd (omega (arith, few))
 pub variable_sound : (around : Around) (walk : Walk) (kind : Kind) → StandsSound around 0 (OfKind kind) walk →
     IsVariable around (variable_of walk) kind
 variable_sound around walk kind stands =
-    let left = stands.left in
-    (subst (λ shape. IsEnd around shape walk.target walk.bounds) stands.same (stands.reaches []).end,
-    few_dropped walk.bounds (stands.reaches []).few,
-    subst (λ bounds. AreSubscripts around bounds walk.subscripts)
-    (take_whole (count walk.subscripts) walk.bounds (omega (arith, left))) stands.given)
+    let left = stands.left in (
+      subst (λ shape. IsEnd around shape walk.target walk.bounds) stands.same (stands.reaches []).end,
+      few_dropped walk.bounds (stands.reaches []).few,
+      subst (λ bounds. AreSubscripts around bounds walk.subscripts)
+          (take_whole (count walk.subscripts) walk.bounds (omega (arith, left))) stands.given,
+    )

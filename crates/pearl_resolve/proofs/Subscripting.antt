@@ -1,11 +1,10 @@
 -- Subscripts that are given for the bounds of arrays.
-use Rattle.std.specs.Prelude.{◌≡◌, ℕ, zero, suc, ◌+◌, ◌-◌, ◌≤◌, ◌^◌, min, Bool, true, false, ◌&&◌, List, [], ◌∷◌, ◌++◌, length, map, take, drop, Option, Some, None, is_some, slice_get}
+use Rattle.std.specs.Prelude.{◌≡◌, ℕ, zero, suc, ◌+◌, ◌≤◌, Bool, true, false, ◌&&◌, List, [], ◌∷◌, ◌++◌, length, drop, Option, Some, None, is_some}
 use Rattle.std.specs.List.{AllByRecursion}
-use Rattle.std.proofs.Common.{refl, ap, ◌∙◌, sym, subst, arith, true≢false}
-use Rattle.pearl_value.specs.declared.kind.Kind.{Kind}
+use Rattle.std.proofs.Common.{refl, sym, arith, true≢false}
 use Rattle.pearl_value.specs.declared.kind.Kind.TheVariants.{Fixed}
 use Rattle.pearl_program.specs.declared.expression.Bound.{Bound}
-use Rattle.pearl_program.specs.PlainExpressions.{PlainExpr, PlainExprs, NoExprs, MoreExprs}
+use Rattle.pearl_program.specs.PlainExpressions.{PlainExprs, NoExprs, MoreExprs}
 use Rattle.pearl_program.specs.Typing.{Around, IsBound, HasKind, AreSubscripts}
 use Rattle.pearl_names.specs.Counts.{cut}
 use Rattle.pearl_resolve.specs.Expressions.{count, joined_exprs}

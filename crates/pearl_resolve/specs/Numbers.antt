@@ -1,9 +1,8 @@
 -- Which number each name of each scope has: a variable of the module that of its first leaf, one of a routine that of its first cell, a device that among the specified ones, a procedure the one that it is given, and any other that in order of declaration. And which scopes, cells and formats a statement goes past.
-use Rattle.std.specs.Prelude.{ℕ, ◌+◌, ◌*◌, Bool, ◌||◌, if◌then◌else◌, List, [], ◌∷◌, ◌++◌, length, Option, Some, None, is_some, unwrap_or, slice_get}
-use Rattle.std.specs.List.{flat_map, sum_by, position}
+use Rattle.std.specs.Prelude.{ℕ, ◌+◌, ◌*◌, Bool, ◌||◌, if◌then◌else◌, List, [], ◌∷◌, ◌++◌, length, Option, is_some, unwrap_or, slice_get}
+use Rattle.std.specs.List.{sum_by, position}
 use Rattle.std.specs.Str.{bytes_eq}
 use Rattle.pearl_tree.specs.Names.{name_text}
-use Rattle.pearl_tree.specs.ShownExpressions.{ShownExpr}
 use Rattle.pearl_tree.specs.ShownStatements.{ShownStmt, OfIf, OfCase, OfRepeat, OfBegin, OfPut, OfGet, ShownStmts, NoStmts, MoreStmts, ShownBranches, NoBranches, MoreBranches, ShownOtherwise, NoOtherwise, OfOtherwise}
 use Rattle.pearl_tree.specs.ShownModules.{ShownBody, ShownDecl, OfTask, OfProc, ShownTree}
 use Rattle.pearl_names.specs.declared.scope.SortedName.{SortedName}

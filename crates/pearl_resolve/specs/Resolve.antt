@@ -23,7 +23,7 @@ use Rattle.pearl_tree.specs.declared.tree.TaskHead.{TaskHead}
 use Rattle.pearl_tree.specs.declared.tree.TaskHead.TheVariants.{PrioFirst, MainFirst}
 use Rattle.pearl_tree.specs.Names.{name_text, names_of}
 use Rattle.pearl_tree.specs.ShownLiterals.{ShownConst}
-use Rattle.pearl_tree.specs.ShownDeclarations.{ShownItem, ShownSema, ShownDeclared, OfItem, OfSema, ShownParam}
+use Rattle.pearl_tree.specs.ShownDeclarations.{ShownDeclared, OfItem, OfSema, ShownParam}
 use Rattle.pearl_tree.specs.ShownStatements.{ShownStmt, OfIf, OfCase, OfRepeat, OfBegin, OfPut, OfGet, ShownStmts, NoStmts, MoreStmts, ShownBranches, NoBranches, MoreBranches, ShownOtherwise, NoOtherwise, OfOtherwise}
 use Rattle.pearl_tree.specs.ShownModules.{ShownBody, ShownDecl, OfDeclare, OfTask, OfProc, ShownTree}
 use Rattle.pearl_names.specs.declared.length.DefaultLength.{DefaultLength}

@@ -15,7 +15,7 @@ use Rattle.pearl_names.specs.declared.scope.View.{View}
 use Rattle.pearl_names.specs.Shapes.{Shape, OfKind, OfFields}
 use Rattle.pearl_names.specs.Tables.{Parameter, Procedure, Semaphore, sense_from}
 use Rattle.pearl_check_expr.specs.Literals.{literal_kind}
-use Rattle.pearl_check_expr.specs.Standings.{Standing, Open, variable_start}
+use Rattle.pearl_check_expr.specs.Standings.{Open, variable_start}
 use Rattle.pearl_program.specs.declared.expression.Target.{Target}
 use Rattle.pearl_program.specs.declared.expression.Bound.{Bound}
 use Rattle.pearl_program.specs.Typing.{Signature, Around, IsBound, Points}
