@@ -5,3 +5,4 @@ pub mod Subscripting
 pub mod SoundWalks
 pub mod SoundParts
 pub mod SoundExpressions
+pub mod Literals

@@ -5,14 +5,18 @@ use Rattle.pearl_value.specs.declared.kind.CellKind.{CellKind}
 use Rattle.pearl_format.specs.declared.item.Item.{Item}
 use Rattle.pearl_tree.specs.ShownExpressions.{ShownExpr, ShownRef}
 use Rattle.pearl_tree.specs.ShownStatements.{ShownStmts}
-use Rattle.pearl_tree.specs.ShownModules.{ShownBody}
+use Rattle.pearl_tree.specs.declared.literal.Literal.{Literal}
+use Rattle.pearl_tree.specs.Lawful.{IsLawfulLiteral}
+use Rattle.pearl_tree.specs.ShownLiterals.{shown_literal}
+use Rattle.pearl_tree.specs.ShownModules.{ShownBody, ShownDecl}
+use Rattle.pearl_names.specs.Lengths.{lengths_set}
 use Rattle.pearl_names.specs.Scopes.{scopes_in_all}
 use Rattle.pearl_names.specs.declared.scope.View.{View}
 use Rattle.pearl_check_expr.specs.Judged.{judged, judged_variable}
 use Rattle.pearl_program.specs.Typing.{Around, HasKind, IsVariable}
 use Rattle.pearl_resolve.specs.Numbers.{At, after_all, after_body, numbers_in_all}
 use Rattle.pearl_resolve.specs.Expressions.{Numbered, resolve_expr, resolve_variable, target_kind}
-use Rattle.pearl_resolve.specs.SoundNames.{HasLiterals, SelectorsHaveLiterals, LeadNames}
+use Rattle.pearl_resolve.specs.SoundNames.{IsLiteral, HasLiterals, SelectorsHaveLiterals, LeadNames}
 use Rattle.pearl_resolve.specs.Cells.{cells_in_all, routine_cells}
 use Rattle.pearl_resolve.specs.Resolve.{formats_in_all}
 
@@ -47,3 +51,8 @@ ExpressionsAreSound = (numbered : Numbered) (view : View) (around : Around) → 
     (judged numbered.table view e).kind ≡ Some kind → HasKind around (resolve_expr numbered view e) kind) ×
     ((reference : ShownRef) → SelectorsHaveLiterals numbered.table.lengths reference.selectors → (kind : Kind) →
     (judged_variable numbered.table view reference).kind ≡ Some kind → IsVariable around (resolve_variable numbered view reference) kind)
+
+-- a lawful literal is a value of the kind that it has
+abbrev pub LiteralsAreValues : Type 0
+LiteralsAreValues = (declarations : List ShownDecl) (part : Literal) → IsLawfulLiteral part →
+    IsLiteral (lengths_set declarations) (shown_literal part)

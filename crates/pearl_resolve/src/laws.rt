@@ -1,6 +1,6 @@
 // What holds of the scopes, cells and formats that statements go past, and of what expressions and targets become.
 
-ghost use Rattle.pearl_resolve.specs.Laws.{ExpressionsAreSound, RoutinesHaveCells, StatementsGoPast, TargetsHaveTheirKind};
+ghost use Rattle.pearl_resolve.specs.Laws.{ExpressionsAreSound, LiteralsAreValues, RoutinesHaveCells, StatementsGoPast, TargetsHaveTheirKind};
 
 /// Behind some statements the counters stand at what comes behind the scopes, cells and formats of these.
 pub fn statements_go_past()
@@ -21,4 +21,9 @@ pub fn targets_have_their_kind()
 /// kind, and so does a target.
 pub fn expressions_are_sound()
     ensures { ExpressionsAreSound }
+{}
+
+/// A literal of a lawful tree is a value of the kind that it has.
+pub fn literals_are_values()
+    ensures { LiteralsAreValues }
 {}
