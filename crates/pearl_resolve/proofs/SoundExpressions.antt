@@ -15,9 +15,10 @@ use Rattle.pearl_names.specs.Tables.{Parameter, sense_from}
 use Rattle.pearl_check_expr.specs.Senses.{Callee, callee_of, is_fixed}
 use Rattle.pearl_check_expr.specs.Standings.{Standing, Broken, Open, Walked, variable_start, behind, as_value, value_of, all_fixed, all_known, is_fixed_or_unknown}
 use Rattle.pearl_check_expr.specs.Judged as judging
-use Rattle.pearl_check_expr.specs.Judged.{Argument, judged, judged_variable, judged_primary, judged_all, applied, first_applied, beyond, is_last, arguments, argument_of, fitted, ident_argument, variable_argument, no_variable, all_well, call_value, called_or, dimension_of, expr_place, result_kind, plain_name}
+use Rattle.pearl_check_expr.specs.Judged.{called, Argument, judged, judged_variable, judged_primary, judged_all, applied, first_applied, beyond, is_last, arguments, argument_of, fitted, ident_argument, variable_argument, no_variable, all_well, call_value, called_or, dimension_of, expr_place, result_kind, plain_name}
 use Rattle.pearl_program.specs.PlainExpressions.{PlainExpr, OfRead, PlainArguments, NoArguments}
 use Rattle.pearl_program.specs.PlainExpressions as plain
+use Rattle.pearl_program.specs.SoundStatements.{IsCall}
 use Rattle.pearl_program.specs.Typing.{Around, HasKind, IsVariable, Suit, SuitsParam}
 use Rattle.pearl_resolve.specs.Expressions as resolved
 use Rattle.pearl_resolve.specs.Expressions.{Numbered, meant, number_of, Walk, walk_from, variable_of, count, params_of, handed, along, step, resolve_expr, resolve_primary, resolve_exprs, resolve_call, first_arguments, resolve_arguments, resolve_variable}
@@ -228,6 +229,19 @@ module _ (numbered : Numbered) (view : View) (around : Around) (lead : LeadNames
       (along numbered view (walk_from (meant numbered view reference.name)) reference.selectors) kind
       (along_sound reference.name (variable_start reference.name (sense_from numbered.table view (name_text reference.name)))
       (walk_from (meant numbered view reference.name)) reference.selectors lits (starts_sound numbered view around lead reference.name)) is
+
+  pub call_sound : (name : Name) (callee : Callee) (exprs : ShownExprs) → HaveLiterals numbered.table.lengths exprs →
+      callee_of (sense_from numbered.table view (name_text name)) ≡ Some callee →
+      (called numbered.table view name callee exprs).well ≡ true →
+      IsCall around (number_of numbered view name) (resolve_arguments numbered view callee.parameters exprs)
+  call_sound name callee exprs lits found well =
+      let given = arguments numbered.table view callee.parameters exprs in
+      let tests = both (length given == length callee.parameters) (all_well given) well in
+      let there = lead.procedures name callee.parameters callee.result
+          (callee_is (sense_from numbered.table view (name_text name)) callee found) in
+      (there.signature, there.there,
+      subst (λ cells. Suit around cells (resolve_arguments numbered view callee.parameters exprs)) (sym there.params)
+      (arguments_suit callee.parameters exprs lits (eqb-true (length given) (length callee.parameters) tests.0) tests.1))
 
 pub all_sound : (numbered : Numbered) (view : View) (around : Around) → LeadNames numbered view around →
     ((e : ShownExpr) → HasLiterals numbered.table.lengths e → (kind : Kind) →

@@ -1,9 +1,9 @@
 -- What holds of the scopes, cells and formats that statements go past, and of what expressions and targets become.
-use Rattle.std.specs.Prelude.{◌≡◌, ℕ, ◌+◌, List, length, Some}
+use Rattle.std.specs.Prelude.{◌≡◌, ℕ, ◌+◌, true, List, length, Some}
 use Rattle.pearl_value.specs.declared.kind.Kind.{Kind}
 use Rattle.pearl_value.specs.declared.kind.CellKind.{CellKind}
 use Rattle.pearl_format.specs.declared.item.Item.{Item}
-use Rattle.pearl_tree.specs.ShownExpressions.{ShownExpr, ShownRef}
+use Rattle.pearl_tree.specs.ShownExpressions.{ShownExpr, ShownExprs, ShownRef}
 use Rattle.pearl_tree.specs.ShownStatements.{ShownStmts}
 use Rattle.pearl_tree.specs.declared.literal.Literal.{Literal}
 use Rattle.pearl_tree.specs.Lawful.{IsLawfulLiteral}
@@ -12,11 +12,16 @@ use Rattle.pearl_tree.specs.ShownModules.{ShownBody, ShownDecl}
 use Rattle.pearl_names.specs.Lengths.{lengths_set}
 use Rattle.pearl_names.specs.Scopes.{scopes_in_all}
 use Rattle.pearl_names.specs.declared.scope.View.{View}
-use Rattle.pearl_check_expr.specs.Judged.{judged, judged_variable}
+use Rattle.pearl_check_expr.specs.Judged.{judged, judged_variable, called}
+use Rattle.pearl_check_expr.specs.Senses.{Callee, callee_of}
+use Rattle.pearl_names.specs.Tables.{sense_from}
+use Rattle.pearl_tree.specs.declared.name.Name.{Name}
+use Rattle.pearl_tree.specs.Names.{name_text}
+use Rattle.pearl_program.specs.SoundStatements.{IsCall}
 use Rattle.pearl_program.specs.Typing.{Around, HasKind, IsVariable}
 use Rattle.pearl_resolve.specs.Numbers.{At, after_all, after_body, numbers_in_all}
-use Rattle.pearl_resolve.specs.Expressions.{Numbered, resolve_expr, resolve_variable, target_kind}
-use Rattle.pearl_resolve.specs.SoundNames.{IsLiteral, HasLiterals, SelectorsHaveLiterals, LeadNames}
+use Rattle.pearl_resolve.specs.Expressions.{Numbered, number_of, resolve_expr, resolve_arguments, resolve_variable, target_kind}
+use Rattle.pearl_resolve.specs.SoundNames.{IsLiteral, HasLiterals, HaveLiterals, SelectorsHaveLiterals, LeadNames}
 use Rattle.pearl_resolve.specs.Cells.{cells_in_all, routine_cells}
 use Rattle.pearl_resolve.specs.Resolve.{formats_in_all}
 
@@ -56,3 +61,11 @@ ExpressionsAreSound = (numbered : Numbered) (view : View) (around : Around) → 
 abbrev pub LiteralsAreValues : Type 0
 LiteralsAreValues = (declarations : List ShownDecl) (part : Literal) → IsLawfulLiteral part →
     IsLiteral (lengths_set declarations) (shown_literal part)
+
+-- what a call hands over, whose arguments are as many as the parameters and suit them, suits in the program
+abbrev pub CallsAreSound : Type 0
+CallsAreSound = (numbered : Numbered) (view : View) (around : Around) → LeadNames numbered view around →
+    (name : Name) (callee : Callee) (exprs : ShownExprs) → HaveLiterals numbered.table.lengths exprs →
+    callee_of (sense_from numbered.table view (name_text name)) ≡ Some callee →
+    (called numbered.table view name callee exprs).well ≡ true →
+    IsCall around (number_of numbered view name) (resolve_arguments numbered view callee.parameters exprs)

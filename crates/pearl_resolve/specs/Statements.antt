@@ -9,33 +9,33 @@ use Rattle.pearl_tree.specs.declared.statement.InterruptWord.{InterruptWord}
 use Rattle.pearl_tree.specs.declared.statement.InterruptWord.TheVariants.{Enable, Disable, Trigger}
 use Rattle.pearl_tree.specs.Names.{names_of}
 use Rattle.pearl_tree.specs.ShownLiterals.{ShownConst}
-use Rattle.pearl_tree.specs.ShownExpressions.{ShownExpr}
+use Rattle.pearl_tree.specs.ShownExpressions.{ShownExpr, ShownExprs, NoExprs, MoreExprs}
 use Rattle.pearl_tree.specs.ShownDeclarations.{ShownItem}
 use Rattle.pearl_tree.specs.ShownStatements as shown
 use Rattle.pearl_tree.specs.ShownStatements.{ShownPeriodEnd, ShownPeriod, ShownStart, ShownOnce, ShownBodyDecl, ShownStmt, ShownStmts, ShownBranches, ShownOtherwise}
 use Rattle.pearl_names.specs.declared.scope.View.TheVariants.{Within, WhileOf}
 use Rattle.pearl_names.specs.Tables.{Parameter}
-use Rattle.pearl_program.specs.PlainExpressions.{PlainExpr, PlainExprs, NoExprs, MoreExprs, PlainArguments, NoArguments, MoreArguments, OfValue}
+use Rattle.pearl_program.specs.PlainExpressions.{PlainExpr, PlainExprs, PlainArguments}
 use Rattle.pearl_program.specs.PlainStatements.{PlainPeriodEnd, OfUntil, OfDuring, PlainPeriod, PlainStart, OfAt, OfAfter, OfWhen, OfWhenAfter, PlainOnce, OnceAt, OnceAfter, OnceWhen, PlainCounter, PlainStmt, OfRenew, OfAssign, OfCallOf, OfIf, OfCase, OfRepeat, OfExit, OfReturn, OfActivate, OfContinue, OfResume, OfSuspend, OfTerminate, OfPrevent, OfRequest, OfRelease, OfEnable, OfDisable, OfTrigger, OfPut, OfGet, OfSend, OfTake, PlainStmts, NoStmts, MoreStmts, PlainBranches, NoBranches, MoreBranches}
 use Rattle.pearl_program.specs.PlainPrograms.{PlainLeaf}
 use Rattle.pearl_resolve.specs.Laying.{leaves_of_sense, slots, left_behind, filled_leaves}
 use Rattle.pearl_resolve.specs.Numbers.{At, counts, loop_cells, entered, after, after_all, after_branches}
-use Rattle.pearl_resolve.specs.Expressions.{Numbered, Meant, meant, number_of, params_of, handed, resolve_expr, resolve_variable}
+use Rattle.pearl_resolve.specs.Expressions.{Numbered, Meant, meant, number_of, params_of, resolve_expr, resolve_exprs, resolve_arguments, resolve_variable}
 
 abbrev pub value_in : Numbered → ℕ → ShownExpr → PlainExpr
 value_in numbered scope e = resolve_expr numbered (Within scope) e
 
-abbrev pub values_in : Numbered → ℕ → List ShownExpr → PlainExprs
-values_in numbered scope [] = NoExprs
-values_in numbered scope (e ∷ rest) = MoreExprs (value_in numbered scope e) (values_in numbered scope rest)
+-- expressions, as those within an expression
+abbrev pub listed : List ShownExpr → ShownExprs
+listed [] = NoExprs
+listed (e ∷ rest) = MoreExprs e (listed rest)
 
--- the values that a call statement hands over
+abbrev pub values_in : Numbered → ℕ → List ShownExpr → PlainExprs
+values_in numbered scope exprs = resolve_exprs numbered (Within scope) (listed exprs)
+
+-- what a call statement hands over
 abbrev pub arguments_in : Numbered → ℕ → List Parameter → List ShownExpr → PlainArguments
-arguments_in numbered scope parameters [] = NoArguments
-arguments_in numbered scope [] (e ∷ rest) =
-    MoreArguments (OfValue (value_in numbered scope e)) (arguments_in numbered scope [] rest)
-arguments_in numbered scope (parameter ∷ parameters) (e ∷ rest) =
-    MoreArguments (handed parameter.ident (value_in numbered scope e)) (arguments_in numbered scope parameters rest)
+arguments_in numbered scope parameters exprs = resolve_arguments numbered (Within scope) parameters (listed exprs)
 
 abbrev pub or_no_params : Option (List Parameter) → List Parameter
 or_no_params None = []

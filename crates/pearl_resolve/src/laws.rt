@@ -1,6 +1,6 @@
 // What holds of the scopes, cells and formats that statements go past, and of what expressions and targets become.
 
-ghost use Rattle.pearl_resolve.specs.Laws.{ExpressionsAreSound, LiteralsAreValues, RoutinesHaveCells, StatementsGoPast, TargetsHaveTheirKind};
+ghost use Rattle.pearl_resolve.specs.Laws.{CallsAreSound, ExpressionsAreSound, LiteralsAreValues, RoutinesHaveCells, StatementsGoPast, TargetsHaveTheirKind};
 
 /// Behind some statements the counters stand at what comes behind the scopes, cells and formats of these.
 pub fn statements_go_past()
@@ -26,4 +26,9 @@ pub fn expressions_are_sound()
 /// A literal of a lawful tree is a value of the kind that it has.
 pub fn literals_are_values()
     ensures { LiteralsAreValues }
+{}
+
+/// Where names lead to what is there, a call in which no rule is broken hands over what suits the procedure's parameters.
+pub fn calls_are_sound()
+    ensures { CallsAreSound }
 {}
