@@ -39,7 +39,7 @@ slots_length leaves =
 variable_length : (leaves : List Leaf) → length (map Plain (slots_of leaves)) ≡ slots leaves
 variable_length leaves = length-map (slots_of leaves) (λ kind. Plain kind) ∙ slots_length leaves
 
-sense_length : (sense : Sense) → length (sense_cells sense) ≡ cells_of_sense sense
+pub sense_length : (sense : Sense) → length (sense_cells sense) ≡ cells_of_sense sense
 sense_length (Variable form inv) = variable_length (leaves_of_sense (Variable form inv))
 sense_length (OwnParameter parameter) = refl
 sense_length (Control kind) = refl

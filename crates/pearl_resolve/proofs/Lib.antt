@@ -6,3 +6,4 @@ pub mod SoundWalks
 pub mod SoundParts
 pub mod SoundExpressions
 pub mod Literals
+pub mod OwnCells

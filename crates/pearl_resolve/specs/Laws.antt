@@ -1,5 +1,6 @@
 -- What holds of the scopes, cells and formats that statements go past, and of what expressions and targets become.
-use Rattle.std.specs.Prelude.{◌≡◌, ℕ, ◌+◌, true, List, length, Some}
+use Rattle.std.specs.Prelude.{◌≡◌, ℕ, ◌+◌, ◌-◌, true, List, length, take, drop, Some, slice_get}
+use Rattle.std.specs.List.{flat_map}
 use Rattle.pearl_value.specs.declared.kind.Kind.{Kind}
 use Rattle.pearl_value.specs.declared.kind.CellKind.{CellKind}
 use Rattle.pearl_format.specs.declared.item.Item.{Item}
@@ -14,15 +15,16 @@ use Rattle.pearl_names.specs.Scopes.{scopes_in_all}
 use Rattle.pearl_names.specs.declared.scope.View.{View}
 use Rattle.pearl_check_expr.specs.Judged.{judged, judged_variable, called}
 use Rattle.pearl_check_expr.specs.Senses.{Callee, callee_of}
-use Rattle.pearl_names.specs.Tables.{sense_from}
+use Rattle.pearl_names.specs.Tables.{Sense, Control, sense_from}
 use Rattle.pearl_tree.specs.declared.name.Name.{Name}
 use Rattle.pearl_tree.specs.Names.{name_text}
 use Rattle.pearl_program.specs.SoundStatements.{IsCall}
 use Rattle.pearl_program.specs.Typing.{Around, HasKind, IsVariable}
-use Rattle.pearl_resolve.specs.Numbers.{At, after_all, after_body, numbers_in_all}
+use Rattle.pearl_resolve.specs.Numbers.{At, own_numbers, after_all, after_body, numbers_in_all}
+use Rattle.pearl_resolve.specs.Laying.{cells_of_sense}
 use Rattle.pearl_resolve.specs.Expressions.{Numbered, number_of, resolve_expr, resolve_arguments, resolve_variable, target_kind}
 use Rattle.pearl_resolve.specs.SoundNames.{IsLiteral, HasLiterals, HaveLiterals, SelectorsHaveLiterals, LeadNames}
-use Rattle.pearl_resolve.specs.Cells.{cells_in_all, routine_cells}
+use Rattle.pearl_resolve.specs.Cells.{sense_cells, cells_in_all, routine_cells}
 use Rattle.pearl_resolve.specs.Resolve.{formats_in_all}
 
 -- from here to there the text has these scopes, each with the numbers of its names, these cells and these formats
@@ -69,3 +71,14 @@ CallsAreSound = (numbered : Numbered) (view : View) (around : Around) → LeadNa
     callee_of (sense_from numbered.table view (name_text name)) ≡ Some callee →
     (called numbered.table view name callee exprs).well ≡ true →
     IsCall around (number_of numbered view name) (resolve_arguments numbered view callee.parameters exprs)
+
+abbrev pub IsNoControl : Sense → Type 0
+IsNoControl (Control kind) = ⊥
+IsNoControl sense = Unit {0}
+
+-- of the cells of a scope, which begin with this number, those of a name lie from its number on; a control variable's lie
+-- before them
+abbrev pub NamesHaveTheirCells : Type 0
+NamesHaveTheirCells = (control from : ℕ) (senses : List Sense) (i number : ℕ) (sense : Sense) →
+    slice_get senses i ≡ Some sense → IsNoControl sense → slice_get (own_numbers control from senses) i ≡ Some number →
+    take (cells_of_sense sense) (drop (number - from) (flat_map sense_cells senses)) ≡ sense_cells sense

@@ -1,6 +1,6 @@
 // What holds of the scopes, cells and formats that statements go past, and of what expressions and targets become.
 
-ghost use Rattle.pearl_resolve.specs.Laws.{CallsAreSound, ExpressionsAreSound, LiteralsAreValues, RoutinesHaveCells, StatementsGoPast, TargetsHaveTheirKind};
+ghost use Rattle.pearl_resolve.specs.Laws.{CallsAreSound, ExpressionsAreSound, LiteralsAreValues, NamesHaveTheirCells, RoutinesHaveCells, StatementsGoPast, TargetsHaveTheirKind};
 
 /// Behind some statements the counters stand at what comes behind the scopes, cells and formats of these.
 pub fn statements_go_past()
@@ -31,4 +31,9 @@ pub fn literals_are_values()
 /// Where names lead to what is there, a call in which no rule is broken hands over what suits the procedure's parameters.
 pub fn calls_are_sound()
     ensures { CallsAreSound }
+{}
+
+/// In the cells of a scope those of each name lie where its number says.
+pub fn names_have_their_cells()
+    ensures { NamesHaveTheirCells }
 {}
