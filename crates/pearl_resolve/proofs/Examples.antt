@@ -46,11 +46,11 @@ name text place = record { text = record { items = codes text }; place = place }
 abbrev number : ℕ → ℕ → Number
 number value place = record { value = value; place = place }
 
-abbrev source : List ShownDecl → ShownTree
+abbrev pub source : List ShownDecl → ShownTree
 source declarations =
     record { name = None; system = None; declarations = declarations; modend = 0; semicolon = true; place = 0 }
 
-abbrev fixed : Basic
+abbrev pub fixed : Basic
 fixed = Sized Fixed None 0
 
 abbrev upto : ℕ → Bound
@@ -60,11 +60,11 @@ upto value =
 abbrev constant : ℕ → ShownConst
 constant value = record { sign = None; literal = OfNumber (number value 0); place = 0 }
 
-abbrev item : String → List Bound → ShownTyping → List ShownConst → ShownItem
+abbrev pub item : String → List Bound → ShownTyping → List ShownConst → ShownItem
 item text bounds part init =
     record { names = OfOne (name text 0); bounds = bounds; inv = false; part = part; init = init; place = 0 }
 
-abbrev variable : ShownItem → ShownDecl
+abbrev pub variable : ShownItem → ShownDecl
 variable declared = OfDeclare (OfItem declared ∷ []) 0
 
 abbrev local : ShownItem → ShownBodyDecl

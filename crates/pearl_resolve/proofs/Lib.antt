@@ -1,4 +1,4 @@
-mod Examples
+pub mod Examples
 pub mod Going
 pub mod Shapes
 pub mod Subscripting
@@ -7,3 +7,4 @@ pub mod SoundParts
 pub mod SoundExpressions
 pub mod Literals
 pub mod OwnCells
+mod Leading

@@ -1,21 +1,18 @@
 -- Literals of lawful trees are values of the kinds that they have.
-use Rattle.std.specs.Prelude.{◌≡◌, ℕ, ◌≤◌, ◌<◌, ◌^◌, pos, nat_le, nat_lt, Bool, true, false, ◌&&◌, if◌then◌else◌, List, [], ◌∷◌, ◌++◌, length, Option, Some, None}
-use Rattle.std.specs.List.{AllByRecursion, flat_map}
-use Rattle.std.proofs.Common.{refl, ap, ◌∙◌, sym, subst, arith, true≢false}
+use Rattle.std.specs.Prelude.{◌≡◌, ℕ, ◌≤◌, ◌<◌, ◌^◌, pos, nat_le, Bool, true, false, if◌then◌else◌, List, [], ◌∷◌, ◌++◌, Some, None}
+use Rattle.std.specs.List.{AllByRecursion}
+use Rattle.std.proofs.Common.{refl, sym, subst, arith, true≢false}
 use Rattle.std.proofs.lemmas.Int.{ints}
 use Rattle.std.proofs.lemmas.Option.{none-some}
 use Rattle.std.proofs.lemmas.Bool.{leb-true, ltb-false}
-use Rattle.pearl_value.specs.declared.kind.Kind.{Kind}
 use Rattle.pearl_value.specs.declared.kind.Kind.TheVariants as kind
 use Rattle.pearl_value.specs.declared.cell.Cell.TheVariants.{Fixed as FixedCell}
-use Rattle.pearl_value.specs.Kinds.{IsKind}
 use Rattle.pearl_value.specs.WellFormed.{IsValueOf}
 use Rattle.pearl_value.specs.Conversions.{fits_fixed}
 use Rattle.pearl_tree.specs.declared.typing.Sort.{Sort}
 use Rattle.pearl_tree.specs.declared.typing.Sort.TheVariants.{Fixed, Bit, Char}
 use Rattle.pearl_tree.specs.declared.literal.Literal.{Literal}
 use Rattle.pearl_tree.specs.declared.literal.Literal.TheVariants as literal
-use Rattle.pearl_tree.specs.declared.literal.Duration.{Duration}
 use Rattle.pearl_tree.specs.Durations.{milliseconds_of}
 use Rattle.pearl_tree.specs.Lawful.{IsLawfulLiteral}
 use Rattle.pearl_tree.specs.ShownLiterals.{shown_literal, OfDuration}
@@ -23,7 +20,7 @@ use Rattle.pearl_tree.specs.ShownModules.{ShownDecl, OfLength, OfType, OfDeclare
 use Rattle.pearl_names.specs.declared.length.DefaultLength.{DefaultLength}
 use Rattle.pearl_names.specs.Durations.{is_too_long}
 use Rattle.pearl_names.specs.Lengths.{is_length, is_same_sort, length_set, lengths_set, holds_at, last_length, length_at}
-use Rattle.pearl_check_expr.specs.Literals.{fixed_length, duration_kind}
+use Rattle.pearl_check_expr.specs.Literals.{fixed_length}
 use Rattle.pearl_resolve.specs.Expressions.{literal_cell}
 use Rattle.pearl_resolve.specs.SoundNames.{IsLiteral}
 use Rattle.pearl_resolve.proofs.Subscripting.{both}

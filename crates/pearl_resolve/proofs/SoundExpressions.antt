@@ -238,10 +238,12 @@ module _ (numbered : Numbered) (view : View) (around : Around) (lead : LeadNames
       let given = arguments numbered.table view callee.parameters exprs in
       let tests = both (length given == length callee.parameters) (all_well given) well in
       let there = lead.procedures name callee.parameters callee.result
-          (callee_is (sense_from numbered.table view (name_text name)) callee found) in
-      (there.signature, there.there,
-      subst (λ cells. Suit around cells (resolve_arguments numbered view callee.parameters exprs)) (sym there.params)
-      (arguments_suit callee.parameters exprs lits (eqb-true (length given) (length callee.parameters) tests.0) tests.1))
+      (callee_is (sense_from numbered.table view (name_text name)) callee found) in (
+        there.signature,
+        there.there,
+        subst (λ cells. Suit around cells (resolve_arguments numbered view callee.parameters exprs)) (sym there.params)
+            (arguments_suit callee.parameters exprs lits (eqb-true (length given) (length callee.parameters) tests.0) tests.1),
+      )
 
 pub all_sound : (numbered : Numbered) (view : View) (around : Around) → LeadNames numbered view around →
     ((e : ShownExpr) → HasLiterals numbered.table.lengths e → (kind : Kind) →
