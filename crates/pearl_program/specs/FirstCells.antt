@@ -1,4 +1,5 @@
--- What slots and cells hold at first: the constants in order, and the last of them in all that are left; without constants they are unset.
+-- What slots and cells hold at first: the constants in order, and the last of them in all that are left; without
+-- constants they are unset.
 use Rattle.std.specs.Prelude.{◌-◌, List, [], ◌∷◌, ◌++◌, length, replicate}
 use Rattle.pearl_value.specs.declared.cell.Cell.{Cell}
 use Rattle.pearl_value.specs.Blanks.{blank_of}

@@ -1,4 +1,5 @@
--- Which programs are sound: every number names a thing of the needed sort, every value suits, no procedure calls its own or a greater number, and every size is in its range.
+-- Which programs are sound: every number names a thing of the needed sort, every value suits, no procedure calls its
+-- own or a greater number, and every size is in its range.
 use Rattle.std.specs.Prelude.{◌≡◌, ◌⊎◌, ℕ, ◌<◌, ◌≤◌, ◌^◌, Bool, false, ◌&&◌, ◌||◌, ◌==◌, nat_le, IsTrue, List, [], ◌∷◌, ◌++◌, length, map, take, drop, slice_index, Option, Some, None}
 use Rattle.std.specs.Char.{is_ascii_alphabetic, is_ascii_digit}
 use Rattle.std.specs.List.{AllByRecursion, list_all, sum_by}
@@ -106,7 +107,8 @@ AreProcedures p callable (procedure ∷ rest) =
 abbrev pub is_name_byte : ℕ → Bool
 is_name_byte b = is_ascii_alphabetic b || is_ascii_digit b || b == 95
 
--- an id begins with a letter, goes on with letters, digits and `_`, and has at most 63 bytes; that it is also none of the
+-- an id begins with a letter, goes on with letters, digits and `_`, and has at most 63 bytes; that it is also none
+-- of the
 -- language's words isn't asked here
 abbrev pub is_id : List ℕ → Bool
 is_id name = is_ascii_alphabetic (slice_index name 0) && list_all is_name_byte name && nat_le (length name) 63

@@ -1,4 +1,5 @@
--- Which kinds the expressions of a program have, and which variables and arguments there are: every number names a thing of the needed sort, and every operator has a row for its operands.
+-- Which kinds the expressions of a program have, and which variables and arguments there are: every number names a
+-- thing of the needed sort, and every operator has a row for its operands.
 use Rattle.std.specs.Prelude.{◌≡◌, ℕ, ◌+◌, ◌-◌, ◌*◌, ◌^◌, ◌<◌, pos, negsuc, ◌-ℤ◌, ◌≤ℤ◌, unsigned_abs, Bool, List, [], ◌∷◌, take, drop, replicate, Option, Some, None, slice_get}
 use Rattle.pearl_value.specs.declared.kind.Kind.{Kind}
 use Rattle.pearl_value.specs.declared.kind.Kind.TheVariants.{Fixed, Bits, Clock}

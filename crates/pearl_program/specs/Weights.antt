@@ -1,4 +1,5 @@
--- The weight of a task or procedure: its cells, the greatest need of its statements, and the greatest weight of a procedure that it calls. The need of a statement is the number of values in its own expressions, and 2.
+-- The weight of a task or procedure: its cells, the greatest need of its statements, and the greatest weight of a
+-- procedure that it calls. The need of a statement is the number of values in its own expressions, and 2.
 use Rattle.std.specs.Prelude.{ℕ, ◌+◌, max, List, [], ◌∷◌, ◌++◌, length, Option, Some, None, slice_get, unwrap_or}
 use Rattle.pearl_program.specs.PlainExpressions.{PlainExpr, OfLiteral, OfRead, OfMonadic, OfDyadic, OfCall, OfNow, OfTry, PlainVariable, OfVariable, PlainExprs, NoExprs, MoreExprs, PlainArgument, OfValue, OfIdent, PlainArguments, NoArguments, MoreArguments}
 use Rattle.pearl_program.specs.PlainStatements.{PlainPeriodEnd, OfUntil, OfDuring, PlainPeriod, PlainStart, OfAt, OfAfter, OfWhen, OfWhenAfter, PlainOnce, OnceAt, OnceAfter, OnceWhen, PlainCounter, PlainStmt, OfAssign, OfCallOf, OfIf, OfCase, OfRepeat, OfReturn, OfActivate, OfContinue, OfResume, OfPut, OfGet, OfSend, OfTake, PlainStmts, NoStmts, MoreStmts, PlainBranches, NoBranches, MoreBranches}

@@ -1,4 +1,5 @@
--- Small modules and the programs that they mean. Places are those that the parts would have in a source, as far as they matter.
+-- Small modules and the programs that they mean. Places are those that the parts would have in a source, as far as
+-- they matter.
 use Prim.Native.String.{String}
 use Rattle.std.specs.Prelude.{◌≡◌, ℕ, pos, Bool, false, true, List, [], ◌∷◌, Some, None, codes}
 use Rattle.std.proofs.Common.{refl}
@@ -186,7 +187,8 @@ param text ident = record { names = OfOne (name text 0); basic = fixed; ident = 
 abbrev body : List ShownStmt → ShownBody
 body statements = record { declarations = []; statements = statements; place = 0 }
 
--- a:PROC(x FIXED IDENT,y FIXED);CALL b;END;b:PROC RETURNS(FIXED);RETURN(7);END;t:TASK MAIN;DCL n FIXED;CALL a(n,b+1);END;
+-- a:PROC(x FIXED IDENT,y FIXED);CALL b;END;b:PROC RETURNS(FIXED);RETURN(7);END;t:TASK MAIN;DCL n FIXED;CALL
+-- a(n,b+1);END;
 abbrev calling : ShownTree
 calling = source (
     OfProc (name "a" 0) (param "x" true ∷ param "y" false ∷ []) None (body (OfCall true (name "b" 0) [] 0 ∷ [])) 0 ∷

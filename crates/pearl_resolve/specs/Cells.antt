@@ -1,4 +1,6 @@
--- Which cells a task or procedure has: in the order of the text one for each parameter, those of each local variable, three for each loop that counts, and for each GET one for the value of each target and one for where it lies.
+-- Which cells a task or procedure has: in the order of the text one for each parameter, those of each local
+-- variable, three for each loop that counts, and for each GET one for the value of each target and one for where it
+-- lies.
 use Rattle.std.specs.Prelude.{ℕ, Bool, true, false, List, [], ◌∷◌, ◌++◌, length, map, replicate, unwrap_or}
 use Rattle.std.specs.List.{flat_map}
 use Rattle.pearl_value.specs.declared.kind.Kind.{Kind}

@@ -76,7 +76,8 @@ abbrev pub IsNoControl : Sense → Type 0
 IsNoControl (Control kind) = ⊥
 IsNoControl sense = Unit {0}
 
--- of the cells of a scope, which begin with this number, those of a name lie from its number on; a control variable's lie
+-- of the cells of a scope, which begin with this number, those of a name lie from its number on; a control
+-- variable's lie
 -- before them
 abbrev pub NamesHaveTheirCells : Type 0
 NamesHaveTheirCells = (control from : ℕ) (senses : List Sense) (i number : ℕ) (sense : Sense) →

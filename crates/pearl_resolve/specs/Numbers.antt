@@ -1,4 +1,6 @@
--- Which number each name of each scope has: a variable of the module that of its first leaf, one of a routine that of its first cell, a device that among the specified ones, a procedure the one that it is given, and any other that in order of declaration. And which scopes, cells and formats a statement goes past.
+-- Which number each name of each scope has: a variable of the module that of its first leaf, one of a routine that
+-- of its first cell, a device that among the specified ones, a procedure the one that it is given, and any other
+-- that in order of declaration. And which scopes, cells and formats a statement goes past.
 use Rattle.std.specs.Prelude.{ℕ, ◌+◌, ◌*◌, Bool, ◌||◌, if◌then◌else◌, List, [], ◌∷◌, ◌++◌, length, Option, is_some, unwrap_or, slice_get}
 use Rattle.std.specs.List.{sum_by, position}
 use Rattle.std.specs.Str.{bytes_eq}

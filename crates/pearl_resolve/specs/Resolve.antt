@@ -1,4 +1,5 @@
--- Which program a module means. Its devices and the numbers of its procedures are given: they are told by rules of their own.
+-- Which program a module means. Its devices and the numbers of its procedures are given: they are told by rules of
+-- their own.
 use Rattle.std.specs.Prelude.{ℕ, zero, suc, ◌+◌, nat_eq, Bool, true, List, [], ◌∷◌, ◌++◌, length, map, Option, Some, None, option_map, unwrap_or, slice_get}
 use Rattle.std.specs.List.{flat_map, sum_by, position}
 use Rattle.std.specs.Option.{option_and_then}
@@ -223,7 +224,8 @@ program_of numbered devices procedures tree = record {
   tasks = tasks_in numbered first tree.declarations;
 }
 
--- with this table of names, these devices in the order of their sorts and numbers, and these numbers of the procedures in
+-- with this table of names, these devices in the order of their sorts and numbers, and these numbers of the
+-- procedures in
 -- the order of their declarations
 abbrev pub resolve : Table → List SpecifiedDevice → (procedures : List ℕ) → ShownTree → PlainProg
 resolve table devices procedures tree = program_of (numbered_of table devices procedures tree) devices procedures tree

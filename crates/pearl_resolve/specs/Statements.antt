@@ -1,4 +1,5 @@
--- What statements become once their names are numbers. Each list of statements is taken with the number of its scope, and with how far the text has come.
+-- What statements become once their names are numbers. Each list of statements is taken with the number of its
+-- scope, and with how far the text has come.
 use Rattle.std.specs.Prelude.{ℕ, ◌+◌, if◌then◌else◌, List, [], ◌∷◌, map, Option, Some, None, option_map}
 use Rattle.pearl_tree.specs.declared.name.Name.{Name}
 use Rattle.pearl_tree.specs.declared.statement.TaskWord.{TaskWord}
