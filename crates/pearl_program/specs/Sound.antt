@@ -1,0 +1,144 @@
+-- Which programs are sound: every number names a thing of the needed sort, every value suits, no procedure calls its
+-- own or a greater number, and every size is in its range.
+use Rattle.std.specs.Prelude.{◌≡◌, ◌⊎◌, ℕ, ◌<◌, ◌≤◌, ◌^◌, Bool, false, ◌&&◌, ◌||◌, ◌==◌, nat_le, IsTrue, List, [], ◌∷◌, ◌++◌, length, map, take, drop, slice_index, Option, Some, None}
+use Rattle.std.specs.Char.{is_ascii_alphabetic, is_ascii_digit}
+use Rattle.std.specs.List.{AllByRecursion, list_all, sum_by}
+use Rattle.pearl_value.specs.declared.kind.Kind.{Kind}
+use Rattle.pearl_value.specs.declared.kind.CellKind.{CellKind}
+use Rattle.pearl_value.specs.declared.kind.CellKind.TheVariants.{Plain, RefTo}
+use Rattle.pearl_value.specs.Kinds.{IsKind}
+use Rattle.pearl_value.specs.WellFormed.{IsLetter}
+use Rattle.pearl_format.specs.declared.item.Item.{Item}
+use Rattle.pearl_format.specs.Items.{HasWidth}
+use Rattle.pearl_program.specs.declared.table.Device.{Device}
+use Rattle.pearl_program.specs.declared.table.Device.TheVariants.{Interrupt, Terminal, Input, Output}
+use Rattle.pearl_program.specs.PlainPrograms.{PlainLeaf, PlainProcedure, PlainTask, PlainProg}
+use Rattle.pearl_program.specs.Typing.{Signature, Around}
+use Rattle.pearl_program.specs.SoundStatements.{IsIf, AreFirst, AreStmts}
+use Rattle.pearl_program.specs.Weights.{weight, weights_of}
+
+-- a leaf's name has from 1 to 1,024 bytes from 32 to 126
+pub record IsLeaf (leaf : PlainLeaf) : Type 0 where
+  pub named : (0 < length leaf.name) × (length leaf.name ≤ 1024)
+  pub spelled : AllByRecursion IsLetter leaf.name
+  pub values : AreFirst leaf.values
+
+-- INTERRUPT, TERMINAL, INPUT, OUTPUT
+abbrev pub sort_rank : Device → ℕ
+sort_rank (Interrupt number) = 0
+sort_rank (Terminal number direction) = 1
+sort_rank (Input number kind) = 2
+sort_rank (Output number kind) = 3
+
+abbrev pub own_number : Device → ℕ
+own_number (Interrupt number) = number
+own_number (Terminal number direction) = number
+own_number (Input number kind) = number
+own_number (Output number kind) = number
+
+abbrev pub HasKindOfValues : Device → Type 0
+HasKindOfValues (Input number kind) = IsKind kind
+HasKindOfValues (Output number kind) = IsKind kind
+HasKindOfValues device = Unit {0}
+
+abbrev pub IsDevice : Device → Type 0
+IsDevice device = (0 < own_number device) × (own_number device ≤ 99) × HasKindOfValues device
+
+-- by sort, and then by number
+abbrev pub IsBefore : Device → Device → Type 0
+IsBefore a b = (sort_rank a < sort_rank b) ⊎ ((sort_rank a ≡ sort_rank b) × (own_number a < own_number b))
+
+-- each device comes before the next, so none stands twice
+abbrev pub AreRising : List Device → Type 0
+AreRising [] = Unit {0}
+AreRising (device ∷ []) = Unit {0}
+AreRising (device ∷ next ∷ devices) = IsBefore device next × AreRising (next ∷ devices)
+
+-- the width suits the code, and is at most 255
+abbrev pub IsItem : Item → Type 0
+IsItem item = HasWidth item.code item.width × (item.width ≤ 255)
+
+-- how many values the items take and how long their text gets is asked only of the PUT or GET that names the format
+abbrev pub IsFormat : List Item → Type 0
+IsFormat items = AllByRecursion IsItem items
+
+abbrev pub IsCellKind : CellKind → Type 0
+IsCellKind (Plain kind) = IsKind kind
+IsCellKind (RefTo kind) = IsKind kind
+
+-- a cell for a value
+abbrev pub IsPlain : CellKind → Type 0
+IsPlain (Plain kind) = IsKind kind
+IsPlain (RefTo kind) = ⊥
+
+-- what stands around a routine's statements, where these procedures may be called
+abbrev pub around_of : PlainProg → List Signature → List CellKind → Option (Option Kind) → Around
+around_of p procedures cells returns = record {
+  leaves = p.leaves;
+  semaphores = length p.semaphores;
+  devices = p.devices;
+  formats = p.formats;
+  tasks = length p.tasks;
+  procedures = procedures;
+  cells = cells;
+  returns = returns;
+  in_loop = false;
+}
+
+abbrev pub signature_of : PlainProcedure → Signature
+signature_of procedure =
+    record { params = take procedure.params procedure.routine.cells; result = procedure.result }
+
+-- a cell that isn't a parameter is no reference
+pub record IsProcedure (p : PlainProg) (callable : List Signature) (procedure : PlainProcedure) : Type 0 where
+  pub few : procedure.params ≤ length procedure.routine.cells
+  pub params : AllByRecursion IsCellKind (take procedure.params procedure.routine.cells)
+  pub others : AllByRecursion IsPlain (drop procedure.params procedure.routine.cells)
+  pub result : IsIf IsKind procedure.result
+  pub body : AreStmts (around_of p callable procedure.routine.cells (Some procedure.result)) procedure.routine.body
+
+-- each may call those of smaller numbers
+abbrev pub AreProcedures : PlainProg → List Signature → List PlainProcedure → Type 0
+AreProcedures p callable [] = Unit {0}
+AreProcedures p callable (procedure ∷ rest) =
+    IsProcedure p callable procedure × AreProcedures p (callable ++ signature_of procedure ∷ []) rest
+
+-- a letter, a digit or `_`
+abbrev pub is_name_byte : ℕ → Bool
+is_name_byte b = is_ascii_alphabetic b || is_ascii_digit b || b == 95
+
+-- an id begins with a letter, goes on with letters, digits and `_`, and has at most 63 bytes; that it is also none
+-- of the
+-- language's words isn't asked here
+abbrev pub is_id : List ℕ → Bool
+is_id name = is_ascii_alphabetic (slice_index name 0) && list_all is_name_byte name && nat_le (length name) 63
+
+-- a task may call all procedures
+pub record IsTask (p : PlainProg) (task : PlainTask) : Type 0 where
+  pub named : IsTrue (is_id task.name)
+  pub urgent : (0 < task.priority) × (task.priority ≤ 255)
+  pub cells : AllByRecursion IsPlain task.routine.cells
+  pub body : AreStmts (around_of p (map signature_of p.procedures) task.routine.cells None) task.routine.body
+
+abbrev pub IsPreset : ℕ → Type 0
+IsPreset preset = preset < 2 ^ 31
+
+-- at most 200 tasks, 200 procedures, 1,000 semaphores, 65,536 slots and 396 devices, and weights of at most 4,096
+pub record HasSizes (p : PlainProg) : Type 0 where
+  pub tasks : length p.tasks ≤ 200
+  pub procedures : length p.procedures ≤ 200
+  pub semaphores : length p.semaphores ≤ 1000
+  pub slots : sum_by (λ (leaf : PlainLeaf). leaf.values.count) p.leaves ≤ 65536
+  pub devices : length p.devices ≤ 396
+  pub weights : AllByRecursion (λ weight. weight ≤ 4096) (weights_of p.procedures)
+  pub task_weights : AllByRecursion (λ (task : PlainTask). weight (weights_of p.procedures) task.routine ≤ 4096) p.tasks
+
+pub record IsSound (p : PlainProg) : Type 0 where
+  pub leaves : AllByRecursion IsLeaf p.leaves
+  pub semaphores : AllByRecursion IsPreset p.semaphores
+  pub devices : AllByRecursion IsDevice p.devices
+  pub rising : AreRising p.devices
+  pub formats : AllByRecursion IsFormat p.formats
+  pub procedures : AreProcedures p [] p.procedures
+  pub tasks : AllByRecursion (IsTask p) p.tasks
+  pub sizes : HasSizes p

@@ -1,0 +1,16 @@
+-- how a scope's variables lie in leaves and cells, and what their INIT puts into them
+pub mod Laying
+-- which number each name of each scope has, and which cells a statement goes past
+pub mod Numbers
+-- what an expression becomes once its names are numbers
+pub mod Expressions
+-- what statements become once their names are numbers
+pub mod Statements
+-- which cells a task or procedure has
+pub mod Cells
+-- which program a module means
+pub mod Resolve
+-- when names lead to what is there in a program, and when literals are values
+pub mod SoundNames
+-- what holds of the scopes, cells and formats that statements go past, and of what expressions and targets become
+pub mod Laws
