@@ -1,0 +1,12 @@
+// Which procedures call themselves, which numbers procedures get, and what tasks and procedures weigh.
+#![tactic(auto)]
+
+pub mod caller;
+pub mod cycle;
+pub mod laws;
+pub mod numbering;
+mod order;
+mod ready;
+#[cfg(test)]
+mod tests;
+pub mod weight;
