@@ -2,7 +2,11 @@ pub mod Tests
 pub mod Ways
 pub mod Adding
 pub mod Turns
-pub mod Order
+pub mod Following
 pub mod Waiting
 pub mod Search
-pub mod Capping
+pub mod Closing
+pub mod Weighing
+pub mod Rows
+pub mod Examples
+pub mod Least

@@ -3,7 +3,7 @@ use Rattle.std.proofs.Common.{◌≡◌, ◌↔◌, ◌≢◌, ℕ, zero, suc, �
 use Rattle.std.proofs.lemmas.Bool.{ltb-true, lt-ltb}
 use Rattle.std.proofs.lemmas.List.{length-set, length_push, length-replicate, get_or-set_same, get_or-set_other, get_or_past, get_or-replicate, take_more}
 use Rattle.std.specs.List.{list_any}
-use Rattle.pearl_calls.proofs.Order.{stands_more, stands_last}
+use Rattle.pearl_calls.proofs.Following.{stands_more, stands_last}
 use Rattle.pearl_calls.proofs.Tests.{by_case, or_left, or_right, or_rest, is_false}
 use Rattle.pearl_calls.proofs.Waiting.{stands_split}
 use Rattle.pearl_calls.proofs.Ways.{inside, cycles}
@@ -60,9 +60,9 @@ module _ (numbers : List ℕ) (k : ℕ) (less : k < length numbers) (old now : L
     kept = marks.kept;
     pending = marks.pending;
     all = λ n h within. by_case _ (nat_eq n x)
-    (λ same. subst (λ z. is_marked now z ≡ true) (sym (eqb-true n x same)) (already (
-    let e : n ≡ x = eqb-true n x same in omega (arith, e, within, marks.same_length))))
-    (λ apart. marks.all n (in_either n h apart) within);
+        (λ same. subst (λ z. is_marked now z ≡ true) (sym (eqb-true n x same)) (already (
+        let e : n ≡ x = eqb-true n x same in omega (arith, e, within, marks.same_length))))
+        (λ apart. marks.all n (in_either n h apart) within);
     only = λ n h u. let found = marks.only n h u in (in_front n found.0, found.1);
     beside = marks.beside;
     work = marks.work;
@@ -74,14 +74,14 @@ module _ (numbers : List ℕ) (k : ℕ) (less : k < length numbers) (old now : L
     kept = λ n h. made_kept now x n within (marks.kept n h);
     pending = λ n h. stands_more n after x (marks.pending n h);
     all = λ n h below. by_case _ (nat_eq n x)
-    (λ same. subst (λ z. is_marked (set now x true) z ≡ true) (sym (eqb-true n x same)) (made_here now x within))
-    (λ apart. made_kept now x n within (marks.all n (in_either n h apart) below));
+        (λ same. subst (λ z. is_marked (set now x true) z ≡ true) (sym (eqb-true n x same)) (made_here now x within))
+        (λ apart. made_kept now x n within (marks.all n (in_either n h apart) below));
     only = λ n h u. by_case _ (nat_eq n x)
-    (λ same. (in_last n same, subst (λ z. list_any (nat_eq z) (after ++ x ∷ []) ≡ true) (sym (eqb-true n x same)) (stands_last x after)))
-    (λ apart. let found = marks.only n h (sym (made_other now x n apart) ∙ u) in (in_front n found.0, stands_more n after x found.1));
+        (λ same. (in_last n same, subst (λ z. list_any (nat_eq z) (after ++ x ∷ []) ≡ true) (sym (eqb-true n x same)) (stands_last x after)))
+        (λ apart. let found = marks.only n h (sym (made_other now x n apart) ∙ u) in (in_front n found.0, stands_more n after x found.1));
     beside = λ n h u. by_case _ (nat_eq n x)
-    (λ same. subst (λ z. is_marked (set now x true) z ≡ true) (sym (eqb-true n x same)) (made_here now x within))
-    (λ apart. made_kept now x n within (marks.beside n (stands_split n after x h apart) u));
+        (λ same. subst (λ z. is_marked (set now x true) z ≡ true) (sym (eqb-true n x same)) (made_here now x within))
+        (λ apart. made_kept now x n within (marks.beside n (stands_split n after x h apart) u));
     work = omega (arith, one_less now x within fresh, length_push after x, marks.work);
   }
 
@@ -104,8 +104,11 @@ module _ (procedures : List Caller) (start : ℕ) where
 
   none_marked : (n i : ℕ) → is_marked (replicate n false) i ≡ false
   none_marked n i = by_case _ (nat_lt i n) (λ t. get_or-replicate n i false false (ltb-true i n t))
-      (λ f. get_or_past (replicate n false) i false (omega (arith, length-replicate n false,
-      λ (less : i < n). true≢false (sym (lt-ltb i n less) ∙ f))))
+      (λ f. get_or_past (replicate n false) i false (omega (
+        arith,
+        length-replicate n false,
+        λ (less : i < n). true≢false (sym (lt-ltb i n less) ∙ f),
+      )))
 
   pub begins : (marks : List Bool) (pending : List ℕ) →
       MarksCallees (callees procedures start) (replicate (length procedures) false) marks [] pending → Searches marks pending
@@ -131,19 +134,19 @@ module _ (procedures : List Caller) (start : ℕ) where
       record {
         counted = h.same_length ∙ now.counted;
         come_to = λ i is. by_case _ (is_marked marks i) (λ t. now.come_to i t)
-        (λ f. let way = now.come_to p taken in (way.0 ++ p ∷ [], one_further way.0 start p i way.1 (h.only i f is).0));
+            (λ f. let way = now.come_to p taken in (way.0 ++ p ∷ [], one_further way.0 start p i way.1 (h.only i f is).0));
         marked = λ i is. by_case _ (list_any (nat_eq i) rest)
-        (λ t. h.kept i (now.marked i (subst (λ z. list_any (nat_eq i) z ≡ true) (sym e) (stands_more i rest p t))))
-        (λ f. h.beside i is f);
+            (λ t. h.kept i (now.marked i (subst (λ z. list_any (nat_eq i) z ≡ true) (sym e) (stands_more i rest p t))))
+            (λ f. h.beside i is f);
         from_start = λ c called within. h.kept c (now.from_start c called within);
         gone_on = λ i c is out called within. by_case _ (is_marked marks i)
-        (λ t. by_case _ (nat_eq i p)
-        (λ same. h.all c (subst (λ z. calls procedures z c ≡ true) (eqb-true i p same) called) (omega (arith, within, now.counted)))
-        (λ apart. h.kept c (now.gone_on i c t
-        (is_false (list_any (nat_eq i) pending) (λ u. true≢false (
-        sym (h.pending i (stands_split i rest p (subst (λ z. list_any (nat_eq i) z ≡ true) e u) apart)) ∙ out)))
-        called within)))
-        (λ f. absurd (true≢false (sym (h.only i f is).1 ∙ out)));
+            (λ t. by_case _ (nat_eq i p)
+            (λ same. h.all c (subst (λ z. calls procedures z c ≡ true) (eqb-true i p same) called) (omega (arith, within, now.counted)))
+            (λ apart. h.kept c (now.gone_on i c t
+            (is_false (list_any (nat_eq i) pending) (λ u. true≢false (
+            sym (h.pending i (stands_split i rest p (subst (λ z. list_any (nat_eq i) z ≡ true) e u) apart)) ∙ out)))
+            called within)))
+            (λ f. absurd (true≢false (sym (h.only i f is).1 ∙ out)));
       }
 
   reached : (marks : List Bool) → Searches marks [] → (through : List ℕ) (from to : ℕ) → is_marked marks from ≡ true →

@@ -6,7 +6,7 @@ use Rattle.std.proofs.lemmas.List.Elements.{recursion_from_All}
 use Rattle.std.proofs.lemmas.List.Recursion.{is_sum_by}
 use Rattle.std.proofs.lemmas.List.Sorted.{sum_by-IsPermutation}
 use Rattle.std.specs.List.{list_any, sum_by, AllByRecursion}
-use Rattle.pearl_calls.proofs.Order.{stands_last, stands_not, waits_below, waits_out, waits_if, ready_waits, ready_open, one_next}
+use Rattle.pearl_calls.proofs.Following.{stands_last, stands_not, waits_below, waits_out, waits_if, ready_waits, ready_open, one_next}
 use Rattle.pearl_calls.proofs.Tests.{by_case, or_left, or_right, or_rest, nor_left, nor_right, true_not, both, is_false}
 use Rattle.pearl_calls.proofs.Turns.{Stuck, some_turns}
 use Rattle.pearl_calls.specs.Callers.{Caller, callees, calls}
@@ -182,14 +182,14 @@ module _ (procedures : List Caller) where
         counted = long;
         counts = λ i less. ap (λ xs. get_or xs i 0) e ∙ counted_at procedures i less;
         once = λ i less.
-        let inside : nat_lt i (length open_calls) ≡ true = lt-ltb i (length open_calls) (omega (arith, less, long)) in
-        let chosen : times i ready ≡ one_if (is_closed open_calls i) = h i ∙ ap (λ b. if b then one_if (is_closed open_calls i) else 0) inside in
-        omega (arith, chosen);
+            let inside : nat_lt i (length open_calls) ≡ true = lt-ltb i (length open_calls) (omega (arith, less, long)) in
+            let chosen : times i ready ≡ one_if (is_closed open_calls i) = h i ∙ ap (λ b. if b then one_if (is_closed open_calls i) else 0) inside in
+            omega (arith, chosen);
         only = λ i more.
-        let outside : nat_lt i (length open_calls) ≡ false = is_false (nat_lt i (length open_calls))
-        (λ t. let less : i < length open_calls = ltb-true i (length open_calls) t in absurd (omega (arith, less, more, long))) in
-        let chosen : times i ready ≡ 0 = h i ∙ ap (λ b. if b then one_if (is_closed open_calls i) else 0) outside in
-        omega (arith, chosen);
+            let outside : nat_lt i (length open_calls) ≡ false = is_false (nat_lt i (length open_calls))
+            (λ t. let less : i < length open_calls = ltb-true i (length open_calls) t in absurd (omega (arith, less, more, long))) in
+            let chosen : times i ready ≡ 0 = h i ∙ ap (λ b. if b then one_if (is_closed open_calls i) else 0) outside in
+            omega (arith, chosen);
       }
 
   module _ (order open_calls ready : List ℕ) (between : Between order open_calls ready) where
@@ -220,17 +220,17 @@ module _ (procedures : List Caller) where
           sym (between.counts p within) ∙ eqb-true (get_or open_calls p 0) 0 closed in
           record {
             ready = both (waits procedures order p) (not (list_any (waits procedures order) (callees procedures p))) waits_here
-            (true_not (list_any (waits procedures order) (callees procedures p)) (none_open order (callees procedures p) quiet));
+                (true_not (list_any (waits procedures order) (callees procedures p)) (none_open order (callees procedures p) quiet));
             first = λ q less. is_false (is_ready procedures order q) (λ t.
-            let waiting_q = ready_waits procedures order q t in
-            let inside_q = waits_below procedures order q waiting_q in
-            let none_q = stands_none q order (waits_out procedures order q waiting_q) in
-            let zero_q : get_or open_calls q 0 ≡ 0 =
-            between.counts q inside_q ∙ open_none order (callees procedures q) (ready_open procedures order q t) in
-            let one_q : one_if (is_closed open_calls q) ≡ 1 = ap one_if (eq-eqb (get_or open_calls q 0) 0 zero_q) in
-            let there : list_any (nat_eq q) ready ≡ true = some_stands q ready (omega (arith, between.once q inside_q, none_q, one_q)) in
-            let behind : p ≤ q = all_of p q ready (recursion_from_All (λ x. p ≤ x) ready least) there in
-            omega (arith, less, behind));
+                let waiting_q = ready_waits procedures order q t in
+                let inside_q = waits_below procedures order q waiting_q in
+                let none_q = stands_none q order (waits_out procedures order q waiting_q) in
+                let zero_q : get_or open_calls q 0 ≡ 0 =
+                between.counts q inside_q ∙ open_none order (callees procedures q) (ready_open procedures order q t) in
+                let one_q : one_if (is_closed open_calls q) ≡ 1 = ap one_if (eq-eqb (get_or open_calls q 0) 0 zero_q) in
+                let there : list_any (nat_eq q) ready ≡ true = some_stands q ready (omega (arith, between.once q inside_q, none_q, one_q)) in
+                let behind : p ≤ q = all_of p q ready (recursion_from_All (λ x. p ≤ x) ready least) there in
+                omega (arith, less, behind));
           }
 
       -- no more calls are closed than there are
@@ -257,11 +257,11 @@ module _ (procedures : List Caller) where
         counts = λ i less. omega (arith, callers i, closes i, between.counts i less, open_split order p waits_here (callees procedures i));
         once = λ i less. omega (arith, readies i, once_ready i, between.once i less, times_push i p order);
         only = λ i more.
-        let past : get_or open_calls i 0 ≡ 0 = get_or_past open_calls i 0 (omega (arith, more, between.counted)) in
-        let past_now : get_or closing i 0 ≡ 0 = get_or_past closing i 0 (omega (arith, more, between.counted, long)) in
-        let one : one_if (is_closed open_calls i) ≡ 1 = ap one_if (eq-eqb (get_or open_calls i 0) 0 past) in
-        let one_now : one_if (is_closed closing i) ≡ 1 = ap one_if (eq-eqb (get_or closing i 0) 0 past_now) in
-        omega (arith, one, one_now, readies i, once_ready i, between.only i more, times_push i p order);
+            let past : get_or open_calls i 0 ≡ 0 = get_or_past open_calls i 0 (omega (arith, more, between.counted)) in
+            let past_now : get_or closing i 0 ≡ 0 = get_or_past closing i 0 (omega (arith, more, between.counted, long)) in
+            let one : one_if (is_closed open_calls i) ≡ 1 = ap one_if (eq-eqb (get_or open_calls i 0) 0 past) in
+            let one_now : one_if (is_closed closing i) ≡ 1 = ap one_if (eq-eqb (get_or closing i 0) 0 past_now) in
+            omega (arith, one, one_now, readies i, once_ready i, between.only i more, times_push i p order);
       }
 
       pub falls : waiting (order ++ p ∷ []) (length procedures) < waiting order (length procedures)
@@ -271,9 +271,9 @@ module _ (procedures : List Caller) where
     all_numbered e closed = record {
       by_rule = between.by_rule;
       whole = λ i less.
-      let none : times i ready ≡ 0 = ap (λ xs. times i xs) e in
-      let one : one_if (is_closed open_calls i) ≡ 1 = ap one_if (eq-eqb (get_or open_calls i 0) 0 (closed i)) in
-      some_stands i order (omega (arith, none, one, between.once i less));
+          let none : times i ready ≡ 0 = ap (λ xs. times i xs) e in
+          let one : one_if (is_closed open_calls i) ≡ 1 = ap one_if (eq-eqb (get_or open_calls i 0) 0 (closed i)) in
+          some_stands i order (omega (arith, none, one, between.once i less));
     }
 
     -- the first of these that waits
@@ -286,15 +286,17 @@ module _ (procedures : List Caller) where
     found_waiting [] h = absurd (true≢false (sym h))
     found_waiting (c ∷ numbers) h = by_case _ (waits procedures order c)
         (λ t.
-        let e : first_waiting (c ∷ numbers) ≡ c = ap (λ b. if b then c else first_waiting numbers) t in
-        (subst (λ z. list_any (nat_eq z) (c ∷ numbers) ≡ true) (sym e) (or_left (nat_eq c c) (list_any (nat_eq c) numbers) (eq-eqb c c refl)),
-        subst (λ z. waits procedures order z ≡ true) (sym e) t))
+        let e : first_waiting (c ∷ numbers) ≡ c = ap (λ b. if b then c else first_waiting numbers) t in (
+          subst (λ z. list_any (nat_eq z) (c ∷ numbers) ≡ true) (sym e) (or_left (nat_eq c c) (list_any (nat_eq c) numbers) (eq-eqb c c refl)),
+          subst (λ z. waits procedures order z ≡ true) (sym e) t,
+        ))
         (λ f.
         let e : first_waiting (c ∷ numbers) ≡ first_waiting numbers = ap (λ b. if b then c else first_waiting numbers) f in
-        let found = found_waiting numbers (or_rest (waits procedures order c) (list_any (waits procedures order) numbers) f h) in
-        (subst (λ z. list_any (nat_eq z) (c ∷ numbers) ≡ true) (sym e)
-        (or_right (nat_eq (first_waiting numbers) c) (list_any (nat_eq (first_waiting numbers)) numbers) found.0),
-        subst (λ z. waits procedures order z ≡ true) (sym e) found.1))
+        let found = found_waiting numbers (or_rest (waits procedures order c) (list_any (waits procedures order) numbers) f h) in (
+          subst (λ z. list_any (nat_eq z) (c ∷ numbers) ≡ true) (sym e)
+              (or_right (nat_eq (first_waiting numbers) c) (list_any (nat_eq (first_waiting numbers)) numbers) found.0),
+          subst (λ z. waits procedures order z ≡ true) (sym e) found.1,
+        ))
 
     still_open : ready ≡ [] → (i : ℕ) → waits procedures order i ≡ true → list_any (waits procedures order) (callees procedures i) ≡ true
     still_open e i h = by_case _ (list_any (waits procedures order) (callees procedures i)) (λ t. t)

@@ -1,6 +1,6 @@
 // A task or procedure with the procedures that it calls.
 
-ghost use Rattle.std.specs.Prelude.{◌≡◌};
+ghost use Rattle.std.specs.Prelude.{◌≡◌, ◌<◌, Some, length, slice_get};
 ghost use Rattle.pearl_calls.specs.Callers.{callees};
 
 use std::marker::Model;
@@ -52,4 +52,12 @@ pub fn callees(callers: &[Caller], number: usize) -> &[u32]
         Some(caller) => caller.calls(),
         None => &[],
     }
+}
+
+/// The one of a number.
+pub fn caller_at(callers: &[Caller], number: usize) -> &Caller
+    requires { number < length callers.now }
+    ensures { slice_get callers.now number ≡ Some result.now }
+{
+    &callers[number]
 }

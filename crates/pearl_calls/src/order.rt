@@ -32,7 +32,7 @@ impl Calling {
         ensures none { IfOk result (λ calling. (callee : ℕ) → slice_index_or calling callee [] ≡ []) }
     {
         let mut lists = Vec::new(alloc);
-        for _ in 0..count {
+        'rows: for _ in 0..count {
             lists.push(Vec::new(alloc))?;
         }
         Ok(Calling { lists })

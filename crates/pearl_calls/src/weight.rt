@@ -6,7 +6,7 @@ ghost use Rattle.std.specs.Prelude.{slice_get};
 ghost use Rattle.pearl_calls.specs.Numberings.{IsNumbering};
 ghost use Rattle.pearl_calls.specs.Weights.{capped, greatest, whole_weight, weights_of};
 
-use crate::caller::Caller;
+use crate::caller::{Caller, caller_at};
 use crate::numbering::Numbering;
 use std::alloc::{AllocError as NoMemory, Global};
 
@@ -34,7 +34,7 @@ pub fn weights(
 {
     let mut weights = vec![in alloc; 0u32; callers.len()]?;
     for procedure in numbering.order() {
-        let weight = add_up(&callers[*procedure], weights.as_slice());
+        let weight = add_up(caller_at(callers, *procedure), weights.as_slice());
         weights[*procedure] = weight;
     }
     Ok(weights)

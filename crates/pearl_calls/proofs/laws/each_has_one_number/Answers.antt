@@ -1,4 +1,4 @@
-use Rattle.pearl_calls.proofs.Order.{each_once, only_procedures}
+use Rattle.pearl_calls.proofs.Following.{each_once, only_procedures}
 use Rattle.pearl_calls.proofs.laws.each_has_one_number.Goals as goal
 
 pub returns : goal.returns

@@ -1,4 +1,4 @@
-use Rattle.pearl_calls.proofs.Order.{none_calls_back}
+use Rattle.pearl_calls.proofs.Following.{none_calls_back}
 use Rattle.pearl_calls.proofs.laws.numbered_call_none_back.Goals as goal
 
 pub returns : goal.returns
