@@ -28,7 +28,7 @@ there [] i less = absurd (omega (arith, less))
 there (x ∷ xs) zero less = (x, refl)
 there (x ∷ xs) (suc i) less = there xs i (omega (arith, less))
 
-past : {X : Type 0} (xs : List X) (i : ℕ) → length xs ≤ i → slice_get xs i ≡ None
+pub past : {X : Type 0} (xs : List X) (i : ℕ) → length xs ≤ i → slice_get xs i ≡ None
 past [] i more = refl
 past (x ∷ xs) zero more = absurd (omega (arith, more))
 past (x ∷ xs) (suc i) more = past xs i (omega (arith, more))

@@ -1,7 +1,9 @@
-use Rattle.std.proofs.Common.{◌≡◌, ◌<◌, ◌≤◌, [], false, ◌∙◌, sym, subst, length, arith}
+use Rattle.std.proofs.Common.{nat_lt, ◌≡◌, ◌<◌, ◌≤◌, [], false, ◌∙◌, sym, subst, length, arith}
+use Rattle.std.proofs.lemmas.Bool.{ltb-true}
 use Rattle.std.proofs.lemmas.List.{nil_from_length, get_or_past}
 use Rattle.pearl_calls.proofs.Rows.{read_mark}
 use Rattle.pearl_calls.proofs.Search.{Searches, goes_on, ended}
+use Rattle.pearl_calls.proofs.Tests.{is_false}
 use Rattle.pearl_calls.specs.Marks.{MarksCallees}
 use Rattle.pearl_calls.proofs.cycle.calls_itself.Goals as goal
 use Rattle.pearl_calls.proofs.cycle.calls_itself.Goals.{then-start-len, else-start-len}
@@ -25,5 +27,8 @@ returns c =
           w.result-is ∙ read_mark c.loop-procedure.marks.items c.args.number w.index.result.now within w.index.ensures ∙ all
       | else-start-len w ↦
           let beyond : length c.loop-procedure.marks.items ≤ c.args.number = omega (arith, c.loop-procedure.marks.ok.0) in
-          w.result-is ∙ sym (get_or_past c.loop-procedure.marks.items c.args.number false beyond) ∙ all
+          let out : nat_lt c.args.number c.len.result ≡ false = is_false (nat_lt c.args.number c.len.result)
+          (λ t. let less : c.args.number < c.len.result = ltb-true c.args.number c.len.result t in
+          absurd (omega (arith, less, beyond, c.len.ensures, c.loop-procedure.marks.ok.0))) in
+          w.result-is ∙ out ∙ sym (get_or_past c.loop-procedure.marks.items c.args.number false beyond) ∙ all
     ]
