@@ -3,7 +3,7 @@ use Rattle.std.proofs.Common.{◌≡◌, ℕ, zero, suc, ◌+◌, ◌<◌, ◌�
 use Rattle.std.specs.Prelude.{slice_get, filter_map}
 use Rattle.std.specs.List.{list_any, IsDistinct, cons_option}
 use Rattle.std.proofs.lemmas.Map.Steps.{length-le_from_distinct_below}
-use Rattle.pearl_calls.proofs.Tests.{by_case, or_left, or_right, or_rest}
+use Rattle.pearl_calls.proofs.Truths.{by_case, or_left, or_right, or_rest}
 use Rattle.pearl_calls.proofs.Ways.{all_other, inside}
 use Rattle.pearl_calls.specs.Callers.{Caller, callees_of, calls}
 use Rattle.pearl_calls.specs.Cycles.{IsWay, SomeCallsItself}

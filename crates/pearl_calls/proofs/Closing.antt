@@ -2,7 +2,7 @@
 use Rattle.std.proofs.Common.{◌≡◌, ℕ, zero, suc, ◌+◌, ◌-◌, ◌<◌, ◌≤◌, Bool, true, false, if◌then◌else◌, nat_eq, nat_lt, List, [], ◌∷◌, ◌++◌, length, take, set, get_or, refl, sym, ap, ◌∙◌, subst, arith, true≢false, eq-eqb, eqb-true, IsPermutation}
 use Rattle.std.proofs.lemmas.Bool.{ltb-true, lt-ltb}
 use Rattle.std.proofs.lemmas.List.{length-set, get_or-set_same, get_or-set_other, get_or_past}
-use Rattle.pearl_calls.proofs.Tests.{by_case, is_false}
+use Rattle.pearl_calls.proofs.Truths.{by_case, is_false}
 use Rattle.pearl_calls.proofs.Waiting.{times_push, times_more, times_part, times_permuted}
 use Rattle.pearl_calls.specs.Callers.{Caller, callees}
 use Rattle.pearl_calls.specs.Marks.{one_if, times, is_closed, AreCallersOf}

@@ -3,7 +3,7 @@ use Rattle.std.proofs.Common.{◌≡◌, ℕ, zero, suc, ◌+◌, ◌<◌, ◌�
 use Rattle.std.proofs.lemmas.Bool.{ltb-true, lt-ltb}
 use Rattle.std.proofs.lemmas.List.Folds.{list_any-append}
 use Rattle.std.specs.List.{list_any, sum_by}
-use Rattle.pearl_calls.proofs.Tests.{by_case, or_left, or_right, or_rest, nor_left, nor_right, and_left, and_right, not_true, true_not, both, not_both, is_false}
+use Rattle.pearl_calls.proofs.Truths.{by_case, or_left, or_right, or_rest, nor_left, nor_right, and_left, and_right, not_true, true_not, both, not_both, is_false}
 use Rattle.pearl_calls.proofs.Ways.{some_test, inside}
 use Rattle.pearl_calls.specs.Callers.{Caller, callees, calls}
 use Rattle.pearl_calls.specs.Cycles.{IsWay, CallsItself, SomeCallsItself}

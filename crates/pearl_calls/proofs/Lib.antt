@@ -1,4 +1,4 @@
-pub mod Tests
+pub mod Truths
 pub mod Ways
 pub mod Adding
 pub mod Turns

@@ -6,7 +6,7 @@ use Rattle.std.proofs.lemmas.Bool.{ltb-true, lt-ltb}
 use Rattle.std.proofs.lemmas.List.{map-set, length-map, length-set, get_or-map, get_or_default, get_or-set_same, get_or-set_other, take_more, get_or_past}
 use Rattle.std.proofs.lemmas.Option.{slice_get-get_or}
 use Rattle.std.proofs.Math.Seq.{map-set_same}
-use Rattle.pearl_calls.proofs.Tests.{by_case, or_left, or_right, is_false}
+use Rattle.pearl_calls.proofs.Truths.{by_case, or_left, or_right, is_false}
 use Rattle.pearl_calls.proofs.Waiting.{times_permuted, stands_split}
 use Rattle.pearl_calls.specs.Callers.{Caller, callees}
 use Rattle.pearl_calls.specs.Marks.{one_if, times, open_among, is_closed}

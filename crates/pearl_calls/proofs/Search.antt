@@ -4,7 +4,7 @@ use Rattle.std.proofs.lemmas.Bool.{ltb-true, lt-ltb}
 use Rattle.std.proofs.lemmas.List.{length-set, length_push, length-replicate, get_or-set_same, get_or-set_other, get_or_past, get_or-replicate, take_more}
 use Rattle.std.specs.List.{list_any}
 use Rattle.pearl_calls.proofs.Following.{stands_more, stands_last}
-use Rattle.pearl_calls.proofs.Tests.{by_case, or_left, or_right, or_rest, is_false}
+use Rattle.pearl_calls.proofs.Truths.{by_case, or_left, or_right, or_rest, is_false}
 use Rattle.pearl_calls.proofs.Waiting.{stands_split}
 use Rattle.pearl_calls.proofs.Ways.{inside, cycles}
 use Rattle.pearl_calls.specs.Callers.{Caller, callees, calls}

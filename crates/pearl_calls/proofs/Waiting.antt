@@ -7,7 +7,7 @@ use Rattle.std.proofs.lemmas.List.Recursion.{is_sum_by}
 use Rattle.std.proofs.lemmas.List.Sorted.{sum_by-IsPermutation}
 use Rattle.std.specs.List.{list_any, sum_by, AllByRecursion}
 use Rattle.pearl_calls.proofs.Following.{stands_last, stands_not, waits_below, waits_out, waits_if, ready_waits, ready_open, one_next}
-use Rattle.pearl_calls.proofs.Tests.{by_case, or_left, or_right, or_rest, nor_left, nor_right, true_not, both, is_false}
+use Rattle.pearl_calls.proofs.Truths.{by_case, or_left, or_right, or_rest, nor_left, nor_right, true_not, both, is_false}
 use Rattle.pearl_calls.proofs.Turns.{Stuck, some_turns}
 use Rattle.pearl_calls.specs.Callers.{Caller, callees, calls}
 use Rattle.pearl_calls.specs.Cycles.{SomeCallsItself}

@@ -10,7 +10,7 @@ use Rattle.pearl_calls.proofs.Adding.{add_up}
 use Rattle.pearl_calls.proofs.Closing.{take_length}
 use Rattle.pearl_calls.proofs.Following.{none_calls_back, callees_first, only_procedures}
 use Rattle.pearl_calls.proofs.Rows.{stands_at}
-use Rattle.pearl_calls.proofs.Tests.{by_case, or_left, or_right, is_false}
+use Rattle.pearl_calls.proofs.Truths.{by_case, or_left, or_right, is_false}
 use Rattle.pearl_calls.proofs.Waiting.{stands_split}
 use Rattle.pearl_calls.specs.Callers.{Caller, callees, callees_of}
 use Rattle.pearl_calls.specs.Cycles.{SomeCallsItself}

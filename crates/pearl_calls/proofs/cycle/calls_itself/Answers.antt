@@ -3,7 +3,7 @@ use Rattle.std.proofs.lemmas.Bool.{ltb-true}
 use Rattle.std.proofs.lemmas.List.{nil_from_length, get_or_past}
 use Rattle.pearl_calls.proofs.Rows.{read_mark}
 use Rattle.pearl_calls.proofs.Search.{Searches, goes_on, ended}
-use Rattle.pearl_calls.proofs.Tests.{is_false}
+use Rattle.pearl_calls.proofs.Truths.{is_false}
 use Rattle.pearl_calls.specs.Marks.{MarksCallees}
 use Rattle.pearl_calls.proofs.cycle.calls_itself.Goals as goal
 use Rattle.pearl_calls.proofs.cycle.calls_itself.Goals.{then-start-len, else-start-len}
