@@ -7,6 +7,4 @@ pub mod laws;
 pub mod numbering;
 mod order;
 mod ready;
-#[cfg(test)]
-mod tests;
 pub mod weight;
