@@ -1,12 +1,12 @@
 -- What the rule of numbers says: it leaves no choice, numbers each procedure once, and callees before those that call them.
-use Rattle.std.proofs.Common.{◌≡◌, ℕ, zero, suc, ◌+◌, ◌<◌, ◌≤◌, Bool, true, false, not, ◌||◌, ◌&&◌, if◌then◌else◌, nat_eq, nat_lt, List, [], ◌∷◌, ◌++◌, length, take, get_or, refl, sym, ap, ◌∙◌, subst, arith, true≢false, eq-eqb, eqb-true, append_assoc, append-nil}
+use Rattle.std.proofs.Common.{◌≡◌, ℕ, zero, suc, ◌<◌, Bool, true, false, not, nat_eq, nat_lt, List, [], ◌∷◌, ◌++◌, length, take, get_or, refl, sym, ap, ◌∙◌, subst, arith, true≢false, eq-eqb, eqb-true, append_assoc, append-nil}
 use Rattle.std.proofs.lemmas.Bool.{ltb-true, lt-ltb}
 use Rattle.std.proofs.lemmas.List.Folds.{list_any-append}
-use Rattle.std.specs.List.{list_any, sum_by}
-use Rattle.pearl_calls.proofs.Truths.{by_case, or_left, or_right, or_rest, nor_left, nor_right, and_left, and_right, not_true, true_not, both, not_both, is_false}
+use Rattle.std.specs.List.{list_any}
+use Rattle.pearl_calls.proofs.Truths.{by_case, or_left, or_right, or_rest, and_left, and_right, not_true, true_not, both, is_false}
 use Rattle.pearl_calls.proofs.Ways.{some_test, inside}
 use Rattle.pearl_calls.specs.Callers.{Caller, callees, calls}
-use Rattle.pearl_calls.specs.Cycles.{IsWay, CallsItself, SomeCallsItself}
+use Rattle.pearl_calls.specs.Cycles.{IsWay, SomeCallsItself}
 use Rattle.pearl_calls.specs.Marks.{one_if, times}
 use Rattle.pearl_calls.specs.Numberings.{waits, is_ready, GetsNext, GetNext, IsNumbering}
 

@@ -1,16 +1,15 @@
 -- Lists of lists that stand in vectors, and steps of the loops that count.
-use Rattle.std.proofs.Common.{◌≡◌, ℕ, zero, suc, ◌+◌, ◌<◌, ◌≤◌, Bool, true, false, not, ◌&&◌, if◌then◌else◌, nat_eq, nat_lt, List, [], ◌∷◌, ◌++◌, length, map, take, set, get_or, Option, Some, None, Result, Ok, Err, OnErr, OnOk, Vec, IsPermutation, refl, sym, ap, ◌∙◌, subst, arith, true≢false, eq-eqb, eqb-true}
+use Rattle.std.proofs.Common.{◌≡◌, ℕ, zero, suc, ◌+◌, ◌<◌, ◌≤◌, Bool, true, false, ◌&&◌, if◌then◌else◌, nat_eq, nat_lt, List, [], ◌∷◌, ◌++◌, length, map, take, set, get_or, Some, Result, Ok, Err, OnErr, Vec, IsPermutation, refl, sym, ap, ◌∙◌, subst, arith, true≢false, eq-eqb, eqb-true}
 use Rattle.std.specs.Prelude.{slice_get}
 use Rattle.std.specs.List.{list_any}
 use Rattle.std.proofs.lemmas.Bool.{ltb-true, lt-ltb}
-use Rattle.std.proofs.lemmas.List.{map-set, length-map, length-set, get_or-map, get_or_default, get_or-set_same, get_or-set_other, take_more, get_or_past}
+use Rattle.std.proofs.lemmas.List.{map-set, length-map, length-set, get_or-map, get_or_default, get_or-set_same, get_or-set_other, take_more}
 use Rattle.std.proofs.lemmas.Option.{slice_get-get_or}
 use Rattle.std.proofs.Math.Seq.{map-set_same}
 use Rattle.pearl_calls.proofs.Truths.{by_case, or_left, or_right, is_false}
 use Rattle.pearl_calls.proofs.Waiting.{times_permuted, stands_split}
 use Rattle.pearl_calls.specs.Callers.{Caller, callees}
 use Rattle.pearl_calls.specs.Marks.{one_if, times, open_among, is_closed}
-use Rattle.pearl_calls.specs.Numbers.{AreNumbers}
 use Rattle.pearl_calls.specs.Numberings.{waits}
 
 pub on_err : {T E P : Type 0} (r : Result T E) → P → OnErr r P

@@ -1,14 +1,14 @@
 -- What a search for calls has marked so far.
-use Rattle.std.proofs.Common.{◌≡◌, ◌↔◌, ◌≢◌, ℕ, zero, suc, ◌+◌, ◌<◌, ◌≤◌, Bool, true, false, not, ◌||◌, if◌then◌else◌, nat_eq, nat_lt, List, [], ◌∷◌, ◌++◌, length, take, set, replicate, get_or, refl, sym, ap, ◌∙◌, subst, arith, true≢false, eq-eqb, eqb-true}
+use Rattle.std.proofs.Common.{◌≡◌, ℕ, zero, suc, ◌+◌, ◌<◌, Bool, true, false, not, nat_eq, nat_lt, List, [], ◌∷◌, ◌++◌, length, take, set, replicate, get_or, refl, sym, ap, ◌∙◌, subst, arith, true≢false, eq-eqb, eqb-true}
 use Rattle.std.proofs.lemmas.Bool.{ltb-true, lt-ltb}
 use Rattle.std.proofs.lemmas.List.{length-set, length_push, length-replicate, get_or-set_same, get_or-set_other, get_or_past, get_or-replicate, take_more}
 use Rattle.std.specs.List.{list_any}
 use Rattle.pearl_calls.proofs.Following.{stands_more, stands_last}
-use Rattle.pearl_calls.proofs.Truths.{by_case, or_left, or_right, or_rest, is_false}
+use Rattle.pearl_calls.proofs.Truths.{by_case, is_false}
 use Rattle.pearl_calls.proofs.Waiting.{stands_split}
 use Rattle.pearl_calls.proofs.Ways.{inside, cycles}
 use Rattle.pearl_calls.specs.Callers.{Caller, callees, calls}
-use Rattle.pearl_calls.specs.Cycles.{calls_itself, IsWay, CallsItself}
+use Rattle.pearl_calls.specs.Cycles.{calls_itself, IsWay}
 use Rattle.pearl_calls.specs.Marks.{one_if, is_marked, unmarked, MarksCallees}
 
 pub none_unmarked : (numbers : List ℕ) (marks : List Bool) (pending : List ℕ) → MarksCallees (take 0 numbers) marks marks pending pending

@@ -1,11 +1,11 @@
 -- Where each of some procedures calls one of them, one of them calls itself.
-use Rattle.std.proofs.Common.{◌≡◌, ℕ, zero, suc, ◌<◌, ◌≤◌, Bool, true, false, ◌||◌, nat_eq, List, [], ◌∷◌, length, refl, sym, ap, subst, arith, true≢false, eq-eqb, eqb-true}
+use Rattle.std.proofs.Common.{◌≡◌, ℕ, zero, suc, ◌<◌, ◌≤◌, Bool, true, false, nat_eq, List, [], ◌∷◌, length, refl, sym, ap, subst, arith, true≢false, eqb-true}
 use Rattle.std.specs.List.{list_any, IsDistinct}
 use Rattle.std.proofs.lemmas.Map.Steps.{length-le_from_distinct_below}
-use Rattle.pearl_calls.proofs.Truths.{by_case, or_left, or_right, or_rest}
+use Rattle.pearl_calls.proofs.Truths.{by_case, or_rest}
 use Rattle.pearl_calls.proofs.Ways.{all_other, inside}
-use Rattle.pearl_calls.specs.Callers.{Caller, callees, calls}
-use Rattle.pearl_calls.specs.Cycles.{IsWay, CallsItself, SomeCallsItself}
+use Rattle.pearl_calls.specs.Callers.{Caller, calls}
+use Rattle.pearl_calls.specs.Cycles.{IsWay, SomeCallsItself}
 
 -- each of these calls one of these, which is named
 pub record Stuck (procedures : List Caller) (among : ℕ → Bool) (next : ℕ → ℕ) : Type 0 where

@@ -1,15 +1,15 @@
 -- Counts of open calls, and the procedures that wait for numbers.
-use Rattle.std.proofs.Common.{◌≡◌, ℕ, zero, suc, ◌+◌, ◌<◌, ◌≤◌, Bool, true, false, not, ◌||◌, ◌&&◌, if◌then◌else◌, nat_eq, nat_lt, List, [], ◌∷◌, ◌++◌, length, map, take, get_or, refl, sym, ap, ◌∙◌, subst, arith, true≢false, eq-eqb, eqb-true, All, IsPermutation}
+use Rattle.std.proofs.Common.{◌≡◌, ℕ, zero, suc, ◌+◌, ◌<◌, ◌≤◌, Bool, true, false, not, if◌then◌else◌, nat_eq, nat_lt, List, [], ◌∷◌, ◌++◌, length, map, take, get_or, refl, sym, ap, ◌∙◌, subst, arith, true≢false, eq-eqb, eqb-true, All, IsPermutation}
 use Rattle.std.proofs.lemmas.Bool.{ltb-true, lt-ltb}
 use Rattle.std.proofs.lemmas.List.{get_or_past}
 use Rattle.std.proofs.lemmas.List.Elements.{recursion_from_All}
 use Rattle.std.proofs.lemmas.List.Recursion.{is_sum_by}
 use Rattle.std.proofs.lemmas.List.Sorted.{sum_by-IsPermutation}
-use Rattle.std.specs.List.{list_any, sum_by, AllByRecursion}
+use Rattle.std.specs.List.{list_any, AllByRecursion}
 use Rattle.pearl_calls.proofs.Following.{stands_last, stands_not, waits_below, waits_out, waits_if, ready_waits, ready_open, one_next}
 use Rattle.pearl_calls.proofs.Truths.{by_case, or_left, or_right, or_rest, nor_left, nor_right, true_not, both, is_false}
-use Rattle.pearl_calls.proofs.Turns.{Stuck, some_turns}
-use Rattle.pearl_calls.specs.Callers.{Caller, callees, calls}
+use Rattle.pearl_calls.proofs.Turns.{some_turns}
+use Rattle.pearl_calls.specs.Callers.{Caller, callees}
 use Rattle.pearl_calls.specs.Cycles.{SomeCallsItself}
 use Rattle.pearl_calls.specs.Marks.{one_if, times, open_among, is_closed}
 use Rattle.pearl_calls.specs.Numberings.{waits, is_ready, GetsNext, GetNext, IsNumbering}

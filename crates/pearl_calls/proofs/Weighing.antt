@@ -1,5 +1,5 @@
 -- Weights are told up to a limit, and those of procedures are found in the order of their numbers.
-use Rattle.std.proofs.Common.{◌≡◌, ℕ, zero, suc, ◌+◌, ◌-◌, ◌^◌, ◌<◌, ◌≤◌, max, min, Bool, true, false, nat_eq, nat_lt, List, [], ◌∷◌, ◌++◌, length, map, take, set, get_or, Option, Some, None, refl, sym, ap, ◌∙◌, subst, arith, true≢false, eq-eqb, eqb-true, append-nil}
+use Rattle.std.proofs.Common.{◌≡◌, ℕ, zero, suc, ◌+◌, ◌-◌, ◌^◌, ◌<◌, ◌≤◌, max, min, true, nat_eq, nat_lt, List, [], ◌∷◌, ◌++◌, length, map, take, set, get_or, Option, Some, None, refl, sym, ap, ◌∙◌, subst, arith, true≢false, eq-eqb, eqb-true, append-nil}
 use Rattle.std.specs.Prelude.{slice_get}
 use Rattle.std.specs.List.{list_any, filter_map, cons_option}
 use Rattle.std.proofs.lemmas.Bool.{ltb-true, lt-ltb}
@@ -10,7 +10,7 @@ use Rattle.pearl_calls.proofs.Adding.{add_up}
 use Rattle.pearl_calls.proofs.Closing.{take_length}
 use Rattle.pearl_calls.proofs.Following.{none_calls_back, callees_first, only_procedures}
 use Rattle.pearl_calls.proofs.Rows.{stands_at}
-use Rattle.pearl_calls.proofs.Truths.{by_case, or_left, or_right, is_false}
+use Rattle.pearl_calls.proofs.Truths.{by_case, or_left, or_right}
 use Rattle.pearl_calls.proofs.Waiting.{stands_split}
 use Rattle.pearl_calls.specs.Callers.{Caller, callees, callees_of}
 use Rattle.pearl_calls.specs.Cycles.{SomeCallsItself}

@@ -1,5 +1,5 @@
 -- What a task or procedure weighs: its own weight, and the greatest weight of a procedure that it calls.
-use Rattle.std.specs.Prelude.{◌≡◌, ℕ, zero, suc, ◌+◌, ◌-◌, ◌^◌, max, min, List, [], ◌∷◌, length, map, slice_get}
+use Rattle.std.specs.Prelude.{ℕ, zero, suc, ◌+◌, ◌-◌, ◌^◌, max, min, List, [], ◌∷◌, length, map, slice_get}
 use Rattle.std.specs.List.{filter_map}
 use Rattle.pearl_calls.specs.Callers.{Caller}
 

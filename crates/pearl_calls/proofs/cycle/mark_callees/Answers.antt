@@ -1,4 +1,4 @@
-use Rattle.std.proofs.Common.{◌≡◌, ◌<◌, ◌+◌, ◌∙◌, false, sym, ap, subst, take, length, get_or, arith}
+use Rattle.std.proofs.Common.{◌<◌, ◌∙◌, sym, length, get_or, arith}
 use Rattle.pearl_calls.proofs.Rows.{read_mark}
 use Rattle.pearl_calls.proofs.Search.{marked_already, newly_marked}
 use Rattle.pearl_calls.proofs.cycle.mark_callees.Goals as goal

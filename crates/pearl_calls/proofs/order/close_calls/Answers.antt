@@ -1,4 +1,4 @@
-use Rattle.std.proofs.Common.{◌≡◌, ◌<◌, ◌≤◌, ◌-◌, ◌+◌, ◌∙◌, sym, subst, take, set, get_or, length, arith}
+use Rattle.std.proofs.Common.{◌≡◌, ◌<◌, ◌-◌, ◌+◌, sym, subst, take, set, get_or, length, arith}
 use Rattle.std.proofs.lemmas.List.{get_or_read}
 use Rattle.pearl_calls.proofs.Closing.{Closed, is_inside, some_open, last_closed, one_closed}
 use Rattle.pearl_calls.proofs.order.close_calls.Goals as goal

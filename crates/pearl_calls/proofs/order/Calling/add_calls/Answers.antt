@@ -1,4 +1,4 @@
-use Rattle.std.proofs.Common.{◌≡◌, ◌+◌, ◌∙◌, sym, subst, take, arith}
+use Rattle.std.proofs.Common.{◌+◌, ◌∙◌, sym, subst, take, arith}
 use Rattle.pearl_calls.proofs.Closing.{Added, one_added, not_added}
 use Rattle.pearl_calls.proofs.order.Calling.add_calls.Goals as goal
 use Rattle.pearl_calls.proofs.order.Calling.add_calls.Goals.{then-callee-len+in_ok-add, else-callee-len}
