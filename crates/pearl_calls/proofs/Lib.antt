@@ -1,0 +1,12 @@
+pub mod Truths
+pub mod Ways
+pub mod Adding
+pub mod Turns
+pub mod Following
+pub mod Waiting
+pub mod Search
+pub mod Closing
+pub mod Weighing
+pub mod Rows
+pub mod Examples
+pub mod Least
