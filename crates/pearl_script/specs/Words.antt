@@ -1,11 +1,15 @@
 -- The parts of a transcript's lines.
-use Rattle.std.specs.Prelude.{ℕ, List, [], ◌∷◌, Option, Some, None, slice_get, codes, ◌==◌, ◌||◌, if◌then◌else◌}
+use Rattle.std.specs.Prelude.{ℕ, List, [], ◌∷◌, ◌++◌, ◌%◌, Option, Some, None, slice_get, codes, ◌==◌, ◌||◌, if◌then◌else◌}
+use Rattle.std.specs.Fmt.{signed_decimal}
 use Rattle.std.specs.List.{flat_map}
+use Rattle.pearl_value.specs.declared.cell.Cell.{Cell}
+use Rattle.pearl_value.specs.declared.cell.Cell.TheVariants.{Fixed, Bits, Chars, Clock, Span, Ref}
 use Rattle.pearl_value.specs.declared.trap.Trap.{Trap}
 use Rattle.pearl_value.specs.declared.trap.Trap.TheVariants.{Overflow, ZeroDivide, Index, Range, Format, SemaLimit}
+use Rattle.pearl_format.specs.Fields.{bits_text, clock_text, span_text}
 use Rattle.pearl_rules.specs.declared.setup.TaskEntry.{TaskEntry}
 use Rattle.pearl_rules.specs.declared.setup.Device.{Device}
-use Rattle.pearl_rules.specs.declared.setup.Device.TheVariants.{Interrupt, Terminal}
+use Rattle.pearl_rules.specs.declared.setup.Device.TheVariants.{Interrupt, Terminal, Input, Output}
 use Rattle.pearl_rules.specs.declared.setup.Setup.{Setup}
 
 abbrev pub trap_word : Trap → List ℕ
@@ -28,6 +32,8 @@ task_name setup task = name_or_none (slice_get setup.tasks task)
 abbrev pub number_of : Device → ℕ
 number_of (Interrupt number) = number
 number_of (Terminal number direction) = number
+number_of (Input number kind) = number
+number_of (Output number kind) = number
 
 abbrev pub number_or_zero : Option Device → ℕ
 number_or_zero None = 0
@@ -37,6 +43,20 @@ number_or_zero (Some device) = number_of device
 abbrev pub device_number : Setup → ℕ → ℕ
 device_number setup device = number_or_zero (slice_get setup.devices device)
 
+abbrev pub sort_word_of : Device → List ℕ
+sort_word_of (Interrupt number) = codes "interrupt"
+sort_word_of (Terminal number direction) = codes "terminal"
+sort_word_of (Input number kind) = codes "input"
+sort_word_of (Output number kind) = codes "output"
+
+abbrev pub sort_word_or_none : Option Device → List ℕ
+sort_word_or_none None = []
+sort_word_or_none (Some device) = sort_word_of device
+
+-- the word for the sort of the device at a place of the list; empty where there is none
+abbrev pub sort_word : Setup → ℕ → List ℕ
+sort_word setup device = sort_word_or_none (slice_get setup.devices device)
+
 -- a line end is written as a backslash and an n; an apostrophe (39) and a backslash (92) are doubled
 abbrev pub spelled_byte : ℕ → List ℕ
 spelled_byte byte = if byte == 10 then codes "\\n" else (if byte == 39 || byte == 92 then byte ∷ byte ∷ [] else byte ∷ [])
@@ -44,3 +64,19 @@ spelled_byte byte = if byte == 10 then codes "\\n" else (if byte == 39 || byte =
 -- a text as it stands between the apostrophes of a line
 abbrev pub spelled : List ℕ → List ℕ
 spelled text = flat_map spelled_byte text
+
+abbrev pub quoted_byte : ℕ → List ℕ
+quoted_byte byte = if byte == 39 then byte ∷ byte ∷ [] else byte ∷ []
+
+-- a CLOCK shows its milliseconds where they aren't 0
+abbrev pub clock_literal : ℕ → List ℕ
+clock_literal time = clock_text (if time % 1000 == 0 then 8 else 12) time
+
+-- a value as a literal: of a CHAR the apostrophes are doubled; a reference is no value
+abbrev pub literal : Cell → List ℕ
+literal (Fixed len value) = signed_decimal value
+literal (Bits len value) = codes "'" ++ bits_text 1 len value ++ codes "'B"
+literal (Chars text) = codes "'" ++ flat_map quoted_byte text.items ++ codes "'"
+literal (Clock time) = clock_literal time
+literal (Span time) = span_text time
+literal (Ref kind place) = []
