@@ -8,7 +8,8 @@ use Rattle.pearl_rules.specs.declared.event.Shown.{Shown}
 use Rattle.pearl_rules.specs.declared.event.Shown.TheVariants.{Dormant, Suspended, Blocked, Running, Runnable}
 use Rattle.pearl_rules.specs.declared.setup.Setup.{Setup}
 use Rattle.pearl_rules.specs.Core.{Report, Happened, Shows}
-use Rattle.pearl_script.specs.Words.{trap_word, task_name, device_number, sort_word, spelled, literal}
+use Rattle.pearl_script.specs.Words.{trap_word, task_name, device_number, sort_word, spelled}
+use Rattle.pearl_script.specs.Literals.{literal}
 
 -- the numbers in the event name what is there; SEND isn't built yet
 abbrev pub IsEventOf : Setup → Event → Type 0
