@@ -120,10 +120,10 @@ fn number_at(setup: &Setup, device: u32) -> u8
     ensures { result ≡ device_number setup.now device }
 {
     match setup.devices.as_slice()[device as usize] {
-        Device::Interrupt { number }
-        | Device::Terminal { number, .. }
-        | Device::Input { number, .. }
-        | Device::Output { number, .. } => number,
+        Device::Interrupt { number } => number,
+        Device::Terminal { number, .. } => number,
+        Device::Input { number, .. } => number,
+        Device::Output { number, .. } => number,
     }
 }
 
