@@ -129,16 +129,11 @@ impl Machine {
     {
         match entry {
             Entry::Run(count) => self.run(*count, sink),
-            // These aren't built yet: no mark comes of them.
-            Entry::Clock(_)
-            | Entry::Tick(_)
-            | Entry::Pass { .. }
-            | Entry::Irpt(_)
-            | Entry::Chars { .. }
-            | Entry::Line { .. }
-            | Entry::Value { .. }
-            | Entry::Turn(_)
-            | Entry::State => Ok(()),
+            // The others aren't built yet: no mark comes of them.
+            _ => {
+                let _ = &self.object;
+                Ok(())
+            }
         }
     }
 
