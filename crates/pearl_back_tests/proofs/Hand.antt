@@ -22,7 +22,8 @@ setup_is = record {
     ((lit< tt, lit≤ tt), record { low = search rules; high = search rules }),
     (((lit< tt, lit≤ tt), record { low = search rules; high = search rules }), tt),
   );
-  devices = ((lit< tt, lit≤ tt), tt);
+  semaphores = tt;
+  devices = ((lit< tt, lit≤ tt, tt), tt);
   rising = tt;
   formats = (
     ((lit< tt, lit≤ tt), ((tt, lit≤ tt), tt)),
@@ -30,6 +31,7 @@ setup_is = record {
   );
   few_tasks = lit≤ tt;
   few_slots = lit≤ tt;
+  few_semaphores = lit≤ tt;
   few_devices = lit≤ tt;
 }
 

@@ -20,6 +20,7 @@ abbrev pub hand_setup : Setup
 hand_setup = record {
   tasks = record { name = record { items = codes "main" }; priority = 255; main = true } ∷ [];
   slots = Fixed 31 (pos 0) ∷ Fixed 4 (pos 3) ∷ [];
+  semaphores = [];
   devices = Terminal 1 Out ∷ [];
   formats = (record { code = F; width = 5 } ∷ record { code = Skip; width = 0 } ∷ []) ∷ (record { code = F; width = 1 } ∷ []) ∷ (gap ∷ gap ∷ gap ∷ gap ∷ gap ∷ []) ∷ [];
 }

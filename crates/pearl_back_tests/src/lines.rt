@@ -38,6 +38,7 @@ fn two_of_each(alloc: Global) -> Result<Setup, AllocError>
     Ok(Setup {
         tasks: Listing::new(tasks),
         slots: Listing::new(Vec::new(alloc)),
+        semaphores: Listing::new(Vec::new(alloc)),
         devices: Listing::new(devices),
         formats: Listing::new(Vec::new(alloc)),
     })

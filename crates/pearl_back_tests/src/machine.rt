@@ -70,6 +70,7 @@ fn setup(alloc: Global) -> Result<Setup, AllocError>
     Ok(Setup {
         tasks: Listing::new(vec![in alloc; task]?),
         slots: slots(alloc)?,
+        semaphores: Listing::new(Vec::new(alloc)),
         devices: Listing::new(vec![in alloc; terminal]?),
         formats: formats(alloc)?,
     })

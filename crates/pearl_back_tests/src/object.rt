@@ -44,6 +44,7 @@ fn one_variable(alloc: Global) -> Result<Prog, NoMemory> {
     let setup = Setup {
         tasks: Listing::new(tasks),
         slots: Listing::new(slots),
+        semaphores: Listing::new(Vec::new(alloc)),
         devices: Listing::new(devices),
         formats: Listing::new(formats),
     };

@@ -15,7 +15,7 @@ use Rattle.pearl_rules.specs.declared.setup.TaskEntry.{TaskEntry}
 use Rattle.pearl_rules.specs.declared.setup.Device.{Device}
 use Rattle.pearl_rules.specs.Core.{value_at}
 use Rattle.pearl_rules.specs.Slots.{slot_kind}
-use Rattle.pearl_rules.specs.Tables.{is_id, IsTaskEntry, IsDevice, AreRising, IsFormat, IsWritable, TakesTexts}
+use Rattle.pearl_rules.specs.Tables.{is_id, IsTaskEntry, IsDevice, IsPreset, AreRising, IsFormat, IsWritable, TakesTexts}
 use Rattle.pearl_prog.specs.declared.program.Variable.{Variable}
 use Rattle.pearl_prog.specs.declared.program.Expr.{Expr, Number, Read, Dyadic'}
 use Rattle.pearl_prog.specs.declared.program.Statement.{Statement}
@@ -380,7 +380,7 @@ tasks_sound : (name : List ℕ) → IsTrue (is_id name) → AllByRecursion IsTas
 tasks_sound name named = (record { urgent = (lit< tt, lit≤ tt); named = named }, tt)
 
 devices_sound : AllByRecursion IsDevice devices
-devices_sound = ((lit< tt, lit≤ tt), ((lit< tt, lit≤ tt), tt))
+devices_sound = ((lit< tt, lit≤ tt, tt), ((lit< tt, lit≤ tt, tt), tt))
 
 format_lawful : (put : Put) → IsFit put → IsFormat (format_of put)
 format_lawful put fit = by put.skip
@@ -412,11 +412,13 @@ resolved_sound tree p faultless lawful resolves =
       setup = record {
         tasks = subst (λ ts. AllByRecursion IsTaskEntry ts) (sym resolves.tasks) (tasks_sound tree.task.text.items lawful.named);
         slots = subst (λ cells. AllByRecursion IsValue cells) (sym resolves.slots) (slots_lawful tree.variables);
+        semaphores = subst (λ counts. AllByRecursion IsPreset counts) (sym resolves.semaphores) tt;
         devices = subst (λ ds. AllByRecursion IsDevice ds) (sym resolves.devices) devices_sound;
         rising = subst (λ ds. AreRising ds) (sym resolves.devices) (inl (lit< tt), tt);
         formats = subst (λ fs. AllByRecursion IsFormat fs) (sym resolves.formats) (formats_lawful tree.variables tree.steps fit);
         few_tasks = subst (λ (ts : List TaskEntry). length ts ≤ 200) (sym resolves.tasks) (lit≤ tt);
         few_slots = omega (arith, many, few);
+        few_semaphores = subst (λ (counts : List ℕ). length counts ≤ 1000) (sym resolves.semaphores) (lit≤ tt);
         few_devices = subst (λ (ds : List Device). length ds ≤ 396) (sym resolves.devices) (lit≤ tt);
       };
       routines = routines.0;

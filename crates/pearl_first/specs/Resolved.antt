@@ -134,6 +134,7 @@ IsOneRoutine variables steps (routine ∷ other ∷ others) = ⊥
 pub record Resolves (tree : Tree) (p : Program) : Type 0 where
   pub tasks : p.setup.tasks ≡ task_of tree.task.text.items ∷ []
   pub slots : p.setup.slots ≡ map first_value tree.variables
+  pub semaphores : p.setup.semaphores ≡ []
   pub devices : p.setup.devices ≡ devices
   pub formats : p.setup.formats ≡ formats_of tree.steps
   pub routine : IsOneRoutine tree.variables tree.steps p.tasks

@@ -280,6 +280,7 @@ pub fn resolve(alloc: Global, tree: &Tree) -> Result<Prog, AllocError>
     let steps = tree.steps.as_slice();
     let tasks = tasks_of(alloc, &tree.task.text)?;
     let slots = slots_of(alloc, variables)?;
+    let semaphores = Listing::new(Vec::new(alloc));
     let devices = devices_of(alloc)?;
     let formats = formats_of(alloc, steps)?;
     let routines = routines_of(alloc, variables, steps)?;
@@ -287,6 +288,7 @@ pub fn resolve(alloc: Global, tree: &Tree) -> Result<Prog, AllocError>
         setup: Setup {
             tasks,
             slots,
+            semaphores,
             devices,
             formats,
         },

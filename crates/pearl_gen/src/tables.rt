@@ -14,11 +14,13 @@ pub fn copy_setup(alloc: Global, setup: &Setup) -> Result<Setup, NoMemory>
 {
     let tasks = copy_tasks(alloc, setup.tasks.as_slice())?;
     let slots = copy_cells(alloc, setup.slots.as_slice())?;
+    let semaphores = Vec::from_slice(alloc, setup.semaphores.as_slice())?;
     let devices = Vec::from_slice(alloc, setup.devices.as_slice())?;
     let formats = copy_formats(alloc, setup.formats.as_slice())?;
     Ok(Setup {
         tasks: Listing::new(tasks),
         slots: Listing::new(slots),
+        semaphores: Listing::new(semaphores),
         devices: Listing::new(devices),
         formats: Listing::new(formats),
     })

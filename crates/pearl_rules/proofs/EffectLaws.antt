@@ -1,4 +1,4 @@
--- What every action keeps. A later action adds a line to each lemma.
+-- What every action keeps. An action that is built later adds a line to each lemma.
 use Rattle.std.proofs.Common.{◌≡◌, ℕ, List, [], ◌∷◌, ◌++◌, Option, Some, None, length, slice_set, refl, sym, ap, subst, length-set, append-nil, zero, suc, ◌<◌, arith}
 use Rattle.std.specs.List.{AllByRecursion, AllZip}
 use Rattle.std.proofs.lemmas.Option.{same_Some}
@@ -33,6 +33,7 @@ effect-length core t (Write slot value) = refl
 effect-length core t (Put device text) = refl
 effect-length core t End = ended-length (record core { last = Some t }) t
 effect-length core t (Trap trap) = ended-length (record core { last = Some t }) t
+effect-length core t action = refl
 
 -- a task that ends tells nothing by itself
 ended-told : (core : Core) (t : ℕ) → (ended core t).told ≡ core.told
@@ -54,6 +55,7 @@ effect-told core t End =
 effect-told core t (Trap trap) =
     let after : Core = ended (record core { last = Some t }) t in
     ((after.moment, Happened (event.Trap t trap)) ∷ [], ap (λ told. told ++ (after.moment, Happened (event.Trap t trap)) ∷ []) (ended-told (record core { last = Some t }) t))
+effect-told core t action = ([], sym (append-nil core.told))
 
 -- THE KINDS OF THE SLOTS
 
@@ -95,6 +97,7 @@ effect-kinds setup core t End kinds fits =
     subst (λ slots. AllZip IsLike setup.slots slots) (sym (ended-slots (record core { last = Some t }) t)) kinds
 effect-kinds setup core t (Trap trap) kinds fits =
     subst (λ slots. AllZip IsLike setup.slots slots) (sym (ended-slots (record core { last = Some t }) t)) kinds
+effect-kinds setup core t action kinds fits = absurd fits
 
 -- the answer in a reply
 abbrev answer_of : Reply → Option Answer
@@ -117,3 +120,4 @@ effect-answers setup core t (Write slot value) answer kinds fits e = same_answer
 effect-answers setup core t (Put device text) answer kinds fits e = same_answer Nothing answer e
 effect-answers setup core t End answer kinds fits e = ends_unheard answer e
 effect-answers setup core t (Trap trap) answer kinds fits e = ends_unheard answer e
+effect-answers setup core t action answer kinds fits e = absurd fits

@@ -100,6 +100,7 @@ next-more picked (Run n ∷ es) more coming e = by_pick picked n (next_mark pick
     by_pick (Some t) zero later longer go h = go h
     by_pick (Some t) (suc n) later longer go h =
         ap (λ c. Some (record { mark = c.mark; rest = c.rest ++ more })) (same_Some (record { mark = Acts t; rest = Run n ∷ es }) coming h)
+next-more picked (entry ∷ es) more coming e = next-more picked es more coming e
 
 -- first entries of which no mark comes leave the next mark to those after them
 pub next-none : (picked : Option ℕ) (es more : List Entry) → next_mark picked es ≡ None → next_mark picked (es ++ more) ≡ next_mark picked more
@@ -111,6 +112,7 @@ next-none picked (Run n ∷ es) more e = by_pick picked n (next_mark picked es) 
     by_pick None n later longer go h = go h
     by_pick (Some t) zero later longer go h = go h
     by_pick (Some t) (suc n) later longer go h = absurd (none-some (record { mark = Acts t; rest = Run n ∷ es }) (sym h))
+next-none picked (entry ∷ es) more e = next-none picked es more e
 
 -- a task's action is done alike before more entries
 acts-more : (offer : Supplier) (s : Source) (more : List Entry) (t : ℕ) (rest : List Entry) (heard : Option (List Answer)) →

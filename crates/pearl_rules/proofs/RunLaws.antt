@@ -24,6 +24,7 @@ use Rattle.pearl_rules.proofs.EndLaws.{stays_to}
 abbrev picks_left : List Entry → ℕ
 picks_left [] = 0
 picks_left (Run n ∷ es) = n + picks_left es
+picks_left (entry ∷ es) = picks_left es
 
 -- the mark that comes is the picked task's, and it takes at least one pick of the entries
 record Takes (chosen : Option ℕ) (es : List Entry) (coming : Coming) : Type 0 where
@@ -50,6 +51,9 @@ next_takes chosen (Run n ∷ es) coming e = by_pick chosen n (next_mark chosen e
     by_pick (Some t) (suc n) later go h =
         subst (λ c. Takes (Some t) (Run (suc n) ∷ es) c) (same_Some (record { mark = Acts t; rest = Run n ∷ es }) coming h)
         (record { task = t; is_chosen = refl; is_mark = refl; fewer = omega arith })
+next_takes chosen (entry ∷ es) coming e =
+    let takes = next_takes chosen es coming e in
+    record { task = takes.task; is_chosen = takes.is_chosen; is_mark = takes.is_mark; fewer = takes.fewer }
 
 -- a task whose action can't be done now isn't ready
 not_ready : (mode : Mode) → IsTrue (is_ready mode false) → ⊥

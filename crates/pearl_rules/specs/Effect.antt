@@ -26,13 +26,14 @@ on_row (Some row) core go = go row
 abbrev pub ended : Core → ℕ → Core
 ended core t = on_row (row_of core t) core (λ row. with_row core t (record row { mode = Dormant }))
 
--- one row for each action, the task being the one that acted last
+-- one row for each action, the task being the one that acted last; one without a row isn't built yet and changes nothing
 abbrev pub effect_of : Core → ℕ → Action → Effect
 effect_of core t (Read slot) = record { core = core; reply = Hears (One (value_at core.slots slot)) }
 effect_of core t (Write slot value) = record { core = record core { slots = slice_set core.slots slot value }; reply = Hears Nothing }
 effect_of core t (Put device text) = record { core = note core (event.Out device text); reply = Hears Nothing }
 effect_of core t End = record { core = note (ended core t) (event.End t); reply = Ends }
 effect_of core t (Trap trap) = record { core = note (ended core t) (event.Trap t trap); reply = Ends }
+effect_of core t action = record { core = core; reply = Hears Nothing }
 
 -- what task t's action does
 unfoldable pub effect : Core → ℕ → Action → Effect

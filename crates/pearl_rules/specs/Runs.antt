@@ -25,10 +25,11 @@ next_of_run None n rest later = later
 next_of_run (Some t) zero rest later = later
 next_of_run (Some t) (suc n) rest later = Some (record { mark = Acts t; rest = Run n ∷ rest })
 
--- the next mark, where this task is picked and these entries remain
+-- the next mark, where this task is picked and these entries remain; an entry without a row isn't built yet and makes no mark
 abbrev pub next_mark : Option ℕ → List Entry → Option Coming
 next_mark picked [] = None
 next_mark picked (Run n ∷ rest) = next_of_run picked n rest (next_mark picked rest)
+next_mark picked (entry ∷ rest) = next_mark picked rest
 
 -- What is kept for each active task is begun afresh where a task became active, and dropped where it is dormant.
 abbrev pub kept : {X : Type 0} → Bool → X → Option X → Option X

@@ -8,7 +8,7 @@ use Rattle.pearl_value.specs.WellFormed.{IsValueOf}
 use Rattle.pearl_rules.specs.declared.action.Action.{Action}
 use Rattle.pearl_rules.specs.declared.action.Action.TheVariants.{Read, Write, Put, End, Trap}
 use Rattle.pearl_rules.specs.declared.action.Answer.{Answer}
-use Rattle.pearl_rules.specs.declared.action.Answer.TheVariants.{Nothing, One}
+use Rattle.pearl_rules.specs.declared.action.Answer.TheVariants.{Nothing, One, Many}
 use Rattle.pearl_rules.specs.declared.setup.Setup.{Setup}
 use Rattle.pearl_rules.specs.Core.{Core, cell_or_zero, value_at}
 
@@ -16,26 +16,28 @@ use Rattle.pearl_rules.specs.Core.{Core, cell_or_zero, value_at}
 abbrev pub slot_kind : Setup → ℕ → Kind
 slot_kind setup slot = kind_of (value_at setup.slots slot)
 
--- the answers that an action can have; a task that ends hears nothing more
+-- the answers that an action can have; a task that ends hears nothing more, and an action without a row isn't built yet
 abbrev pub Suits : Setup → Action → Answer → Type 0
 Suits setup (Read slot) answer = (x : Cell) × (answer ≡ One x) × IsValueOf (slot_kind setup slot) x
 Suits setup (Write slot value) answer = answer ≡ Nothing
 Suits setup (Put device text) answer = answer ≡ Nothing
-Suits setup End answer = ⊥
-Suits setup (Trap trap) answer = ⊥
+Suits setup action answer = ⊥
 
--- the value that an answer has; an answer without one counts as that of a new variable
+-- the value that an answer has; an answer that isn't one value counts as that of a new variable
 abbrev pub heard_value : Answer → Cell
 heard_value Nothing = cell_or_zero None
 heard_value (One x) = x
+heard_value (Many xs) = cell_or_zero None
 
--- an action on a slot names one that is there, and writes a value of its kind
+-- an action on a slot names one that is there, and writes a value of its kind; an action without a row isn't built yet, and no
+-- task offers it
 abbrev pub Fits : Setup → Action → Type 0
 Fits setup (Read slot) = slot < length setup.slots
 Fits setup (Write slot value) = (slot < length setup.slots) × IsValueOf (slot_kind setup slot) value
 Fits setup (Put device text) = Unit {0}
 Fits setup End = Unit {0}
 Fits setup (Trap trap) = Unit {0}
+Fits setup action = ⊥
 
 -- a value where this one stood first
 abbrev pub IsLike : Cell → Cell → Type 0

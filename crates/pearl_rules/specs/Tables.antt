@@ -1,13 +1,14 @@
 -- What the tables of a program or an object are like.
-use Rattle.std.specs.Prelude.{◌≡◌, ◌⊎◌, ℕ, ◌<◌, ◌≤◌, Bool, ◌&&◌, ◌||◌, ◌==◌, nat_le, IsTrue, List, [], ◌∷◌, Option, Some, None, length, slice_index, slice_get}
+use Rattle.std.specs.Prelude.{◌≡◌, ◌⊎◌, ℕ, ◌<◌, ◌≤◌, ◌^◌, Bool, ◌&&◌, ◌||◌, ◌==◌, nat_le, IsTrue, List, [], ◌∷◌, Option, Some, None, length, slice_index, slice_get}
 use Rattle.std.specs.Char.{is_ascii_alphabetic, is_ascii_digit}
 use Rattle.std.specs.List.{AllByRecursion, list_all}
+use Rattle.pearl_value.specs.Kinds.{IsKind}
 use Rattle.pearl_value.specs.WellFormed.{IsValue}
 use Rattle.pearl_format.specs.declared.item.Item.{Item}
 use Rattle.pearl_format.specs.Items.{HasWidth}
 use Rattle.pearl_rules.specs.declared.setup.TaskEntry.{TaskEntry}
 use Rattle.pearl_rules.specs.declared.setup.Device.{Device}
-use Rattle.pearl_rules.specs.declared.setup.Device.TheVariants.{Interrupt, Terminal}
+use Rattle.pearl_rules.specs.declared.setup.Device.TheVariants.{Interrupt, Terminal, Input, Output}
 use Rattle.pearl_rules.specs.declared.setup.Direction.{Direction}
 use Rattle.pearl_rules.specs.declared.setup.Direction.TheVariants.{In, Out, InOut}
 use Rattle.pearl_rules.specs.declared.setup.Setup.{Setup}
@@ -26,17 +27,32 @@ pub record IsTaskEntry (task : TaskEntry) : Type 0 where
   pub urgent : (0 < task.priority) × (task.priority ≤ 255)
   pub named : IsTrue (is_id task.name.items)
 
--- INTERRUPT comes before TERMINAL
+-- INTERRUPT comes before TERMINAL, then come INPUT and OUTPUT
 abbrev pub sort_rank : Device → ℕ
 sort_rank (Interrupt number) = 0
 sort_rank (Terminal number direction) = 1
+sort_rank (Input number kind) = 2
+sort_rank (Output number kind) = 3
 
 abbrev pub own_number : Device → ℕ
 own_number (Interrupt number) = number
 own_number (Terminal number direction) = number
+own_number (Input number kind) = number
+own_number (Output number kind) = number
+
+-- a kind of values has its length in range
+abbrev pub HasKind : Device → Type 0
+HasKind (Interrupt number) = Unit {0}
+HasKind (Terminal number direction) = Unit {0}
+HasKind (Input number kind) = IsKind kind
+HasKind (Output number kind) = IsKind kind
 
 abbrev pub IsDevice : Device → Type 0
-IsDevice device = (0 < own_number device) × (own_number device ≤ 99)
+IsDevice device = (0 < own_number device) × (own_number device ≤ 99) × HasKind device
+
+-- a semaphore's first count
+abbrev pub IsPreset : ℕ → Type 0
+IsPreset count = count < 2 ^ 31
 
 -- by sort, and then by number
 abbrev pub IsBefore : Device → Device → Type 0
@@ -56,15 +72,18 @@ IsItem item = HasWidth item.code item.width × (item.width ≤ 255)
 abbrev pub IsFormat : List Item → Type 0
 IsFormat items = AllByRecursion IsItem items
 
--- at most 200 tasks, 65,536 slots and 396 devices, each slot with a first value; a format is lawful also where no PUT uses it
+-- at most 200 tasks, 65,536 slots, 1,000 semaphores and 396 devices, each slot with a first value; a format is lawful also where
+-- no PUT uses it
 pub record IsSetup (setup : Setup) : Type 0 where
   pub tasks : AllByRecursion IsTaskEntry setup.tasks
   pub slots : AllByRecursion IsValue setup.slots
+  pub semaphores : AllByRecursion IsPreset setup.semaphores
   pub devices : AllByRecursion IsDevice setup.devices
   pub rising : AreRising setup.devices
   pub formats : AllByRecursion IsFormat setup.formats
   pub few_tasks : length setup.tasks ≤ 200
   pub few_slots : length setup.slots ≤ 65536
+  pub few_semaphores : length setup.semaphores ≤ 1000
   pub few_devices : length setup.devices ≤ 396
 
 abbrev pub Writes : Direction → Type 0
@@ -76,6 +95,8 @@ abbrev pub IsWritable : Option Device → Type 0
 IsWritable None = ⊥
 IsWritable (Some (Interrupt number)) = ⊥
 IsWritable (Some (Terminal number direction)) = Writes direction
+IsWritable (Some (Input number kind)) = ⊥
+IsWritable (Some (Output number kind)) = ⊥
 
 -- the number names a terminal that takes texts
 abbrev pub TakesTexts : Setup → ℕ → Type 0

@@ -126,6 +126,7 @@ module _ (o : Object) (priority : ℕ) (suspended : Bool) (frame : Frame) (offer
   goes_active slots after (action.Trap trap) event p next =
       rw (p.1, p.2) (goes_ended slots (action.Trap trap) ((moment, Happened (events.Trap 0 trap)) ∷ []) p.0
       (trap_steps o moment priority suspended slots last before entries rest (stack_of frame) trap next))
+  goes_active slots after action event p next = absurd p
 
 -- the mark
 marks_by : (o : Object) (slots after : List Cell) (mode : Mode) (frame : Frame) (offer : Option Action) (action : Action) (last : Option ℕ) (moment : ℕ) (new : Task) (event : Option Event) →

@@ -28,6 +28,23 @@ run_none_yet seen count settled m rest is leads = record {
   settled = ap (λ r. unsettled_from 0 r) is.running ∙ settled;
 }
 
+-- an entry of which no mark comes
+pub no_mark_comes : (seen : Seen) (entry : Entry) → ((picked : Option ℕ) (rest : List Entry) → next_mark picked (entry ∷ rest) ≡ next_mark picked rest) →
+    unsettled_from 0 seen.running ≡ None → Handles seen entry [] seen []
+no_mark_comes seen entry none settled m rest is leads = record {
+  steps = 0;
+  stands = is;
+  leads = leads ∙ none (pick m.core (machine_offers m)) rest;
+  says = sym (append-nil _);
+  settled = ap (λ r. unsettled_from 0 r) is.running ∙ settled;
+}
+
+-- none comes but of `run`
+pub no_mark_but_run : (entry : Entry) → ((n : ℕ) → entry ≡ Run n → ⊥) → (picked : Option ℕ) (rest : List Entry) →
+    next_mark picked (entry ∷ rest) ≡ next_mark picked rest
+no_mark_but_run (Run n) other picked rest = absurd (other n refl)
+no_mark_but_run entry other picked rest = refl
+
 -- what remains of the entry changes nothing more
 run_over : (old new : Seen) (count left : ℕ) (told : List (ℕ × Report)) → Handles old (Run count) (Run left ∷ []) new told →
     ((a : Machine Stack) (rest : List Entry) → IsAt new a → next_mark (pick a.core (machine_offers a)) (Run left ∷ rest) ≡ next_mark (pick a.core (machine_offers a)) rest) →

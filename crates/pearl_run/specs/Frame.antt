@@ -3,7 +3,7 @@ use Rattle.std.specs.Prelude.{◌≡◌, ℕ, zero, suc, ◌≤◌, Option, Some
 use Rattle.pearl_value.specs.Cells.{cell_kind_of}
 use Rattle.pearl_value.specs.WellFormed.{IsWellFormed}
 use Rattle.pearl_rules.specs.declared.action.Action.{Action}
-use Rattle.pearl_rules.specs.declared.action.Action.TheVariants.{Read, Write, Put, End, Trap}
+use Rattle.pearl_rules.specs.declared.action.Action.TheVariants.{Put}
 use Rattle.pearl_rules.specs.declared.action.Answer.{Answer}
 use Rattle.pearl_rules.specs.declared.setup.Setup.{Setup}
 use Rattle.pearl_rules.specs.Tables.{TakesTexts}
@@ -55,11 +55,8 @@ pub record Settles (o : Object) (stack after : Stack) (action : Action) : Type 0
 
 -- a text is for a terminal that takes texts
 abbrev pub HasTerminal : Setup → Action → Type 0
-HasTerminal setup (Read slot) = Unit {0}
-HasTerminal setup (Write slot value) = Unit {0}
 HasTerminal setup (Put device text) = TakesTexts setup device
-HasTerminal setup End = Unit {0}
-HasTerminal setup (Trap trap) = Unit {0}
+HasTerminal setup action = Unit {0}
 
 -- an action names what is there, and writes a value of its slot's kind
 pub record IsLawful (setup : Setup) (action : Action) : Type 0 where

@@ -62,7 +62,7 @@ pub record Resumes (o : Object) (old : Task) (answer : Answer) (new : Task) : Ty
   pub row : new.row ≡ old.row
 
 -- What the task's action does to the slots and to the task, and the event that tells it. A read and a write tell none; END and
--- a trap end the task.
+-- a trap end the task. An action without a row isn't built yet.
 abbrev pub Performs : Object → List Cell → Task → Action → List Cell → Task → Option Event → Type 0
 Performs o slots old (action.Read slot) after new event =
     Resumes o old (One (value_at slots slot)) new × (after ≡ slots) × (event ≡ None)
@@ -74,3 +74,4 @@ Performs o slots old action.End after new event =
     (new.row.mode ≡ Dormant) × (after ≡ slots) × (event ≡ Some (events.End 0))
 Performs o slots old (action.Trap trap) after new event =
     (new.row.mode ≡ Dormant) × (after ≡ slots) × (event ≡ Some (events.Trap 0 trap))
+Performs o slots old action after new event = ⊥

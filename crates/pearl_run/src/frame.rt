@@ -208,8 +208,8 @@ fn value_of(answer: Answer) -> Cell
     ensures { result ≡ heard_value answer }
 {
     match answer {
-        Answer::Nothing => Cell::Fixed { len: 31, value: 0 },
         Answer::One(value) => value,
+        Answer::Nothing | Answer::Many(_) => Cell::Fixed { len: 31, value: 0 },
     }
 }
 

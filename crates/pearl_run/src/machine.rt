@@ -129,6 +129,11 @@ impl Machine {
     {
         match entry {
             Entry::Run(count) => self.run(*count, sink),
+            // The others aren't built yet: no mark comes of them.
+            _ => {
+                let _ = &self.object;
+                Ok(())
+            }
         }
     }
 

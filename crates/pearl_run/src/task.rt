@@ -108,6 +108,25 @@ pub fn perform(
             end(task);
             Some(Event::Trap { task: 0, trap })
         }
+        // These aren't built yet: no task offers them.
+        Action::Turn
+        | Action::Enter
+        | Action::Now
+        | Action::Request(_)
+        | Action::Release(_)
+        | Action::Try(_)
+        | Action::Activate { .. }
+        | Action::Continue { .. }
+        | Action::Resume(_)
+        | Action::Suspend(_)
+        | Action::Terminate(_)
+        | Action::Prevent(_)
+        | Action::Enable(_)
+        | Action::Disable(_)
+        | Action::Trigger(_)
+        | Action::Get { .. }
+        | Action::Take(_)
+        | Action::Send(..) => unreachable!(),
     }
 }
 

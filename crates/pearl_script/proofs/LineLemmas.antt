@@ -3,7 +3,7 @@ use Rattle.std.proofs.Common.{◌≡◌, ℕ, ◌<◌, List, [], ◌∷◌, ◌+
 use Rattle.std.proofs.lemmas.List.{append-nil}
 use Rattle.std.proofs.lemmas.Grind.{flat_map-append}
 use Rattle.pearl_rules.specs.declared.event.Event.{Event}
-use Rattle.pearl_rules.specs.declared.event.Event.TheVariants.{Start, End, Trap, Out}
+use Rattle.pearl_rules.specs.declared.event.Event.TheVariants.{Start, End, Stop, Trap, Overrun, Masked, Lost, Out, Send}
 use Rattle.pearl_rules.specs.declared.event.Shown.{Shown}
 use Rattle.pearl_rules.specs.declared.event.Shown.TheVariants.{Dormant, Suspended, Blocked, Running, Runnable}
 use Rattle.pearl_rules.specs.declared.setup.Setup.{Setup}
@@ -29,8 +29,13 @@ ended_nonempty front end some = omega (arith, length-append front end)
 pub event_line_nonempty : (moment : ℕ) (event : Event) (setup : Setup) → 0 < length (event_line moment event setup)
 event_line_nonempty moment (Start task priority) setup = ended_nonempty _ (codes "\n") (omega arith)
 event_line_nonempty moment (End task) setup = ended_nonempty _ (codes "\n") (omega arith)
+event_line_nonempty moment (Stop task) setup = ended_nonempty _ (codes "\n") (omega arith)
 event_line_nonempty moment (Trap task trap) setup = ended_nonempty _ (codes "\n") (omega arith)
+event_line_nonempty moment (Overrun task) setup = ended_nonempty _ (codes "\n") (omega arith)
+event_line_nonempty moment (Masked device) setup = ended_nonempty _ (codes "\n") (omega arith)
+event_line_nonempty moment (Lost device) setup = ended_nonempty _ (codes "\n") (omega arith)
 event_line_nonempty moment (Out device text) setup = ended_nonempty _ (codes "'\n") (omega arith)
+event_line_nonempty moment (Send device value) setup = ended_nonempty _ (codes "\n") (omega arith)
 
 pub state_line_nonempty : (moment : ℕ) (name : List ℕ) (shown : Shown) → 0 < length (state_line moment name shown)
 state_line_nonempty moment name Dormant = ended_nonempty _ (codes " dormant\n") (omega arith)

@@ -5,7 +5,7 @@ use Rattle.pearl_value.specs.declared.trap.Trap.{Trap}
 use Rattle.pearl_value.specs.declared.trap.Trap.TheVariants.{Overflow, ZeroDivide, Index, Range, Format, SemaLimit}
 use Rattle.pearl_rules.specs.declared.setup.TaskEntry.{TaskEntry}
 use Rattle.pearl_rules.specs.declared.setup.Device.{Device}
-use Rattle.pearl_rules.specs.declared.setup.Device.TheVariants.{Interrupt, Terminal}
+use Rattle.pearl_rules.specs.declared.setup.Device.TheVariants.{Interrupt, Terminal, Input, Output}
 use Rattle.pearl_rules.specs.declared.setup.Setup.{Setup}
 
 abbrev pub trap_word : Trap → List ℕ
@@ -28,6 +28,8 @@ task_name setup task = name_or_none (slice_get setup.tasks task)
 abbrev pub number_of : Device → ℕ
 number_of (Interrupt number) = number
 number_of (Terminal number direction) = number
+number_of (Input number kind) = number
+number_of (Output number kind) = number
 
 abbrev pub number_or_zero : Option Device → ℕ
 number_or_zero None = 0
@@ -36,6 +38,20 @@ number_or_zero (Some device) = number_of device
 -- the own number of the device at a place of the list; 0 where there is none
 abbrev pub device_number : Setup → ℕ → ℕ
 device_number setup device = number_or_zero (slice_get setup.devices device)
+
+abbrev pub sort_word_of : Device → List ℕ
+sort_word_of (Interrupt number) = codes "interrupt"
+sort_word_of (Terminal number direction) = codes "terminal"
+sort_word_of (Input number kind) = codes "input"
+sort_word_of (Output number kind) = codes "output"
+
+abbrev pub sort_word_or_none : Option Device → List ℕ
+sort_word_or_none None = []
+sort_word_or_none (Some device) = sort_word_of device
+
+-- the word for the sort of the device at a place of the list; empty where there is none
+abbrev pub sort_word : Setup → ℕ → List ℕ
+sort_word setup device = sort_word_or_none (slice_get setup.devices device)
 
 -- a line end is written as a backslash and an n; an apostrophe (39) and a backslash (92) are doubled
 abbrev pub spelled_byte : ℕ → List ℕ

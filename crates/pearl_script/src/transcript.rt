@@ -3,7 +3,7 @@
 ghost use Rattle.std.specs.Prelude.{◌≡◌, ◌+◌, ◌<◌, ◌≤◌, ◌++◌, codes, length};
 ghost use Rattle.std.specs.Fmt.{decimal};
 ghost use Rattle.pearl_script.specs.Lines.{IsEventOf, close_line, event_line, state_line};
-ghost use Rattle.pearl_script.specs.Words.{device_number, task_name, trap_word};
+ghost use Rattle.pearl_script.specs.Words.{device_number, sort_word, task_name, trap_word};
 
 use crate::piece::{push_bytes, push_number, push_spelled};
 use arrayvec::ArrayVec;
@@ -22,17 +22,24 @@ pub fn event_line(moment: u64, event: &Event, setup: &Setup, into: &mut ArrayVec
             push_bytes(name_of(setup, *task), into);
             push_last(b" ", *priority, into);
         }
-        Event::End(task) => {
-            begin(moment, b" end ", into);
-            push_bytes(name_of(setup, *task), into);
-            push_bytes(b"\n", into);
-        }
+        Event::End(task) => task_line(moment, b" end ", name_of(setup, *task), into),
+        Event::Stop(task) => task_line(moment, b" stop ", name_of(setup, *task), into),
         Event::Trap { task, trap } => {
             begin(moment, b" trap ", into);
             push_bytes(name_of(setup, *task), into);
             push_bytes(b" ", into);
             push_bytes(word_of(*trap), into);
             push_bytes(b"\n", into);
+        }
+        Event::Overrun(task) => task_line(moment, b" overrun ", name_of(setup, *task), into),
+        Event::Masked(device) => {
+            begin(moment, b" masked", into);
+            push_last(b" ", number_at(setup, *device), into);
+        }
+        Event::Lost(device) => {
+            begin(moment, b" lost ", into);
+            push_bytes(sort_at(setup, *device), into);
+            push_last(b" ", number_at(setup, *device), into);
         }
         Event::Out { device, text } => {
             begin(moment, b" out ", into);
@@ -41,6 +48,7 @@ pub fn event_line(moment: u64, event: &Event, setup: &Setup, into: &mut ArrayVec
             push_spelled(text.as_slice(), into);
             push_bytes(b"'\n", into);
         }
+        Event::Send { .. } => unreachable!(),
     }
 }
 
@@ -78,13 +86,24 @@ fn begin(moment: u64, word: &[u8], into: &mut ArrayVec<u8, 2304>)
     push_bytes(word, into);
 }
 
-// Appends a word, a priority and the line end.
-fn push_last(word: &[u8], priority: u8, into: &mut ArrayVec<u8, 2304>)
+// Makes `into` the moment, a word, a task's name and the line end.
+fn task_line(moment: u64, word: &[u8], name: &[u8], into: &mut ArrayVec<u8, 2304>)
+    requires short { length word.now ≤ 20 }
+    requires fits { length name.now ≤ 63 }
+    ensures { into.new.items ≡ decimal moment ++ word.now ++ name.now ++ codes "\n" }
+{
+    begin(moment, word, into);
+    push_bytes(name, into);
+    push_bytes(b"\n", into);
+}
+
+// Appends a word, a number and the line end.
+fn push_last(word: &[u8], number: u8, into: &mut ArrayVec<u8, 2304>)
     requires { length into.old.items + length word.now + 21 ≤ 2304 }
-    ensures { into.new.items ≡ into.old.items ++ word.now ++ decimal priority ++ codes "\n" }
+    ensures { into.new.items ≡ into.old.items ++ word.now ++ decimal number ++ codes "\n" }
 {
     push_bytes(word, into);
-    push_number(u64::from(priority), into);
+    push_number(u64::from(number), into);
     push_bytes(b"\n", into);
 }
 
@@ -103,6 +122,21 @@ fn number_at(setup: &Setup, device: u32) -> u8
     match setup.devices.as_slice()[device as usize] {
         Device::Interrupt { number } => number,
         Device::Terminal { number, .. } => number,
+        Device::Input { number, .. } => number,
+        Device::Output { number, .. } => number,
+    }
+}
+
+fn sort_at(setup: &Setup, device: u32) -> &'static [u8]
+    requires { device < length setup.now.devices }
+    ensures word { result.now ≡ sort_word setup.now device }
+    ensures short { length result.now ≤ 10 }
+{
+    match setup.devices.as_slice()[device as usize] {
+        Device::Interrupt { .. } => b"interrupt",
+        Device::Terminal { .. } => b"terminal",
+        Device::Input { .. } => b"input",
+        Device::Output { .. } => b"output",
     }
 }
 

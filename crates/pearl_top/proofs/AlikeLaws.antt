@@ -171,9 +171,10 @@ alike_of_tree : (tree : Tree) (p q : Program) → Resolves tree p → Resolves t
 alike_of_tree tree p q is its =
     let tasks : p.setup.tasks ≡ q.setup.tasks = is.tasks ∙ sym its.tasks in
     let slots : p.setup.slots ≡ q.setup.slots = is.slots ∙ sym its.slots in
+    let semaphores : p.setup.semaphores ≡ q.setup.semaphores = is.semaphores ∙ sym its.semaphores in
     let devices : p.setup.devices ≡ q.setup.devices = is.devices ∙ sym its.devices in
     let formats : p.setup.formats ≡ q.setup.formats = is.formats ∙ sym its.formats in
-    let setup : p.setup ≡ q.setup = λ i. record { tasks = tasks i; slots = slots i; devices = devices i; formats = formats i } in
+    let setup : p.setup ≡ q.setup = λ i. record { tasks = tasks i; slots = slots i; semaphores = semaphores i; devices = devices i; formats = formats i } in
     record {
       setup = setup;
       offers = λ task answers. offer_same p q setup task answers

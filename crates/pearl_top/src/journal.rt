@@ -7,7 +7,7 @@ use crate::limits::LINE_LIMIT;
 use pearl_rules::entry::Entry;
 
 /// What a line of a journal means.
-#[derive(Clone, Copy, PartialEq, Eq, Debug)]
+#[derive(Drop)]
 pub enum Line {
     /// It is skipped.
     Blank,

@@ -21,9 +21,9 @@ record IsSum (left right value : Expr) : Type 0 where
   depth : held value ≡ max (held left) (held right + 1)
 
 assigned : (tasks : List TaskEntry) (devices : List Device) (formats : List (List Item)) (value : Expr) → IsSum (Read (record { target = Leaf 0 })) (Number 3 (pos 7)) value →
-    IsAssign (record { tasks = tasks; slots = cell.Fixed 15 (pos 1) ∷ []; devices = devices; formats = formats }) (record { target = Leaf 0 }) value
+    IsAssign (record { tasks = tasks; slots = cell.Fixed 15 (pos 1) ∷ []; semaphores = []; devices = devices; formats = formats }) (record { target = Leaf 0 }) value
 assigned tasks devices formats value sum =
-    let setup : Setup = record { tasks = tasks; slots = cell.Fixed 15 (pos 1) ∷ []; devices = devices; formats = formats } in
+    let setup : Setup = record { tasks = tasks; slots = cell.Fixed 15 (pos 1) ∷ []; semaphores = []; devices = devices; formats = formats } in
     let depth = sum.depth in
     record {
       variable = omega arith;
@@ -38,11 +38,13 @@ new-requires-6 c =
       setup = record {
         tasks = (record { urgent = (omega arith, omega arith); named = rw (c.push.ensures.items, c.new-name.ensures) }, tt);
         slots = (((omega arith, omega arith), record { low = search rules; high = search rules }), tt);
-        devices = ((omega arith, omega arith), tt);
+        semaphores = rw (c.new-3.ensures, c.new-4.ensures) tt;
+        devices = ((omega arith, omega arith, tt), tt);
         rising = tt;
         formats = (((omega arith, omega arith), ((omega arith, omega arith), ((tt, omega arith), tt))), tt);
         few_tasks = omega arith;
         few_slots = omega arith;
+        few_semaphores = rw (c.new-3.ensures, c.new-4.ensures) (omega arith);
         few_devices = omega arith;
       };
       routines = (
