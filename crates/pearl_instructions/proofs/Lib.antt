@@ -1,0 +1,4 @@
+mod Tests
+mod Zips
+mod Referred
+mod Kept
