@@ -1,6 +1,6 @@
 -- What holds at an instruction of a valid object, and where a row that goes on or jumps leads.
 use Rattle.std.proofs.Common.{◌≡◌, ℕ, zero, suc, ◌+◌, ◌<◌, ◌≤◌, List, [], ◌∷◌, ◌++◌, Option, Some, None, length, map, reverse, take, drop, slice_get, slice_set, refl, sym, ap, ◌∙◌, subst, arith, Bool, true, false, eq-eqb, ltb-true, leb-true, lt-ltb, le-leb, add-one}
-use Rattle.std.specs.Prelude.{◌&&◌, ◌||◌, ◌==◌, not, nat_lt, nat_le, if◌then◌else◌, option_to_list}
+use Rattle.std.specs.Prelude.{◌&&◌, ◌||◌, ◌==◌, not, nat_lt, nat_le, if◌then◌else◌, option_to_list, option_and_then}
 use Rattle.std.specs.List.{AllZip, list_all}
 use Rattle.std.proofs.lemmas.Option.{same_Some}
 use Rattle.pearl_value.specs.declared.kind.CellKind.{CellKind}
@@ -132,13 +132,9 @@ pub here : (o : Object) (v : IsValid o) (f : Frame) (lower : List Frame) (t : Is
     (instr : Instr) × (instr_at o f ≡ Some instr) × Here o f lower t.code instr (shape_before o f.routine t.code f.place)
 here o v f lower t =
     let at = some_at t.code.instructions f.place t.place in
-    (at.0, ap (λ c. instr_of c f.place) t.routine ∙ at.1, record {
+    (at.0, ap (λ c. option_and_then (λ code. slice_get code.instructions f.place) c) t.routine ∙ at.1, record {
         routine = t.routine; at = at.1; whole = whole_at o f.routine t.code v t.routine; is = refl;
         keeps = keeps_at o f.routine t.code f.place at.0 v t.routine at.1; stands = t.stands; below = t.below })
-  where
-    instr_of : Option Code → ℕ → Option Instr
-    instr_of None i = None
-    instr_of (Some c) i = slice_get c.instructions i
 
 pub given_goes : {A : Type 0} (o : Object) (x : A) (option : Option A) (go : A → Step) → option ≡ Some x → Goes o (go x) → Goes o (given option go)
 given_goes o x None go e h = cc

@@ -1,4 +1,9 @@
 mod Tests
 mod Zips
+mod Ranges
 mod Referred
 mod Kept
+mod SoundCells
+mod SoundOperators
+mod SoundVariables
+mod SoundFlow
