@@ -7,3 +7,9 @@ mod SoundCells
 mod SoundOperators
 mod SoundVariables
 mod SoundFlow
+mod Lists
+mod SoundActions
+mod SoundActivate
+mod SoundGet
+mod SoundIndex
+mod Sound

@@ -116,7 +116,7 @@ pub record Loop (o : Object) (f : Frame) (code : Code) (c : ℕ) (rs : List ℕ)
   pub control : ℤ
   pub step : ℤ
   pub limit : ℤ
-  pub kind : slice_get code.cells c ≡ Some (Plain (kind.Fixed len))
+  pub held : slice_get code.cells c ≡ Some (Plain (kind.Fixed len))
   pub first : slice_get f.cells c ≡ Some (cell.Fixed len control)
   pub second : slice_get f.cells (c + 1) ≡ Some (cell.Fixed len step)
   pub third : slice_get f.cells (c + 2) ≡ Some (cell.Fixed len limit)
@@ -135,7 +135,7 @@ loop_is o f code c rs r fixed z =
     let a = at 0 c (omega arith) (omega arith) in
     let b = at 1 (c + 1) refl (omega arith) in
     let d = at 2 (c + 2) refl (omega arith) in
-    record { len = of.0; control = a.0; step = b.0; limit = d.0; kind = r.first ∙ ap Some of.1; first = a.1; second = b.1; third = d.1; value = a.2 }
+    record { len = of.0; control = a.0; step = b.0; limit = d.0; held = r.first ∙ ap Some of.1; first = a.1; second = b.1; third = d.1; value = a.2 }
 
 loop_goes : (o : Object) (f : Frame) (code : Code) (c : ℕ) (rs : List ℕ) (l : Loop o f code c rs) (go : ℕ → ℤ → ℤ → ℤ → Step) →
     Goes o (go l.len l.control l.step l.limit) → Goes o (flow.loop_cells f c go)
@@ -165,12 +165,12 @@ advance_sound o f lower code s c i h =
     loop_goes o f code c rs l _
     (if_goes o (fits_fixed l.len (l.control +ℤ l.step)) _ _
         (λ e. goes o f lower code (Advance c i) s h (slice_set f.cells c sum) f.operands s refl refl
-            (zip_set (Suits o rs) code.cells f.cells c (Plain (kind.Fixed l.len)) sum h.stands.cells l.kind (fits_is l.len (l.control +ℤ l.step) l.value.is_value.0 e))
+            (zip_set (Suits o rs) code.cells f.cells c (Plain (kind.Fixed l.len)) sum h.stands.cells l.held (fits_is l.len (l.control +ℤ l.step) l.value.is_value.0 e))
             h.stands.operands)
         (λ e. lands o f lower code (Advance c i) s h i f.cells f.operands (ltb-true i (length code.instructions) named.1)
             (jumped o f.routine code f.place (Advance c i) (shape_after o f.routine code (Advance c i) s) 0 i h.keeps.flows refl) h.stands.cells h.stands.operands))
 
-any_ends : (n : ℕ) (s : Shape) → v2 (replicate n Anything) s ≡ true → n ≤ length s
+pub any_ends : (n : ℕ) (s : Shape) → v2 (replicate n Anything) s ≡ true → n ≤ length s
 any_ends zero s e = omega arith
 any_ends (suc n) [] e = cc
 any_ends (suc n) (k ∷ ks) e = let more = any_ends n ks e in omega (arith, more)
