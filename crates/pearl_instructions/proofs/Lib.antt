@@ -13,3 +13,4 @@ mod SoundActivate
 mod SoundGet
 mod SoundIndex
 mod Sound
+mod Begun

@@ -83,9 +83,9 @@ all_front : {A : Type 0} (P : A → Type 0) (xs ys : List A) → AllByRecursion 
 all_front P [] ys a b = b
 all_front P (x ∷ xs) ys a b = (a.0, all_front P xs ys a.1 b)
 
-all_map : {A B : Type 0} (P : A → Type 0) (Q : B → Type 0) (f : A → B) (xs : List A) → ((x : A) → P x → Q (f x)) → AllByRecursion P xs → AllByRecursion Q (map f xs)
-all_map P Q f [] h a = tt
-all_map P Q f (x ∷ xs) h a = (h x a.0, all_map P Q f xs h a.1)
+pub all_mapped : {A B : Type 0} (P : A → Type 0) (Q : B → Type 0) (f : A → B) (xs : List A) → ((x : A) → P x → Q (f x)) → AllByRecursion P xs → AllByRecursion Q (map f xs)
+all_mapped P Q f [] h a = tt
+all_mapped P Q f (x ∷ xs) h a = (h x a.0, all_mapped P Q f xs h a.1)
 
 abbrev HasInstrs : Code → Type 0
 HasInstrs code = AllByRecursion IsInstr code.instructions
@@ -93,8 +93,8 @@ HasInstrs code = AllByRecursion IsInstr code.instructions
 pub lawful_code : (o : Object) (r : ℕ) (code : Code) → IsObject o → routine_at o r ≡ Some code → AllByRecursion IsInstr code.instructions
 lawful_code o r code w e = all_of HasInstrs (routines o) r code
     (all_front HasInstrs (map (λ p. p.code) o.procedures) (map (λ t. t.code) o.tasks)
-        (all_map IsProcedure HasInstrs (λ p. p.code) o.procedures (λ p is. is.code.instructions) w.procedures)
-        (all_map IsTask HasInstrs (λ t. t.code) o.tasks (λ t is. is.code.instructions) w.tasks)) e
+        (all_mapped IsProcedure HasInstrs (λ p. p.code) o.procedures (λ p is. is.code.instructions) w.procedures)
+        (all_mapped IsTask HasInstrs (λ t. t.code) o.tasks (λ t is. is.code.instructions) w.tasks)) e
 
 -- Every row is there, and leads to a stack of the object: the next one, or the one after each answer that suits.
 pub row_sound : (o : Object) → IsValid o → IsObject o → (frames : List Frame) → IsStack o frames → Goes o (row o frames)

@@ -114,19 +114,19 @@ pub activate_sound : (o : Object) (f : Frame) (lower : List Frame) (code : Code)
 activate_sound o f lower code s a h =
     let rs = f.routine ∷ routines_of lower in
     let first = start_kinds a.value.start in
-    let then = repeat_kinds a.value.repeat in
+    let later = repeat_kinds a.value.repeat in
     let b = a.value.priority in
     let n = activation_count a.value in
-    let long : n ≡ length (first ++ then) + (if b then 1 else 0) = ap (λ m. m + (if b then 1 else 0)) (sym (length-append first then)) in
-    let p = planned (first ++ then) b n s long h.keeps.ends in
-    let ends : reverse (take n s) ≡ map Plain first ++ (map Plain then ++ p.tail) =
-        p.ends ∙ (ap (λ t. t ++ p.tail) (map-append Plain first then) ∙ append_assoc (map Plain first) (map Plain then) p.tail) in
+    let long : n ≡ length (first ++ later) + (if b then 1 else 0) = ap (λ m. m + (if b then 1 else 0)) (sym (length-append first later)) in
+    let p = planned (first ++ later) b n s long h.keeps.ends in
+    let ends : reverse (take n s) ≡ map Plain first ++ (map Plain later ++ p.tail) =
+        p.ends ∙ (ap (λ t. t ++ p.tail) (map-append Plain first later) ∙ append_assoc (map Plain first) (map Plain later) p.tail) in
     taken_goes o (Suits o rs) n s f.operands (λ values left.
         started a.value.start values f lower (λ when more.
         repeated a.value.repeat more f lower (λ how rest.
         with_priority a.value.priority rest f lower (λ priority.
         acts (action.Activate a.value.task when how priority) f lower left)))) p.few h.stands.operands (λ values left there under.
-        started_goes o rs a.value.start (map Plain then ++ p.tail) values f lower (λ when more.
+        started_goes o rs a.value.start (map Plain later ++ p.tail) values f lower (λ when more.
             repeated a.value.repeat more f lower (λ how rest.
             with_priority a.value.priority rest f lower (λ priority.
             acts (action.Activate a.value.task when how priority) f lower left))) (subst (λ ks. AllZip (Suits o rs) ks values) ends there) (λ when more z.

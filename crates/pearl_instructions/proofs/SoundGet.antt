@@ -30,7 +30,7 @@ use Rattle.pearl_instructions.proofs.Zips.{zip_length, zip_take, zip_drop}
 use Rattle.pearl_instructions.proofs.Ranges.{zip_put}
 use Rattle.pearl_instructions.proofs.Lists.{kinds_of_values, values_suit_cells}
 use Rattle.pearl_instructions.proofs.Kept.{Keeps, Here, goes, given_goes, needed_goes}
-use Rattle.pearl_instructions.proofs.SoundActions.{format_kinds}
+use Rattle.pearl_instructions.proofs.SoundActions.{format_kinds, nothing_behind}
 
 read_items : (code : Code) (c : ℕ) (items : Option (List Item)) → has_read_cells code c items ≡ true →
     (is : List Item) × (items ≡ Some is) × ((data_count is ≡ 0) ⊎ (c + data_count is ≤ length code.cells))
@@ -83,7 +83,8 @@ room_is o code cells c n rs z (inl none) =
     unchanged : (xs : List Cell) → AllZip (Suits o rs) [] xs → AllZip (Suits o rs) code.cells (with_values cells c xs)
     unchanged [] w =
         let at : c + 0 ≡ c = omega arith in
-        subst (AllZip (Suits o rs) code.cells) (sym (ap (λ m. take c cells ++ drop m cells) at ∙ take-append-drop c cells)) z
+        subst (AllZip (Suits o rs) code.cells)
+            (sym (ap (λ t. t ++ drop (c + 0) cells) (nothing_behind (take c cells)) ∙ (ap (λ m. take c cells ++ drop m cells) at ∙ take-append-drop c cells))) z
     unchanged (x ∷ xs) w = absurd w
 room_is o code cells c n rs z (inr long) =
     let same = zip_length (Suits o rs) code.cells cells z in

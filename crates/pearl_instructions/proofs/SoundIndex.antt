@@ -47,7 +47,7 @@ extent_is b m e = ap (λ z. unsigned_abs z + 1) e ∙ omega arith
 
 further : (so_far room m d : ℕ) → so_far < room → d ≤ m → so_far * suc m + d < room * suc m
 further so_far room m d less few =
-    let more : suc so_far * suc m ≤ room * suc m = mul-le-mul {suc so_far} {room} {suc m} {suc m} (omega (arith, less)) (omega arith) in
+    let more : suc so_far * suc m ≤ room * suc m = mul-le-mul {n₁ = suc so_far} {m₁ = suc m} {n₂ = room} {m₂ = suc m} (omega (arith, less)) (omega arith) in
     grind (arith, more, few)
 
 offset_within : (so_far room : ℕ) (bounds : List Bounds) (xs : List ℤ) → so_far < room → list_all (λ b. int_le b.low b.high) bounds ≡ true →

@@ -24,3 +24,5 @@ pub mod Valid
 pub mod Stacks
 -- what is asked of each object, before any rule of the validator
 pub mod Lawful
+-- what holds of every valid object
+pub mod Laws
