@@ -14,3 +14,4 @@ mod SoundGet
 mod SoundIndex
 mod Sound
 mod Begun
+mod Examples
