@@ -1,11 +1,10 @@
 -- A task begins with a stack of its object, and no stack passes the stated depth or has more frames than can call one another.
-use Rattle.std.proofs.Common.{◌≡◌, ℕ, zero, suc, ◌+◌, ◌<◌, ◌≤◌, List, [], ◌∷◌, ◌++◌, Option, Some, None, length, map, drop, slice_get, refl, sym, ap, ◌∙◌, subst, arith, Bool, true, false, ltb-true, leb-true, leb-false, inl, inr}
+use Rattle.std.proofs.Common.{◌≡◌, ℕ, zero, suc, ◌+◌, ◌<◌, ◌≤◌, List, [], ◌∷◌, ◌++◌, Some, length, map, drop, slice_get, refl, sym, ap, ◌∙◌, subst, arith, Bool, true, false, ltb-true, leb-true, leb-false, inl, inr}
 use Rattle.std.proofs.lemmas.Bool.{lt-leb}
-use Rattle.std.specs.Prelude.{◌&&◌, ◌||◌, ◌⊎◌, nat_lt, nat_le}
+use Rattle.std.specs.Prelude.{◌⊎◌, nat_lt, nat_le}
 use Rattle.std.specs.List.{AllZip, AllByRecursion}
 use Rattle.std.proofs.lemmas.List.{length-map}
 use Rattle.std.proofs.lemmas.Option.{slice_get_within}
-use Rattle.pearl_value.specs.declared.cell.Cell.{Cell}
 use Rattle.pearl_stack.specs.Frames.{Frame, used}
 use Rattle.pearl_instructions.specs.declared.instr.Instr.{Instr}
 use Rattle.pearl_instructions.specs.declared.instr.Instr.TheVariants.{Call}
@@ -13,15 +12,15 @@ use Rattle.pearl_instructions.specs.declared.object.Code.{Code}
 use Rattle.pearl_instructions.specs.declared.object.Procedure.{Procedure}
 use Rattle.pearl_instructions.specs.declared.object.Object.{Object}
 use Rattle.pearl_instructions.specs.Objects.{routine_at, is_task}
-use Rattle.pearl_instructions.specs.Lawful.{IsPlain, IsCellKind, IsCode, IsTask, IsObject}
+use Rattle.pearl_instructions.specs.Lawful.{IsCode, IsTask, IsObject}
 use Rattle.pearl_instructions.specs.Flow as flow
 use Rattle.pearl_instructions.specs.Rows.{fresh_cells, begun}
 use Rattle.pearl_instructions.specs.Operands.{Shape}
-use Rattle.pearl_instructions.specs.Valid.{shape_before, v8, v11, call_fits, IsValid}
-use Rattle.pearl_instructions.specs.Stacks.{routines_of, Suits, IsCalling, Below, IsTop, IsStack, depth_or_none, room}
+use Rattle.pearl_instructions.specs.Valid.{shape_before, v11, call_fits, IsValid}
+use Rattle.pearl_instructions.specs.Stacks.{routines_of, Suits, IsCalling, Below, IsStack, depth_or_none, room}
 use Rattle.pearl_instructions.proofs.Tests.{and_true, or_true, closed_some}
 use Rattle.pearl_instructions.proofs.Zips.{zip_length}
-use Rattle.pearl_instructions.proofs.Kept.{Keeps, keeps_at, whole_at, Here, here}
+use Rattle.pearl_instructions.proofs.Kept.{keeps_at, whole_at, here}
 use Rattle.pearl_instructions.proofs.SoundVariables.{all_of}
 use Rattle.pearl_instructions.proofs.SoundFlow.{fresh_suits, procedure_code}
 use Rattle.pearl_instructions.proofs.Sound.{all_mapped}
@@ -43,8 +42,12 @@ begun_sound o r code v w less e =
     let is = task_code o r code w less e in
     let cells : map flow.fresh code.cells ≡ fresh_cells (routine_at o r) = ap fresh_cells (sym e) in
     record {
-      code = code; routine = e; place = closed_some code.instructions (whole_at o r code v e).closed; below = less;
-      stands = record { cells = subst (AllZip (Suits o []) code.cells) cells (fresh_suits o [] code.cells is.plain is.kinds); operands = tt } }
+      code = code;
+      routine = e;
+      place = closed_some code.instructions (whole_at o r code v e).closed;
+      below = less;
+      stands = record { cells = subst (AllZip (Suits o []) code.cells) cells (fresh_suits o [] code.cells is.plain is.kinds); operands = tt };
+    }
 
 deep_any : (o : Object) (code : Code) (instr : Instr) (s : Shape) → v11 o code instr s ≡ true → length code.cells + length s ≤ code.depth
 deep_any o code (Call p) s e =
@@ -86,7 +89,7 @@ used_within o v (f ∷ lower) t =
     let more = below_used o v f lower t.below in
     omega (arith, deep, cells, operands, own, more)
 
-task_or_procedure : (o : Object) (r : ℕ) → ((length o.procedures ≤ r) ⊎ (r < length o.procedures))
+pub task_or_procedure : (o : Object) (r : ℕ) → ((length o.procedures ≤ r) ⊎ (r < length o.procedures))
 task_or_procedure o r = by (nat_le (length o.procedures) r) refl
   where
     by : (b : Bool) → nat_le (length o.procedures) r ≡ b → ((length o.procedures ≤ r) ⊎ (r < length o.procedures))
@@ -94,7 +97,7 @@ task_or_procedure o r = by (nat_le (length o.procedures) r) refl
     by false e = inr (leb-false (length o.procedures) r e)
 
 -- a procedure that is called from a procedure has the smaller number
-smaller : (o : Object) (v : IsValid o) (p : ℕ) (g : Frame) (rs : List ℕ) → IsCalling o p g rs → g.routine < length o.procedures → p < g.routine
+pub smaller : (o : Object) (v : IsValid o) (p : ℕ) (g : Frame) (rs : List ℕ) → IsCalling o p g rs → g.routine < length o.procedures → p < g.routine
 smaller o v p g rs call less =
     let keeps = keeps_at o g.routine call.code g.place (Call p) v call.routine call.place in
     ltb-true p g.routine (or_true (is_task o g.routine) (nat_lt p g.routine) keeps.smaller (lt-leb (length o.procedures) g.routine less))
@@ -103,8 +106,9 @@ smaller o v p g rs call less =
 callers : (o : Object) (v : IsValid o) (p : ℕ) (lower : List Frame) → Below o p lower → p < length o.procedures → length lower + p ≤ length o.procedures
 callers o v p [] b less = absurd (omega (arith, b, less))
 callers o v p (g ∷ lower) b less = elim (task_or_procedure o g.routine) [
-      inl task ↦ by_task lower b.1 task
-    | inr procedure ↦ (let more = callers o v g.routine lower b.1 procedure in let fewer = smaller o v p g (routines_of lower) b.0 procedure in omega (arith, more, fewer)) ]
+  | inl task ↦ by_task lower b.1 task
+  | inr procedure ↦ (let more = callers o v g.routine lower b.1 procedure in let fewer = smaller o v p g (routines_of lower) b.0 procedure in omega (arith, more, fewer))
+]
   where
     by_task : (lower : List Frame) → Below o g.routine lower → length o.procedures ≤ g.routine → suc (length lower) + p ≤ length o.procedures
     by_task [] below task = omega (arith, less)
@@ -116,8 +120,9 @@ callers o v p (g ∷ lower) b less = elim (task_or_procedure o g.routine) [
 pub frames_within : (o : Object) → IsValid o → (frames : List Frame) → IsStack o frames → length frames ≤ length o.procedures + 1
 frames_within o v [] never = absurd never
 frames_within o v (f ∷ lower) t = elim (task_or_procedure o f.routine) [
-      inl task ↦ by_task lower t.below task
-    | inr procedure ↦ (let few = callers o v f.routine lower t.below procedure in omega (arith, few)) ]
+  | inl task ↦ by_task lower t.below task
+  | inr procedure ↦ (let few = callers o v f.routine lower t.below procedure in omega (arith, few))
+]
   where
     by_task : (lower : List Frame) → Below o f.routine lower → length o.procedures ≤ f.routine → suc (length lower) ≤ length o.procedures + 1
     by_task [] below task = omega arith

@@ -2,11 +2,10 @@
 use Rattle.std.specs.Prelude.{◌≡◌, ℕ, pos, false, List, [], ◌∷◌, Some, None}
 use Rattle.std.proofs.Common.{refl}
 use Rattle.pearl_value.specs.declared.kind.Kind.TheVariants as kind
-use Rattle.pearl_value.specs.declared.kind.Kind.{Kind}
 use Rattle.pearl_value.specs.declared.kind.CellKind.{CellKind}
 use Rattle.pearl_value.specs.declared.kind.CellKind.TheVariants.{Plain}
 use Rattle.pearl_value.specs.declared.cell.Cell.{Cell}
-use Rattle.pearl_value.specs.declared.cell.Cell.TheVariants.{Fixed, Bits}
+use Rattle.pearl_value.specs.declared.cell.Cell.TheVariants.{Fixed}
 use Rattle.pearl_value.specs.declared.operator.Monad.TheVariants.{Not}
 use Rattle.pearl_value.specs.declared.operator.Dyad.TheVariants.{Add}
 use Rattle.pearl_stack.specs.Frames.{Frame}
@@ -28,14 +27,24 @@ code cells depth instructions shapes = record { cells = cells; depth = depth; in
 -- an object with one task of this code
 abbrev task : Code → Object
 task code = record {
-  devices = []; semaphores = []; leaves = []; formats = []; procedures = [];
-  tasks = record { name = record { items = 84 ∷ [] }; priority = 1; main = false; code = code } ∷ [] }
+  devices = [];
+  semaphores = [];
+  leaves = [];
+  formats = [];
+  procedures = [];
+  tasks = record { name = record { items = 84 ∷ [] }; priority = 1; main = false; code = code } ∷ [];
+}
 
 -- an object with one procedure that returns a FIXED(31)
 abbrev procedure : Code → Object
 procedure code = record {
-  devices = []; semaphores = []; leaves = []; formats = []; tasks = [];
-  procedures = record { params = 0; result = Some (kind.Fixed 31); code = code } ∷ [] }
+  devices = [];
+  semaphores = [];
+  leaves = [];
+  formats = [];
+  tasks = [];
+  procedures = record { params = 0; result = Some (kind.Fixed 31); code = code } ∷ [];
+}
 
 abbrev stated : ℕ → List CellKind → Stated
 stated instruction kinds = record { instruction = instruction; kinds = kinds }

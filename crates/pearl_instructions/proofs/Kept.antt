@@ -1,13 +1,11 @@
 -- What holds at an instruction of a valid object, and where a row that goes on or jumps leads.
-use Rattle.std.proofs.Common.{◌≡◌, ℕ, zero, suc, ◌+◌, ◌<◌, ◌≤◌, List, [], ◌∷◌, ◌++◌, Option, Some, None, length, map, reverse, take, drop, slice_get, slice_set, refl, sym, ap, ◌∙◌, subst, arith, Bool, true, false, eq-eqb, ltb-true, leb-true, lt-ltb, le-leb, add-one}
-use Rattle.std.specs.Prelude.{◌&&◌, ◌||◌, ◌==◌, not, nat_lt, nat_le, if◌then◌else◌, option_to_list, option_and_then}
+use Rattle.std.proofs.Common.{◌≡◌, ℕ, ◌+◌, ◌<◌, ◌≤◌, List, [], ◌∷◌, Option, Some, None, length, reverse, take, drop, slice_get, refl, sym, ap, ◌∙◌, subst, arith, Bool, true, false, eq-eqb, leb-true, lt-ltb, le-leb}
+use Rattle.std.specs.Prelude.{◌&&◌, ◌||◌, ◌==◌, not, nat_lt, nat_le, if◌then◌else◌, option_and_then}
 use Rattle.std.specs.List.{AllZip, list_all}
 use Rattle.std.proofs.lemmas.Option.{same_Some}
 use Rattle.pearl_value.specs.declared.kind.CellKind.{CellKind}
 use Rattle.pearl_value.specs.declared.cell.Cell.{Cell}
 use Rattle.pearl_value.specs.declared.trap.Trap.{Trap}
-use Rattle.pearl_rules.specs.declared.action.Action.TheVariants as action
-use Rattle.pearl_rules.specs.declared.action.Answer.{Answer}
 use Rattle.pearl_stack.specs.Frames.{Frame}
 use Rattle.pearl_instructions.specs.declared.instr.Instr.{Instr}
 use Rattle.pearl_instructions.specs.declared.object.Code.{Code}
@@ -18,9 +16,9 @@ use Rattle.pearl_instructions.specs.Rows.{instr_at}
 use Rattle.pearl_instructions.specs.Operands.{Shape, same_shape, asked, v2}
 use Rattle.pearl_instructions.specs.Named.{v1}
 use Rattle.pearl_instructions.specs.Kinds.{v3, v4, v5, shape_after}
-use Rattle.pearl_instructions.specs.Valid.{shape_before, goes_on, targets, v6, v7, v8, v10, v11, v12, judged, judged_at, judged_whole, is_closed, unsound_in, unsound, IsValid}
-use Rattle.pearl_instructions.specs.Stacks.{routines_of, Suits, Stands, Below, IsTop, IsStack, Goes}
-use Rattle.pearl_instructions.proofs.Tests.{and_true, or_true, not_both, same_shape_true, keep_none, all_at, closed_more}
+use Rattle.pearl_instructions.specs.Valid.{shape_before, goes_on, targets, v6, v7, v8, v10, v11, v12, judged, judged_at, judged_whole, is_closed, unsound_in, IsValid}
+use Rattle.pearl_instructions.specs.Stacks.{routines_of, Suits, Stands, Below, IsTop, Goes}
+use Rattle.pearl_instructions.proofs.Tests.{and_true, or_true, same_shape_true, keep_none, all_at, closed_more}
 use Rattle.pearl_instructions.proofs.Zips.{some_at, none_past, zip_length, zip_take, zip_drop, zip_reverse}
 
 -- an instruction at which no rule fails
@@ -83,9 +81,11 @@ onward o r code i instr left w e f g =
     let on : i + 1 < length code.instructions = omega (arith, more) in
     let t : Bool = list_all (λ t. same_shape (shape_before o r code t) left) (targets instr) in
     let u : Bool = goes_on instr && nat_lt (i + 1) (length code.instructions) in
-    let both = and_true t (not u || same_shape (shape_before o r code (i + 1)) left) f in
-    (on, same_shape_true _ left (or_true (not u) (same_shape (shape_before o r code (i + 1)) left) both.1
-        (both_then (goes_on instr) (nat_lt (i + 1) (length code.instructions)) g (lt-ltb (i + 1) (length code.instructions) on))))
+    let both = and_true t (not u || same_shape (shape_before o r code (i + 1)) left) f in (
+      on,
+      same_shape_true _ left (or_true (not u) (same_shape (shape_before o r code (i + 1)) left) both.1
+          (both_then (goes_on instr) (nat_lt (i + 1) (length code.instructions)) g (lt-ltb (i + 1) (length code.instructions) on))),
+    )
   where
     both_then : (a b : Bool) → a ≡ true → b ≡ true → not (a && b) ≡ false
     both_then true true e h = refl
@@ -115,8 +115,12 @@ module _ (o : Object) (f : Frame) (lower : List Frame) (code : Code) (instr : In
       AllZip (Suits o (routines_of lower)) code.cells cells → AllZip (Suits o (f.routine ∷ routines_of lower)) (shape_after o f.routine code instr s) operands →
       IsTop o (record { routine = f.routine; place = i; cells = cells; operands = operands }) lower
   lands i cells operands less same z w = record {
-    code = code; routine = h.routine; place = less; below = h.below;
-    stands = record { cells = z; operands = subst (λ k. AllZip (Suits o (f.routine ∷ routines_of lower)) k operands) (sym same) w } }
+    code = code;
+    routine = h.routine;
+    place = less;
+    below = h.below;
+    stands = record { cells = z; operands = subst (λ k. AllZip (Suits o (f.routine ∷ routines_of lower)) k operands) (sym same) w };
+  }
 
   -- it goes on with other cells and operands
   pub goes : (cells operands : List Cell) (left : Shape) → goes_on instr ≡ true → left ≡ shape_after o f.routine code instr s →
@@ -131,10 +135,19 @@ module _ (o : Object) (f : Frame) (lower : List Frame) (code : Code) (instr : In
 pub here : (o : Object) (v : IsValid o) (f : Frame) (lower : List Frame) (t : IsTop o f lower) →
     (instr : Instr) × (instr_at o f ≡ Some instr) × Here o f lower t.code instr (shape_before o f.routine t.code f.place)
 here o v f lower t =
-    let at = some_at t.code.instructions f.place t.place in
-    (at.0, ap (λ c. option_and_then (λ code. slice_get code.instructions f.place) c) t.routine ∙ at.1, record {
-        routine = t.routine; at = at.1; whole = whole_at o f.routine t.code v t.routine; is = refl;
-        keeps = keeps_at o f.routine t.code f.place at.0 v t.routine at.1; stands = t.stands; below = t.below })
+    let at = some_at t.code.instructions f.place t.place in (
+      at.0,
+      ap (λ c. option_and_then (λ code. slice_get code.instructions f.place) c) t.routine ∙ at.1,
+      record {
+        routine = t.routine;
+        at = at.1;
+        whole = whole_at o f.routine t.code v t.routine;
+        is = refl;
+        keeps = keeps_at o f.routine t.code f.place at.0 v t.routine at.1;
+        stands = t.stands;
+        below = t.below;
+      },
+    )
 
 pub given_goes : {A : Type 0} (o : Object) (x : A) (option : Option A) (go : A → Step) → option ≡ Some x → Goes o (go x) → Goes o (given option go)
 given_goes o x None go e h = cc

@@ -15,3 +15,4 @@ mod SoundIndex
 mod Sound
 mod Begun
 mod Examples
+mod Silence

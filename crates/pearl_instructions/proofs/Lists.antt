@@ -1,20 +1,17 @@
 -- Lists that are taken from above and turned round.
-use Rattle.std.proofs.Common.{◌≡◌, ℕ, zero, suc, ◌+◌, ◌<◌, ◌≤◌, List, [], ◌∷◌, ◌++◌, Option, Some, None, length, map, reverse, take, drop, replicate, refl, sym, ap, ◌∙◌, subst, arith, Bool, true, false}
-use Rattle.std.specs.Prelude.{◌&&◌, option_map, option_and_then}
+use Rattle.std.proofs.Common.{◌≡◌, ℕ, ◌≤◌, List, [], ◌∷◌, ◌++◌, Option, Some, None, length, map, reverse, take, refl, sym, ap, ◌∙◌, subst, arith, Bool, true}
+use Rattle.std.specs.Prelude.{option_map, option_and_then}
 use Rattle.std.specs.List.{AllZip, list_all}
 use Rattle.std.proofs.lemmas.List.{length-reverse, length-map}
 use Rattle.std.proofs.lemmas.Option.{same_Some}
 use mathlib.Core.List.{reverse_aux}
 use Rattle.pearl_value.specs.declared.kind.Kind.{Kind}
-use Rattle.pearl_value.specs.declared.kind.CellKind.{CellKind}
 use Rattle.pearl_value.specs.declared.kind.CellKind.TheVariants.{Plain, RefTo}
 use Rattle.pearl_value.specs.declared.cell.Cell.{Cell}
 use Rattle.pearl_value.specs.WellFormed.{IsValueOf}
 use Rattle.pearl_instructions.specs.declared.object.Object.{Object}
-use Rattle.pearl_instructions.specs.Steps.{value_kind}
 use Rattle.pearl_instructions.specs.Offers.{value_kinds}
-use Rattle.pearl_instructions.specs.Operands.{Shape, Asked, Exactly, same_cell, meets, scheduled, v2}
-use Rattle.pearl_instructions.specs.Kinds.{plain_kind}
+use Rattle.pearl_instructions.specs.Operands.{Shape, Exactly, same_cell, scheduled, v2}
 use Rattle.pearl_instructions.specs.Valid.{plain_kinds}
 use Rattle.pearl_instructions.specs.Stacks.{Suits}
 use Rattle.pearl_instructions.proofs.Tests.{and_true, same_cell_true}
@@ -58,9 +55,10 @@ pub scheduled_ends : (kinds : List Kind) (s : Shape) → v2 (scheduled kinds) s 
 scheduled_ends kinds s e =
     let turned : v2 (map Exactly (reverse kinds)) s ≡ true = ap (λ asked. v2 asked s) (map_reversed Exactly kinds) ∙ e in
     let ends = exactly_ends (reverse kinds) s turned in
-    let long : length (reverse kinds) ≡ length kinds = length-reverse kinds in
-    (subst (λ n. n ≤ length s) long ends.0,
-     ap (λ n. reverse (take n s)) (sym long) ∙ (ap reverse ends.1 ∙ (ap reverse (map_reversed Plain kinds) ∙ reversed_twice (map Plain kinds))))
+    let long : length (reverse kinds) ≡ length kinds = length-reverse kinds in (
+      subst (λ n. n ≤ length s) long ends.0,
+      ap (λ n. reverse (take n s)) (sym long) ∙ (ap reverse ends.1 ∙ (ap reverse (map_reversed Plain kinds) ∙ reversed_twice (map Plain kinds))),
+    )
 
 pub scheduled_long : (kinds : List Kind) → length (scheduled kinds) ≡ length kinds
 scheduled_long kinds = length-reverse (map Exactly kinds) ∙ length-map kinds Exactly

@@ -1,6 +1,6 @@
 -- Ranges of a routine's cells, and lists that are written in part.
-use Rattle.std.proofs.Common.{◌≡◌, ℕ, zero, suc, ◌+◌, ◌<◌, ◌≤◌, List, [], ◌∷◌, ◌++◌, Option, Some, None, length, take, drop, replicate, slice_get, refl, sym, ap, ◌∙◌, subst, arith, Bool, true, false, ltb-true, leb-true}
-use Rattle.std.specs.Prelude.{◌&&◌, not, nat_lt, nat_le}
+use Rattle.std.proofs.Common.{◌≡◌, ℕ, zero, suc, ◌+◌, ◌<◌, ◌≤◌, List, [], ◌∷◌, ◌++◌, Some, length, take, drop, replicate, slice_get, refl, sym, ap, ◌∙◌, subst, arith, Bool, true, ltb-true, leb-true}
+use Rattle.std.specs.Prelude.{not, nat_lt, nat_le}
 use Rattle.std.specs.List.{AllZip, list_all}
 use Rattle.std.proofs.lemmas.Option.{same_Some}
 use Rattle.pearl_value.specs.declared.kind.Kind.{Kind}
@@ -72,9 +72,10 @@ range_is code c n has uniform plain =
       head = head ∙ ap Some kind.1;
       within = long;
       each = λ i m e less.
-        let there = some_at code.cells m (omega (arith, e, less, long)) in
-        let at : slice_get (cells_at code c n) i ≡ Some there.0 = range_at code.cells c n i m e less ∙ there.1 in
-        there.1 ∙ ap Some (sym (uniform_at (cells_at code c n) held.0 there.0 i uniform head at) ∙ kind.1) }
+          let there = some_at code.cells m (omega (arith, e, less, long)) in
+          let at : slice_get (cells_at code c n) i ≡ Some there.0 = range_at code.cells c n i m e less ∙ there.1 in
+          there.1 ∙ ap Some (sym (uniform_at (cells_at code c n) held.0 there.0 i uniform head at) ∙ kind.1);
+    }
 
 -- the places from c on are one value that suits them
 pub zip_fill : {A B : Type 0} (R : A → B → Type 0) (ks : List A) (xs : List B) (c n m : ℕ) (k : A) (x : B) → m ≡ c + n → c + n ≤ length ks →
@@ -84,9 +85,10 @@ zip_fill R ks xs zero zero (suc m) k x e long each r z = absurd (omega (arith, e
 zip_fill R ks xs zero (suc n) zero k x e long each r z = absurd (omega (arith, e))
 zip_fill R [] xs zero (suc n) (suc m) k x e long each r z = absurd (omega (arith, long))
 zip_fill R (a ∷ ks) [] zero (suc n) (suc m) k x e long each r z = absurd z
-zip_fill R (a ∷ ks) (y ∷ xs) zero (suc n) (suc m) k x e long each r z =
-    (subst (λ a. R a x) (sym (same_Some a k (each 0 0 (omega arith) (omega arith)))) r,
-     zip_fill R ks xs zero n m k x (omega (arith, e)) (omega (arith, long)) (λ i j same less. each (suc i) (suc j) (omega (arith, same)) (omega (arith, less))) r z.1)
+zip_fill R (a ∷ ks) (y ∷ xs) zero (suc n) (suc m) k x e long each r z = (
+  subst (λ a. R a x) (sym (same_Some a k (each 0 0 (omega arith) (omega arith)))) r,
+  zip_fill R ks xs zero n m k x (omega (arith, e)) (omega (arith, long)) (λ i j same less. each (suc i) (suc j) (omega (arith, same)) (omega (arith, less))) r z.1,
+)
 zip_fill R [] [] (suc c) n m k x e long each r z = absurd (omega (arith, long))
 zip_fill R [] (y ∷ xs) (suc c) n m k x e long each r z = absurd z
 zip_fill R (a ∷ ks) [] (suc c) n m k x e long each r z = absurd z

@@ -1,5 +1,5 @@
 -- Cells of frames that references name.
-use Rattle.std.proofs.Common.{◌≡◌, ℕ, zero, suc, ◌+◌, ◌<◌, ◌≤◌, List, [], ◌∷◌, ◌++◌, Option, Some, None, length, map, drop, slice_get, slice_set, refl, sym, ap, ◌∙◌, subst, arith, Bool, true, false, cond, inl, inr, ne_eqb, eq-eqb, eqb-true}
+use Rattle.std.proofs.Common.{◌≡◌, ℕ, zero, suc, ◌<◌, List, [], ◌∷◌, Option, Some, length, slice_get, slice_set, refl, sym, ap, ◌∙◌, subst, arith, Bool, true, false, cond, inl, inr, ne_eqb, eqb-true}
 use Rattle.std.specs.Prelude.{◌⊎◌, ◌==◌, if◌then◌else◌}
 use Rattle.std.specs.List.{AllZip}
 use Rattle.std.proofs.lemmas.List.{length-map}
@@ -11,14 +11,12 @@ use Rattle.pearl_value.specs.declared.cell.Place.TheVariants as place
 use Rattle.pearl_value.specs.declared.cell.Cell.{Cell}
 use Rattle.pearl_value.specs.declared.cell.Cell.TheVariants as cell
 use Rattle.pearl_value.specs.WellFormed.{IsValueOf}
-use Rattle.pearl_stack.specs.Frames.{Frame, frame_at, cell_at, with_cell}
+use Rattle.pearl_stack.specs.Frames.{Frame, cell_at, with_cell}
 use Rattle.pearl_instructions.specs.declared.object.Code.{Code}
 use Rattle.pearl_instructions.specs.declared.object.Object.{Object}
 use Rattle.pearl_instructions.specs.Objects.{routine_at}
-use Rattle.pearl_instructions.specs.Operands.{Shape}
-use Rattle.pearl_instructions.specs.Kinds.{plain_kind}
 use Rattle.pearl_instructions.specs.Valid.{shape_before}
-use Rattle.pearl_instructions.specs.Stacks.{routines_of, cells_or_none, cell_kinds, plain_at, cell_kind, kind_at, Refers, Suits, Stands, IsCalling, Below, IsTop, IsStack}
+use Rattle.pearl_instructions.specs.Stacks.{routines_of, cells_or_none, cell_kinds, plain_at, cell_kind, Refers, Suits, Stands, IsCalling, Below, IsTop, IsStack}
 use Rattle.pearl_instructions.proofs.Zips.{zip_get, zip_set}
 
 pub if_either : {A : Type 0} (b : Bool) (x y : Option A) (k : A) → (if b then x else y) ≡ Some k → ((b ≡ true) × (x ≡ Some k)) ⊎ ((b ≡ false) × (y ≡ Some k))
@@ -41,8 +39,9 @@ pub kind_bound : (o : Object) (rs : List ℕ) (n c : ℕ) (k : Kind) → cell_ki
 kind_bound o [] n c k e = cc
 kind_bound o (r ∷ rs) n c k e =
     elim (if_either (n == length rs) (plain_at (cell_kinds o r) c) (cell_kind o rs n c) k e) [
-      inl h ↦ (let same = eqb-true n (length rs) h.0 in omega (arith, same))
-    | inr h ↦ (let less = kind_bound o rs n c k h.1 in omega (arith, less)) ]
+      | inl h ↦ (let same = eqb-true n (length rs) h.0 in omega (arith, same))
+      | inr h ↦ (let less = kind_bound o rs n c k h.1 in omega (arith, less))
+    ]
 
 pub kind_grown : (o : Object) (r : ℕ) (rs : List ℕ) (n c : ℕ) (k : Kind) → cell_kind o rs n c ≡ Some k → cell_kind o (r ∷ rs) n c ≡ Some k
 kind_grown o r rs n c k e =
@@ -79,12 +78,13 @@ cell_there o [] n c k h e = cc
 cell_there o (f ∷ fs) n c k h e =
     let long : length (routines_of fs) ≡ length fs = length-map fs (λ f. f.routine) in
     elim (if_either (n == length (routines_of fs)) (plain_at (cell_kinds o f.routine) c) (cell_kind o (routines_of fs) n c) k e) [
-      inl w ↦ (let here : (n == length fs) ≡ true = ap (λ m. n == m) (sym long) ∙ w.0 in
-        let got = zip_get (Suits o (routines_of fs)) (cell_kinds o f.routine) f.cells c (Plain k) h.0 (plain_at_is (cell_kinds o f.routine) c k w.1) in
-        (got.0, rw here got.1, got.2))
-    | inr w ↦ (let here : (n == length fs) ≡ false = ap (λ m. n == m) (sym long) ∙ w.0 in
-        let got = cell_there o fs n c k h.1 w.1 in
-        (got.0, rw here got.1, got.2)) ]
+      | inl w ↦ (let here : (n == length fs) ≡ true = ap (λ m. n == m) (sym long) ∙ w.0 in
+          let got = zip_get (Suits o (routines_of fs)) (cell_kinds o f.routine) f.cells c (Plain k) h.0 (plain_at_is (cell_kinds o f.routine) c k w.1) in
+          (got.0, rw here got.1, got.2))
+      | inr w ↦ (let here : (n == length fs) ≡ false = ap (λ m. n == m) (sym long) ∙ w.0 in
+          let got = cell_there o fs n c k h.1 w.1 in
+          (got.0, rw here got.1, got.2))
+    ]
 
 pub routines_set : (fs : List Frame) (n c : ℕ) (x : Cell) → routines_of (with_cell fs n c x) ≡ routines_of fs
 routines_set [] n c x = refl
@@ -102,27 +102,51 @@ below_set o p [] n c k x b e s = b
 below_set o p (g ∷ gs) n c k x b e s =
     let long : length (routines_of gs) ≡ length gs = length-map gs (λ f. f.routine) in
     elim (if_either (n == length (routines_of gs)) (plain_at (cell_kinds o g.routine) c) (cell_kind o (routines_of gs) n c) k e) [
-      inl w ↦ (let here : (n == length gs) ≡ true = ap (λ m. n == m) (sym long) ∙ w.0 in
-        let kind : slice_get b.0.code.cells c ≡ Some (Plain k) =
-            plain_at_is _ c k (ap (λ ks. plain_at ks c) (sym (kinds_is o g.routine b.0.code b.0.routine)) ∙ w.1) in
-        rw here (record { callee = b.0.callee; called = b.0.called; code = b.0.code; routine = b.0.routine; place = b.0.place; stands = record {
-            cells = zip_set (Suits o (routines_of gs)) b.0.code.cells g.cells c (Plain k) x b.0.stands.cells kind s;
-            operands = b.0.stands.operands } }, b.1))
-    | inr w ↦ (let here : (n == length gs) ≡ false = ap (λ m. n == m) (sym long) ∙ w.0 in
-        rw here (subst (IsCalling o p g) (sym (routines_set gs n c x)) b.0, below_set o g.routine gs n c k x b.1 w.1 s)) ]
+      | inl w ↦ (let here : (n == length gs) ≡ true = ap (λ m. n == m) (sym long) ∙ w.0 in
+          let kind : slice_get b.0.code.cells c ≡ Some (Plain k) =
+          plain_at_is _ c k (ap (λ ks. plain_at ks c) (sym (kinds_is o g.routine b.0.code b.0.routine)) ∙ w.1) in
+          rw here (
+            record {
+              callee = b.0.callee;
+              called = b.0.called;
+              code = b.0.code;
+              routine = b.0.routine;
+              place = b.0.place;
+              stands = record {
+                cells = zip_set (Suits o (routines_of gs)) b.0.code.cells g.cells c (Plain k) x b.0.stands.cells kind s;
+                operands = b.0.stands.operands;
+              };
+            },
+            b.1,
+          ))
+      | inr w ↦ (let here : (n == length gs) ≡ false = ap (λ m. n == m) (sym long) ∙ w.0 in
+          rw here (subst (IsCalling o p g) (sym (routines_set gs n c x)) b.0, below_set o g.routine gs n c k x b.1 w.1 s))
+    ]
 
 pub top_set : (o : Object) (f : Frame) (fs : List Frame) (n c : ℕ) (k : Kind) (x : Cell) → IsTop o f fs → cell_kind o (routines_of (f ∷ fs)) n c ≡ Some k →
     IsValueOf k x → IsStack o (with_cell (f ∷ fs) n c x)
 top_set o f fs n c k x t e s =
     let long : length (routines_of fs) ≡ length fs = length-map fs (λ f. f.routine) in
     elim (if_either (n == length (routines_of fs)) (plain_at (cell_kinds o f.routine) c) (cell_kind o (routines_of fs) n c) k e) [
-      inl w ↦ (let here : (n == length fs) ≡ true = ap (λ m. n == m) (sym long) ∙ w.0 in
-        let kind : slice_get t.code.cells c ≡ Some (Plain k) =
-            plain_at_is _ c k (ap (λ ks. plain_at ks c) (sym (kinds_is o f.routine t.code t.routine)) ∙ w.1) in
-        rw here (record { code = t.code; routine = t.routine; place = t.place; below = t.below; stands = record {
-            cells = zip_set (Suits o (routines_of fs)) t.code.cells f.cells c (Plain k) x t.stands.cells kind s;
-            operands = t.stands.operands } }))
-    | inr w ↦ (let here : (n == length fs) ≡ false = ap (λ m. n == m) (sym long) ∙ w.0 in
-        rw here (record { code = t.code; routine = t.routine; place = t.place;
+      | inl w ↦ (let here : (n == length fs) ≡ true = ap (λ m. n == m) (sym long) ∙ w.0 in
+          let kind : slice_get t.code.cells c ≡ Some (Plain k) =
+          plain_at_is _ c k (ap (λ ks. plain_at ks c) (sym (kinds_is o f.routine t.code t.routine)) ∙ w.1) in
+          rw here (record {
+            code = t.code;
+            routine = t.routine;
+            place = t.place;
+            below = t.below;
+            stands = record {
+              cells = zip_set (Suits o (routines_of fs)) t.code.cells f.cells c (Plain k) x t.stands.cells kind s;
+              operands = t.stands.operands;
+            };
+          }))
+      | inr w ↦ (let here : (n == length fs) ≡ false = ap (λ m. n == m) (sym long) ∙ w.0 in
+          rw here (record {
+            code = t.code;
+            routine = t.routine;
+            place = t.place;
             stands = subst (Stands o t.code f (shape_before o f.routine t.code f.place)) (sym (routines_set fs n c x)) t.stands;
-            below = below_set o f.routine fs n c k x t.below w.1 s })) ]
+            below = below_set o f.routine fs n c k x t.below w.1 s;
+          }))
+    ]

@@ -1,6 +1,6 @@
 -- Each row leads from a stack of a valid object to such stacks only.
-use Rattle.std.proofs.Common.{◌≡◌, ℕ, ◌+◌, ◌<◌, ◌≤◌, List, [], ◌∷◌, ◌++◌, Option, Some, None, length, map, slice_get, refl, sym, ap, ◌∙◌, subst}
-use Rattle.std.specs.List.{AllZip, AllByRecursion}
+use Rattle.std.proofs.Common.{◌≡◌, ℕ, List, [], ◌∷◌, ◌++◌, Some, map, refl}
+use Rattle.std.specs.List.{AllByRecursion}
 use Rattle.pearl_value.proofs.Results.{blank_gives}
 use Rattle.pearl_stack.specs.Frames.{Frame}
 use Rattle.pearl_instructions.specs.declared.instr.Instr.{Instr}
@@ -8,7 +8,7 @@ use Rattle.pearl_instructions.specs.declared.instr.Instr.TheVariants.{Const, Loa
 use Rattle.pearl_instructions.specs.declared.object.Code.{Code}
 use Rattle.pearl_instructions.specs.declared.object.Object.{Object}
 use Rattle.pearl_instructions.specs.Objects.{routine_at, routines}
-use Rattle.pearl_instructions.specs.Lawful.{IsInstr, IsCode, IsProcedure, IsTask, IsObject}
+use Rattle.pearl_instructions.specs.Lawful.{IsInstr, IsProcedure, IsTask, IsObject}
 use Rattle.pearl_instructions.specs.Rows.{act, instr_at, row}
 use Rattle.pearl_instructions.specs.Operands.{Shape}
 use Rattle.pearl_instructions.specs.Valid.{shape_before, IsValid}
@@ -93,8 +93,8 @@ HasInstrs code = AllByRecursion IsInstr code.instructions
 pub lawful_code : (o : Object) (r : ℕ) (code : Code) → IsObject o → routine_at o r ≡ Some code → AllByRecursion IsInstr code.instructions
 lawful_code o r code w e = all_of HasInstrs (routines o) r code
     (all_front HasInstrs (map (λ p. p.code) o.procedures) (map (λ t. t.code) o.tasks)
-        (all_mapped IsProcedure HasInstrs (λ p. p.code) o.procedures (λ p is. is.code.instructions) w.procedures)
-        (all_mapped IsTask HasInstrs (λ t. t.code) o.tasks (λ t is. is.code.instructions) w.tasks)) e
+    (all_mapped IsProcedure HasInstrs (λ p. p.code) o.procedures (λ p is. is.code.instructions) w.procedures)
+    (all_mapped IsTask HasInstrs (λ t. t.code) o.tasks (λ t is. is.code.instructions) w.tasks)) e
 
 -- Every row is there, and leads to a stack of the object: the next one, or the one after each answer that suits.
 pub row_sound : (o : Object) → IsValid o → IsObject o → (frames : List Frame) → IsStack o frames → Goes o (row o frames)

@@ -1,13 +1,11 @@
 -- The rows on tasks, semaphores and devices lead from a stack of a valid object to such stacks only.
-use Rattle.std.proofs.Common.{◌≡◌, ℕ, zero, suc, ◌+◌, ◌<◌, ◌≤◌, ℤ, pos, negsuc, List, [], ◌∷◌, ◌++◌, Option, Some, None, length, map, reverse, take, drop, replicate, slice_get, refl, sym, ap, ◌∙◌, subst, arith, Bool, true, false, ltb-true, leb-true, le-leb, Box, Global}
-use Rattle.std.specs.Prelude.{◌&&◌, ◌||◌, nat_lt, nat_le, int_le, is_some, if◌then◌else◌, option_to_list, option_map, option_and_then}
+use Rattle.std.proofs.Common.{◌≡◌, ℕ, ◌≤◌, ℤ, pos, List, [], ◌∷◌, ◌++◌, Option, Some, None, length, map, reverse, take, drop, slice_get, refl, sym, ap, ◌∙◌, subst, true, Box, Global}
+use Rattle.std.specs.Prelude.{int_le, is_some, option_to_list, option_and_then}
 use Rattle.std.specs.List.{AllZip}
 use Rattle.std.proofs.lemmas.List.{length-replicate}
-use Rattle.std.proofs.lemmas.Option.{same_Some}
 use Rattle.pearl_value.specs.declared.kind.Kind.{Kind}
 use Rattle.pearl_value.specs.declared.kind.Kind.TheVariants as kind
-use Rattle.pearl_value.specs.declared.kind.CellKind.{CellKind}
-use Rattle.pearl_value.specs.declared.kind.CellKind.TheVariants.{Plain, RefTo}
+use Rattle.pearl_value.specs.declared.kind.CellKind.TheVariants.{Plain}
 use Rattle.pearl_value.specs.declared.cell.Cell.{Cell}
 use Rattle.pearl_value.specs.declared.cell.Cell.TheVariants as cell
 use Rattle.pearl_value.specs.declared.trap.Trap.TheVariants.{Range, Format}
@@ -20,32 +18,26 @@ use Rattle.pearl_rules.specs.declared.setup.Device.TheVariants.{Interrupt, Termi
 use Rattle.pearl_rules.specs.declared.action.Action.TheVariants as action
 use Rattle.pearl_rules.specs.declared.action.Start.{Start}
 use Rattle.pearl_rules.specs.declared.action.Start.TheVariants as start
-use Rattle.pearl_rules.specs.declared.action.Repeat.{Repeat}
-use Rattle.pearl_rules.specs.declared.action.Repeat.TheVariants as repeat
-use Rattle.pearl_rules.specs.declared.action.Answer.{Answer}
 use Rattle.pearl_stack.specs.Frames.{Frame}
 use Rattle.pearl_instructions.specs.declared.schedule.OnceForm.{OnceForm}
 use Rattle.pearl_instructions.specs.declared.schedule.StartForm.{StartForm}
 use Rattle.pearl_instructions.specs.declared.schedule.StartForm.TheVariants as form
-use Rattle.pearl_instructions.specs.declared.schedule.RepeatForm.{RepeatForm}
-use Rattle.pearl_instructions.specs.declared.schedule.RepeatForm.TheVariants as again
 use Rattle.pearl_instructions.specs.declared.instr.Continuation.{Continuation}
-use Rattle.pearl_instructions.specs.declared.instr.Instr.{Instr}
 use Rattle.pearl_instructions.specs.declared.instr.Instr.TheVariants.{Now, Try, Take, Send, Continue, Resume, Put}
 use Rattle.pearl_instructions.specs.declared.object.Code.{Code}
 use Rattle.pearl_instructions.specs.declared.object.Object.{Object}
 use Rattle.pearl_instructions.specs.Objects.{items_at}
-use Rattle.pearl_instructions.specs.Steps.{Step, given, needed, popped, taken, value_kind, next, traps, acts}
-use Rattle.pearl_instructions.specs.Offers.{as_start, start_or_free, start_kinds, repeat_kinds, lasting, started, repeated, items_suit, value_kinds, put_text}
+use Rattle.pearl_instructions.specs.Steps.{Step, given, needed, taken, next, traps, acts}
+use Rattle.pearl_instructions.specs.Offers.{as_start, start_or_free, start_kinds, lasting, started, items_suit, value_kinds, put_text}
 use Rattle.pearl_instructions.specs.Rows.{act}
 use Rattle.pearl_instructions.specs.Operands.{Shape, Anything, values_asked, scheduled, v2}
 use Rattle.pearl_instructions.specs.Named.{is_input, takes_texts}
-use Rattle.pearl_instructions.specs.Kinds.{plain_kind, kind_taken, shape_after}
+use Rattle.pearl_instructions.specs.Kinds.{plain_kind, kind_taken}
 use Rattle.pearl_instructions.specs.Valid.{plain_kinds, suits_format, values_suit}
-use Rattle.pearl_instructions.specs.Stacks.{routines_of, Suits, IsTop, IsStack, Goes}
+use Rattle.pearl_instructions.specs.Stacks.{routines_of, Suits, IsTop, Goes}
 use Rattle.pearl_instructions.proofs.Tests.{and_true, is_some_true}
 use Rattle.pearl_instructions.proofs.Lists.{scheduled_ends, scheduled_long, kinds_of_values}
-use Rattle.pearl_instructions.proofs.Kept.{Keeps, Here, goes, given_goes, needed_goes, popped_goes, taken_goes, traps_goes}
+use Rattle.pearl_instructions.proofs.Kept.{Here, goes, given_goes, needed_goes, popped_goes, taken_goes, traps_goes}
 use Rattle.pearl_instructions.proofs.SoundCells.{if_goes}
 use Rattle.pearl_instructions.proofs.SoundVariables.{asks_goes}
 use Rattle.pearl_instructions.proofs.SoundFlow.{any_ends}
@@ -53,12 +45,12 @@ use Rattle.pearl_instructions.proofs.SoundFlow.{any_ends}
 pub now_sound : (o : Object) (f : Frame) (lower : List Frame) (code : Code) (s : Shape) → Here o f lower code Now s → Goes o (act o Now f lower)
 now_sound o f lower code s h =
     asks_goes o action.Now f lower f.operands kind.Clock (Some kind.Clock) (λ answer h. h) refl (λ x fits.
-        goes o f lower code Now s h f.cells (x ∷ f.operands) (Plain kind.Clock ∷ s) refl refl h.stands.cells (fits, h.stands.operands))
+    goes o f lower code Now s h f.cells (x ∷ f.operands) (Plain kind.Clock ∷ s) refl refl h.stands.cells (fits, h.stands.operands))
 
 pub try_sound : (o : Object) (f : Frame) (lower : List Frame) (code : Code) (s : Shape) (n : ℕ) → Here o f lower code (Try n) s → Goes o (act o (Try n) f lower)
 try_sound o f lower code s n h =
     asks_goes o (action.Try n) f lower f.operands (kind.Bits 1) (Some (kind.Bits 1)) (λ answer h. h) refl (λ x fits.
-        goes o f lower code (Try n) s h f.cells (x ∷ f.operands) (Plain (kind.Bits 1) ∷ s) refl refl h.stands.cells (fits, h.stands.operands))
+    goes o f lower code (Try n) s h f.cells (x ∷ f.operands) (Plain (kind.Bits 1) ∷ s) refl refl h.stands.cells (fits, h.stands.operands))
 
 input_is : (device : Option Device) → is_input device ≡ true → (of : Kind) × (kind_taken device ≡ Some (Plain of))
 input_is None e = cc
@@ -72,13 +64,13 @@ take_sound o f lower code s d h =
     let of = input_is (slice_get o.devices d) h.keeps.named in
     asks_goes o (action.Take d) f lower f.operands of.0 (option_and_then plain_kind (kind_taken (slice_get o.devices d))) (λ answer h. h)
     (ap (option_and_then plain_kind) of.1) (λ x fits.
-        goes o f lower code (Take d) s h f.cells (x ∷ f.operands) (Plain of.0 ∷ s) refl (ap (λ k. option_to_list k ++ s) (sym of.1)) h.stands.cells (fits, h.stands.operands))
+    goes o f lower code (Take d) s h f.cells (x ∷ f.operands) (Plain of.0 ∷ s) refl (ap (λ k. option_to_list k ++ s) (sym of.1)) h.stands.cells (fits, h.stands.operands))
 
 pub send_sound : (o : Object) (f : Frame) (lower : List Frame) (code : Code) (s : Shape) (d : ℕ) → Here o f lower code (Send d) s → Goes o (act o (Send d) f lower)
 send_sound o f lower code [] d h = let e = h.keeps.ends in cc
 send_sound o f lower code (k ∷ ks) d h =
     popped_goes o (Suits o (f.routine ∷ routines_of lower)) k ks f.operands _ h.stands.operands (λ x left suits rest answer e.
-        goes o f lower code (Send d) (k ∷ ks) h f.cells left ks refl refl h.stands.cells rest)
+    goes o f lower code (Send d) (k ∷ ks) h f.cells left ks refl refl h.stands.cells rest)
 
 pub clock_is : (x : Cell) → IsValueOf kind.Clock x → (time : ℕ) × (x ≡ cell.Clock time)
 clock_is (cell.Clock time) w = (time, refl)
@@ -158,23 +150,23 @@ once_goes o f lower when s operands go e z h =
     let rs = f.routine ∷ routines_of lower in
     let ends = scheduled_ends (start_kinds when) s e in
     taken_goes o (Suits o rs) (length (start_kinds when)) s operands _ ends.0 z (λ values left there under.
-        started_goes o rs when [] values f lower _
-        (subst (λ ks. AllZip (Suits o rs) ks values) (ends.1 ∙ sym (nothing_behind (map Plain (start_kinds when)))) there)
-        (λ start rest none. h start left under))
+    started_goes o rs when [] values f lower _
+    (subst (λ ks. AllZip (Suits o rs) ks values) (ends.1 ∙ sym (nothing_behind (map Plain (start_kinds when)))) there)
+    (λ start rest none. h start left under))
 
 pub continue_sound : (o : Object) (f : Frame) (lower : List Frame) (code : Code) (s : Shape) (c : Box Continuation Global) → Here o f lower code (Continue c) s →
     Goes o (act o (Continue c) f lower)
 continue_sound o f lower code s c h =
     let kinds = start_kinds (start_or_free c.value.once) in
     once_goes o f lower (start_or_free c.value.once) s f.operands (λ start left. acts (action.Continue c.value.task start) f lower left) h.keeps.ends h.stands.operands (λ start left rest answer e.
-        goes o f lower code (Continue c) s h f.cells left (drop (length kinds) s) refl (ap (λ n. drop n s) (sym (scheduled_long kinds))) h.stands.cells rest)
+    goes o f lower code (Continue c) s h f.cells left (drop (length kinds) s) refl (ap (λ n. drop n s) (sym (scheduled_long kinds))) h.stands.cells rest)
 
 pub resume_sound : (o : Object) (f : Frame) (lower : List Frame) (code : Code) (s : Shape) (once : OnceForm) → Here o f lower code (Resume once) s →
     Goes o (act o (Resume once) f lower)
 resume_sound o f lower code s once h =
     let kinds = start_kinds (as_start once) in
     once_goes o f lower (as_start once) s f.operands (λ start left. acts (action.Resume start) f lower left) h.keeps.ends h.stands.operands (λ start left rest answer e.
-        goes o f lower code (Resume once) s h f.cells left (drop (length kinds) s) refl (ap (λ n. drop n s) (sym (scheduled_long kinds))) h.stands.cells rest)
+    goes o f lower code (Resume once) s h f.cells left (drop (length kinds) s) refl (ap (λ n. drop n s) (sym (scheduled_long kinds))) h.stands.cells rest)
 
 pub put_goes : (o : Object) (device : ℕ) (text : Option (List ℕ)) (f : Frame) (lower : List Frame) (left : List Cell) → IsTop o (next f left) lower → Goes o (put_text device text f lower left)
 put_goes o device None f lower left t = traps_goes o Format f lower
@@ -195,13 +187,13 @@ put_with o f lower code s d n items there h =
     let suits = format_kinds items (plain_kinds (reverse (take count s))) (ap (λ i. values_suit i s) (sym there) ∙ h.keeps.limits) in
     taken_goes o (Suits o rs) count s f.operands
     (λ values left. given (value_kinds values) (λ kinds. needed (items_suit items kinds) (put_text d (text_of items values) f lower left))) few h.stands.operands (λ values left held under.
-        given_goes o suits.0 (value_kinds values) (λ kinds. needed (items_suit items kinds) (put_text d (text_of items values) f lower left))
-        (kinds_of_values o rs (reverse (take count s)) values suits.0 suits.1 held)
-        (needed_goes o (items_suit items suits.0) (put_text d (text_of items values) f lower left) suits.2
-        (put_goes o d (text_of items values) f lower left
-            (goes o f lower code (Put d n) s h f.cells left (drop count s) refl
-                (ap (λ n. drop n s) (sym (length-replicate count Anything)) ∙ ap (λ i. drop (length (values_asked i)) s) (sym there))
-                h.stands.cells under))))
+    given_goes o suits.0 (value_kinds values) (λ kinds. needed (items_suit items kinds) (put_text d (text_of items values) f lower left))
+    (kinds_of_values o rs (reverse (take count s)) values suits.0 suits.1 held)
+    (needed_goes o (items_suit items suits.0) (put_text d (text_of items values) f lower left) suits.2
+    (put_goes o d (text_of items values) f lower left
+    (goes o f lower code (Put d n) s h f.cells left (drop count s) refl
+    (ap (λ n. drop n s) (sym (length-replicate count Anything)) ∙ ap (λ i. drop (length (values_asked i)) s) (sym there))
+    h.stands.cells under))))
 
 pub put_sound : (o : Object) (f : Frame) (lower : List Frame) (code : Code) (s : Shape) (d n : ℕ) → Here o f lower code (Put d n) s → Goes o (act o (Put d n) f lower)
 put_sound o f lower code s d n h =

@@ -1,34 +1,31 @@
 -- The row of ACTIVATE leads from a stack of a valid object to such stacks only.
-use Rattle.std.proofs.Common.{◌≡◌, ℕ, zero, suc, ◌+◌, ◌<◌, ◌≤◌, ℤ, pos, negsuc, List, [], ◌∷◌, ◌++◌, Option, Some, None, length, map, reverse, take, drop, slice_get, refl, sym, ap, ◌∙◌, subst, arith, Bool, true, false, Box, Global}
+use Rattle.std.proofs.Common.{◌≡◌, ℕ, suc, ◌+◌, ◌≤◌, pos, List, [], ◌∷◌, ◌++◌, Option, Some, None, length, map, reverse, take, drop, refl, sym, ap, ◌∙◌, subst, arith, Bool, true, false, Box, Global}
 use Rattle.std.specs.Prelude.{◌&&◌, int_le, if◌then◌else◌, unsigned_abs}
 use Rattle.std.specs.List.{AllZip}
 use Rattle.std.proofs.lemmas.List.{append_assoc, map-append, reverse-append, length-append}
 use Rattle.pearl_value.specs.declared.kind.Kind.{Kind}
-use Rattle.pearl_value.specs.declared.kind.CellKind.{CellKind}
-use Rattle.pearl_value.specs.declared.kind.CellKind.TheVariants.{Plain, RefTo}
+use Rattle.pearl_value.specs.declared.kind.CellKind.TheVariants.{Plain}
 use Rattle.pearl_value.specs.declared.cell.Cell.{Cell}
 use Rattle.pearl_value.specs.declared.cell.Cell.TheVariants as cell
 use Rattle.pearl_value.specs.declared.trap.Trap.TheVariants.{Range}
 use Rattle.pearl_rules.specs.declared.action.Action.TheVariants as action
-use Rattle.pearl_rules.specs.declared.action.Start.{Start}
 use Rattle.pearl_rules.specs.declared.action.Repeat.{Repeat}
 use Rattle.pearl_rules.specs.declared.action.Repeat.TheVariants as repeat
 use Rattle.pearl_stack.specs.Frames.{Frame}
-use Rattle.pearl_instructions.specs.declared.schedule.StartForm.{StartForm}
 use Rattle.pearl_instructions.specs.declared.schedule.RepeatForm.{RepeatForm}
 use Rattle.pearl_instructions.specs.declared.schedule.RepeatForm.TheVariants as again
 use Rattle.pearl_instructions.specs.declared.instr.Activation.{Activation}
 use Rattle.pearl_instructions.specs.declared.instr.Instr.TheVariants.{Activate}
 use Rattle.pearl_instructions.specs.declared.object.Code.{Code}
 use Rattle.pearl_instructions.specs.declared.object.Object.{Object}
-use Rattle.pearl_instructions.specs.Steps.{Step, taken, next, traps, acts}
-use Rattle.pearl_instructions.specs.Offers.{start_kinds, repeat_kinds, activation_count, lasting, started, repeated, with_priority}
+use Rattle.pearl_instructions.specs.Steps.{Step, acts}
+use Rattle.pearl_instructions.specs.Offers.{start_kinds, repeat_kinds, activation_count, started, repeated, with_priority}
 use Rattle.pearl_instructions.specs.Rows.{act}
 use Rattle.pearl_instructions.specs.Operands.{Shape, is_fixed, scheduled, priority_asked, v2}
-use Rattle.pearl_instructions.specs.Stacks.{routines_of, Suits, IsTop, Goes}
+use Rattle.pearl_instructions.specs.Stacks.{routines_of, Suits, Goes}
 use Rattle.pearl_instructions.proofs.Tests.{and_true}
 use Rattle.pearl_instructions.proofs.Lists.{scheduled_ends, scheduled_long}
-use Rattle.pearl_instructions.proofs.Kept.{Keeps, Here, goes, taken_goes, traps_goes}
+use Rattle.pearl_instructions.proofs.Kept.{Here, goes, taken_goes, traps_goes}
 use Rattle.pearl_instructions.proofs.SoundCells.{if_goes}
 use Rattle.pearl_instructions.proofs.SoundOperators.{fixed_is, fixed_kind}
 use Rattle.pearl_instructions.proofs.SoundActions.{clock_is, span_is, lasting_goes, started_goes, nothing_behind}
@@ -95,7 +92,8 @@ planned kinds false n s e h =
       tail = [];
       ends = ap (λ n. reverse (take n s)) same ∙ (ends.1 ∙ sym (nothing_behind (map Plain kinds)));
       priority = tt;
-      long = scheduled_long kinds ∙ sym same }
+      long = scheduled_long kinds ∙ sym same;
+    }
 planned kinds true n [] e h = cc
 planned kinds true n (k ∷ s) e h =
     let same : n ≡ suc (length kinds) = omega (arith, e) in
@@ -107,7 +105,8 @@ planned kinds true n (k ∷ s) e h =
       tail = k ∷ [];
       ends = ap (λ n. reverse (take n (k ∷ s))) same ∙ (reverse-append (k ∷ []) (take (length kinds) s) ∙ ap (λ t. t ++ k ∷ []) ends.1);
       priority = both.0;
-      long = ap suc (scheduled_long kinds) ∙ sym same }
+      long = ap suc (scheduled_long kinds) ∙ sym same;
+    }
 
 pub activate_sound : (o : Object) (f : Frame) (lower : List Frame) (code : Code) (s : Shape) (a : Box Activation Global) → Here o f lower code (Activate a) s →
     Goes o (act o (Activate a) f lower)
@@ -120,18 +119,18 @@ activate_sound o f lower code s a h =
     let long : n ≡ length (first ++ later) + (if b then 1 else 0) = ap (λ m. m + (if b then 1 else 0)) (sym (length-append first later)) in
     let p = planned (first ++ later) b n s long h.keeps.ends in
     let ends : reverse (take n s) ≡ map Plain first ++ (map Plain later ++ p.tail) =
-        p.ends ∙ (ap (λ t. t ++ p.tail) (map-append Plain first later) ∙ append_assoc (map Plain first) (map Plain later) p.tail) in
+    p.ends ∙ (ap (λ t. t ++ p.tail) (map-append Plain first later) ∙ append_assoc (map Plain first) (map Plain later) p.tail) in
     taken_goes o (Suits o rs) n s f.operands (λ values left.
-        started a.value.start values f lower (λ when more.
-        repeated a.value.repeat more f lower (λ how rest.
-        with_priority a.value.priority rest f lower (λ priority.
-        acts (action.Activate a.value.task when how priority) f lower left)))) p.few h.stands.operands (λ values left there under.
-        started_goes o rs a.value.start (map Plain later ++ p.tail) values f lower (λ when more.
-            repeated a.value.repeat more f lower (λ how rest.
-            with_priority a.value.priority rest f lower (λ priority.
-            acts (action.Activate a.value.task when how priority) f lower left))) (subst (λ ks. AllZip (Suits o rs) ks values) ends there) (λ when more z.
-        repeated_goes o rs a.value.repeat p.tail more f lower (λ how rest.
-            with_priority a.value.priority rest f lower (λ priority.
-            acts (action.Activate a.value.task when how priority) f lower left)) z (λ how rest w.
-        priority_goes o rs b p.tail rest f lower (λ priority. acts (action.Activate a.value.task when how priority) f lower left) p.priority w (λ priority answer e.
-            goes o f lower code (Activate a) s h f.cells left (drop n s) refl (ap (λ n. drop n s) (sym p.long)) h.stands.cells under))))
+    started a.value.start values f lower (λ when more.
+    repeated a.value.repeat more f lower (λ how rest.
+    with_priority a.value.priority rest f lower (λ priority.
+    acts (action.Activate a.value.task when how priority) f lower left)))) p.few h.stands.operands (λ values left there under.
+    started_goes o rs a.value.start (map Plain later ++ p.tail) values f lower (λ when more.
+    repeated a.value.repeat more f lower (λ how rest.
+    with_priority a.value.priority rest f lower (λ priority.
+    acts (action.Activate a.value.task when how priority) f lower left))) (subst (λ ks. AllZip (Suits o rs) ks values) ends there) (λ when more z.
+    repeated_goes o rs a.value.repeat p.tail more f lower (λ how rest.
+    with_priority a.value.priority rest f lower (λ priority.
+    acts (action.Activate a.value.task when how priority) f lower left)) z (λ how rest w.
+    priority_goes o rs b p.tail rest f lower (λ priority. acts (action.Activate a.value.task when how priority) f lower left) p.priority w (λ priority answer e.
+    goes o f lower code (Activate a) s h f.cells left (drop n s) refl (ap (λ n. drop n s) (sym p.long)) h.stands.cells under))))

@@ -1,7 +1,7 @@
 -- The rows on cells lead from a stack of a valid object to such stacks only.
-use Rattle.std.proofs.Common.{◌≡◌, ℕ, zero, suc, ◌+◌, ◌<◌, ◌≤◌, ℤ, pos, negsuc, List, [], ◌∷◌, ◌++◌, Option, Some, None, length, map, take, drop, replicate, slice_get, slice_set, refl, sym, ap, ◌∙◌, subst, arith, Bool, true, false, ltb-true, leb-true, lt-ltb, le-leb, eq-eqb, Box, Global}
-use Rattle.std.specs.Prelude.{◌&&◌, ◌==◌, not, nat_lt, nat_le, if◌then◌else◌, option_to_list, option_map, option_and_then}
-use Rattle.std.specs.List.{AllZip, list_all}
+use Rattle.std.proofs.Common.{◌≡◌, ℕ, ◌+◌, ◌<◌, pos, negsuc, List, [], ◌∷◌, ◌++◌, Option, Some, None, length, slice_get, slice_set, refl, sym, ap, ◌∙◌, subst, arith, Bool, true, false, ltb-true, le-leb, eq-eqb, Box, Global}
+use Rattle.std.specs.Prelude.{◌==◌, nat_lt, nat_le, if◌then◌else◌, option_to_list, option_map, option_and_then}
+use Rattle.std.specs.List.{AllZip}
 use Rattle.std.proofs.lemmas.List.{length-map}
 use Rattle.std.proofs.lemmas.Option.{same_Some}
 use Rattle.pearl_value.specs.declared.kind.Kind.{Kind}
@@ -11,10 +11,8 @@ use Rattle.pearl_value.specs.declared.kind.CellKind.TheVariants.{Plain, RefTo}
 use Rattle.pearl_value.specs.declared.cell.Place.TheVariants as place
 use Rattle.pearl_value.specs.declared.cell.Cell.{Cell}
 use Rattle.pearl_value.specs.declared.cell.Cell.TheVariants as cell
-use Rattle.pearl_value.specs.declared.trap.Trap.{Trap}
 use Rattle.pearl_value.specs.declared.trap.Trap.TheVariants.{Index}
-use Rattle.pearl_value.specs.Cells.{kind_of, cell_kind_of}
-use Rattle.pearl_value.specs.Kinds.{IsKind}
+use Rattle.pearl_value.specs.Cells.{cell_kind_of}
 use Rattle.pearl_value.specs.WellFormed.{IsValue, IsValueOf}
 use Rattle.pearl_value.specs.Blanks.{blank_of}
 use Rattle.pearl_stack.specs.Frames.{Frame}
@@ -22,18 +20,18 @@ use Rattle.pearl_instructions.specs.declared.instr.Instr.{Instr}
 use Rattle.pearl_instructions.specs.declared.instr.Instr.TheVariants.{Const, Load, Store, Fill, Drop, LoadAt, StoreAt, RefCell, RefCellAt}
 use Rattle.pearl_instructions.specs.declared.object.Code.{Code}
 use Rattle.pearl_instructions.specs.declared.object.Object.{Object}
-use Rattle.pearl_instructions.specs.Steps.{Step, Missing, given, needed, popped, value_kind, traps, within}
-use Rattle.pearl_instructions.specs.Cells.{load, store, filled, cell_reference}
+use Rattle.pearl_instructions.specs.Steps.{Step, value_kind, traps, within}
+use Rattle.pearl_instructions.specs.Cells.{store, filled, cell_reference}
 use Rattle.pearl_instructions.specs.Rows.{act}
-use Rattle.pearl_instructions.specs.Operands.{Shape, same_cell, is_reference, meets, offset, v2}
-use Rattle.pearl_instructions.specs.Named.{has_cells, cells_at, range_of, get_cells}
-use Rattle.pearl_instructions.specs.Kinds.{is_kind, has_on_top, first_kind, is_uniform, suits_exactly, reference_to}
-use Rattle.pearl_instructions.specs.Stacks.{routines_of, cell_kinds, plain_at, cell_kind, Suits, Stands, IsTop, IsStack, Goes}
-use Rattle.pearl_instructions.proofs.Tests.{and_true, same_cell_true, all_at}
+use Rattle.pearl_instructions.specs.Operands.{Shape, meets, offset, v2}
+use Rattle.pearl_instructions.specs.Named.{has_cells, cells_at}
+use Rattle.pearl_instructions.specs.Kinds.{is_kind, has_on_top, first_kind, is_uniform, reference_to}
+use Rattle.pearl_instructions.specs.Stacks.{routines_of, cell_kinds, plain_at, cell_kind, Suits, IsTop, Goes}
+use Rattle.pearl_instructions.proofs.Tests.{and_true, same_cell_true}
 use Rattle.pearl_instructions.proofs.Zips.{some_at, zip_get, zip_set, zip_length}
 use Rattle.pearl_instructions.proofs.Ranges.{all_front, Range, range_is, zip_fill}
 use Rattle.pearl_instructions.proofs.Referred.{is_plain_at, suits_grown, kinds_is}
-use Rattle.pearl_instructions.proofs.Kept.{Keeps, Here, goes, given_goes, needed_goes, popped_goes, traps_goes}
+use Rattle.pearl_instructions.proofs.Kept.{Here, goes, given_goes, needed_goes, popped_goes, traps_goes}
 
 pub if_goes : (o : Object) (b : Bool) (x y : Step) → (b ≡ true → Goes o x) → (b ≡ false → Goes o y) → Goes o (if b then x else y)
 if_goes o true x y h g = h refl
@@ -95,7 +93,7 @@ pub drop_sound : (o : Object) (f : Frame) (lower : List Frame) (code : Code) (s 
 drop_sound o f lower code [] h = let e = h.keeps.ends in cc
 drop_sound o f lower code (k ∷ ks) h =
     popped_goes o (Suits o (f.routine ∷ routines_of lower)) k ks f.operands _ h.stands.operands (λ x left suits rest.
-        goes o f lower code Drop (k ∷ ks) h f.cells left ks refl refl h.stands.cells rest)
+    goes o f lower code Drop (k ∷ ks) h f.cells left ks refl refl h.stands.cells rest)
 
 -- the one cell that Store or RefCell names
 one_cell : (code : Code) (c : ℕ) → c < length code.cells → has_cells code c 1 ≡ true
@@ -109,7 +107,7 @@ on_top_is k ks (Some want) other e h = same_cell_true k want e ∙ same_Some wan
 put_goes : (o : Object) (f : Frame) (lower : List Frame) (code : Code) (instr : Instr) (s : Shape) (h : Here o f lower code instr s) (c n i m : ℕ) (r : Range code c n)
     (x : Cell) (left : List Cell) (ks : Shape) → m ≡ c + i → i < n → Suits o (f.routine ∷ routines_of lower) (Plain r.kind) x →
     ((cells : List Cell) → AllZip (Suits o (routines_of lower)) code.cells cells →
-        IsTop o (record { routine = f.routine; place = f.place + 1; cells = cells; operands = left }) lower) →
+    IsTop o (record { routine = f.routine; place = f.place + 1; cells = cells; operands = left }) lower) →
     Goes o (store m x f lower left)
 put_goes o f lower code instr s h c n i m r x left ks e less suits go =
     let at : slice_get code.cells m ≡ Some (Plain r.kind) = r.each i m e less in
@@ -125,8 +123,8 @@ store_sound o f lower code (k ∷ ks) c h =
     let r = range_is code c 1 (one_cell code c (ltb-true c (length code.cells) h.keeps.named)) exact.0 (all_front _ (cells_at code c 1) [] h.keeps.plain) in
     let same : k ≡ Plain r.kind = on_top_is k ks (first_kind (cells_at code c 1)) (Plain r.kind) exact.1 r.head in
     popped_goes o (Suits o rs) k ks f.operands _ h.stands.operands (λ x left suits rest.
-        put_goes o f lower code (Store c) (k ∷ ks) h c 1 0 c r x left ks (omega arith) (omega arith) (subst (λ k. Suits o rs k x) same suits) (λ cells z.
-            goes o f lower code (Store c) (k ∷ ks) h cells left ks refl refl z rest))
+    put_goes o f lower code (Store c) (k ∷ ks) h c 1 0 c r x left ks (omega arith) (omega arith) (subst (λ k. Suits o rs k x) same suits) (λ cells z.
+    goes o f lower code (Store c) (k ∷ ks) h cells left ks refl refl z rest))
 
 pub fill_sound : (o : Object) (f : Frame) (lower : List Frame) (code : Code) (s : Shape) (c n : ℕ) (of : Kind) →
     IsValueOf of (blank_of of) → Here o f lower code (Fill c n of) s → Goes o (act o (Fill c n of) f lower)
@@ -138,8 +136,8 @@ fill_sound o f lower code s c n of blank h =
     let within = r.within in
     needed_goes o (nat_le (c + n) (length f.cells)) _ (le-leb (c + n) (length f.cells) (omega (arith, long, within)))
     (goes o f lower code (Fill c n of) s h (filled f.cells c n of) f.operands s refl refl
-        (zip_fill (Suits o (routines_of lower)) code.cells f.cells c n (c + n) (Plain r.kind) (blank_of of) refl r.within r.each
-            (subst (λ k. Suits o (routines_of lower) k (blank_of of)) same blank) h.stands.cells) h.stands.operands)
+    (zip_fill (Suits o (routines_of lower)) code.cells f.cells c n (c + n) (Plain r.kind) (blank_of of) refl r.within r.each
+    (subst (λ k. Suits o (routines_of lower) k (blank_of of)) same blank) h.stands.cells) h.stands.operands)
 
 pub load_at_sound : (o : Object) (f : Frame) (lower : List Frame) (code : Code) (s : Shape) (c n : ℕ) → Here o f lower code (LoadAt c n) s → Goes o (act o (LoadAt c n) f lower)
 load_at_sound o f lower code [] c n h = let e = h.keeps.ends in cc
@@ -148,12 +146,12 @@ load_at_sound o f lower code (k ∷ ks) c n h =
     let exact = and_true (is_uniform (cells_at code c n)) true h.keeps.exact in
     let r = range_is code c n h.keeps.named exact.0 (all_front _ (cells_at code c n) [] h.keeps.plain) in
     popped_goes o (Suits o rs) k ks f.operands _ h.stands.operands (λ x left suits rest.
-        within_goes o n x f lower _ (subst (λ k. Suits o rs k x) (sym (offset_on_top k ks h.keeps.ends)) suits) (λ i less.
-            let at : slice_get code.cells (c + i) ≡ Some (Plain r.kind) = r.each i (c + i) refl less in
-            let got = zip_get (Suits o (routines_of lower)) code.cells f.cells (c + i) (Plain r.kind) h.stands.cells at in
-            given_goes o got.0 (slice_get f.cells (c + i)) _ got.1
-            (goes o f lower code (LoadAt c n) (k ∷ ks) h f.cells (got.0 ∷ left) (Plain r.kind ∷ ks) refl (ap (λ k. option_to_list k ++ ks) (sym r.first)) h.stands.cells
-            (got.2, rest))))
+    within_goes o n x f lower _ (subst (λ k. Suits o rs k x) (sym (offset_on_top k ks h.keeps.ends)) suits) (λ i less.
+    let at : slice_get code.cells (c + i) ≡ Some (Plain r.kind) = r.each i (c + i) refl less in
+    let got = zip_get (Suits o (routines_of lower)) code.cells f.cells (c + i) (Plain r.kind) h.stands.cells at in
+    given_goes o got.0 (slice_get f.cells (c + i)) _ got.1
+    (goes o f lower code (LoadAt c n) (k ∷ ks) h f.cells (got.0 ∷ left) (Plain r.kind ∷ ks) refl (ap (λ k. option_to_list k ++ ks) (sym r.first)) h.stands.cells
+    (got.2, rest))))
 
 pub store_at_sound : (o : Object) (f : Frame) (lower : List Frame) (code : Code) (s : Shape) (c n : ℕ) → Here o f lower code (StoreAt c n) s → Goes o (act o (StoreAt c n) f lower)
 store_at_sound o f lower code [] c n h = let e = h.keeps.ends in cc
@@ -164,10 +162,10 @@ store_at_sound o f lower code (k ∷ l ∷ ks) c n h =
     let r = range_is code c n h.keeps.named exact.0 (all_front _ (cells_at code c n) [] h.keeps.plain) in
     let same : k ≡ Plain r.kind = on_top_is k (l ∷ ks) (first_kind (cells_at code c n)) (Plain r.kind) exact.1 r.head in
     popped_goes o (Suits o rs) k (l ∷ ks) f.operands _ h.stands.operands (λ x more suits rest.
-        popped_goes o (Suits o rs) l ks more _ rest (λ at left suits_at under.
-            within_goes o n at f lower _ (subst (λ k. Suits o rs k at) (sym (offset_on_top l ks h.keeps.ends)) suits_at) (λ i less.
-                put_goes o f lower code (StoreAt c n) (k ∷ l ∷ ks) h c n i (c + i) r x left ks refl less (subst (λ k. Suits o rs k x) same suits) (λ cells z.
-                    goes o f lower code (StoreAt c n) (k ∷ l ∷ ks) h cells left ks refl refl z under))))
+    popped_goes o (Suits o rs) l ks more _ rest (λ at left suits_at under.
+    within_goes o n at f lower _ (subst (λ k. Suits o rs k at) (sym (offset_on_top l ks h.keeps.ends)) suits_at) (λ i less.
+    put_goes o f lower code (StoreAt c n) (k ∷ l ∷ ks) h c n i (c + i) r x left ks refl less (subst (λ k. Suits o rs k x) same suits) (λ cells z.
+    goes o f lower code (StoreAt c n) (k ∷ l ∷ ks) h cells left ks refl refl z under))))
 
 -- a reference to a cell of a range is pushed
 reference_goes : (o : Object) (f : Frame) (lower : List Frame) (code : Code) (instr : Instr) (s : Shape) (h : Here o f lower code instr s) (c n i m : ℕ) (r : Range code c n)
@@ -179,11 +177,11 @@ reference_goes o f lower code instr s h c n i m r left e less go =
     let got = zip_get (Suits o (routines_of lower)) code.cells f.cells m (Plain r.kind) h.stands.cells at in
     let there : option_and_then value_kind (slice_get f.cells m) ≡ Some r.kind = ap (option_and_then value_kind) got.1 ∙ value_kind_is r.kind got.0 got.2 in
     let plain : plain_at (cell_kinds o f.routine) m ≡ Some r.kind =
-        ap (λ ks. plain_at ks m) (kinds_is o f.routine code h.routine) ∙ is_plain_at code.cells m r.kind at in
+    ap (λ ks. plain_at ks m) (kinds_is o f.routine code h.routine) ∙ is_plain_at code.cells m r.kind at in
     let long : length lower ≡ length (routines_of lower) = sym (length-map lower (λ f. f.routine)) in
     let own : (length lower == length (routines_of lower)) ≡ true = eq-eqb (length lower) (length (routines_of lower)) long in
     let named : cell_kind o (f.routine ∷ routines_of lower) (length lower) m ≡ Some r.kind =
-        ap (λ b. if b then plain_at (cell_kinds o f.routine) m else cell_kind o (routines_of lower) (length lower) m) own ∙ plain in
+    ap (λ b. if b then plain_at (cell_kinds o f.routine) m else cell_kind o (routines_of lower) (length lower) m) own ∙ plain in
     given_goes o r.kind (option_and_then value_kind (slice_get f.cells m)) _ there (go (cell.Ref r.kind (place.Cell (length lower) m)) (refl, named))
 
 pub ref_cell_sound : (o : Object) (f : Frame) (lower : List Frame) (code : Code) (s : Shape) (c : ℕ) → Here o f lower code (RefCell c) s → Goes o (act o (RefCell c) f lower)
@@ -191,8 +189,8 @@ ref_cell_sound o f lower code s c h =
     let exact = and_true (is_uniform (cells_at code c 1)) true h.keeps.exact in
     let r = range_is code c 1 (one_cell code c (ltb-true c (length code.cells) h.keeps.named)) exact.0 (all_front _ (cells_at code c 1) [] h.keeps.plain) in
     reference_goes o f lower code (RefCell c) s h c 1 0 c r f.operands (omega arith) (omega arith) (λ x suits.
-        goes o f lower code (RefCell c) s h f.cells (x ∷ f.operands) (RefTo r.kind ∷ s) refl (ap (λ k. option_to_list (option_map reference_to k) ++ s) (sym r.first))
-        h.stands.cells (suits, h.stands.operands))
+    goes o f lower code (RefCell c) s h f.cells (x ∷ f.operands) (RefTo r.kind ∷ s) refl (ap (λ k. option_to_list (option_map reference_to k) ++ s) (sym r.first))
+    h.stands.cells (suits, h.stands.operands))
 
 pub ref_cell_at_sound : (o : Object) (f : Frame) (lower : List Frame) (code : Code) (s : Shape) (c n : ℕ) → Here o f lower code (RefCellAt c n) s →
     Goes o (act o (RefCellAt c n) f lower)
@@ -202,7 +200,7 @@ ref_cell_at_sound o f lower code (k ∷ ks) c n h =
     let exact = and_true (is_uniform (cells_at code c n)) true h.keeps.exact in
     let r = range_is code c n h.keeps.named exact.0 (all_front _ (cells_at code c n) [] h.keeps.plain) in
     popped_goes o (Suits o rs) k ks f.operands _ h.stands.operands (λ x left suits rest.
-        within_goes o n x f lower _ (subst (λ k. Suits o rs k x) (sym (offset_on_top k ks h.keeps.ends)) suits) (λ i less.
-            reference_goes o f lower code (RefCellAt c n) (k ∷ ks) h c n i (c + i) r left refl less (λ y suits_y.
-                goes o f lower code (RefCellAt c n) (k ∷ ks) h f.cells (y ∷ left) (RefTo r.kind ∷ ks) refl (ap (λ k. option_to_list (option_map reference_to k) ++ ks) (sym r.first))
-                h.stands.cells (suits_y, rest))))
+    within_goes o n x f lower _ (subst (λ k. Suits o rs k x) (sym (offset_on_top k ks h.keeps.ends)) suits) (λ i less.
+    reference_goes o f lower code (RefCellAt c n) (k ∷ ks) h c n i (c + i) r left refl less (λ y suits_y.
+    goes o f lower code (RefCellAt c n) (k ∷ ks) h f.cells (y ∷ left) (RefTo r.kind ∷ ks) refl (ap (λ k. option_to_list (option_map reference_to k) ++ ks) (sym r.first))
+    h.stands.cells (suits_y, rest))))

@@ -1,10 +1,9 @@
 -- The row of GET leads from a stack of a valid object to such stacks only.
-use Rattle.std.proofs.Common.{◌≡◌, ℕ, zero, suc, ◌+◌, ◌<◌, ◌≤◌, List, [], ◌∷◌, ◌++◌, Option, Some, None, length, take, drop, slice_get, refl, sym, ap, ◌∙◌, subst, arith, Bool, true, false, ltb-true, leb-true, le-leb, take-append-drop, Box, Global}
-use Rattle.std.specs.Prelude.{◌&&◌, ◌||◌, ◌⊎◌, nat_lt, nat_le, if◌then◌else◌, option_and_then}
+use Rattle.std.proofs.Common.{◌≡◌, ℕ, zero, suc, ◌+◌, ◌≤◌, List, [], ◌∷◌, ◌++◌, Option, Some, None, length, take, drop, slice_get, refl, sym, ap, ◌∙◌, subst, arith, Bool, true, false, leb-true, le-leb, take-append-drop, Box, Global}
+use Rattle.std.specs.Prelude.{◌⊎◌, nat_lt, nat_le, if◌then◌else◌, option_and_then}
 use Rattle.std.proofs.Common.{inl, inr}
 use Rattle.std.specs.List.{AllZip}
 use Rattle.pearl_value.specs.declared.kind.Kind.{Kind}
-use Rattle.pearl_value.specs.declared.kind.CellKind.{CellKind}
 use Rattle.pearl_value.specs.declared.cell.Cell.{Cell}
 use Rattle.pearl_value.specs.WellFormed.{IsValueOf}
 use Rattle.pearl_format.specs.declared.item.Item.{Item}
@@ -29,7 +28,7 @@ use Rattle.pearl_instructions.proofs.Tests.{and_true, or_true}
 use Rattle.pearl_instructions.proofs.Zips.{zip_length, zip_take, zip_drop}
 use Rattle.pearl_instructions.proofs.Ranges.{zip_put}
 use Rattle.pearl_instructions.proofs.Lists.{kinds_of_values, values_suit_cells}
-use Rattle.pearl_instructions.proofs.Kept.{Keeps, Here, goes, given_goes, needed_goes}
+use Rattle.pearl_instructions.proofs.Kept.{Here, goes, given_goes, needed_goes}
 use Rattle.pearl_instructions.proofs.SoundActions.{format_kinds, nothing_behind}
 
 read_items : (code : Code) (c : ℕ) (items : Option (List Item)) → has_read_cells code c items ≡ true →
@@ -78,13 +77,14 @@ room_is o code cells c n rs z (inl none) =
       held = [];
       there = no_cells cells c n none;
       suits = subst (λ ks. AllZip (Suits o rs) ks []) (sym nothing) tt;
-      put = λ xs w. unchanged xs (subst (λ ks. AllZip (Suits o rs) ks xs) nothing w) }
+      put = λ xs w. unchanged xs (subst (λ ks. AllZip (Suits o rs) ks xs) nothing w);
+    }
   where
     unchanged : (xs : List Cell) → AllZip (Suits o rs) [] xs → AllZip (Suits o rs) code.cells (with_values cells c xs)
     unchanged [] w =
         let at : c + 0 ≡ c = omega arith in
         subst (AllZip (Suits o rs) code.cells)
-            (sym (ap (λ t. t ++ drop (c + 0) cells) (nothing_behind (take c cells)) ∙ (ap (λ m. take c cells ++ drop m cells) at ∙ take-append-drop c cells))) z
+        (sym (ap (λ t. t ++ drop (c + 0) cells) (nothing_behind (take c cells)) ∙ (ap (λ m. take c cells ++ drop m cells) at ∙ take-append-drop c cells))) z
     unchanged (x ∷ xs) w = absurd w
 room_is o code cells c n rs z (inr long) =
     let same = zip_length (Suits o rs) code.cells cells z in
@@ -94,15 +94,16 @@ room_is o code cells c n rs z (inr long) =
       there = ap (λ b. if b then Some (take n (drop c cells)) else (if nat_le n 0 then Some [] else None)) (le-leb (c + n) (length cells) less);
       suits = zip_take (Suits o rs) n (drop c code.cells) (drop c cells) (zip_drop (Suits o rs) c code.cells cells z);
       put = λ xs w.
-        let many : n ≡ length xs = sym (take_long (drop c code.cells) n (drop_long code.cells c n long)) ∙ zip_length (Suits o rs) (cells_at code c n) xs w in
-        let fits : c + length xs ≤ length code.cells = omega (arith, long, many) in
-        zip_put (Suits o rs) code.cells cells xs c (c + length xs) refl fits (subst (λ n. AllZip (Suits o rs) (take n (drop c code.cells)) xs) many w) z }
+          let many : n ≡ length xs = sym (take_long (drop c code.cells) n (drop_long code.cells c n long)) ∙ zip_length (Suits o rs) (cells_at code c n) xs w in
+          let fits : c + length xs ≤ length code.cells = omega (arith, long, many) in
+          zip_put (Suits o rs) code.cells cells xs c (c + length xs) refl fits (subst (λ n. AllZip (Suits o rs) (take n (drop c code.cells)) xs) many w) z;
+    }
 
 -- the values that were read become the cells
 read_goes : (o : Object) (f : Frame) (lower : List Frame) (g : Reading) (kinds : List Kind) →
     ((xs : List Cell) → AllZip IsValueOf kinds xs → IsTop o (next (record f { cells = with_values f.cells g.first xs }) f.operands) lower) →
     Goes o (Offers (action.Get g.device g.format (record { items = kinds }))
-        (λ answer. next (record f { cells = with_values f.cells g.first (all_heard answer) }) f.operands ∷ lower))
+    (λ answer. next (record f { cells = with_values f.cells g.first (all_heard answer) }) f.operands ∷ lower))
 read_goes o f lower g kinds go = by_answer
   where
     by_answer : (answer : Answer) → AreOf kinds answer → IsTop o (next (record f { cells = with_values f.cells g.first (all_heard answer) }) f.operands) lower
@@ -113,8 +114,8 @@ read_goes o f lower g kinds go = by_answer
 get_with : (o : Object) (f : Frame) (lower : List Frame) (code : Code) (s : Shape) (g : Box Reading Global) (items : List Item) → items_at o g.value.format ≡ Some items →
     ((data_count items ≡ 0) ⊎ (g.value.first + data_count items ≤ length code.cells)) → Here o f lower code (Get g) s →
     Goes o (given (option_and_then value_kinds (cells_from f.cells g.value.first (data_count items))) (λ kinds. needed (items_suit items kinds)
-        (Offers (action.Get g.value.device g.value.format (record { items = kinds }))
-            (λ answer. next (record f { cells = with_values f.cells g.value.first (all_heard answer) }) f.operands ∷ lower))))
+    (Offers (action.Get g.value.device g.value.format (record { items = kinds }))
+    (λ answer. next (record f { cells = with_values f.cells g.value.first (all_heard answer) }) f.operands ∷ lower))))
 get_with o f lower code s g items there size h =
     let rs = routines_of lower in
     let c = g.value.first in
@@ -122,12 +123,12 @@ get_with o f lower code s g items there size h =
     let suits = format_kinds items (plain_kinds (cells_at code c n)) (ap (λ i. cells_suit i (read_cells code c i)) (sym there) ∙ h.keeps.limits) in
     let room = room_is o code f.cells c n rs h.stands.cells size in
     given_goes o suits.0 (option_and_then value_kinds (cells_from f.cells c n)) (λ kinds. needed (items_suit items kinds)
-        (Offers (action.Get g.value.device g.value.format (record { items = kinds }))
-            (λ answer. next (record f { cells = with_values f.cells g.value.first (all_heard answer) }) f.operands ∷ lower)))
+    (Offers (action.Get g.value.device g.value.format (record { items = kinds }))
+    (λ answer. next (record f { cells = with_values f.cells g.value.first (all_heard answer) }) f.operands ∷ lower)))
     (ap (option_and_then value_kinds) room.there ∙ kinds_of_values o rs (cells_at code c n) room.held suits.0 suits.1 room.suits)
     (needed_goes o (items_suit items suits.0) _ suits.2 (read_goes o f lower g.value suits.0 (λ xs fits.
-        goes o f lower code (Get g) s h (with_values f.cells c xs) f.operands s refl refl
-            (room.put xs (values_suit_cells o rs (cells_at code c n) suits.0 xs suits.1 fits)) h.stands.operands)))
+    goes o f lower code (Get g) s h (with_values f.cells c xs) f.operands s refl refl
+    (room.put xs (values_suit_cells o rs (cells_at code c n) suits.0 xs suits.1 fits)) h.stands.operands)))
 
 pub get_sound : (o : Object) (f : Frame) (lower : List Frame) (code : Code) (s : Shape) (g : Box Reading Global) → Here o f lower code (Get g) s →
     Goes o (act o (Get g) f lower)
@@ -135,7 +136,7 @@ get_sound o f lower code s g h =
     let named = and_true (gives_texts (slice_get o.devices g.value.device)) (has_read_cells code g.value.first (items_at o g.value.format)) h.keeps.named in
     let items = read_items code g.value.first (items_at o g.value.format) named.1 in
     given_goes o items.0 (items_at o g.value.format) (λ items.
-        given (option_and_then value_kinds (cells_from f.cells g.value.first (data_count items))) (λ kinds. needed (items_suit items kinds)
-        (Offers (action.Get g.value.device g.value.format (record { items = kinds }))
-            (λ answer. next (record f { cells = with_values f.cells g.value.first (all_heard answer) }) f.operands ∷ lower))))
+    given (option_and_then value_kinds (cells_from f.cells g.value.first (data_count items))) (λ kinds. needed (items_suit items kinds)
+    (Offers (action.Get g.value.device g.value.format (record { items = kinds }))
+    (λ answer. next (record f { cells = with_values f.cells g.value.first (all_heard answer) }) f.operands ∷ lower))))
     items.1 (get_with o f lower code s g items.0 items.1 items.2 h)

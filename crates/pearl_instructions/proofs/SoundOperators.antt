@@ -1,7 +1,6 @@
 -- The rows on operators, conversions and subscripts lead from a stack of a valid object to such stacks only.
-use Rattle.std.proofs.Common.{◌≡◌, ℕ, zero, suc, ◌+◌, ◌<◌, ◌≤◌, ℤ, pos, negsuc, ◌+ℤ◌, ◌-ℤ◌, ◌*ℤ◌, List, [], ◌∷◌, ◌++◌, Option, Some, None, length, map, reverse, take, drop, replicate, slice_get, refl, sym, ap, ◌∙◌, subst, arith, Bool, true, false}
-use Rattle.std.specs.Prelude.{◌&&◌, ◌==◌, nat_le, int_le, is_some, if◌then◌else◌, option_to_list, option_map, option_and_then, Result, Ok, Err}
-use Rattle.std.specs.List.{AllZip}
+use Rattle.std.proofs.Common.{◌≡◌, ℕ, ℤ, pos, List, [], ◌∷◌, ◌++◌, Option, Some, None, length, refl, sym, ap, ◌∙◌, subst, true}
+use Rattle.std.specs.Prelude.{option_to_list, option_map, option_and_then, Result, Ok, Err}
 use Rattle.std.specs.Ordering.{int_eq}
 use Rattle.std.proofs.lemmas.Option.{same_Some}
 use Rattle.pearl_value.specs.declared.kind.Kind.{Kind}
@@ -16,25 +15,24 @@ use Rattle.pearl_value.specs.declared.trap.Trap.{Trap}
 use Rattle.pearl_value.specs.declared.trap.Trap.TheVariants.{Range}
 use Rattle.pearl_value.specs.Cells.{kind_of}
 use Rattle.pearl_value.specs.Kinds.{IsKind}
-use Rattle.pearl_value.specs.WellFormed.{IsValue, IsValueOf}
+use Rattle.pearl_value.specs.WellFormed.{IsValueOf}
 use Rattle.pearl_value.specs.Rows.{row1, row2}
 use Rattle.pearl_value.specs.Applied.{applied1, applied2}
 use Rattle.pearl_value.specs.Conversions.{converted}
 use Rattle.pearl_value.specs.Laws.{Gives}
 use Rattle.pearl_value.proofs.Results.{keeps_rows1, keeps_rows2, keeps_kinds}
 use Rattle.pearl_stack.specs.Frames.{Frame}
-use Rattle.pearl_instructions.specs.declared.instr.Instr.{Instr}
 use Rattle.pearl_instructions.specs.declared.instr.Instr.TheVariants.{Conv, NonZero, Monadic, Dyadic}
 use Rattle.pearl_instructions.specs.declared.object.Code.{Code}
 use Rattle.pearl_instructions.specs.declared.object.Object.{Object}
-use Rattle.pearl_instructions.specs.Steps.{Step, Missing, given, needed, popped, value_kind, next, traps, leaves, makes}
+use Rattle.pearl_instructions.specs.Steps.{value_kind, next, traps, leaves, makes}
 use Rattle.pearl_instructions.specs.Operators.{suits_kind, number_of}
 use Rattle.pearl_instructions.specs.Rows.{act}
-use Rattle.pearl_instructions.specs.Operands.{Shape, is_fixed, meets, SomeFixed, v2}
-use Rattle.pearl_instructions.specs.Kinds.{plain_kind, monadic_kind, dyadic_kind, converts}
-use Rattle.pearl_instructions.specs.Stacks.{routines_of, Suits, IsTop, IsStack, Goes}
+use Rattle.pearl_instructions.specs.Operands.{Shape, is_fixed, v2}
+use Rattle.pearl_instructions.specs.Kinds.{plain_kind}
+use Rattle.pearl_instructions.specs.Stacks.{routines_of, Suits, IsTop, Goes}
 use Rattle.pearl_instructions.proofs.Tests.{and_true, is_some_true}
-use Rattle.pearl_instructions.proofs.Kept.{Keeps, Here, goes, given_goes, needed_goes, popped_goes, traps_goes}
+use Rattle.pearl_instructions.proofs.Kept.{Here, goes, given_goes, needed_goes, popped_goes, traps_goes}
 use Rattle.pearl_instructions.proofs.SoundCells.{if_goes, value_kind_is}
 
 -- what was made is of a kind, or a trap is offered
@@ -56,10 +54,10 @@ conv_sound o f lower code [] to w h = let e = h.keeps.ends in cc
 conv_sound o f lower code (RefTo k ∷ ks) to w h = let e = h.keeps.fits in cc
 conv_sound o f lower code (Plain k ∷ ks) to w h =
     popped_goes o (Suits o (f.routine ∷ routines_of lower)) (Plain k) ks f.operands _ h.stands.operands (λ x left suits rest.
-        given_goes o k (value_kind x) _ (value_kind_is k x suits)
-        (needed_goes o (suits_kind k to) _ h.keeps.fits
-        (makes_goes o f lower left (converted x to) to (keeps_kinds x to suits.is_value w) (λ y fits.
-            goes o f lower code (Conv to) (Plain k ∷ ks) h f.cells (y ∷ left) (Plain to ∷ ks) refl refl h.stands.cells (fits, rest)))))
+    given_goes o k (value_kind x) _ (value_kind_is k x suits)
+    (needed_goes o (suits_kind k to) _ h.keeps.fits
+    (makes_goes o f lower left (converted x to) to (keeps_kinds x to suits.is_value w) (λ y fits.
+    goes o f lower code (Conv to) (Plain k ∷ ks) h f.cells (y ∷ left) (Plain to ∷ ks) refl refl h.stands.cells (fits, rest)))))
 
 pub monadic_sound : (o : Object) (f : Frame) (lower : List Frame) (code : Code) (s : Shape) (op : Monad) → Here o f lower code (Monadic op) s →
     Goes o (act o (Monadic op) f lower)
@@ -68,11 +66,11 @@ monadic_sound o f lower code (RefTo k ∷ ks) op h = let e = h.keeps.fits in cc
 monadic_sound o f lower code (Plain k ∷ ks) op h =
     let row = is_some_true (row1 op k) h.keeps.fits in
     popped_goes o (Suits o (f.routine ∷ routines_of lower)) (Plain k) ks f.operands _ h.stands.operands (λ x left suits rest.
-        let there : option_and_then (row1 op) (value_kind x) ≡ Some row.0 = ap (option_and_then (row1 op)) (value_kind_is k x suits) ∙ row.1 in
-        given_goes o row.0 (option_and_then (row1 op) (value_kind x)) _ there
-        (makes_goes o f lower left (applied1 op x) row.0 (keeps_rows1 op x row.0 suits.is_value (ap (row1 op) suits.same_kind ∙ row.1)) (λ y fits.
-            goes o f lower code (Monadic op) (Plain k ∷ ks) h f.cells (y ∷ left) (Plain row.0 ∷ ks) refl
-            (ap (λ k. option_to_list (option_map Plain k) ++ ks) (sym row.1)) h.stands.cells (fits, rest))))
+    let there : option_and_then (row1 op) (value_kind x) ≡ Some row.0 = ap (option_and_then (row1 op)) (value_kind_is k x suits) ∙ row.1 in
+    given_goes o row.0 (option_and_then (row1 op) (value_kind x)) _ there
+    (makes_goes o f lower left (applied1 op x) row.0 (keeps_rows1 op x row.0 suits.is_value (ap (row1 op) suits.same_kind ∙ row.1)) (λ y fits.
+    goes o f lower code (Monadic op) (Plain k ∷ ks) h f.cells (y ∷ left) (Plain row.0 ∷ ks) refl
+    (ap (λ k. option_to_list (option_map Plain k) ++ ks) (sym row.1)) h.stands.cells (fits, rest))))
 
 pub dyadic_sound : (o : Object) (f : Frame) (lower : List Frame) (code : Code) (s : Shape) (op : Dyad) → Here o f lower code (Dyadic op) s →
     Goes o (act o (Dyadic op) f lower)
@@ -85,15 +83,15 @@ dyadic_sound o f lower code (Plain k ∷ Plain l ∷ ks) op h =
     let rs = f.routine ∷ routines_of lower in
     let row = is_some_true (row2 op l k) h.keeps.fits in
     popped_goes o (Suits o rs) (Plain k) (Plain l ∷ ks) f.operands _ h.stands.operands (λ y more suits_y under.
-        popped_goes o (Suits o rs) (Plain l) ks more _ under (λ x left suits_x rest.
-            let same : row2 op (kind_of x) (kind_of y) ≡ Some row.0 =
-                ap (λ a. row2 op a (kind_of y)) suits_x.same_kind ∙ (ap (row2 op l) suits_y.same_kind ∙ row.1) in
-            given_goes o l (value_kind x) _ (value_kind_is l x suits_x)
-            (given_goes o k (value_kind y) _ (value_kind_is k y suits_y)
-            (given_goes o row.0 (row2 op l k) _ row.1
-            (makes_goes o f lower left (applied2 op x y) row.0 (keeps_rows2 op x y row.0 suits_x.is_value suits_y.is_value same) (λ z fits.
-                goes o f lower code (Dyadic op) (Plain k ∷ Plain l ∷ ks) h f.cells (z ∷ left) (Plain row.0 ∷ ks) refl
-                (ap (λ k. option_to_list (option_map Plain k) ++ ks) (sym row.1)) h.stands.cells (fits, rest)))))))
+    popped_goes o (Suits o rs) (Plain l) ks more _ under (λ x left suits_x rest.
+    let same : row2 op (kind_of x) (kind_of y) ≡ Some row.0 =
+    ap (λ a. row2 op a (kind_of y)) suits_x.same_kind ∙ (ap (row2 op l) suits_y.same_kind ∙ row.1) in
+    given_goes o l (value_kind x) _ (value_kind_is l x suits_x)
+    (given_goes o k (value_kind y) _ (value_kind_is k y suits_y)
+    (given_goes o row.0 (row2 op l k) _ row.1
+    (makes_goes o f lower left (applied2 op x y) row.0 (keeps_rows2 op x y row.0 suits_x.is_value suits_y.is_value same) (λ z fits.
+    goes o f lower code (Dyadic op) (Plain k ∷ Plain l ∷ ks) h f.cells (z ∷ left) (Plain row.0 ∷ ks) refl
+    (ap (λ k. option_to_list (option_map Plain k) ++ ks) (sym row.1)) h.stands.cells (fits, rest)))))))
 
 -- a value of a FIXED kind is a number
 pub fixed_is : (len : ℕ) (x : Cell) → IsValueOf (kind.Fixed len) x → (value : ℤ) × (x ≡ cell.Fixed len value)
@@ -139,7 +137,7 @@ non_zero_sound o f lower code [] h = let e = h.keeps.ends in cc
 non_zero_sound o f lower code (k ∷ ks) h =
     let fixed = and_true (is_fixed k) (v2 [] ks) h.keeps.ends in
     popped_goes o (Suits o (f.routine ∷ routines_of lower)) k ks f.operands _ h.stands.operands (λ x left suits rest.
-        let n = number_is o (f.routine ∷ routines_of lower) k x fixed.0 suits in
-        given_goes o n.0 (number_of x) _ n.1
-        (if_goes o (int_eq n.0 (pos 0)) (traps Range f lower) (leaves f lower f.operands) (λ e. traps_goes o Range f lower) (λ e.
-            goes o f lower code NonZero (k ∷ ks) h f.cells f.operands (k ∷ ks) refl refl h.stands.cells h.stands.operands)))
+    let n = number_is o (f.routine ∷ routines_of lower) k x fixed.0 suits in
+    given_goes o n.0 (number_of x) _ n.1
+    (if_goes o (int_eq n.0 (pos 0)) (traps Range f lower) (leaves f lower f.operands) (λ e. traps_goes o Range f lower) (λ e.
+    goes o f lower code NonZero (k ∷ ks) h f.cells f.operands (k ∷ ks) refl refl h.stands.cells h.stands.operands)))

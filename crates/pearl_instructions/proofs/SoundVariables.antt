@@ -1,11 +1,9 @@
 -- The rows on the module's variables and on references lead from a stack of a valid object to such stacks only.
-use Rattle.std.proofs.Common.{◌≡◌, ℕ, zero, suc, ◌+◌, ◌-◌, ◌<◌, ◌≤◌, List, [], ◌∷◌, ◌++◌, Option, Some, None, length, slice_get, refl, sym, ap, ◌∙◌, subst, arith, Bool, true, false, ltb-true, lt-ltb, le-ltb}
-use Rattle.std.specs.Prelude.{◌&&◌, nat_lt, if◌then◌else◌, option_to_list, option_map}
+use Rattle.std.proofs.Common.{◌≡◌, ℕ, zero, suc, ◌+◌, ◌-◌, ◌<◌, List, [], ◌∷◌, ◌++◌, Option, Some, None, length, slice_get, refl, sym, ap, ◌∙◌, subst, arith, true, false, ltb-true, lt-ltb, le-ltb}
+use Rattle.std.specs.Prelude.{nat_lt, if◌then◌else◌, option_to_list, option_map}
 use Rattle.std.specs.List.{AllZip, AllByRecursion}
 use Rattle.std.proofs.lemmas.Option.{same_Some}
 use Rattle.pearl_value.specs.declared.kind.Kind.{Kind}
-use Rattle.pearl_value.specs.declared.kind.Kind.TheVariants as kind
-use Rattle.pearl_value.specs.declared.kind.CellKind.{CellKind}
 use Rattle.pearl_value.specs.declared.kind.CellKind.TheVariants.{Plain, RefTo}
 use Rattle.pearl_value.specs.declared.cell.Place.TheVariants as place
 use Rattle.pearl_value.specs.declared.cell.Cell.{Cell}
@@ -23,16 +21,16 @@ use Rattle.pearl_instructions.specs.declared.object.Code.{Code}
 use Rattle.pearl_instructions.specs.declared.object.Object.{Object}
 use Rattle.pearl_instructions.specs.Objects.{first_slot, slot_kind}
 use Rattle.pearl_instructions.specs.Lawful.{IsLeaf, IsObject}
-use Rattle.pearl_instructions.specs.Steps.{Step, given, popped, next, asks, acts, within, heard}
-use Rattle.pearl_instructions.specs.Cells.{reads, writes, slot_reference, read_reference, write_reference}
+use Rattle.pearl_instructions.specs.Steps.{next, asks, heard}
+use Rattle.pearl_instructions.specs.Cells.{reads, read_reference, write_reference}
 use Rattle.pearl_instructions.specs.Rows.{act}
-use Rattle.pearl_instructions.specs.Operands.{Shape, is_reference, same_cell, meets, offset, v2}
-use Rattle.pearl_instructions.specs.Kinds.{leaf_kind, reference_to, referred, has_on_top, is_uniform}
-use Rattle.pearl_instructions.specs.Stacks.{routines_of, kind_at, Refers, Suits, IsTop, IsStack, IsOneOf, Answers, Goes}
-use Rattle.pearl_instructions.proofs.Tests.{and_true, same_cell_true}
+use Rattle.pearl_instructions.specs.Operands.{Shape, same_cell}
+use Rattle.pearl_instructions.specs.Kinds.{leaf_kind, reference_to}
+use Rattle.pearl_instructions.specs.Stacks.{routines_of, Refers, Suits, IsTop, IsStack, IsOneOf, Answers, Goes}
+use Rattle.pearl_instructions.proofs.Tests.{same_cell_true}
 use Rattle.pearl_instructions.proofs.Zips.{some_at}
 use Rattle.pearl_instructions.proofs.Referred.{Housed, kinds_is, below_housed, cell_there, top_set}
-use Rattle.pearl_instructions.proofs.Kept.{Keeps, Here, goes, given_goes, popped_goes}
+use Rattle.pearl_instructions.proofs.Kept.{Here, goes, given_goes, popped_goes}
 use Rattle.pearl_instructions.proofs.SoundCells.{within_goes, offset_on_top}
 
 pub all_of : {A : Type 0} (P : A → Type 0) (xs : List A) (n : ℕ) (x : A) → AllByRecursion P xs → slice_get xs n ≡ Some x → P x
@@ -80,8 +78,8 @@ read_sound o w f lower code s v h =
     let leaf = some_at o.leaves v (ltb-true v (length o.leaves) h.keeps.named) in
     given_goes o leaf.0 (slice_get o.leaves v) _ leaf.1
     (reads_goes o v 0 leaf.0 f lower f.operands leaf.1 (leaf_some o v leaf.0 w leaf.1) (λ x fits.
-        goes o f lower code (Read v) s h f.cells (x ∷ f.operands) (Plain leaf.0.kind ∷ s) refl (ap (λ l. option_to_list (leaf_kind l) ++ s) (sym leaf.1))
-        h.stands.cells (fits, h.stands.operands)))
+    goes o f lower code (Read v) s h f.cells (x ∷ f.operands) (Plain leaf.0.kind ∷ s) refl (ap (λ l. option_to_list (leaf_kind l) ++ s) (sym leaf.1))
+    h.stands.cells (fits, h.stands.operands)))
 
 pub read_at_sound : (o : Object) (f : Frame) (lower : List Frame) (code : Code) (s : Shape) (v : ℕ) → Here o f lower code (ReadAt v) s → Goes o (act o (ReadAt v) f lower)
 read_at_sound o f lower code [] v h = let e = h.keeps.ends in cc
@@ -90,10 +88,10 @@ read_at_sound o f lower code (k ∷ ks) v h =
     let leaf = some_at o.leaves v (ltb-true v (length o.leaves) h.keeps.named) in
     given_goes o leaf.0 (slice_get o.leaves v) _ leaf.1
     (popped_goes o (Suits o rs) k ks f.operands _ h.stands.operands (λ x left suits rest.
-        within_goes o leaf.0.slots x f lower _ (subst (λ k. Suits o rs k x) (sym (offset_on_top k ks h.keeps.ends)) suits) (λ i less.
-            reads_goes o v i leaf.0 f lower left leaf.1 less (λ y fits.
-                goes o f lower code (ReadAt v) (k ∷ ks) h f.cells (y ∷ left) (Plain leaf.0.kind ∷ ks) refl (ap (λ l. option_to_list (leaf_kind l) ++ ks) (sym leaf.1))
-                h.stands.cells (fits, rest)))))
+    within_goes o leaf.0.slots x f lower _ (subst (λ k. Suits o rs k x) (sym (offset_on_top k ks h.keeps.ends)) suits) (λ i less.
+    reads_goes o v i leaf.0 f lower left leaf.1 less (λ y fits.
+    goes o f lower code (ReadAt v) (k ∷ ks) h f.cells (y ∷ left) (Plain leaf.0.kind ∷ ks) refl (ap (λ l. option_to_list (leaf_kind l) ++ ks) (sym leaf.1))
+    h.stands.cells (fits, rest)))))
 
 pub write_sound : (o : Object) (f : Frame) (lower : List Frame) (code : Code) (s : Shape) (v : ℕ) → Here o f lower code (Write v) s → Goes o (act o (Write v) f lower)
 write_sound o f lower code [] v h = let e = h.keeps.ends in cc
@@ -101,7 +99,7 @@ write_sound o f lower code (k ∷ ks) v h =
     let leaf = some_at o.leaves v (ltb-true v (length o.leaves) h.keeps.named) in
     given_goes o leaf.0 (slice_get o.leaves v) _ leaf.1
     (popped_goes o (Suits o (f.routine ∷ routines_of lower)) k ks f.operands _ h.stands.operands (λ x left suits rest answer e.
-        goes o f lower code (Write v) (k ∷ ks) h f.cells left ks refl refl h.stands.cells rest))
+    goes o f lower code (Write v) (k ∷ ks) h f.cells left ks refl refl h.stands.cells rest))
 
 pub write_at_sound : (o : Object) (f : Frame) (lower : List Frame) (code : Code) (s : Shape) (v : ℕ) → Here o f lower code (WriteAt v) s → Goes o (act o (WriteAt v) f lower)
 write_at_sound o f lower code [] v h = let e = h.keeps.ends in cc
@@ -111,9 +109,9 @@ write_at_sound o f lower code (k ∷ l ∷ ks) v h =
     let leaf = some_at o.leaves v (ltb-true v (length o.leaves) h.keeps.named) in
     given_goes o leaf.0 (slice_get o.leaves v) _ leaf.1
     (popped_goes o (Suits o rs) k (l ∷ ks) f.operands _ h.stands.operands (λ x more suits under.
-        popped_goes o (Suits o rs) l ks more _ under (λ at left suits_at rest.
-            within_goes o leaf.0.slots at f lower _ (subst (λ k. Suits o rs k at) (sym (offset_on_top l ks h.keeps.ends)) suits_at) (λ i less answer e.
-                goes o f lower code (WriteAt v) (k ∷ l ∷ ks) h f.cells left ks refl refl h.stands.cells rest))))
+    popped_goes o (Suits o rs) l ks more _ under (λ at left suits_at rest.
+    within_goes o leaf.0.slots at f lower _ (subst (λ k. Suits o rs k at) (sym (offset_on_top l ks h.keeps.ends)) suits_at) (λ i less answer e.
+    goes o f lower code (WriteAt v) (k ∷ l ∷ ks) h f.cells left ks refl refl h.stands.cells rest))))
 
 pub ref_slot_sound : (o : Object) (w : IsObject o) (f : Frame) (lower : List Frame) (code : Code) (s : Shape) (v : ℕ) → Here o f lower code (RefSlot v) s →
     Goes o (act o (RefSlot v) f lower)
@@ -121,8 +119,8 @@ ref_slot_sound o w f lower code s v h =
     let leaf = some_at o.leaves v (ltb-true v (length o.leaves) h.keeps.named) in
     given_goes o leaf.0 (slice_get o.leaves v) _ leaf.1
     (goes o f lower code (RefSlot v) s h f.cells (cell.Ref leaf.0.kind (place.Slot (first_slot o.leaves v + 0)) ∷ f.operands) (RefTo leaf.0.kind ∷ s) refl
-        (ap (λ l. option_to_list (option_map reference_to (leaf_kind l)) ++ s) (sym leaf.1)) h.stands.cells
-        ((refl, slot_of o.leaves v 0 (first_slot o.leaves v + 0) leaf.0 leaf.1 (leaf_some o v leaf.0 w leaf.1) refl), h.stands.operands))
+    (ap (λ l. option_to_list (option_map reference_to (leaf_kind l)) ++ s) (sym leaf.1)) h.stands.cells
+    ((refl, slot_of o.leaves v 0 (first_slot o.leaves v + 0) leaf.0 leaf.1 (leaf_some o v leaf.0 w leaf.1) refl), h.stands.operands))
 
 pub ref_slot_at_sound : (o : Object) (f : Frame) (lower : List Frame) (code : Code) (s : Shape) (v : ℕ) → Here o f lower code (RefSlotAt v) s →
     Goes o (act o (RefSlotAt v) f lower)
@@ -132,10 +130,10 @@ ref_slot_at_sound o f lower code (k ∷ ks) v h =
     let leaf = some_at o.leaves v (ltb-true v (length o.leaves) h.keeps.named) in
     given_goes o leaf.0 (slice_get o.leaves v) _ leaf.1
     (popped_goes o (Suits o rs) k ks f.operands _ h.stands.operands (λ x left suits rest.
-        within_goes o leaf.0.slots x f lower _ (subst (λ k. Suits o rs k x) (sym (offset_on_top k ks h.keeps.ends)) suits) (λ i less.
-            goes o f lower code (RefSlotAt v) (k ∷ ks) h f.cells (cell.Ref leaf.0.kind (place.Slot (first_slot o.leaves v + i)) ∷ left) (RefTo leaf.0.kind ∷ ks) refl
-            (ap (λ l. option_to_list (option_map reference_to (leaf_kind l)) ++ ks) (sym leaf.1)) h.stands.cells
-            ((refl, slot_of o.leaves v i (first_slot o.leaves v + i) leaf.0 leaf.1 less refl), rest))))
+    within_goes o leaf.0.slots x f lower _ (subst (λ k. Suits o rs k x) (sym (offset_on_top k ks h.keeps.ends)) suits) (λ i less.
+    goes o f lower code (RefSlotAt v) (k ∷ ks) h f.cells (cell.Ref leaf.0.kind (place.Slot (first_slot o.leaves v + i)) ∷ left) (RefTo leaf.0.kind ∷ ks) refl
+    (ap (λ l. option_to_list (option_map reference_to (leaf_kind l)) ++ ks) (sym leaf.1)) h.stands.cells
+    ((refl, slot_of o.leaves v i (first_slot o.leaves v + i) leaf.0 leaf.1 less refl), rest))))
 
 here_housed : (o : Object) (f : Frame) (lower : List Frame) (code : Code) (instr : Instr) (s : Shape) → Here o f lower code instr s → Housed o (f ∷ lower)
 here_housed o f lower code instr s h =
@@ -155,8 +153,8 @@ read_ref_sound o f lower code [] h = let e = h.keeps.ends in cc
 read_ref_sound o f lower code (Plain k ∷ ks) h = let e = h.keeps.ends in cc
 read_ref_sound o f lower code (RefTo k ∷ ks) h =
     popped_goes o (Suits o (f.routine ∷ routines_of lower)) (RefTo k) ks f.operands _ h.stands.operands (λ r left suits rest.
-        read_reference_goes o f lower left k r (here_housed o f lower code ReadRef (RefTo k ∷ ks) h) suits (λ x fits.
-            goes o f lower code ReadRef (RefTo k ∷ ks) h f.cells (x ∷ left) (Plain k ∷ ks) refl refl h.stands.cells (fits, rest)))
+    read_reference_goes o f lower left k r (here_housed o f lower code ReadRef (RefTo k ∷ ks) h) suits (λ x fits.
+    goes o f lower code ReadRef (RefTo k ∷ ks) h f.cells (x ∷ left) (Plain k ∷ ks) refl refl h.stands.cells (fits, rest)))
 
 write_reference_goes : (o : Object) (f : Frame) (lower : List Frame) (left : List Cell) (k : Kind) (x r : Cell) → Housed o (f ∷ lower) →
     Refers o (f.routine ∷ routines_of lower) k r → IsValueOf k x → IsTop o (next f left) lower → Goes o (write_reference x f lower left r)
@@ -174,7 +172,7 @@ write_ref_sound o f lower code (k ∷ RefTo l ∷ ks) h =
     let rs = f.routine ∷ routines_of lower in
     let exact : same_cell k (Plain l) ≡ true = h.keeps.exact in
     popped_goes o (Suits o rs) k (RefTo l ∷ ks) f.operands _ h.stands.operands (λ x more suits_x under.
-        popped_goes o (Suits o rs) (RefTo l) ks more _ under (λ r left suits rest.
-            write_reference_goes o f lower left l x r (here_housed o f lower code WriteRef (k ∷ RefTo l ∷ ks) h) suits
-            (subst (λ k. Suits o rs k x) (same_cell_true k (Plain l) exact) suits_x)
-            (goes o f lower code WriteRef (k ∷ RefTo l ∷ ks) h f.cells left ks refl refl h.stands.cells rest)))
+    popped_goes o (Suits o rs) (RefTo l) ks more _ under (λ r left suits rest.
+    write_reference_goes o f lower left l x r (here_housed o f lower code WriteRef (k ∷ RefTo l ∷ ks) h) suits
+    (subst (λ k. Suits o rs k x) (same_cell_true k (Plain l) exact) suits_x)
+    (goes o f lower code WriteRef (k ∷ RefTo l ∷ ks) h f.cells left ks refl refl h.stands.cells rest)))

@@ -1,5 +1,5 @@
 -- What the instructions on cells and variables do.
-use Rattle.std.specs.Prelude.{ℕ, ◌+◌, nat_le, List, ◌∷◌, ◌++◌, Option, Some, None, length, take, drop, replicate, slice_get, slice_set, option_and_then}
+use Rattle.std.specs.Prelude.{ℕ, ◌+◌, nat_le, List, ◌∷◌, ◌++◌, length, take, drop, replicate, slice_get, slice_set, option_and_then}
 use Rattle.pearl_value.specs.declared.kind.Kind.{Kind}
 use Rattle.pearl_value.specs.declared.cell.Cell.{Cell}
 use Rattle.pearl_value.specs.declared.cell.Cell.TheVariants.{Ref}

@@ -1,5 +1,5 @@
 -- What jumps, loops and calls do.
-use Rattle.std.specs.Prelude.{ℕ, zero, suc, ◌+◌, pos, negsuc, ℤ, ◌+ℤ◌, int_le, int_lt, nat_le, Bool, true, false, ◌&&◌, ◌||◌, ◌==◌, if◌then◌else◌, List, [], ◌∷◌, ◌++◌, Option, Some, None, length, map, take, drop, reverse, slice_get}
+use Rattle.std.specs.Prelude.{ℕ, zero, suc, ◌+◌, pos, negsuc, ℤ, ◌+ℤ◌, int_le, int_lt, nat_le, Bool, ◌&&◌, ◌||◌, ◌==◌, if◌then◌else◌, List, [], ◌∷◌, ◌++◌, Option, Some, None, length, map, take, drop, reverse, slice_get}
 use Rattle.pearl_value.specs.declared.kind.Kind.{Kind}
 use Rattle.pearl_value.specs.declared.kind.CellKind.{CellKind}
 use Rattle.pearl_value.specs.declared.kind.CellKind.TheVariants.{Plain, RefTo}
@@ -10,7 +10,7 @@ use Rattle.pearl_value.specs.Conversions.{fits_fixed}
 use Rattle.pearl_rules.specs.declared.action.Action.TheVariants.{Enter}
 use Rattle.pearl_stack.specs.Frames.{Frame, without}
 use Rattle.pearl_instructions.specs.declared.object.Procedure.{Procedure}
-use Rattle.pearl_instructions.specs.Steps.{Step, Silent, Offers, Missing, given, needed, popped, at, next, leaves}
+use Rattle.pearl_instructions.specs.Steps.{Step, Silent, Offers, Missing, given, needed, popped, at, leaves}
 use Rattle.pearl_instructions.specs.Cells.{put}
 
 -- goes on at an instruction, with these operands

@@ -19,7 +19,7 @@ use Rattle.pearl_instructions.specs.declared.object.Procedure.{Procedure}
 use Rattle.pearl_instructions.specs.declared.object.Object.{Object}
 use Rattle.pearl_instructions.specs.Operators.{suits_kind}
 use Rattle.pearl_instructions.specs.Operands.{Shape, same_cell, same_shape, is_fixed, is_reference, asked}
-use Rattle.pearl_instructions.specs.Named.{cells_at, get_cells, range_of}
+use Rattle.pearl_instructions.specs.Named.{get_cells, range_of}
 
 -- the kind of an operand that is no reference
 abbrev pub plain_kind : CellKind → Option Kind

@@ -3,11 +3,11 @@ use Rattle.std.specs.Prelude.{◌≡◌, ℕ, ◌+◌, ◌≤◌, List, Some, le
 use Rattle.pearl_stack.specs.Frames.{Frame, used}
 use Rattle.pearl_instructions.specs.declared.object.Code.{Code}
 use Rattle.pearl_instructions.specs.declared.object.Object.{Object}
-use Rattle.pearl_instructions.specs.Objects.{routine_at}
+use Rattle.pearl_instructions.specs.Objects.{routines, routine_at}
 use Rattle.pearl_instructions.specs.Lawful.{IsObject}
 use Rattle.pearl_instructions.specs.Rows.{row, begun}
 use Rattle.pearl_instructions.specs.Valid.{IsValid}
-use Rattle.pearl_instructions.specs.Stacks.{IsStack, Goes, room}
+use Rattle.pearl_instructions.specs.Stacks.{IsStack, Goes, room, all_rows, OffersWithin}
 
 -- a task's routine begins with a stack of the object
 abbrev pub Begins : Type 0
@@ -24,3 +24,7 @@ KeepsDepth = (o : Object) → IsValid o → (frames : List Frame) → IsStack o 
 -- there is at most one frame more than there are procedures
 abbrev pub CountsFrames : Type 0
 CountsFrames = (o : Object) → IsValid o → (frames : List Frame) → IsStack o frames → length frames ≤ length o.procedures + 1
+
+-- an action is offered after at most as many rows as the object has instructions
+abbrev pub OffersSoon : Type 0
+OffersSoon = (o : Object) → IsValid o → IsObject o → (frames : List Frame) → IsStack o frames → OffersWithin o (all_rows (routines o)) frames

@@ -1,19 +1,16 @@
 -- Which numbers an instruction may name (V1), and which cells it names.
-use Rattle.std.specs.Prelude.{ℕ, ◌+◌, Bool, true, false, ◌&&◌, ◌||◌, nat_lt, nat_le, List, [], ◌∷◌, Option, Some, None, is_some, length, take, drop, slice_get}
+use Rattle.std.specs.Prelude.{ℕ, ◌+◌, Bool, true, false, ◌&&◌, ◌||◌, nat_lt, nat_le, List, [], Option, Some, None, is_some, length, take, drop, slice_get}
 use Rattle.std.specs.List.{list_all}
 use Rattle.pearl_value.specs.declared.kind.CellKind.{CellKind}
 use Rattle.pearl_format.specs.declared.item.Item.{Item}
 use Rattle.pearl_format.specs.Items.{data_count}
 use Rattle.pearl_rules.specs.declared.setup.Device.{Device}
 use Rattle.pearl_rules.specs.declared.setup.Device.TheVariants.{Interrupt, Terminal, Input, Output}
-use Rattle.pearl_rules.specs.declared.setup.Direction.{Direction}
 use Rattle.pearl_rules.specs.declared.setup.Direction.TheVariants as direction
-use Rattle.pearl_instructions.specs.declared.schedule.OnceForm.{OnceForm}
 use Rattle.pearl_instructions.specs.declared.schedule.StartForm.{StartForm}
 use Rattle.pearl_instructions.specs.declared.schedule.StartForm.TheVariants as form
 use Rattle.pearl_instructions.specs.declared.instr.Instr.{Instr}
 use Rattle.pearl_instructions.specs.declared.instr.Instr.TheVariants.{Load, Store, Fill, LoadAt, StoreAt, Read, Write, ReadAt, WriteAt, RefSlot, RefSlotAt, RefCell, RefCellAt, Jump, JumpZero, Case, Call, Within, Advance, Request, Release, Try, Activate, Continue, Resume, Suspend, Terminate, Prevent, Enable, Disable, Trigger, Put, Get, Take, Send}
-use Rattle.pearl_instructions.specs.declared.instr.Reading.{Reading}
 use Rattle.pearl_instructions.specs.declared.object.Code.{Code}
 use Rattle.pearl_instructions.specs.declared.object.Object.{Object}
 use Rattle.pearl_instructions.specs.Objects.{items_at}

@@ -1,5 +1,5 @@
 -- Which actions the instructions on tasks, semaphores and devices offer.
-use Rattle.std.specs.Prelude.{ℕ, ◌+◌, pos, negsuc, ℤ, int_le, int_lt, Bool, true, false, ◌&&◌, not, if◌then◌else◌, List, [], ◌∷◌, ◌++◌, Option, Some, None, option_map, option_and_then, length, take, drop, nat_le, unsigned_abs}
+use Rattle.std.specs.Prelude.{ℕ, ◌+◌, pos, ℤ, int_le, Bool, true, false, ◌&&◌, if◌then◌else◌, List, [], ◌∷◌, ◌++◌, Option, Some, None, option_map, option_and_then, length, take, drop, nat_le, unsigned_abs}
 use Rattle.pearl_value.specs.declared.kind.Kind.{Kind}
 use Rattle.pearl_value.specs.declared.kind.Kind.TheVariants as kind
 use Rattle.pearl_value.specs.declared.cell.Cell.{Cell}
@@ -10,7 +10,6 @@ use Rattle.pearl_format.specs.declared.item.ItemCode.{ItemCode}
 use Rattle.pearl_format.specs.declared.item.ItemCode.TheVariants.{A, B1, B2, B3, B4, F, T, D, X, Skip}
 use Rattle.pearl_format.specs.Items.{data_count, data_here}
 use Rattle.pearl_format.specs.Texts.{text_of}
-use Rattle.pearl_rules.specs.declared.action.Action.{Action}
 use Rattle.pearl_rules.specs.declared.action.Action.TheVariants as action
 use Rattle.pearl_rules.specs.declared.action.Start.{Start}
 use Rattle.pearl_rules.specs.declared.action.Start.TheVariants as start
@@ -152,4 +151,4 @@ abbrev pub get_values : Object → Reading → Frame → List Frame → Step
 get_values o g f lower = given (items_at o g.format) (λ items.
     given (option_and_then value_kinds (cells_from f.cells g.first (data_count items))) (λ kinds. needed (items_suit items kinds)
     (Offers (action.Get g.device g.format (record { items = kinds }))
-        (λ answer. next (record f { cells = with_values f.cells g.first (all_heard answer) }) f.operands ∷ lower))))
+    (λ answer. next (record f { cells = with_values f.cells g.first (all_heard answer) }) f.operands ∷ lower))))

@@ -1,5 +1,5 @@
 -- Which operands each instruction takes from the end of the shape before it. A shape has the kinds of the operands, from the top down.
-use Rattle.std.specs.Prelude.{ℕ, Bool, true, false, ◌&&◌, ◌==◌, if◌then◌else◌, List, [], ◌∷◌, ◌++◌, Option, Some, None, length, map, reverse, replicate, slice_get}
+use Rattle.std.specs.Prelude.{ℕ, Bool, true, false, ◌&&◌, ◌==◌, List, [], ◌∷◌, ◌++◌, Option, Some, None, length, map, reverse, replicate, slice_get}
 use Rattle.pearl_value.specs.declared.kind.Kind.{Kind}
 use Rattle.pearl_value.specs.declared.kind.Kind.TheVariants as kind
 use Rattle.pearl_value.specs.declared.kind.CellKind.{CellKind}
@@ -8,7 +8,6 @@ use Rattle.pearl_format.specs.declared.item.Item.{Item}
 use Rattle.pearl_format.specs.Items.{data_count}
 use Rattle.pearl_instructions.specs.declared.instr.Instr.{Instr}
 use Rattle.pearl_instructions.specs.declared.instr.Instr.TheVariants.{Store, Drop, Conv, Index, LoadAt, StoreAt, Write, ReadAt, WriteAt, RefSlotAt, RefCellAt, ReadRef, WriteRef, JumpZero, Case, Call, Return, NonZero, Monadic, Dyadic, Activate, Continue, Resume, Put, Send}
-use Rattle.pearl_instructions.specs.declared.instr.Activation.{Activation}
 use Rattle.pearl_instructions.specs.declared.object.Procedure.{Procedure}
 use Rattle.pearl_instructions.specs.declared.object.Object.{Object}
 use Rattle.pearl_instructions.specs.Objects.{items_at, result_of}

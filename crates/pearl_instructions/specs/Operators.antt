@@ -1,5 +1,5 @@
 -- What the operators, conversions and subscripts do.
-use Rattle.std.specs.Prelude.{ℕ, pos, ℤ, ◌+ℤ◌, ◌-ℤ◌, ◌*ℤ◌, int_le, nat_le, Bool, true, false, ◌&&◌, ◌==◌, if◌then◌else◌, List, [], ◌∷◌, Option, Some, None, option_map, option_and_then, Result, Ok, Err, length}
+use Rattle.std.specs.Prelude.{pos, ℤ, ◌+ℤ◌, ◌-ℤ◌, ◌*ℤ◌, int_le, nat_le, Bool, true, false, ◌&&◌, if◌then◌else◌, List, [], ◌∷◌, Option, Some, None, option_map, option_and_then, Result, Ok, Err, length}
 use Rattle.std.specs.Ordering.{int_eq}
 use Rattle.pearl_value.specs.declared.kind.Kind.{Kind}
 use Rattle.pearl_value.specs.declared.kind.Kind.TheVariants as kind
@@ -14,7 +14,7 @@ use Rattle.pearl_value.specs.Applied.{applied1, applied2}
 use Rattle.pearl_value.specs.Conversions.{converted}
 use Rattle.pearl_stack.specs.Frames.{Frame}
 use Rattle.pearl_instructions.specs.declared.instr.Bounds.{Bounds}
-use Rattle.pearl_instructions.specs.Steps.{Step, Missing, given, needed, popped, taken, value_kind, leaves, traps, makes}
+use Rattle.pearl_instructions.specs.Steps.{Step, given, needed, popped, taken, value_kind, leaves, traps, makes}
 
 -- whether a value of the first kind may be put where one of the second is wanted
 abbrev pub suits_kind : Kind → Kind → Bool

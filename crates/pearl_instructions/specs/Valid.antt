@@ -1,5 +1,5 @@
 -- Which is the least of the validator's rules that fails at an instruction, and which objects are valid.
-use Rattle.std.specs.Prelude.{◌≡◌, ℕ, zero, suc, ◌+◌, ◌*◌, ◌-ℤ◌, int_le, unsigned_abs, Bool, true, false, ◌&&◌, ◌||◌, ◌==◌, not, nat_lt, nat_le, if◌then◌else◌, List, [], ◌∷◌, ◌++◌, Option, Some, None, option_map, option_and_then, option_to_list, length, map, take, drop, reverse, slice_get}
+use Rattle.std.specs.Prelude.{◌≡◌, ℕ, zero, suc, ◌+◌, ◌*◌, ◌-ℤ◌, int_le, unsigned_abs, Bool, true, false, ◌&&◌, ◌||◌, ◌==◌, not, nat_lt, nat_le, if◌then◌else◌, List, [], ◌∷◌, Option, Some, None, option_map, option_and_then, option_to_list, length, take, drop, reverse, slice_get}
 use Rattle.std.specs.List.{list_all, list_any}
 use Rattle.pearl_value.specs.declared.kind.Kind.{Kind}
 use Rattle.pearl_value.specs.declared.kind.CellKind.{CellKind}
@@ -17,7 +17,7 @@ use Rattle.pearl_instructions.specs.Objects.{routine_at, is_task, result_of, ite
 use Rattle.pearl_instructions.specs.Offers.{items_suit}
 use Rattle.pearl_instructions.specs.Operands.{Shape, same_shape, asked, v2}
 use Rattle.pearl_instructions.specs.Named.{v1, get_cells}
-use Rattle.pearl_instructions.specs.Kinds.{plain_kind, v3, v4, v5, below, shape_after}
+use Rattle.pearl_instructions.specs.Kinds.{plain_kind, v3, v4, v5, shape_after}
 
 abbrev pub goes_on : Instr → Bool
 goes_on (Jump i) = false

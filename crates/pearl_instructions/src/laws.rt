@@ -1,6 +1,6 @@
 // What holds of every valid object. Each function's contract is one theorem; none does anything.
 
-ghost use Rattle.pearl_instructions.specs.Laws.{Begins, Leads, KeepsDepth, CountsFrames};
+ghost use Rattle.pearl_instructions.specs.Laws.{Begins, Leads, KeepsDepth, CountsFrames, OffersSoon};
 
 /// A task's code begins with a stack of the object.
 pub fn tasks_begin_with_a_stack()
@@ -21,4 +21,9 @@ pub fn depth_is_kept()
 /// A stack has at most one frame more than the object has procedures.
 pub fn frames_are_few()
     ensures { CountsFrames }
+{}
+
+/// An action is offered after at most as many rows as the object has instructions, the offering one counted.
+pub fn actions_are_offered_soon()
+    ensures { OffersSoon }
 {}
