@@ -2,7 +2,7 @@
 use Rattle.std.proofs.Common.{◌≡◌, ℕ, ◌≤◌, List, [], ◌∷◌, ◌++◌, Option, Some, None, length, map, reverse, take, refl, sym, ap, ◌∙◌, subst, arith, Bool, true}
 use Rattle.std.specs.Prelude.{option_map, option_and_then}
 use Rattle.std.specs.List.{AllZip, list_all}
-use Rattle.std.proofs.lemmas.List.{length-reverse, length-map}
+use Rattle.std.proofs.lemmas.List.{length-reverse, length-map, reverse-reverse}
 use Rattle.std.proofs.lemmas.Option.{same_Some}
 use mathlib.Core.List.{reverse_aux}
 use Rattle.pearl_value.specs.declared.kind.Kind.{Kind}
@@ -24,21 +24,6 @@ map_onto f (x ∷ xs) ys = map_onto f xs (x ∷ ys)
 pub map_reversed : {A B : Type 0} (f : A → B) (xs : List A) → map f (reverse xs) ≡ reverse (map f xs)
 map_reversed f xs = map_onto f xs []
 
-reversed_onto : {A : Type 0} (xs ys : List A) → reverse_aux (reverse_aux xs ys) [] ≡ reverse_aux ys xs
-reversed_onto [] ys = refl
-reversed_onto (x ∷ xs) ys = reversed_onto xs (x ∷ ys)
-
-pub reversed_twice : {A : Type 0} (xs : List A) → reverse (reverse xs) ≡ xs
-reversed_twice xs = reversed_onto xs []
-
-pub map_appended : {A B : Type 0} (f : A → B) (xs ys : List A) → map f (xs ++ ys) ≡ map f xs ++ map f ys
-map_appended f [] ys = refl
-map_appended f (x ∷ xs) ys = ap (λ zs. f x ∷ zs) (map_appended f xs ys)
-
-pub appended_thrice : {A : Type 0} (xs ys zs : List A) → (xs ++ ys) ++ zs ≡ xs ++ (ys ++ zs)
-appended_thrice [] ys zs = refl
-appended_thrice (x ∷ xs) ys zs = ap (λ ws. x ∷ ws) (appended_thrice xs ys zs)
-
 exactly_ends : (kinds : List Kind) (s : Shape) → v2 (map Exactly kinds) s ≡ true → (length kinds ≤ length s) × (take (length kinds) s ≡ map Plain kinds)
 exactly_ends [] s e = (omega arith, refl)
 exactly_ends (k ∷ kinds) [] e = cc
@@ -57,7 +42,7 @@ scheduled_ends kinds s e =
     let ends = exactly_ends (reverse kinds) s turned in
     let long : length (reverse kinds) ≡ length kinds = length-reverse kinds in (
       subst (λ n. n ≤ length s) long ends.0,
-      ap (λ n. reverse (take n s)) (sym long) ∙ (ap reverse ends.1 ∙ (ap reverse (map_reversed Plain kinds) ∙ reversed_twice (map Plain kinds))),
+      ap (λ n. reverse (take n s)) (sym long) ∙ (ap reverse ends.1 ∙ (ap reverse (map_reversed Plain kinds) ∙ reverse-reverse (map Plain kinds))),
     )
 
 pub scheduled_long : (kinds : List Kind) → length (scheduled kinds) ≡ length kinds

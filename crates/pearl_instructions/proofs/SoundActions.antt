@@ -2,7 +2,7 @@
 use Rattle.std.proofs.Common.{◌≡◌, ℕ, ◌≤◌, ℤ, pos, List, [], ◌∷◌, ◌++◌, Option, Some, None, length, map, reverse, take, drop, slice_get, refl, sym, ap, ◌∙◌, subst, true, Box, Global}
 use Rattle.std.specs.Prelude.{int_le, is_some, option_to_list, option_and_then}
 use Rattle.std.specs.List.{AllZip}
-use Rattle.std.proofs.lemmas.List.{length-replicate}
+use Rattle.std.proofs.lemmas.List.{length-replicate, append-nil}
 use Rattle.pearl_value.specs.declared.kind.Kind.{Kind}
 use Rattle.pearl_value.specs.declared.kind.Kind.TheVariants as kind
 use Rattle.pearl_value.specs.declared.kind.CellKind.TheVariants.{Plain}
@@ -136,11 +136,6 @@ started_goes o rs (form.WhenAfter device) more (x ∷ values) f lower go z h =
     subst (λ x. Goes o (started (form.WhenAfter device) (x ∷ values) f lower go)) (sym t.1)
     (lasting_goes o (pos 0) t.0 f lower (go (start.WhenAfter device t.0) values) (h (start.WhenAfter device t.0) values z.1))
 
--- a list and nothing behind it
-pub nothing_behind : {A : Type 0} (xs : List A) → xs ++ [] ≡ xs
-nothing_behind [] = refl
-nothing_behind (x ∷ xs) = ap (λ ys. x ∷ ys) (nothing_behind xs)
-
 -- an action whose schedule has a start alone
 once_goes : (o : Object) (f : Frame) (lower : List Frame) (when : StartForm) (s : Shape) (operands : List Cell) (go : Start → List Cell → Step) → v2 (scheduled (start_kinds when)) s ≡ true →
     AllZip (Suits o (f.routine ∷ routines_of lower)) s operands →
@@ -151,7 +146,7 @@ once_goes o f lower when s operands go e z h =
     let ends = scheduled_ends (start_kinds when) s e in
     taken_goes o (Suits o rs) (length (start_kinds when)) s operands _ ends.0 z (λ values left there under.
     started_goes o rs when [] values f lower _
-    (subst (λ ks. AllZip (Suits o rs) ks values) (ends.1 ∙ sym (nothing_behind (map Plain (start_kinds when)))) there)
+    (subst (λ ks. AllZip (Suits o rs) ks values) (ends.1 ∙ sym (append-nil (map Plain (start_kinds when)))) there)
     (λ start rest none. h start left under))
 
 pub continue_sound : (o : Object) (f : Frame) (lower : List Frame) (code : Code) (s : Shape) (c : Box Continuation Global) → Here o f lower code (Continue c) s →

@@ -2,7 +2,7 @@
 use Rattle.std.proofs.Common.{◌≡◌, ℕ, suc, ◌+◌, ◌≤◌, pos, List, [], ◌∷◌, ◌++◌, Option, Some, None, length, map, reverse, take, drop, refl, sym, ap, ◌∙◌, subst, arith, Bool, true, false, Box, Global}
 use Rattle.std.specs.Prelude.{◌&&◌, int_le, if◌then◌else◌, unsigned_abs}
 use Rattle.std.specs.List.{AllZip}
-use Rattle.std.proofs.lemmas.List.{append_assoc, map-append, reverse-append, length-append}
+use Rattle.std.proofs.lemmas.List.{append_assoc, map-append, reverse-append, length-append, append-nil}
 use Rattle.pearl_value.specs.declared.kind.Kind.{Kind}
 use Rattle.pearl_value.specs.declared.kind.CellKind.TheVariants.{Plain}
 use Rattle.pearl_value.specs.declared.cell.Cell.{Cell}
@@ -28,7 +28,7 @@ use Rattle.pearl_instructions.proofs.Lists.{scheduled_ends, scheduled_long}
 use Rattle.pearl_instructions.proofs.Kept.{Here, goes, taken_goes, traps_goes}
 use Rattle.pearl_instructions.proofs.SoundCells.{if_goes}
 use Rattle.pearl_instructions.proofs.SoundOperators.{fixed_is, fixed_kind}
-use Rattle.pearl_instructions.proofs.SoundActions.{clock_is, span_is, lasting_goes, started_goes, nothing_behind}
+use Rattle.pearl_instructions.proofs.SoundActions.{clock_is, span_is, lasting_goes, started_goes}
 
 -- the values of a repetition lie there, and more may lie above them
 repeated_goes : (o : Object) (rs : List ℕ) (how : RepeatForm) (more : Shape) (values : List Cell) (f : Frame) (lower : List Frame) (go : Repeat → List Cell → Step) →
@@ -90,7 +90,7 @@ planned kinds false n s e h =
     record {
       few = subst (λ n. n ≤ length s) (sym same) ends.0;
       tail = [];
-      ends = ap (λ n. reverse (take n s)) same ∙ (ends.1 ∙ sym (nothing_behind (map Plain kinds)));
+      ends = ap (λ n. reverse (take n s)) same ∙ (ends.1 ∙ sym (append-nil (map Plain kinds)));
       priority = tt;
       long = scheduled_long kinds ∙ sym same;
     }

@@ -2,6 +2,7 @@
 use Rattle.std.proofs.Common.{◌≡◌, ℕ, zero, suc, ◌+◌, ◌≤◌, List, [], ◌∷◌, ◌++◌, Option, Some, None, length, take, drop, slice_get, refl, sym, ap, ◌∙◌, subst, arith, Bool, true, false, leb-true, le-leb, take-append-drop, Box, Global}
 use Rattle.std.specs.Prelude.{◌⊎◌, nat_lt, nat_le, if◌then◌else◌, option_and_then}
 use Rattle.std.proofs.Common.{inl, inr}
+use Rattle.std.proofs.lemmas.List.{append-nil}
 use Rattle.std.specs.List.{AllZip}
 use Rattle.pearl_value.specs.declared.kind.Kind.{Kind}
 use Rattle.pearl_value.specs.declared.cell.Cell.{Cell}
@@ -29,7 +30,7 @@ use Rattle.pearl_instructions.proofs.Zips.{zip_length, zip_take, zip_drop}
 use Rattle.pearl_instructions.proofs.Ranges.{zip_put}
 use Rattle.pearl_instructions.proofs.Lists.{kinds_of_values, values_suit_cells}
 use Rattle.pearl_instructions.proofs.Kept.{Here, goes, given_goes, needed_goes}
-use Rattle.pearl_instructions.proofs.SoundActions.{format_kinds, nothing_behind}
+use Rattle.pearl_instructions.proofs.SoundActions.{format_kinds}
 
 read_items : (code : Code) (c : ℕ) (items : Option (List Item)) → has_read_cells code c items ≡ true →
     (is : List Item) × (items ≡ Some is) × ((data_count is ≡ 0) ⊎ (c + data_count is ≤ length code.cells))
@@ -84,7 +85,7 @@ room_is o code cells c n rs z (inl none) =
     unchanged [] w =
         let at : c + 0 ≡ c = omega arith in
         subst (AllZip (Suits o rs) code.cells)
-        (sym (ap (λ t. t ++ drop (c + 0) cells) (nothing_behind (take c cells)) ∙ (ap (λ m. take c cells ++ drop m cells) at ∙ take-append-drop c cells))) z
+        (sym (ap (λ t. t ++ drop (c + 0) cells) (append-nil (take c cells)) ∙ (ap (λ m. take c cells ++ drop m cells) at ∙ take-append-drop c cells))) z
     unchanged (x ∷ xs) w = absurd w
 room_is o code cells c n rs z (inr long) =
     let same = zip_length (Suits o rs) code.cells cells z in
