@@ -1,0 +1,105 @@
+-- Each row leads from a stack of a valid object to such stacks only.
+use Rattle.std.proofs.Common.{◌≡◌, ℕ, List, [], ◌∷◌, ◌++◌, Some, map, refl}
+use Rattle.std.specs.List.{AllByRecursion}
+use Rattle.pearl_value.proofs.Results.{blank_gives}
+use Rattle.pearl_stack.specs.Frames.{Frame}
+use Rattle.pearl_instructions.specs.declared.instr.Instr.{Instr}
+use Rattle.pearl_instructions.specs.declared.instr.Instr.TheVariants.{Const, Load, Store, Fill, Drop, Conv, Index, LoadAt, StoreAt, Read, Write, ReadAt, WriteAt, RefSlot, RefSlotAt, RefCell, RefCellAt, ReadRef, WriteRef, Jump, JumpZero, Case, Turn, Call, Return, End, Trap, Within, Advance, NonZero, Monadic, Dyadic, Now, Request, Release, Try, Activate, Continue, Resume, Suspend, Terminate, Prevent, SuspendOwn, TerminateOwn, PreventOwn, Enable, Disable, Trigger, Put, Get, Take, Send}
+use Rattle.pearl_instructions.specs.declared.object.Code.{Code}
+use Rattle.pearl_instructions.specs.declared.object.Object.{Object}
+use Rattle.pearl_instructions.specs.Objects.{routine_at, routines}
+use Rattle.pearl_instructions.specs.Lawful.{IsInstr, IsProcedure, IsTask, IsObject}
+use Rattle.pearl_instructions.specs.Rows.{act, instr_at, row}
+use Rattle.pearl_instructions.specs.Operands.{Shape}
+use Rattle.pearl_instructions.specs.Valid.{shape_before, IsValid}
+use Rattle.pearl_instructions.specs.Stacks.{IsTop, IsStack, Goes}
+use Rattle.pearl_instructions.proofs.Kept.{Here, here, goes, given_goes}
+use Rattle.pearl_instructions.proofs.SoundCells.{const_sound, load_sound, drop_sound, store_sound, fill_sound, load_at_sound, store_at_sound, ref_cell_sound, ref_cell_at_sound}
+use Rattle.pearl_instructions.proofs.SoundOperators.{conv_sound, monadic_sound, dyadic_sound, non_zero_sound}
+use Rattle.pearl_instructions.proofs.SoundIndex.{index_sound}
+use Rattle.pearl_instructions.proofs.SoundVariables.{all_of, read_sound, read_at_sound, write_sound, write_at_sound, ref_slot_sound, ref_slot_at_sound, read_ref_sound, write_ref_sound}
+use Rattle.pearl_instructions.proofs.SoundFlow.{jump_sound, jump_zero_sound, case_sound, turn_sound, within_sound, advance_sound, call_sound, return_sound}
+use Rattle.pearl_instructions.proofs.SoundActions.{now_sound, try_sound, take_sound, send_sound, continue_sound, resume_sound, put_sound}
+use Rattle.pearl_instructions.proofs.SoundActivate.{activate_sound}
+use Rattle.pearl_instructions.proofs.SoundGet.{get_sound}
+
+act_sound : (o : Object) (v : IsValid o) (w : IsObject o) (f : Frame) (lower : List Frame) (t : IsTop o f lower) (code : Code) (instr : Instr) (s : Shape) → IsInstr instr →
+    Here o f lower code instr s → Goes o (act o instr f lower)
+act_sound o v w f lower t code (Const x) s is h = const_sound o f lower code s x is h
+act_sound o v w f lower t code (Load c) s is h = load_sound o f lower code s c h
+act_sound o v w f lower t code (Store c) s is h = store_sound o f lower code s c h
+act_sound o v w f lower t code (Fill c n of) s is h = fill_sound o f lower code s c n of (blank_gives of is) h
+act_sound o v w f lower t code Drop s is h = drop_sound o f lower code s h
+act_sound o v w f lower t code (Conv to) s is h = conv_sound o f lower code s to is h
+act_sound o v w f lower t code (Index bounds) s is h = index_sound o f lower code s bounds h
+act_sound o v w f lower t code (LoadAt c n) s is h = load_at_sound o f lower code s c n h
+act_sound o v w f lower t code (StoreAt c n) s is h = store_at_sound o f lower code s c n h
+act_sound o v w f lower t code (Read n) s is h = read_sound o w f lower code s n h
+act_sound o v w f lower t code (Write n) s is h = write_sound o f lower code s n h
+act_sound o v w f lower t code (ReadAt n) s is h = read_at_sound o f lower code s n h
+act_sound o v w f lower t code (WriteAt n) s is h = write_at_sound o f lower code s n h
+act_sound o v w f lower t code (RefSlot n) s is h = ref_slot_sound o w f lower code s n h
+act_sound o v w f lower t code (RefSlotAt n) s is h = ref_slot_at_sound o f lower code s n h
+act_sound o v w f lower t code (RefCell c) s is h = ref_cell_sound o f lower code s c h
+act_sound o v w f lower t code (RefCellAt c n) s is h = ref_cell_at_sound o f lower code s c n h
+act_sound o v w f lower t code ReadRef s is h = read_ref_sound o f lower code s h
+act_sound o v w f lower t code WriteRef s is h = write_ref_sound o f lower code s h
+act_sound o v w f lower t code (Jump i) s is h = jump_sound o f lower code s i h
+act_sound o v w f lower t code (JumpZero i) s is h = jump_zero_sound o f lower code s i h
+act_sound o v w f lower t code (Case targets) s is h = case_sound o f lower code s targets h
+act_sound o v w f lower t code Turn s is h = turn_sound o f lower code s h
+act_sound o v w f lower t code (Call p) s is h = call_sound o v w f lower code s p h
+act_sound o v w f lower t code Return s is h = return_sound o v f lower code s h
+act_sound o v w f lower t code End s is h = λ answer never. absurd never
+act_sound o v w f lower t code (Trap trap) s is h = λ answer never. absurd never
+act_sound o v w f lower t code (Within c) s is h = within_sound o f lower code s c h
+act_sound o v w f lower t code (Advance c i) s is h = advance_sound o f lower code s c i h
+act_sound o v w f lower t code NonZero s is h = non_zero_sound o f lower code s h
+act_sound o v w f lower t code (Monadic op) s is h = monadic_sound o f lower code s op h
+act_sound o v w f lower t code (Dyadic op) s is h = dyadic_sound o f lower code s op h
+act_sound o v w f lower t code Now s is h = now_sound o f lower code s h
+act_sound o v w f lower t code (Request list) s is h = λ answer e. goes o f lower code (Request list) s h f.cells f.operands s refl refl h.stands.cells h.stands.operands
+act_sound o v w f lower t code (Release list) s is h = λ answer e. goes o f lower code (Release list) s h f.cells f.operands s refl refl h.stands.cells h.stands.operands
+act_sound o v w f lower t code (Try n) s is h = try_sound o f lower code s n h
+act_sound o v w f lower t code (Activate a) s is h = activate_sound o f lower code s a h
+act_sound o v w f lower t code (Continue c) s is h = continue_sound o f lower code s c h
+act_sound o v w f lower t code (Resume once) s is h = resume_sound o f lower code s once h
+act_sound o v w f lower t code (Suspend n) s is h = λ answer e. goes o f lower code (Suspend n) s h f.cells f.operands s refl refl h.stands.cells h.stands.operands
+act_sound o v w f lower t code (Terminate n) s is h = λ answer e. goes o f lower code (Terminate n) s h f.cells f.operands s refl refl h.stands.cells h.stands.operands
+act_sound o v w f lower t code (Prevent n) s is h = λ answer e. goes o f lower code (Prevent n) s h f.cells f.operands s refl refl h.stands.cells h.stands.operands
+act_sound o v w f lower t code SuspendOwn s is h = λ answer e. goes o f lower code SuspendOwn s h f.cells f.operands s refl refl h.stands.cells h.stands.operands
+act_sound o v w f lower t code TerminateOwn s is h = λ answer e. t
+act_sound o v w f lower t code PreventOwn s is h = λ answer e. goes o f lower code PreventOwn s h f.cells f.operands s refl refl h.stands.cells h.stands.operands
+act_sound o v w f lower t code (Enable n) s is h = λ answer e. goes o f lower code (Enable n) s h f.cells f.operands s refl refl h.stands.cells h.stands.operands
+act_sound o v w f lower t code (Disable n) s is h = λ answer e. goes o f lower code (Disable n) s h f.cells f.operands s refl refl h.stands.cells h.stands.operands
+act_sound o v w f lower t code (Trigger n) s is h = λ answer e. goes o f lower code (Trigger n) s h f.cells f.operands s refl refl h.stands.cells h.stands.operands
+act_sound o v w f lower t code (Put d n) s is h = put_sound o f lower code s d n h
+act_sound o v w f lower t code (Get g) s is h = get_sound o f lower code s g h
+act_sound o v w f lower t code (Take d) s is h = take_sound o f lower code s d h
+act_sound o v w f lower t code (Send d) s is h = send_sound o f lower code s d h
+
+-- each routine's code is lawful
+all_front : {A : Type 0} (P : A → Type 0) (xs ys : List A) → AllByRecursion P xs → AllByRecursion P ys → AllByRecursion P (xs ++ ys)
+all_front P [] ys a b = b
+all_front P (x ∷ xs) ys a b = (a.0, all_front P xs ys a.1 b)
+
+pub all_mapped : {A B : Type 0} (P : A → Type 0) (Q : B → Type 0) (f : A → B) (xs : List A) → ((x : A) → P x → Q (f x)) → AllByRecursion P xs → AllByRecursion Q (map f xs)
+all_mapped P Q f [] h a = tt
+all_mapped P Q f (x ∷ xs) h a = (h x a.0, all_mapped P Q f xs h a.1)
+
+abbrev HasInstrs : Code → Type 0
+HasInstrs code = AllByRecursion IsInstr code.instructions
+
+pub lawful_code : (o : Object) (r : ℕ) (code : Code) → IsObject o → routine_at o r ≡ Some code → AllByRecursion IsInstr code.instructions
+lawful_code o r code w e = all_of HasInstrs (routines o) r code
+    (all_front HasInstrs (map (λ p. p.code) o.procedures) (map (λ t. t.code) o.tasks)
+    (all_mapped IsProcedure HasInstrs (λ p. p.code) o.procedures (λ p is. is.code.instructions) w.procedures)
+    (all_mapped IsTask HasInstrs (λ t. t.code) o.tasks (λ t is. is.code.instructions) w.tasks)) e
+
+-- Every row is there, and leads to a stack of the object: the next one, or the one after each answer that suits.
+pub row_sound : (o : Object) → IsValid o → IsObject o → (frames : List Frame) → IsStack o frames → Goes o (row o frames)
+row_sound o v w [] never = absurd never
+row_sound o v w (f ∷ lower) t =
+    let at = here o v f lower t in
+    let is = all_of IsInstr t.code.instructions f.place at.0 (lawful_code o f.routine t.code w t.routine) at.2.at in
+    given_goes o at.0 (instr_at o f) _ at.1 (act_sound o v w f lower t t.code at.0 (shape_before o f.routine t.code f.place) is at.2)

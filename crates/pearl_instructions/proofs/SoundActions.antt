@@ -1,0 +1,199 @@
+-- The rows on tasks, semaphores and devices lead from a stack of a valid object to such stacks only.
+use Rattle.std.proofs.Common.{◌≡◌, ℕ, ◌≤◌, ℤ, pos, List, [], ◌∷◌, ◌++◌, Option, Some, None, length, map, reverse, take, drop, slice_get, refl, sym, ap, ◌∙◌, subst, true, Box, Global}
+use Rattle.std.specs.Prelude.{int_le, is_some, option_to_list, option_and_then}
+use Rattle.std.specs.List.{AllZip}
+use Rattle.std.proofs.lemmas.List.{length-replicate, append-nil}
+use Rattle.pearl_value.specs.declared.kind.Kind.{Kind}
+use Rattle.pearl_value.specs.declared.kind.Kind.TheVariants as kind
+use Rattle.pearl_value.specs.declared.kind.CellKind.TheVariants.{Plain}
+use Rattle.pearl_value.specs.declared.cell.Cell.{Cell}
+use Rattle.pearl_value.specs.declared.cell.Cell.TheVariants as cell
+use Rattle.pearl_value.specs.declared.trap.Trap.TheVariants.{Range, Format}
+use Rattle.pearl_value.specs.WellFormed.{IsValueOf}
+use Rattle.pearl_format.specs.declared.item.Item.{Item}
+use Rattle.pearl_format.specs.Items.{data_count}
+use Rattle.pearl_format.specs.Texts.{text_of}
+use Rattle.pearl_rules.specs.declared.setup.Device.{Device}
+use Rattle.pearl_rules.specs.declared.setup.Device.TheVariants.{Interrupt, Terminal, Input, Output}
+use Rattle.pearl_rules.specs.declared.action.Action.TheVariants as action
+use Rattle.pearl_rules.specs.declared.action.Start.{Start}
+use Rattle.pearl_rules.specs.declared.action.Start.TheVariants as start
+use Rattle.pearl_stack.specs.Frames.{Frame}
+use Rattle.pearl_instructions.specs.declared.schedule.OnceForm.{OnceForm}
+use Rattle.pearl_instructions.specs.declared.schedule.StartForm.{StartForm}
+use Rattle.pearl_instructions.specs.declared.schedule.StartForm.TheVariants as form
+use Rattle.pearl_instructions.specs.declared.instr.Continuation.{Continuation}
+use Rattle.pearl_instructions.specs.declared.instr.Instr.TheVariants.{Now, Try, Take, Send, Continue, Resume, Put}
+use Rattle.pearl_instructions.specs.declared.object.Code.{Code}
+use Rattle.pearl_instructions.specs.declared.object.Object.{Object}
+use Rattle.pearl_instructions.specs.Objects.{items_at}
+use Rattle.pearl_instructions.specs.Steps.{Step, given, needed, taken, next, traps, acts}
+use Rattle.pearl_instructions.specs.Offers.{as_start, start_or_free, start_kinds, lasting, started, items_suit, value_kinds, put_text}
+use Rattle.pearl_instructions.specs.Rows.{act}
+use Rattle.pearl_instructions.specs.Operands.{Shape, Anything, values_asked, scheduled, v2}
+use Rattle.pearl_instructions.specs.Named.{is_input, takes_texts}
+use Rattle.pearl_instructions.specs.Kinds.{plain_kind, kind_taken}
+use Rattle.pearl_instructions.specs.Valid.{plain_kinds, suits_format, values_suit}
+use Rattle.pearl_instructions.specs.Stacks.{routines_of, Suits, IsTop, Goes}
+use Rattle.pearl_instructions.proofs.Tests.{and_true, is_some_true}
+use Rattle.pearl_instructions.proofs.Lists.{scheduled_ends, scheduled_long, kinds_of_values}
+use Rattle.pearl_instructions.proofs.Kept.{Here, goes, given_goes, needed_goes, popped_goes, taken_goes, traps_goes}
+use Rattle.pearl_instructions.proofs.SoundCells.{if_goes}
+use Rattle.pearl_instructions.proofs.SoundVariables.{asks_goes}
+use Rattle.pearl_instructions.proofs.SoundFlow.{any_ends}
+
+pub now_sound : (o : Object) (f : Frame) (lower : List Frame) (code : Code) (s : Shape) → Here o f lower code Now s → Goes o (act o Now f lower)
+now_sound o f lower code s h =
+    asks_goes o action.Now f lower f.operands kind.Clock (Some kind.Clock) (λ answer h. h) refl (λ x fits.
+    goes o f lower code Now s h f.cells (x ∷ f.operands) (Plain kind.Clock ∷ s) refl refl h.stands.cells (fits, h.stands.operands))
+
+pub try_sound : (o : Object) (f : Frame) (lower : List Frame) (code : Code) (s : Shape) (n : ℕ) → Here o f lower code (Try n) s → Goes o (act o (Try n) f lower)
+try_sound o f lower code s n h =
+    asks_goes o (action.Try n) f lower f.operands (kind.Bits 1) (Some (kind.Bits 1)) (λ answer h. h) refl (λ x fits.
+    goes o f lower code (Try n) s h f.cells (x ∷ f.operands) (Plain (kind.Bits 1) ∷ s) refl refl h.stands.cells (fits, h.stands.operands))
+
+input_is : (device : Option Device) → is_input device ≡ true → (of : Kind) × (kind_taken device ≡ Some (Plain of))
+input_is None e = cc
+input_is (Some (Interrupt number)) e = cc
+input_is (Some (Terminal number way)) e = cc
+input_is (Some (Input number of)) e = (of, refl)
+input_is (Some (Output number of)) e = cc
+
+pub take_sound : (o : Object) (f : Frame) (lower : List Frame) (code : Code) (s : Shape) (d : ℕ) → Here o f lower code (Take d) s → Goes o (act o (Take d) f lower)
+take_sound o f lower code s d h =
+    let of = input_is (slice_get o.devices d) h.keeps.named in
+    asks_goes o (action.Take d) f lower f.operands of.0 (option_and_then plain_kind (kind_taken (slice_get o.devices d))) (λ answer h. h)
+    (ap (option_and_then plain_kind) of.1) (λ x fits.
+    goes o f lower code (Take d) s h f.cells (x ∷ f.operands) (Plain of.0 ∷ s) refl (ap (λ k. option_to_list k ++ s) (sym of.1)) h.stands.cells (fits, h.stands.operands))
+
+pub send_sound : (o : Object) (f : Frame) (lower : List Frame) (code : Code) (s : Shape) (d : ℕ) → Here o f lower code (Send d) s → Goes o (act o (Send d) f lower)
+send_sound o f lower code [] d h = let e = h.keeps.ends in cc
+send_sound o f lower code (k ∷ ks) d h =
+    popped_goes o (Suits o (f.routine ∷ routines_of lower)) k ks f.operands _ h.stands.operands (λ x left suits rest answer e.
+    goes o f lower code (Send d) (k ∷ ks) h f.cells left ks refl refl h.stands.cells rest)
+
+pub clock_is : (x : Cell) → IsValueOf kind.Clock x → (time : ℕ) × (x ≡ cell.Clock time)
+clock_is (cell.Clock time) w = (time, refl)
+clock_is (cell.Fixed len value) w = let e = w.same_kind in absurd (never len e)
+  where
+    never : (a : ℕ) → kind.Fixed a ≡ kind.Clock → ⊥
+    never a e = cc
+clock_is (cell.Bits len value) w = absurd (never len w.same_kind)
+  where
+    never : (a : ℕ) → kind.Bits a ≡ kind.Clock → ⊥
+    never a e = cc
+clock_is (cell.Chars text) w = absurd (never (length text.items) w.same_kind)
+  where
+    never : (a : ℕ) → kind.Chars a ≡ kind.Clock → ⊥
+    never a e = cc
+clock_is (cell.Span time) w = absurd (never w.same_kind)
+  where
+    never : kind.Span ≡ kind.Clock → ⊥
+    never e = cc
+clock_is (cell.Ref of at) w = absurd w.is_value
+
+pub span_is : (x : Cell) → IsValueOf kind.Span x → (time : ℤ) × (x ≡ cell.Span time)
+span_is (cell.Span time) w = (time, refl)
+span_is (cell.Fixed len value) w = absurd (never len w.same_kind)
+  where
+    never : (a : ℕ) → kind.Fixed a ≡ kind.Span → ⊥
+    never a e = cc
+span_is (cell.Bits len value) w = absurd (never len w.same_kind)
+  where
+    never : (a : ℕ) → kind.Bits a ≡ kind.Span → ⊥
+    never a e = cc
+span_is (cell.Chars text) w = absurd (never (length text.items) w.same_kind)
+  where
+    never : (a : ℕ) → kind.Chars a ≡ kind.Span → ⊥
+    never a e = cc
+span_is (cell.Clock time) w = absurd (never w.same_kind)
+  where
+    never : kind.Clock ≡ kind.Span → ⊥
+    never e = cc
+span_is (cell.Ref of at) w = absurd w.is_value
+
+pub lasting_goes : (o : Object) (least time : ℤ) (f : Frame) (lower : List Frame) (go : Step) → Goes o go → Goes o (lasting least time f lower go)
+lasting_goes o least time f lower go h = if_goes o (int_le least time) go (traps Range f lower) (λ e. h) (λ e. traps_goes o Range f lower)
+
+-- the values of a start lie there, and more may lie above them
+pub started_goes : (o : Object) (rs : List ℕ) (when : StartForm) (more : Shape) (values : List Cell) (f : Frame) (lower : List Frame) (go : Start → List Cell → Step) →
+    AllZip (Suits o rs) (map Plain (start_kinds when) ++ more) values → ((start : Start) (rest : List Cell) → AllZip (Suits o rs) more rest → Goes o (go start rest)) →
+    Goes o (started when values f lower go)
+started_goes o rs form.Free more values f lower go z h = h start.Free values z
+started_goes o rs form.At more [] f lower go z h = absurd z
+started_goes o rs form.At more (x ∷ values) f lower go z h =
+    let t = clock_is x z.0 in
+    subst (λ x. Goes o (started form.At (x ∷ values) f lower go)) (sym t.1) (h (start.At t.0) values z.1)
+started_goes o rs form.After more [] f lower go z h = absurd z
+started_goes o rs form.After more (x ∷ values) f lower go z h =
+    let t = span_is x z.0 in
+    subst (λ x. Goes o (started form.After (x ∷ values) f lower go)) (sym t.1)
+    (lasting_goes o (pos 0) t.0 f lower (go (start.After t.0) values) (h (start.After t.0) values z.1))
+started_goes o rs (form.When device) more values f lower go z h = h (start.When device) values z
+started_goes o rs (form.WhenAfter device) more [] f lower go z h = absurd z
+started_goes o rs (form.WhenAfter device) more (x ∷ values) f lower go z h =
+    let t = span_is x z.0 in
+    subst (λ x. Goes o (started (form.WhenAfter device) (x ∷ values) f lower go)) (sym t.1)
+    (lasting_goes o (pos 0) t.0 f lower (go (start.WhenAfter device t.0) values) (h (start.WhenAfter device t.0) values z.1))
+
+-- an action whose schedule has a start alone
+once_goes : (o : Object) (f : Frame) (lower : List Frame) (when : StartForm) (s : Shape) (operands : List Cell) (go : Start → List Cell → Step) → v2 (scheduled (start_kinds when)) s ≡ true →
+    AllZip (Suits o (f.routine ∷ routines_of lower)) s operands →
+    ((start : Start) (left : List Cell) → AllZip (Suits o (f.routine ∷ routines_of lower)) (drop (length (start_kinds when)) s) left → Goes o (go start left)) →
+    Goes o (taken (length (start_kinds when)) operands (λ values left. started when values f lower (λ start rest. go start left)))
+once_goes o f lower when s operands go e z h =
+    let rs = f.routine ∷ routines_of lower in
+    let ends = scheduled_ends (start_kinds when) s e in
+    taken_goes o (Suits o rs) (length (start_kinds when)) s operands _ ends.0 z (λ values left there under.
+    started_goes o rs when [] values f lower _
+    (subst (λ ks. AllZip (Suits o rs) ks values) (ends.1 ∙ sym (append-nil (map Plain (start_kinds when)))) there)
+    (λ start rest none. h start left under))
+
+pub continue_sound : (o : Object) (f : Frame) (lower : List Frame) (code : Code) (s : Shape) (c : Box Continuation Global) → Here o f lower code (Continue c) s →
+    Goes o (act o (Continue c) f lower)
+continue_sound o f lower code s c h =
+    let kinds = start_kinds (start_or_free c.value.once) in
+    once_goes o f lower (start_or_free c.value.once) s f.operands (λ start left. acts (action.Continue c.value.task start) f lower left) h.keeps.ends h.stands.operands (λ start left rest answer e.
+    goes o f lower code (Continue c) s h f.cells left (drop (length kinds) s) refl (ap (λ n. drop n s) (sym (scheduled_long kinds))) h.stands.cells rest)
+
+pub resume_sound : (o : Object) (f : Frame) (lower : List Frame) (code : Code) (s : Shape) (once : OnceForm) → Here o f lower code (Resume once) s →
+    Goes o (act o (Resume once) f lower)
+resume_sound o f lower code s once h =
+    let kinds = start_kinds (as_start once) in
+    once_goes o f lower (as_start once) s f.operands (λ start left. acts (action.Resume start) f lower left) h.keeps.ends h.stands.operands (λ start left rest answer e.
+    goes o f lower code (Resume once) s h f.cells left (drop (length kinds) s) refl (ap (λ n. drop n s) (sym (scheduled_long kinds))) h.stands.cells rest)
+
+pub put_goes : (o : Object) (device : ℕ) (text : Option (List ℕ)) (f : Frame) (lower : List Frame) (left : List Cell) → IsTop o (next f left) lower → Goes o (put_text device text f lower left)
+put_goes o device None f lower left t = traps_goes o Format f lower
+put_goes o device (Some text) f lower left t = λ answer e. t
+
+-- the kinds that suit a format
+pub format_kinds : (items : List Item) (kinds : Option (List Kind)) → suits_format items kinds ≡ true →
+    (ks : List Kind) × (kinds ≡ Some ks) × (items_suit items ks ≡ true)
+format_kinds items None e = cc
+format_kinds items (Some ks) e = (ks, refl, (and_true _ _ (and_true _ _ e).0).0)
+
+put_with : (o : Object) (f : Frame) (lower : List Frame) (code : Code) (s : Shape) (d n : ℕ) (items : List Item) → items_at o n ≡ Some items → Here o f lower code (Put d n) s →
+    Goes o (taken (data_count items) f.operands (λ values left. given (value_kinds values) (λ kinds. needed (items_suit items kinds) (put_text d (text_of items values) f lower left))))
+put_with o f lower code s d n items there h =
+    let rs = f.routine ∷ routines_of lower in
+    let count = data_count items in
+    let few : count ≤ length s = any_ends count s (ap (λ i. v2 (values_asked i) s) (sym there) ∙ h.keeps.ends) in
+    let suits = format_kinds items (plain_kinds (reverse (take count s))) (ap (λ i. values_suit i s) (sym there) ∙ h.keeps.limits) in
+    taken_goes o (Suits o rs) count s f.operands
+    (λ values left. given (value_kinds values) (λ kinds. needed (items_suit items kinds) (put_text d (text_of items values) f lower left))) few h.stands.operands (λ values left held under.
+    given_goes o suits.0 (value_kinds values) (λ kinds. needed (items_suit items kinds) (put_text d (text_of items values) f lower left))
+    (kinds_of_values o rs (reverse (take count s)) values suits.0 suits.1 held)
+    (needed_goes o (items_suit items suits.0) (put_text d (text_of items values) f lower left) suits.2
+    (put_goes o d (text_of items values) f lower left
+    (goes o f lower code (Put d n) s h f.cells left (drop count s) refl
+    (ap (λ n. drop n s) (sym (length-replicate count Anything)) ∙ ap (λ i. drop (length (values_asked i)) s) (sym there))
+    h.stands.cells under))))
+
+pub put_sound : (o : Object) (f : Frame) (lower : List Frame) (code : Code) (s : Shape) (d n : ℕ) → Here o f lower code (Put d n) s → Goes o (act o (Put d n) f lower)
+put_sound o f lower code s d n h =
+    let named = and_true (takes_texts (slice_get o.devices d)) (is_some (items_at o n)) h.keeps.named in
+    let items = is_some_true (items_at o n) named.1 in
+    given_goes o items.0 (items_at o n)
+    (λ items. taken (data_count items) f.operands (λ values left. given (value_kinds values) (λ kinds. needed (items_suit items kinds) (put_text d (text_of items values) f lower left))))
+    items.1 (put_with o f lower code s d n items.0 items.1 h)

@@ -1,0 +1,30 @@
+-- What holds of every valid object.
+use Rattle.std.specs.Prelude.{◌≡◌, ℕ, ◌+◌, ◌≤◌, List, Some, length}
+use Rattle.pearl_stack.specs.Frames.{Frame, used}
+use Rattle.pearl_instructions.specs.declared.object.Code.{Code}
+use Rattle.pearl_instructions.specs.declared.object.Object.{Object}
+use Rattle.pearl_instructions.specs.Objects.{routines, routine_at}
+use Rattle.pearl_instructions.specs.Lawful.{IsObject}
+use Rattle.pearl_instructions.specs.Rows.{row, begun}
+use Rattle.pearl_instructions.specs.Valid.{IsValid}
+use Rattle.pearl_instructions.specs.Stacks.{IsStack, Goes, room, all_rows, OffersWithin}
+
+-- a task's routine begins with a stack of the object
+abbrev pub Begins : Type 0
+Begins = (o : Object) (r : ℕ) (code : Code) → IsValid o → IsObject o → length o.procedures ≤ r → routine_at o r ≡ Some code → IsStack o (begun o r)
+
+-- at each stack of the object there is a row, and it leads to such stacks only: the next one, or the one after each answer that suits
+abbrev pub Leads : Type 0
+Leads = (o : Object) → IsValid o → IsObject o → (frames : List Frame) → IsStack o frames → Goes o (row o frames)
+
+-- the depth that the task states isn't passed
+abbrev pub KeepsDepth : Type 0
+KeepsDepth = (o : Object) → IsValid o → (frames : List Frame) → IsStack o frames → used frames ≤ room o frames
+
+-- there is at most one frame more than there are procedures
+abbrev pub CountsFrames : Type 0
+CountsFrames = (o : Object) → IsValid o → (frames : List Frame) → IsStack o frames → length frames ≤ length o.procedures + 1
+
+-- an action is offered after at most as many rows as the object has instructions
+abbrev pub OffersSoon : Type 0
+OffersSoon = (o : Object) → IsValid o → IsObject o → (frames : List Frame) → IsStack o frames → OffersWithin o (all_rows (routines o)) frames

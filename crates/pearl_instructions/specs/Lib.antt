@@ -1,0 +1,28 @@
+-- what the numbers in an object name
+pub mod Objects
+-- what one instruction does to its task's stack, or which action it offers
+pub mod Steps
+-- what the instructions on cells and variables do
+pub mod Cells
+-- what jumps, loops and calls do
+pub mod Flow
+-- what the operators, conversions and subscripts do
+pub mod Operators
+-- which actions the instructions on tasks, semaphores and devices offer
+pub mod Offers
+-- one row for each instruction, and what runs of rows are
+pub mod Rows
+-- which operands each instruction takes, and of which sorts
+pub mod Operands
+-- which numbers an instruction may name, and which cells it names
+pub mod Named
+-- which kinds operands and cells must have, and what an instruction pushes
+pub mod Kinds
+-- which rule fails at an instruction, and which objects are valid
+pub mod Valid
+-- which stacks are stacks of an object, and which answers suit an action
+pub mod Stacks
+-- what is asked of each object, before any rule of the validator
+pub mod Lawful
+-- what holds of every valid object
+pub mod Laws
