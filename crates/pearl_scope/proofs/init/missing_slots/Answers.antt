@@ -16,7 +16,7 @@ returns c = λ leaves has sound.
     let old = c.args.faults.now.items in
     let new = c.tell_misses.new.faults.items in
     let all = c.in_ok-all.all in
-    let one = c.in_ok-one.ensures slots (item_slots forms c.args.form leaves has sound) in
+    let one = c.in_ok-one.ensures.lists slots (item_slots forms c.args.form leaves has sound) in
     let whole = item_kinds forms c.args.form leaves c.kinds_of-whole.result has c.kinds_of-whole.ensures in
     item_told c.args.names.now leaves init all old new (c.in_ok-all.ensures slots one whole)
     (subst (λ rs. (rest : List Kind) → all.behind ≡ kinds_among rest → AreFull rs → IsAhead rs (record { at = 0; used = 0 }) rest (length init) →
