@@ -8,6 +8,7 @@ use Rattle.std.proofs.lemmas.Bool.Decides.{nat_tests}
 use Rattle.std.proofs.lemmas.Option.{same_Some, none-some, slice_get_within}
 use Rattle.std.specs.List.{list_all, flat_map}
 use Rattle.pearl_value.specs.declared.kind.Kind.{Kind}
+use Rattle.pearl_tree.specs.declared.rule.TheConstants as rule
 use Rattle.pearl_tree.specs.declared.fault.RuleFault.{RuleFault}
 use Rattle.pearl_tree.specs.declared.literal.Const.{Const}
 use Rattle.pearl_tree.specs.declared.name.Name.{Name}
@@ -263,7 +264,7 @@ ahead_fewer runs spot rest most fewer h is = record { within = is.within; enough
     by (inr k) = inr k
 
 pub told_more : (runs : List Run) (behind : Kinds) (rest : List Kind) (init : List Const) (before now new : List RuleFault) (spot after : Spot) (i left less : ℕ) (x : Const) (missed : Bool) → less ≡ left - 1 →
-    behind ≡ kinds_among rest → AreFull runs → left + i ≡ length init → i < length init → x ≡ get_or init i x → new ≡ now ++ fault_if missed x.place 7 →
+    behind ≡ kinds_among rest → AreFull runs → left + i ≡ length init → i < length init → x ≡ get_or init i x → new ≡ now ++ fault_if missed x.place rule.S7 →
     ((others : List Kind) → behind ≡ kinds_among others → AreFull runs → IsAhead runs spot others 1 → missed ≡ misses (shown_const x) (taken (nat_eq less 0) (ahead runs spot others))) →
     ((others : List Kind) (most : ℕ) → AreFull runs → IsAhead runs spot others (most + 1) →
     IsAhead runs after others most × (ahead runs after others ≡ drop 1 (ahead runs spot others))) →
@@ -277,8 +278,8 @@ told_more runs behind rest init before now new spot after i left less x missed s
     let is_missed = asks rest kinds full (ahead_fewer runs spot rest left 1 (omega (arith, next)) so.is) ∙ ap (misses (shown_const x)) (taken_so cs less slots counted) in
     let gone = goes rest less full (subst (IsAhead runs spot rest) next so.is) in record {
       told = (λ k. faults k ++ missing_slots (gone.1 k) (map shown_const cs))
-          ∙ append_assoc now (fault_if missed x.place 7) (missing_slots (drop 1 slots) (map shown_const cs))
-          ∙ ap (λ b. now ++ (fault_if b x.place 7 ++ missing_slots (drop 1 slots) (map shown_const cs))) is_missed
+          ∙ append_assoc now (fault_if missed x.place rule.S7) (missing_slots (drop 1 slots) (map shown_const cs))
+          ∙ ap (λ b. now ++ (fault_if b x.place rule.S7 ++ missing_slots (drop 1 slots) (map shown_const cs))) is_missed
           ∙ ap (λ l. now ++ missing_slots slots (map shown_const l)) (sym here) ∙ so.told;
       is = gone.0;
     }

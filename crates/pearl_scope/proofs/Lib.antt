@@ -7,3 +7,4 @@ pub mod Asking
 mod Examples
 pub mod Fitting
 pub mod Filled
+pub mod Put

@@ -8,7 +8,7 @@ use Rattle.pearl_names.specs.Listed.{stmts_shown, branches_shown}
 use Rattle.pearl_names.specs.Scopes.{as_stmts, scopes_in, scopes_in_all, scopes_in_branches}
 use Rattle.pearl_scope.specs.declared.places.Spot.{Spot}
 use Rattle.pearl_scope.specs.declared.places.Place.{Place}
-use Rattle.pearl_scope.specs.Placed.{Placed, placed_at, placed_in, placed_stmt, placed_all, placed_branches}
+use Rattle.pearl_scope.specs.Placed.{Grows, Placed, placed_at, placed_in, placed_stmt, placed_all, placed_branches}
 use Rattle.pearl_names.proofs.Lists.{one_taken}
 
 pub placed_in-nil : placed_in [] ≡ []
@@ -24,6 +24,23 @@ unfolding placed_in
 placed_in-cons a b = refl
 
 pub ruleset place_steps = (placed_in-nil, placed_in-append, placed_in-cons)
+
+-- places that stay
+pub grows_none : (places : List Place) → Grows places places
+grows_none places = record { more = []; is = sym (append-nil places) }
+
+pub grows_more : (a b c : List Place) → Grows a b → Grows b c → Grows a c
+grows_more a b c first second = record {
+  more = first.more ++ second.more;
+  is = second.is ∙ ap (λ t. t ++ second.more) first.is ∙ append_assoc a first.more second.more;
+}
+
+pub grows_back : (a b c : List Place) (n : ℕ) → n ≡ length a → Grows a b → c ≡ take n b → c ≡ a
+grows_back a b c n counted grows cut = cut ∙ (λ i. take (counted i) (grows.is i)) ∙ take-front a grows.more
+  where
+    take-front : (xs more : List Place) → take (length xs) (xs ++ more) ≡ xs
+    take-front [] more = refl
+    take-front (x ∷ xs) more = ap (λ t. x ∷ t) (take-front xs more)
 
 -- a statement was put, and then those within it
 pub put_one : (a b c : List Placed) (x : Placed) (first : List Placed) → b ≡ a ++ x ∷ [] → c ≡ b ++ first → c ≡ a ++ x ∷ first

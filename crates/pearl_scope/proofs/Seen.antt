@@ -2,6 +2,7 @@
 use Rattle.std.proofs.Common.{◌≡◌, ℕ, ◌+◌, ◌<◌, Bool, true, false, cond, ◌||◌, List, [], ◌∷◌, ◌++◌, Option, Some, None, is_some, bytes_eq, refl, sym, ap, subst, ◌∙◌, append_assoc, append-nil, length, take, get_or}
 use Rattle.arrayvec.specs.ArrayVec.{ArrayVec}
 use Rattle.pearl_tree.specs.declared.fault.RuleFault.{RuleFault}
+use Rattle.pearl_tree.specs.declared.rule.TheConstants as rule
 use Rattle.pearl_tree.specs.declared.name.Name.{Name}
 use Rattle.pearl_tree.specs.declared.typing.Field.{Field}
 use Rattle.pearl_tree.specs.ShownDeclarations.{shown_names}
@@ -14,12 +15,12 @@ use Rattle.pearl_scope.specs.Seen.{Sees}
 use Rattle.pearl_names.proofs.FirstNames.{bytes_symm}
 use Rattle.pearl_names.proofs.Lists.{one_taken}
 
-repeats_append : (rule : ℕ) (before a b : List Name) → repeats rule before (a ++ b) ≡ repeats rule before a ++ repeats rule (before ++ a) b
-repeats_append rule before [] b = ap (λ l. repeats rule l b) (sym (append-nil before))
-repeats_append rule before (name ∷ a) b =
-    ap (λ t. fault_if (is_among before (name_text name)) name.place rule ++ t) (repeats_append rule (before ++ name ∷ []) a b)
-    ∙ sym (append_assoc (fault_if (is_among before (name_text name)) name.place rule) (repeats rule (before ++ name ∷ []) a) _)
-    ∙ ap (λ l. (fault_if (is_among before (name_text name)) name.place rule ++ repeats rule (before ++ name ∷ []) a) ++ repeats rule l b)
+repeats_append : (number : ℕ) (before a b : List Name) → repeats number before (a ++ b) ≡ repeats number before a ++ repeats number (before ++ a) b
+repeats_append number before [] b = ap (λ l. repeats number l b) (sym (append-nil before))
+repeats_append number before (name ∷ a) b =
+    ap (λ t. fault_if (is_among before (name_text name)) name.place number ++ t) (repeats_append number (before ++ name ∷ []) a b)
+    ∙ sym (append_assoc (fault_if (is_among before (name_text name)) name.place number) (repeats number (before ++ name ∷ []) a) _)
+    ∙ ap (λ l. (fault_if (is_among before (name_text name)) name.place number ++ repeats number (before ++ name ∷ []) a) ++ repeats number l b)
     (append_assoc before (name ∷ []) a)
 
 among_push : (before : List Name) (name : Name) (q : List ℕ) → is_among (before ++ name ∷ []) q ≡ is_among before q || bytes_eq q (name_text name)
@@ -49,24 +50,24 @@ sees_more old new before name number sees noted q =
 -- what a loop over names has told
 abbrev pub Told : (old new : List (ArrayVec ℕ × ℕ)) (before after : List RuleFault) → List Name → Type 0
 Told old new before after names =
-    (earlier : List Name) → Sees old earlier → Sees new (earlier ++ names) × (after ≡ before ++ repeats 6 earlier names)
+    (earlier : List Name) → Sees old earlier → Sees new (earlier ++ names) × (after ≡ before ++ repeats rule.S6 earlier names)
 
 pub told_none : (seen : List (ArrayVec ℕ × ℕ)) (faults : List RuleFault) → Told seen seen faults faults []
 told_none seen faults earlier sees = (subst (Sees seen) (sym (append-nil earlier)) sees, sym (append-nil faults))
 
 pub told_more : (old now new : List (ArrayVec ℕ × ℕ)) (a b c : List RuleFault) (xs : List Name) (i : ℕ) (x : Name) (number : ℕ) (again : Bool) →
     i < length xs → x ≡ get_or xs i x → Told old now a b (take i xs) → again ≡ is_some (number_of now (name_text x)) → HasNoted now (name_text x) number new →
-    c ≡ b ++ fault_if again x.place 6 → Told old new a c (take (i + 1) xs)
+    c ≡ b ++ fault_if again x.place rule.S6 → Told old new a c (take (i + 1) xs)
 told_more old now new a b c xs i x number again inside is told twice noted more earlier sees =
     let so = told earlier sees in
     let here : again ≡ is_among (earlier ++ take i xs) (name_text x) = twice ∙ so.0 (name_text x) in
     let taken = one_taken xs i x inside is in (
       subst (Sees new) (append_assoc earlier (take i xs) (x ∷ []) ∙ ap (λ t. earlier ++ t) (sym taken)) (sees_more now new (earlier ++ take i xs) x number so.0 noted),
-      more ∙ (λ j. so.1 j ++ fault_if (here j) x.place 6)
-          ∙ append_assoc a (repeats 6 earlier (take i xs)) _
-          ∙ ap (λ t. a ++ (repeats 6 earlier (take i xs) ++ t)) (append-nil' (fault_if (is_among (earlier ++ take i xs) (name_text x)) x.place 6))
-          ∙ ap (λ t. a ++ t) (sym (repeats_append 6 earlier (take i xs) (x ∷ [])))
-          ∙ ap (λ l. a ++ repeats 6 earlier l) (sym taken),
+      more ∙ (λ j. so.1 j ++ fault_if (here j) x.place rule.S6)
+          ∙ append_assoc a (repeats rule.S6 earlier (take i xs)) _
+          ∙ ap (λ t. a ++ (repeats rule.S6 earlier (take i xs) ++ t)) (append-nil' (fault_if (is_among (earlier ++ take i xs) (name_text x)) x.place rule.S6))
+          ∙ ap (λ t. a ++ t) (sym (repeats_append rule.S6 earlier (take i xs) (x ∷ [])))
+          ∙ ap (λ l. a ++ repeats rule.S6 earlier l) (sym taken),
     )
   where
     append-nil' : (l : List RuleFault) → l ≡ l ++ []
@@ -75,7 +76,7 @@ told_more old now new a b c xs i x number again inside is told twice noted more 
 -- what a loop over fields has told
 pub record ToldFields (seen : List (ArrayVec ℕ × ℕ)) (before after : List RuleFault) (fields : List Field) : Type 0 where
   pub sees : Sees seen (field_names (fields_shown fields))
-  pub told : after ≡ before ++ repeats 6 [] (field_names (fields_shown fields))
+  pub told : after ≡ before ++ repeats rule.S6 [] (field_names (fields_shown fields))
 
 pub told_no_field : (seen : List (ArrayVec ℕ × ℕ)) (faults : List RuleFault) → seen ≡ [] → ToldFields seen faults faults []
 told_no_field seen faults none = record {
@@ -96,6 +97,6 @@ told_field now new a b c xs i x names inside is same so told =
     ap (λ l. field_names (fields_shown l)) (one_taken xs i x inside is) ∙ names_more (take i xs) x ∙ ap (λ t. earlier ++ t) (sym same) in
     record {
       sees = subst (Sees new) (sym e) more.0;
-      told = more.1 ∙ ap (λ t. t ++ repeats 6 earlier names) so.told ∙ append_assoc a (repeats 6 [] earlier) _
-          ∙ ap (λ t. a ++ t) (sym (repeats_append 6 [] earlier names) ∙ ap (repeats 6 []) (sym e));
+      told = more.1 ∙ ap (λ t. t ++ repeats rule.S6 earlier names) so.told ∙ append_assoc a (repeats rule.S6 [] earlier) _
+          ∙ ap (λ t. a ++ t) (sym (repeats_append rule.S6 [] earlier names) ∙ ap (repeats rule.S6 []) (sym e));
     }

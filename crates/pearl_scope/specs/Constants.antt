@@ -5,6 +5,7 @@ use Rattle.pearl_value.specs.declared.kind.Kind.{Kind}
 use Rattle.pearl_value.specs.declared.kind.Kind.TheVariants as kind
 use Rattle.pearl_value.specs.Conversions.{fits_fixed}
 use Rattle.pearl_tree.specs.declared.fault.RuleFault.{RuleFault}
+use Rattle.pearl_tree.specs.declared.rule.TheConstants as rule
 use Rattle.pearl_tree.specs.declared.literal.Sign.{Sign}
 use Rattle.pearl_tree.specs.declared.literal.Sign.TheVariants.{Minus}
 use Rattle.pearl_tree.specs.ShownLiterals.{ShownLiteral, OfNumber, OfBits, OfText, OfClock, OfDuration, ShownConst}
@@ -55,8 +56,8 @@ misses constant slots = is_empty slots || not (list_all (fits_kind constant) slo
 abbrev pub missing_slots : List Kind → List ShownConst → List RuleFault
 missing_slots slots [] = []
 missing_slots slots (constant ∷ rest) =
-    fault_if (misses constant (slots_taken rest slots)) constant.place 7 ++ missing_slots (drop 1 slots) rest
+    fault_if (misses constant (slots_taken rest slots)) constant.place rule.S7 ++ missing_slots (drop 1 slots) rest
 
 abbrev pub wrong_signs : List ShownConst → List RuleFault
 wrong_signs [] = []
-wrong_signs (constant ∷ rest) = fault_if (has_wrong_sign constant) constant.place 7 ++ wrong_signs rest
+wrong_signs (constant ∷ rest) = fault_if (has_wrong_sign constant) constant.place rule.S7 ++ wrong_signs rest

@@ -12,5 +12,5 @@ pub mod PartLists
 pub mod Seen
 -- the rules S1 to S9, and the faults of a module in them
 pub mod Rules
--- the rules that a module breaks have one list
+-- the rules that a module breaks have one list; constants fit the kinds of which their values become one
 pub mod Laws

@@ -1,5 +1,5 @@
 -- All statements of a module, each with where it stands.
-use Rattle.std.specs.Prelude.{ℕ, ◌+◌, true, false, List, [], ◌∷◌, ◌++◌, map}
+use Rattle.std.specs.Prelude.{◌≡◌, ℕ, ◌+◌, true, false, List, [], ◌∷◌, ◌++◌, map}
 use Rattle.pearl_tree.specs.ShownStatements.{ShownStmt, OfIf, OfCase, OfRepeat, OfBegin, ShownStmts, NoStmts, MoreStmts, ShownBranches, NoBranches, MoreBranches, ShownOtherwise, NoOtherwise, OfOtherwise, shown_stmt}
 use Rattle.pearl_names.specs.Scopes.{scopes_in, scopes_in_all, scopes_in_branches}
 use Rattle.std.specs.List.{flat_map}
@@ -55,6 +55,11 @@ placed_at place = record { spot = place.spot; next = place.next; statement = sho
 -- what a list of places in memory tells
 unfoldable pub placed_in : List Place → List Placed
 placed_in places = map placed_at places
+
+-- places are added behind those that stood there
+pub record Grows (old new : List Place) : Type 0 where
+  pub more : List Place
+  pub is : new ≡ old ++ more
 
 -- what may be broken in a statement by itself, apart from those within it
 abbrev pub parts_at : (types : ℕ) → Placed → List Part

@@ -3,6 +3,7 @@ use Rattle.std.specs.Prelude.{ℕ, ◌-◌, ◌^◌, Bool, true, false, ◌&&◌
 use Rattle.std.specs.List.{list_all, flat_map}
 use Rattle.pearl_value.specs.declared.kind.Kind.{Kind}
 use Rattle.pearl_tree.specs.declared.fault.RuleFault.{RuleFault}
+use Rattle.pearl_tree.specs.declared.rule.TheConstants as rule
 use Rattle.pearl_tree.specs.declared.name.Name.{Name}
 use Rattle.pearl_tree.specs.declared.name.Number.{Number}
 use Rattle.pearl_tree.specs.ShownLiterals.{ShownConst}
@@ -29,7 +30,7 @@ s1 scope = repeated scope.names
 
 -- S2: a name is used that no visible scope declares
 abbrev pub s2 : List ScopeNames → Part → List RuleFault
-s2 scopes (Used view name) = fault_if (is_none (sort_from scopes view (name_text name))) name.place 2
+s2 scopes (Used view name) = fault_if (is_none (sort_from scopes view (name_text name))) name.place rule.S2
 s2 scopes part = []
 
 abbrev pub is_later_or_no_type : ℕ → Option NameSort → Bool
@@ -40,19 +41,19 @@ is_later_or_no_type types (Some sort) = true
 -- S3: a type name is used before its TYPE, or names something else
 abbrev pub s3 : List ScopeNames → Part → List RuleFault
 s3 scopes (UsedAsType scope types name) =
-    fault_if (is_later_or_no_type types (sort_within scopes scope (name_text name))) name.place 3
+    fault_if (is_later_or_no_type types (sort_within scopes scope (name_text name))) name.place rule.S3
 s3 scopes part = []
 
 -- S4: a length is outside its range, or a duration literal is too long
 abbrev pub s4 : Part → List RuleFault
-s4 (Length sort number) = fault_if (not (is_length sort number.value)) number.place 4
-s4 (Lasts duration) = fault_if (is_too_long duration) (place_of_duration duration) 4
+s4 (Length sort number) = fault_if (not (is_length sort number.value)) number.place rule.S4
+s4 (Lasts duration) = fault_if (is_too_long duration) (place_of_duration duration) rule.S4
 s4 part = []
 
--- at each of these names
+-- at each of these names, by the rule of a number
 abbrev pub fault_at_names : Bool → List Name → ℕ → List RuleFault
-fault_at_names broken [] rule = []
-fault_at_names broken (name ∷ names) rule = fault_if broken name.place rule ++ fault_at_names broken names rule
+fault_at_names broken [] number = []
+fault_at_names broken (name ∷ names) number = fault_if broken name.place number ++ fault_at_names broken names number
 
 abbrev pub has_unsound_leaf : Option (List Leaf) → Bool
 has_unsound_leaf None = false
@@ -61,14 +62,14 @@ has_unsound_leaf (Some leaves) = not (list_all is_sound_leaf leaves)
 -- S5: a lower bound is above the upper one, or a bound is out of range; a leaf has more than three dimensions on its path
 -- or more than 65,536 elements
 abbrev pub s5 : Known → Part → List RuleFault
-s5 known (Bounds bound) = fault_if (not (is_sound_pair (bound_pair bound))) bound.place 5
+s5 known (Bounds bound) = fault_if (not (is_sound_pair (bound_pair bound))) bound.place rule.S5
 s5 known (Item scope types item) =
-    fault_at_names (has_unsound_leaf (item_leaves (around known scope types) item)) (names_of item.names) 5
+    fault_at_names (has_unsound_leaf (item_leaves (around known scope types) item)) (names_of item.names) rule.S5
 s5 known part = []
 
 -- S6: a STRUCT names a field twice
 abbrev pub s6 : Part → List RuleFault
-s6 (Struct fields) = repeats 6 [] (field_names fields)
+s6 (Struct fields) = repeats rule.S6 [] (field_names fields)
 s6 part = []
 
 -- INIT's constants run over the slots of each name in turn
@@ -96,19 +97,19 @@ has_no_constant [] = true
 has_no_constant (constant ∷ rest) = false
 
 abbrev pub fault_at_first : Bool → List Name → ℕ → List RuleFault
-fault_at_first broken [] rule = []
-fault_at_first broken (name ∷ names) rule = fault_if broken name.place rule
+fault_at_first broken [] number = []
+fault_at_first broken (name ∷ names) number = fault_if broken name.place number
 
 -- S8: INV without INIT
 abbrev pub s8 : Part → List RuleFault
-s8 (Item scope types item) = fault_at_first (item.inv && has_no_constant item.init) (names_of item.names) 8
+s8 (Item scope types item) = fault_at_first (item.inv && has_no_constant item.init) (names_of item.names) rule.S8
 s8 part = []
 
 -- where so many names are left for the numbers
 abbrev pub unfit_presets : ℕ → List Number → List RuleFault
 unfit_presets names [] = []
 unfit_presets names (number ∷ rest) =
-    fault_if (nat_lt names 1 || nat_lt (2 ^ 31 - 1) number.value) number.place 9 ++ unfit_presets (names - 1) rest
+    fault_if (nat_lt names 1 || nat_lt (2 ^ 31 - 1) number.value) number.place rule.S9 ++ unfit_presets (names - 1) rest
 
 -- S9: PRESET has more numbers than names, or a number above 2^31 - 1
 abbrev pub s9 : Part → List RuleFault

@@ -1,7 +1,7 @@
 // All statements of a module, each with where it stands.
 #![tactic(auto, using(crate::proofs::Placing::place_steps, std::proofs::lemmas::Grind::common_steps))]
 
-ghost use Rattle.std.specs.Prelude.{◌≡◌, ◌+◌, ◌++◌, ◌∷◌, [], IfOk, OnOk};
+ghost use Rattle.std.specs.Prelude.{◌≡◌, ◌+◌, ◌++◌, ◌∷◌, [], IfOk, OnErr, OnOk};
 ghost use Rattle.pearl_tree.specs.ShownStatements.{shown_stmt};
 ghost use Rattle.pearl_names.specs.Listed.{stmts_shown, branches_shown, otherwise_shown};
 ghost use Rattle.pearl_names.specs.Scopes.{scopes_in, scopes_in_all, scopes_in_branches, scopes_in_otherwise};
@@ -42,9 +42,10 @@ fn put_place<'a>(
     next: u32,
     stmt: &'a Stmt,
 ) -> Result<(), NoMemory>
-    ensures { OnOk result
+    ensures placed { OnOk result
         (spec.placed_in places.new.items ≡
         spec.placed_in places.old.items ++ record { spot = spot; next = next; statement = shown_stmt stmt.now } ∷ []) }
+    ensures grows { spec.Grows places.old.items places.new.items }
 {
     places.push(Place { spot, next, stmt })?;
     Ok(())
@@ -60,6 +61,7 @@ fn place_stmt<'a>(
     ensures placed { OnOk result
         (spec.placed_in places.new.items ≡ spec.placed_in places.old.items ++ spec.placed_stmt spot next (shown_stmt stmt.now)) }
     ensures next { IfOk result (λ after. after ≡ next + scopes_in (shown_stmt stmt.now)) }
+    ensures grows { spec.Grows places.old.items places.new.items }
 {
     put_place(places, spot, next, stmt)?;
     match stmt {
@@ -120,6 +122,7 @@ fn place_all<'a>(
         (spec.placed_in places.new.items ≡
         spec.placed_in places.old.items ++ spec.placed_all spot next (stmts_shown stmts.now.items.items)) }
     ensures next { IfOk result (λ after. after ≡ next + scopes_in_all (stmts_shown stmts.now.items.items)) }
+    ensures grows { spec.Grows places.old.items places.new.items }
 {
     let mut number = next;
     for stmt in stmts.as_slice() {
@@ -139,6 +142,7 @@ fn place_branches<'a>(
         (spec.placed_in places.new.items ≡
         spec.placed_in places.old.items ++ spec.placed_branches spot next (branches_shown branches.now.items.items)) }
     ensures next { IfOk result (λ after. after ≡ next + scopes_in_branches (branches_shown branches.now.items.items)) }
+    ensures grows { spec.Grows places.old.items places.new.items }
 {
     let mut number = next;
     for branch in branches.as_slice() {
@@ -158,6 +162,7 @@ fn place_otherwise<'a>(
         (spec.placed_in places.new.items ≡
         spec.placed_in places.old.items ++ spec.placed_otherwise spot next (otherwise_shown otherwise.now)) }
     ensures next { IfOk result (λ after. after ≡ next + scopes_in_otherwise (otherwise_shown otherwise.now)) }
+    ensures grows { spec.Grows places.old.items places.new.items }
 {
     match otherwise {
         Some(branch) => {
@@ -168,7 +173,8 @@ fn place_otherwise<'a>(
     }
 }
 
-/// The places of the statements of a body that is the scope of this number. It answers the number of the next scope.
+/// Adds the places of the statements of a body that is the scope of this number, and answers the number of the next
+/// scope.
 pub fn place_body<'a>(
     places: &mut Vec<Place<'a>>,
     scope: u32,
@@ -178,12 +184,19 @@ pub fn place_body<'a>(
         (spec.placed_in places.new.items ≡
         spec.placed_in places.old.items ++ spec.placed_body scope (stmts_shown body.now.statements.items.items)) }
     ensures next { IfOk result (λ after. after ≡ scope + 1 + scopes_in_all (stmts_shown body.now.statements.items.items)) }
+    ensures err { OnErr result (places.new.items ≡ places.old.items) }
 {
     let spot = Spot {
         scope,
         in_loop: false,
     };
     let next = after(scope)?;
-    let next = place_all(places, spot, next, &body.statements)?;
-    Ok(next)
+    let before = places.len();
+    match place_all(places, spot, next, &body.statements) {
+        Ok(next) => Ok(next),
+        Err(error) => {
+            places.truncate(before);
+            Err(error)
+        }
+    }
 }

@@ -4,6 +4,7 @@
 ghost use Rattle.std.specs.Prelude.{◌≡◌, ◌++◌, [], List, Option, option_map, map, IfOk, OnOk};
 ghost use Rattle.std.specs.List.{flat_map};
 ghost use Rattle.pearl_tree.specs.declared.name.Name.{Name as NameOf};
+ghost use Rattle.pearl_tree.specs.declared.rule.TheConstants.{S5, S6};
 ghost use Rattle.pearl_tree.specs.Faults as faults_spec;
 ghost use Rattle.pearl_tree.specs.Faults.{ListFaults};
 ghost use Rattle.pearl_tree.specs.Names.{repeats};
@@ -55,19 +56,12 @@ pub(crate) fn fault_if(
     Ok(())
 }
 
-fn s1_of(faults: &mut Vec<RuleFault>, scope: &ScopeTable) -> Result<(), NoMemory>
-    ensures { OnOk result (faults.new.items ≡ faults.old.items ++ spec.s1 scope.now) }
-{
-    faults.extend_from_slice(scope.repeats())?;
-    Ok(())
-}
-
 // S1: at each name that is declared twice in one scope.
 fn s1_faults(faults: &mut Vec<RuleFault>, scopes: &[ScopeTable]) -> Result<(), NoMemory>
     ensures { OnOk result (faults.new.items ≡ faults.old.items ++ flat_map spec.s1 scopes.now) }
 {
     for scope in scopes {
-        s1_of(faults, scope)?;
+        faults.extend_from_slice(scope.repeats())?;
     }
     Ok(())
 }
@@ -192,7 +186,7 @@ fn tell_repeats(
 ) -> Result<(), NoMemory>
     ensures { OnOk result ((before : List NameOf) → Sees seen.old.entries before →
         Sees seen.new.entries (before ++ names.now) ×
-        (faults.new.items ≡ faults.old.items ++ repeats 6 before names.now)) }
+        (faults.new.items ≡ faults.old.items ++ repeats S6 before names.now)) }
 {
     for name in names {
         let again = note(seen, &name.text, 0)?;
@@ -207,7 +201,7 @@ fn repeated_fields(
     fields: &[Field],
 ) -> Result<(), NoMemory>
     ensures { OnOk result
-        (faults.new.items ≡ faults.old.items ++ repeats 6 [] (field_names (fields_shown fields.now))) }
+        (faults.new.items ≡ faults.old.items ++ repeats S6 [] (field_names (fields_shown fields.now))) }
 {
     let mut seen = IndexMap::new(alloc);
     for field in fields {
@@ -230,7 +224,7 @@ fn s5_of_names(
     broken: bool,
     mut names: &[Name],
 ) -> Result<(), NoMemory>
-    ensures { OnOk result (faults.new.items ≡ faults.old.items ++ spec.fault_at_names broken names.entry.now 5) }
+    ensures { OnOk result (faults.new.items ≡ faults.old.items ++ spec.fault_at_names broken names.entry.now S5) }
 {
     while let [name, rest @ ..] = names {
         fault_if(faults, broken, name.place, rule::S5)?;

@@ -35,27 +35,14 @@ fn add_period_end<'a>(
     }
 }
 
-fn add_maybe_end<'a>(
-    parts: &mut Vec<Part<'a>>,
-    view: View,
-    end: &'a Option<PeriodEnd>,
-) -> Result<(), NoMemory>
-    ensures { OnOk result
-        (parts_in parts.new.items ≡
-        parts_in parts.old.items ++ spec.parts_if (spec.period_end_parts view) (option_map shown_period_end end.now)) }
-{
-    match end {
-        Some(end) => add_period_end(parts, view, end),
-        None => Ok(()),
-    }
-}
-
 fn add_period<'a>(parts: &mut Vec<Part<'a>>, view: View, period: &'a Period) -> Result<(), NoMemory>
     ensures { OnOk result
         (parts_in parts.new.items ≡ parts_in parts.old.items ++ spec.period_parts view (shown_period period.now)) }
 {
     add_expr(parts, view, &period.duration)?;
-    add_maybe_end(parts, view, &period.end)?;
+    if let Some(end) = &period.end {
+        add_period_end(parts, view, end)?;
+    }
     Ok(())
 }
 
@@ -108,21 +95,6 @@ fn add_start<'a>(parts: &mut Vec<Part<'a>>, view: View, start: &'a Start) -> Res
     }
 }
 
-fn add_maybe_start<'a>(
-    parts: &mut Vec<Part<'a>>,
-    view: View,
-    start: &'a Option<Start>,
-) -> Result<(), NoMemory>
-    ensures { OnOk result
-        (parts_in parts.new.items ≡
-        parts_in parts.old.items ++ spec.parts_if (spec.start_parts view) (option_map shown_start start.now)) }
-{
-    match start {
-        Some(start) => add_start(parts, view, start),
-        None => Ok(()),
-    }
-}
-
 fn add_once<'a>(parts: &mut Vec<Part<'a>>, view: View, once: &'a Once) -> Result<(), NoMemory>
     ensures { OnOk result
         (parts_in parts.new.items ≡ parts_in parts.old.items ++ spec.once_parts view (shown_once once.now)) }
@@ -131,21 +103,6 @@ fn add_once<'a>(parts: &mut Vec<Part<'a>>, view: View, once: &'a Once) -> Result
         Once::At { time, .. } => add_expr(parts, view, time),
         Once::After { duration, .. } => add_expr(parts, view, duration),
         Once::When { interrupt, .. } => use_name(parts, view, interrupt),
-    }
-}
-
-fn add_maybe_once<'a>(
-    parts: &mut Vec<Part<'a>>,
-    view: View,
-    once: &'a Option<Once>,
-) -> Result<(), NoMemory>
-    ensures { OnOk result
-        (parts_in parts.new.items ≡
-        parts_in parts.old.items ++ spec.parts_if (spec.once_parts view) (option_map shown_once once.now)) }
-{
-    match once {
-        Some(once) => add_once(parts, view, once),
-        None => Ok(()),
     }
 }
 
@@ -182,7 +139,9 @@ fn add_activate<'a>(
         (spec.parts_if (spec.start_parts view) (option_map shown_start part.now.start) ++
         (spec.Used view part.now.task ∷ spec.parts_if (spec.expr_parts view) (option_map shown_expr part.now.priority)))) }
 {
-    add_maybe_start(parts, view, &part.start)?;
+    if let Some(start) = &part.start {
+        add_start(parts, view, start)?;
+    }
     use_name(parts, view, &part.task)?;
     add_maybe(parts, view, &part.priority)?;
     Ok(())
@@ -198,7 +157,9 @@ fn add_continue<'a>(
         parts_in parts.old.items ++
         (spec.parts_if (spec.once_parts view) (option_map shown_once part.now.once) ++ spec.Used view part.now.task ∷ [])) }
 {
-    add_maybe_once(parts, view, &part.once)?;
+    if let Some(once) = &part.once {
+        add_once(parts, view, once)?;
+    }
     use_name(parts, view, &part.task)?;
     Ok(())
 }

@@ -20,6 +20,7 @@ use Rattle.pearl_system.specs.Rules.{broken, is_missed, is_no_device, is_twin, i
 use Rattle.pearl_system.specs.Specified.{specified}
 use Rattle.pearl_system.proofs.Lists.{contains_here, contains_later, contains_cases, some_same}
 use Rattle.pearl_system.proofs.Once.{none_in}
+use Rattle.pearl_system.proofs.Tests.{missed_from, missed_to, no_device_from, no_device_to, unsuited_from, unsuited_to}
 use Rattle.pearl_system.proofs.Walks.{each_after, name_fault, s10_is, s12_is, twin_fault}
 
 contains_get : {X : Type 0} (xs : List X) (x : X) → Contains xs x → (k : ℕ) × (slice_get xs k ≡ Some x)
@@ -152,11 +153,11 @@ s11_from : (tree : ShownTree) (fault : RuleFault) → Contains (s11 (devices_of 
 s11_from tree fault h =
     let (device, among, has) = flat_in no_device_fault (devices_of tree) fault h in
     let told = if_in (is_no_device device) (word_place device.word) rule.S11 fault has in
-    (told.by, (device, among, told.is, told.at))
+    (told.by, (device, among, no_device_from device told.is, told.at))
 
 s11_to : (tree : ShownTree) (fault : RuleFault) → fault.rule ≡ rule.S11 → BreaksS11 tree fault.place → Contains (s11 (devices_of tree)) fault
 s11_to tree fault number (device, among, is, place) =
-    flat_to no_device_fault (devices_of tree) device fault among (if_to (is_no_device device) (word_place device.word) rule.S11 fault is place number)
+    flat_to no_device_fault (devices_of tree) device fault among (if_to (is_no_device device) (word_place device.word) rule.S11 fault (no_device_to device is) place number)
 
 s12_from : (tree : ShownTree) (fault : RuleFault) → Contains (s12 (devices_of tree)) fault → (fault.rule ≡ rule.S12) × BreaksS12 tree fault.place
 s12_from tree fault h =
@@ -179,23 +180,23 @@ s13_from : (tree : ShownTree) (fault : RuleFault) → Contains (s13 (devices_of 
 s13_from tree fault h =
     let (spec, among, has) = flat_in (missed_fault (devices_of tree)) (specified tree) fault h in
     let told = if_in (is_missed spec.form (named (devices_of tree) spec.text.items)) spec.place rule.S13 fault has in
-    (told.by, (spec, among, told.is, told.at))
+    (told.by, (spec, among, missed_from tree spec told.is, told.at))
 
 s13_to : (tree : ShownTree) (fault : RuleFault) → fault.rule ≡ rule.S13 → BreaksS13 tree fault.place → Contains (s13 (devices_of tree) (specified tree)) fault
 s13_to tree fault number (spec, among, is, place) =
     flat_to (missed_fault (devices_of tree)) (specified tree) spec fault among
-    (if_to (is_missed spec.form (named (devices_of tree) spec.text.items)) spec.place rule.S13 fault is place number)
+    (if_to (is_missed spec.form (named (devices_of tree) spec.text.items)) spec.place rule.S13 fault (missed_to tree spec is) place number)
 
 s14_from : (tree : ShownTree) (fault : RuleFault) → Contains (s14 (devices_of tree) (specified tree)) fault → (fault.rule ≡ rule.S14) × BreaksS14 tree fault.place
 s14_from tree fault h =
     let (spec, among, has) = flat_in (unsuited_fault (devices_of tree)) (specified tree) fault h in
     let told = if_in (is_unsuited spec.form (named (devices_of tree) spec.text.items)) spec.place rule.S14 fault has in
-    (told.by, (spec, among, told.is, told.at))
+    (told.by, (spec, among, unsuited_from tree spec told.is, told.at))
 
 s14_to : (tree : ShownTree) (fault : RuleFault) → fault.rule ≡ rule.S14 → BreaksS14 tree fault.place → Contains (s14 (devices_of tree) (specified tree)) fault
 s14_to tree fault number (spec, among, is, place) =
     flat_to (unsuited_fault (devices_of tree)) (specified tree) spec fault among
-    (if_to (is_unsuited spec.form (named (devices_of tree) spec.text.items)) spec.place rule.S14 fault is place number)
+    (if_to (is_unsuited spec.form (named (devices_of tree) spec.text.items)) spec.place rule.S14 fault (unsuited_to tree spec is) place number)
 
 -- one of two lists has it
 of_two : {P Q : Type 0} (a b : List RuleFault) (fault : RuleFault) → (Contains a fault → P) → (Contains b fault → Q) → Contains (a ++ b) fault → P ⊎ Q

@@ -21,6 +21,7 @@ use Rattle.pearl_system.proofs.Broken.{faults_are_broken, get_contains}
 use Rattle.pearl_system.proofs.Found.{find_passes, has_key_is, has_key_of}
 use Rattle.pearl_system.proofs.Lists.{some_same}
 use Rattle.pearl_system.proofs.Once.{none_in}
+use Rattle.pearl_system.proofs.Tests.{find_contains, missed_from, no_device_from, unsuited_from}
 use Rattle.pearl_system.proofs.Said.{said_to, meant_part, part_meant, first_of, found_of}
 
 sort_at : ℕ → DeviceSort
@@ -121,15 +122,6 @@ devices_are_specified tree devices lists = record {
   to = λ n spec part specifies. device_for tree devices lists n spec part specifies;
 }
 
-find_contains : {X : Type 0} (p : X → Bool) (xs : List X) (x : X) → find p xs ≡ Some x → (n : ℕ) × (slice_get xs n ≡ Some x)
-find_contains p [] x h = absurd (cc)
-find_contains {X} p (y ∷ ys) x h = by (p y) h (find_contains p ys x)
-  where
-    by : (b : Bool) → cond b (Some y) (find p ys) ≡ Some x → (find p ys ≡ Some x → (n : ℕ) × (slice_get ys n ≡ Some x))
-        → (n : ℕ) × (slice_get (y ∷ ys) n ≡ Some x)
-    by true h further = (zero, h)
-    by false h further = let at = further h in (suc at.0, at.1)
-
 pub specified_means : (tree : ShownTree) → broken tree ≡ [] → (n : ℕ) (spec : Specified)
     → slice_get (specified tree) n ≡ Some spec → (part : Device) × Specifies tree n spec part
 specified_means tree keeps n spec stands = by (named (devices_of tree) spec.text.items) refl
@@ -141,13 +133,13 @@ specified_means tree keeps n spec stands = by (named (devices_of tree) spec.text
     among = get_contains (specified tree) n spec stands
 
     missed : is_missed spec.form (named (devices_of tree) spec.text.items) ≡ true → ⊥
-    missed is = none (record { place = spec.place; rule = rule.S13 }) (inr (inr (inr (inl (refl, (spec, among, is, refl))))))
+    missed is = none (record { place = spec.place; rule = rule.S13 }) (inr (inr (inr (inl (refl, (spec, among, missed_from tree spec is, refl))))))
 
     unsuited : is_unsuited spec.form (named (devices_of tree) spec.text.items) ≡ true → ⊥
-    unsuited is = none (record { place = spec.place; rule = rule.S14 }) (inr (inr (inr (inr (refl, (spec, among, is, refl))))))
+    unsuited is = none (record { place = spec.place; rule = rule.S14 }) (inr (inr (inr (inr (refl, (spec, among, unsuited_from tree spec is, refl))))))
 
     no_device : (part : Device) → Contains (devices_of tree) part → is_no_device part ≡ true → ⊥
-    no_device part has is = none (record { place = word_place part.word; rule = rule.S11 }) (inr (inl (refl, (part, has, is, refl))))
+    no_device part has is = none (record { place = word_place part.word; rule = rule.S11 }) (inr (inl (refl, (part, has, no_device_from part is, refl))))
 
     kept : (b : Bool) → (b ≡ true → ⊥) → b ≡ false
     kept true refused = absurd (refused refl)
@@ -161,7 +153,7 @@ specified_means tree keeps n spec stands = by (named (devices_of tree) spec.text
           record {
             stands = stands;
             means = e;
-            keeps_s11 = kept (is_no_device part) (no_device part (get_contains (devices_of tree) at.0 part at.1));
+            keeps_s11 = kept (is_no_device part) (no_device part at);
             keeps_s13 = kept (is_missed spec.form (Some part)) (λ is. missed (ap (is_missed spec.form) e ∙ is));
             keeps_s14 = kept (is_unsuited spec.form (Some part)) (λ is. unsuited (ap (is_unsuited spec.form) e ∙ is));
           },

@@ -4,5 +4,6 @@ pub mod Found
 pub mod Lists
 pub mod Once
 pub mod Said
+pub mod Tests
 pub mod DeviceLaws
 pub mod Walks

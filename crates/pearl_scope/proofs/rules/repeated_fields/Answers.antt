@@ -1,4 +1,5 @@
 use Rattle.std.proofs.Common.{◌++◌, [], ap, ◌∙◌}
+use Rattle.pearl_tree.specs.declared.rule.TheConstants as rule
 use Rattle.pearl_tree.specs.Names.{repeats}
 use Rattle.pearl_names.specs.Forming.{fields_shown}
 use Rattle.pearl_names.specs.Shapes.{field_names}
@@ -17,4 +18,4 @@ loop-field-preserved c =
 pub returns : goal.returns
 returns c =
     c.loop-field.invariant.told
-    ∙ ap (λ l. c.args.faults.now.items ++ repeats 6 [] (field_names (fields_shown l))) (all_taken c.args.fields.now c.loop-field.field-index c.loop-field-test.false)
+    ∙ ap (λ l. c.args.faults.now.items ++ repeats rule.S6 [] (field_names (fields_shown l))) (all_taken c.args.fields.now c.loop-field.field-index c.loop-field-test.false)
