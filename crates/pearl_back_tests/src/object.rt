@@ -44,7 +44,7 @@ fn one_variable(alloc: Global) -> Result<Prog, NoMemory> {
     let setup = Setup {
         tasks: Listing::new(tasks),
         slots: Listing::new(slots),
-        semaphores: Listing::new(Vec::new(alloc)),
+        semaphores: no_semaphores(alloc),
         devices: Listing::new(devices),
         formats: Listing::new(formats),
     };
@@ -66,6 +66,12 @@ fn one_variable(alloc: Global) -> Result<Prog, NoMemory> {
         setup,
         tasks: Listing::new(routines),
     }))
+}
+
+fn no_semaphores(alloc: Global) -> Listing<u32>
+    ensures { result ≡ [] }
+{
+    Listing::new(Vec::new(alloc))
 }
 
 fn format_of_two(alloc: Global) -> Result<Listing<Item>, NoMemory>

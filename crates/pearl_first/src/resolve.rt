@@ -229,6 +229,12 @@ fn slots_of(alloc: Global, variables: &[Name]) -> Result<Listing<Cell>, AllocErr
     Ok(Listing::new(slots))
 }
 
+fn no_semaphores(alloc: Global) -> Listing<u32>
+    ensures { result ≡ [] }
+{
+    Listing::new(Vec::new(alloc))
+}
+
 fn devices_of(alloc: Global) -> Result<Listing<Device>, AllocError>
     ensures { IfOk result (λ devices. devices ≡ spec.devices) }
 {
@@ -280,7 +286,7 @@ pub fn resolve(alloc: Global, tree: &Tree) -> Result<Prog, AllocError>
     let steps = tree.steps.as_slice();
     let tasks = tasks_of(alloc, &tree.task.text)?;
     let slots = slots_of(alloc, variables)?;
-    let semaphores = Listing::new(Vec::new(alloc));
+    let semaphores = no_semaphores(alloc);
     let devices = devices_of(alloc)?;
     let formats = formats_of(alloc, steps)?;
     let routines = routines_of(alloc, variables, steps)?;

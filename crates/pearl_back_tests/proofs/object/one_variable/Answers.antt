@@ -34,17 +34,17 @@ assigned tasks devices formats value sum =
 
 pub new-requires-6 : goal.new-requires-6
 new-requires-6 c =
-    rw (c.new.ensures, c.in_ok-tasks.ensures.items, c.new-2.ensures, c.in_ok-slots.ensures.items, c.new-3.ensures, c.in_ok-devices.ensures.items, c.new-4.ensures, c.in_ok-formats.ensures.items, c.in_ok-format_of_two.ensures, c.new-5.ensures, c.in_ok-routines.ensures.items) record {
+    rw (c.new.ensures, c.in_ok-tasks.ensures.items, c.new-2.ensures, c.in_ok-slots.ensures.items, c.no_semaphores.ensures, c.new-3.ensures, c.in_ok-devices.ensures.items, c.new-4.ensures, c.in_ok-formats.ensures.items, c.in_ok-format_of_two.ensures, c.new-5.ensures, c.in_ok-routines.ensures.items) record {
       setup = record {
         tasks = (record { urgent = (omega arith, omega arith); named = rw (c.push.ensures.items, c.new-name.ensures) }, tt);
         slots = (((omega arith, omega arith), record { low = search rules; high = search rules }), tt);
-        semaphores = rw (c.new-3.ensures, c.new-4.ensures) tt;
+        semaphores = tt;
         devices = ((omega arith, omega arith, tt), tt);
         rising = tt;
         formats = (((omega arith, omega arith), ((omega arith, omega arith), ((tt, omega arith), tt))), tt);
         few_tasks = omega arith;
         few_slots = omega arith;
-        few_semaphores = rw (c.new-3.ensures, c.new-4.ensures) (omega arith);
+        few_semaphores = omega arith;
         few_devices = omega arith;
       };
       routines = (

@@ -12,7 +12,7 @@ pub new-requires : goal.new-requires
 new-requires c = resolved_sound c.args.tree.now _ c.requires.faultless c.requires.lawful (record {
   tasks = c.in_ok-tasks.ensures;
   slots = c.in_ok-slots.ensures ∙ ap (map first_value) c.as_slice-variables.ensures;
-  semaphores = c.new-semaphores.ensures ∙ c.new.ensures;
+  semaphores = c.no_semaphores-semaphores.ensures;
   devices = c.in_ok-devices.ensures;
   formats = c.in_ok-formats.ensures ∙ ap formats_of c.as_slice-steps.ensures;
   routine = subst (λ variables. IsOneRoutine variables c.args.tree.now.steps c.in_ok-routines.routines) c.as_slice-variables.ensures
