@@ -6,7 +6,6 @@ use Rattle.pearl_value.specs.declared.kind.Kind.{Kind}
 use Rattle.pearl_value.specs.Cells.{kind_of}
 use Rattle.pearl_value.specs.Conversions.{converted, SuitsKind}
 use Rattle.pearl_tree.specs.declared.fault.RuleFault.{RuleFault}
-use Rattle.pearl_tree.specs.declared.literal.Sign.{Sign}
 use Rattle.pearl_tree.specs.Durations.{milliseconds_of}
 use Rattle.pearl_tree.specs.Faults.{ListFaults}
 use Rattle.pearl_tree.specs.ShownLiterals.{ShownLiteral, OfNumber, OfBits, OfText, OfClock, OfDuration, ShownConst}

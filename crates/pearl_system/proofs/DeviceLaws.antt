@@ -1,5 +1,5 @@
 -- A module's devices are those that it specifies.
-use Rattle.std.proofs.Common.{◌≡◌, inl, inr, ℕ, zero, suc, Bool, true, false, cond, List, [], ◌∷◌, Option, None, Some, refl, sym, ap, subst, ◌∙◌, bytes_eq}
+use Rattle.std.proofs.Common.{◌≡◌, inl, inr, ℕ, zero, suc, Bool, true, false, List, [], Option, None, Some, refl, sym, ap, subst, ◌∙◌, bytes_eq}
 use Rattle.std.specs.List.{Contains, filter_map, find, slice_get}
 use Rattle.pearl_tree.specs.declared.declaration.Device.{Device}
 use Rattle.pearl_tree.specs.declared.fault.RuleFault.{RuleFault}
