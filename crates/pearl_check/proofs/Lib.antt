@@ -4,6 +4,7 @@ pub mod Tests
 pub mod Ways
 pub mod Weights
 pub mod FirstFaults
+pub mod Broken
 pub mod Examples
 pub mod EachSort
 pub mod RoleExamples
