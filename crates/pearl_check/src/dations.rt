@@ -1,6 +1,7 @@
 // Dations of transfers: S32.
 
-ghost use Rattle.std.specs.Prelude.{◌≡◌, ◌++◌, List, Option, Some, option_copied, OnOk};
+ghost use Rattle.std.specs.Prelude.{◌≡◌, ◌++◌, List, Option, Some, OnOk};
+ghost use Rattle.std.specs.Option.{option_copied};
 ghost use Rattle.pearl_tree.specs.Faults.{fault_if};
 ghost use Rattle.pearl_tree.specs.ShownExpressions.{shown_expr, shown_ref};
 ghost use Rattle.pearl_names.specs.declared.scope.View.TheVariants.{Within};

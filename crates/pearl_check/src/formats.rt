@@ -1,6 +1,6 @@
 // Formats of PUT and GET: S33.
 
-ghost use Rattle.std.specs.Prelude.{◌≡◌, ◌++◌, nat_le, ◌&&◌, nat_lt, map, IfOk, OnOk};
+ghost use Rattle.std.specs.Prelude.{◌≡◌, ◌++◌, ◌&&◌, ◌||◌, not, nat_le, nat_lt, map, None, Some, OnOk};
 ghost use Rattle.pearl_tree.specs.declared.format.FreeCode.TheVariants as free_code;
 ghost use Rattle.pearl_tree.specs.ShownExpressions.{shown_expr, shown_ref};
 ghost use Rattle.pearl_names.specs.Holding.{HoldsTable};
@@ -242,6 +242,13 @@ fn left_by<'a>(item: &Fmt, kinds: &'a [Option<Kind>]) -> &'a [Option<Kind>]
     }
 }
 
+// It is for another kind, or has a width out of range.
+fn is_unfit(item: &Fmt, kind: Option<Kind>) -> bool
+    ensures { result ≡ (spec.is_for_other item.now kind || not (spec.has_width item.now)) }
+{
+    is_for_other(item, kind) || !has_width(item)
+}
+
 fn item_faults(
     faults: &mut Vec<RuleFault>,
     mut items: &[Fmt],
@@ -250,8 +257,8 @@ fn item_faults(
     ensures { OnOk result (faults.new.items ≡ faults.old.items ++ spec.item_faults items.entry.now kinds.entry.now) }
 {
     while let [item, rest @ ..] = items {
-        let unfit = is_for_other(item, kind_for(item, kinds));
-        tell_if(faults, unfit || !has_width(item), place_of(item), rule::S33)?;
+        let unfit = is_unfit(item, kind_for(item, kinds));
+        tell_if(faults, unfit, place_of(item), rule::S33)?;
         kinds = left_by(item, kinds);
         items = rest;
     }

@@ -1,6 +1,7 @@
 // Semaphores of REQUEST and RELEASE: S31.
 
-ghost use Rattle.std.specs.Prelude.{◌≡◌, ◌×◌, ◌++◌, List, Option, filter, slice_get, option_copied, OnOk};
+ghost use Rattle.std.specs.Prelude.{◌≡◌, ◌++◌, ◌∷◌, [], List, Option, filter, slice_get, OnOk};
+ghost use Rattle.std.specs.Option.{option_copied};
 ghost use Rattle.pearl_tree.specs.declared.name.Name.{Name as NameOf};
 ghost use Rattle.pearl_tree.specs.Faults.{fault_if};
 ghost use Rattle.pearl_tree.specs.Names.{is_among, name_text, repeats};
@@ -70,6 +71,26 @@ fn tell_repeat(
     Ok(())
 }
 
+// The same of a name that is a semaphore's, and nothing of another.
+fn tell_semaphore(
+    table: &SenseTable,
+    faults: &mut Vec<RuleFault>,
+    seen: &mut IndexMap<ArrayVec<u8, 63>, u32>,
+    scope: u32,
+    name: &Name,
+) -> Result<(), NoMemory>
+    ensures { OnOk result ((t : tables.Table) → HoldsTable table.now t → (before : List NameOf) → Sees seen.old.entries before →
+        let semaphore = filter (λ name. views.is_semaphore (views.seen t (Within scope) name)) (name.now ∷ []) in
+        Sees seen.new.entries (before ++ semaphore) × (faults.new.items ≡ faults.old.items ++ repeats 31 before semaphore)) }
+{
+    let semaphore = is_semaphore(table.sense_from(View::Within(scope), &name.text));
+    if !semaphore {
+        return Ok(());
+    }
+    tell_repeat(faults, seen, name)?;
+    Ok(())
+}
+
 fn tell_repeats(
     alloc: Global,
     table: &SenseTable,
@@ -83,9 +104,7 @@ fn tell_repeats(
 {
     let mut seen = IndexMap::new(alloc);
     while let [name, rest @ ..] = names {
-        if is_semaphore(table.sense_from(View::Within(scope), &name.text)) {
-            tell_repeat(faults, &mut seen, name)?;
-        }
+        tell_semaphore(table, faults, &mut seen, scope, name)?;
         names = rest;
     }
     Ok(())
