@@ -1,5 +1,5 @@
 -- Semaphores that were seen in one statement, and those that repeat one before.
-use Rattle.std.proofs.Common.{◌≡◌, ℕ, Bool, true, false, List, [], ◌∷◌, ◌++◌, cond, refl, sym, ap, ◌∙◌, append_assoc, append-nil, arith}
+use Rattle.std.proofs.Common.{◌≡◌, ℕ, ◌-◌, ◌<◌, Bool, true, false, List, [], ◌∷◌, ◌++◌, cond, refl, sym, ap, subst, ◌∙◌, append_assoc, append-nil, arith, length, take, drop, get_or}
 use Rattle.std.specs.Prelude.{is_some, filter}
 use Rattle.arrayvec.specs.ArrayVec.{ArrayVec}
 use Rattle.pearl_tree.specs.declared.fault.RuleFault.{RuleFault}
@@ -7,6 +7,7 @@ use Rattle.pearl_tree.specs.declared.name.Name.{Name}
 use Rattle.pearl_tree.specs.Faults.{fault_if}
 use Rattle.pearl_tree.specs.Names.{name_text, is_among, repeats}
 use Rattle.pearl_names.specs.FirstNames.{number_of, HasNoted}
+use Rattle.pearl_names.proofs.Lists.{all_taken}
 use Rattle.pearl_scope.specs.Seen.{Sees}
 use Rattle.pearl_scope.proofs.Seen.{told_none, told_more}
 
@@ -62,8 +63,17 @@ told_next test seen new old now told all left name tells so = by (test name) tel
               ∙ ap (λ l. now ++ repeats 31 l (filter test left)) (append-nil so.before) ∙ is;
         }
 
+-- the same of the first of a list
+pub told_rest : (test : Name → Bool) (seen new : List (ArrayVec ℕ × ℕ)) (old now told : List RuleFault) (all left : List Name) (name : Name) →
+    0 < length left → name ≡ get_or left 0 name → Tells test seen new now told name → ToldSo test seen old now all left →
+    ToldSo test new old told all (take (length left - 1) (drop 1 left))
+told_rest test seen new old now told all [] name inside is tells so = absurd (omega (arith, inside))
+told_rest test seen new old now told all (first ∷ left) name inside is tells so =
+    subst (ToldSo test new old told all) (sym (all_taken left (length (first ∷ left) - 1) (omega arith)))
+    (told_next test seen new old now told all left first (subst (Tells test seen new now told) is tells) so)
+
 -- no name is left
-pub told_all : (test : Name → Bool) (seen : List (ArrayVec ℕ × ℕ)) (old now : List RuleFault) (all left : List Name) → left ≡ [] →
+pub told_all : (test : Name → Bool) (seen : List (ArrayVec ℕ × ℕ)) (old now : List RuleFault) (all left : List Name) → length left < 1 →
     ToldSo test seen old now all left → now ≡ old ++ repeats 31 [] (filter test all)
-told_all test seen old now all left none so =
-    sym (append-nil now) ∙ ap (λ l. now ++ repeats 31 so.before (filter test l)) (sym none) ∙ so.told
+told_all test seen old now all [] none so = sym (append-nil now) ∙ so.told
+told_all test seen old now all (name ∷ left) none so = absurd (omega (arith, none))
