@@ -1,5 +1,6 @@
 pub mod Adding
 pub mod AskedLists
+pub mod KindLists
 pub mod SeenSemaphores
 pub mod Tests
 pub mod Ways

@@ -110,6 +110,13 @@ fn tell_repeats(
     Ok(())
 }
 
+// The first name of too many.
+fn seventeenth(names: &[Name]) -> Option<&Name>
+    ensures { option_copied result ≡ slice_get names.now 16 }
+{
+    names.get(MOST_NAMES)
+}
+
 fn tell_name(faults: &mut Vec<RuleFault>, name: Option<&Name>) -> Result<(), NoMemory>
     ensures { OnOk result (faults.new.items ≡ faults.old.items ++ spec.fault_at_name (option_copied name.entry) 31) }
 {
@@ -134,6 +141,6 @@ pub(crate) fn s31_of(
         spec.fault_at_name (slice_get names.now 16) 31)) }
 {
     tell_repeats(alloc, table, faults, scope, names)?;
-    tell_name(faults, names.get(MOST_NAMES))?;
+    tell_name(faults, seventeenth(names))?;
     Ok(())
 }
