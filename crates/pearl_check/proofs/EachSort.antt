@@ -16,7 +16,7 @@ use Rattle.pearl_tree.specs.ShownExpressions.{ShownExpr, OfOperand, OfLiteral, O
 use Rattle.pearl_tree.specs.ShownDeclarations.{ShownNames, OfOne, OfBasic, ShownItem, ShownDeclared, OfItem, OfSema, ShownSpec, OfInterrupt, OfDation, ShownParam}
 use Rattle.pearl_tree.specs.ShownStatements.{ShownBodyDecl, ShownStmt, OfRepeat, NoStmts, MoreStmts}
 use Rattle.pearl_tree.specs.ShownModules.{ShownBody, ShownDecl, OfType, OfDeclare, OfSpecify, OfTask, OfProc, ShownTree}
-use Rattle.pearl_check.specs.Rules.{broken, broken_in_parts}
+use Rattle.pearl_check.proofs.Broken.{broken, broken_in_parts}
 
 abbrev pub name : String → ℕ → Name
 name text place = record { text = record { items = codes text }; place = place }

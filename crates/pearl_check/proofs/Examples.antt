@@ -22,7 +22,8 @@ use Rattle.pearl_names.specs.FirstNames.{repeated}
 use Rattle.pearl_names.specs.Sorts.{sorted_names, names_of_scopes}
 use Rattle.pearl_check.specs.Calls.{Caller}
 use Rattle.pearl_check.specs.Formats.{format_faults}
-use Rattle.pearl_check.specs.Rules.{broken, all_broken, first}
+use Rattle.pearl_check.proofs.Broken.{broken}
+use Rattle.pearl_check.specs.Rules.{all_broken, first}
 use Rattle.pearl_check.specs.Sizes.{weight}
 
 abbrev name : String → ℕ → Name

@@ -1,9 +1,12 @@
 pub mod Adding
 pub mod AskedLists
+pub mod KindLists
+pub mod SeenSemaphores
 pub mod Tests
 pub mod Ways
 pub mod Weights
 pub mod FirstFaults
+pub mod Broken
 pub mod Examples
 pub mod EachSort
 pub mod RoleExamples

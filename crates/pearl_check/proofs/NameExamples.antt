@@ -20,7 +20,7 @@ use Rattle.pearl_check.proofs.EachSort.{name, number, fault, reference, variable
 use Rattle.pearl_check.specs.declared.asked.NameRole.TheVariants as name_role
 use Rattle.pearl_check.specs.Dations.{takes_no_put, gives_no_get, takes_no_send, gives_no_take}
 use Rattle.pearl_check.specs.Roles.{role_of, is_role}
-use Rattle.pearl_check.specs.Rules.{broken}
+use Rattle.pearl_check.proofs.Broken.{broken}
 
 -- a sense of each sort
 abbrev senses : List Sense

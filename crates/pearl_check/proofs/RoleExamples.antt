@@ -14,7 +14,7 @@ use Rattle.pearl_names.specs.Sorts.{sorted_names, names_of_scopes}
 use Rattle.pearl_check.proofs.EachSort.{name, number, fault, reference, variable, literal, one, loop, locals, doing, with_each_kind, told}
 use Rattle.pearl_check.specs.declared.asked.Role.TheVariants.{Plain, Condition, Count, Moment, Lapse, Priority}
 use Rattle.pearl_check.specs.Roles.{is_for_role}
-use Rattle.pearl_check.specs.Rules.{broken}
+use Rattle.pearl_check.proofs.Broken.{broken}
 
 -- of FIXED, BIT(1), BIT(2), CHAR, CLOCK and DURATION
 abbrev only_fixed : List Bool

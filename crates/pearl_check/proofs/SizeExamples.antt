@@ -20,7 +20,7 @@ use Rattle.pearl_names.specs.Tables.{Sense, Variable, Semaphore, Task, Procedure
 use Rattle.pearl_check.proofs.EachSort.{name, number, fault, reference, variable, literal, one, item, fixed, loop, locals, task, procedure, parameter, source}
 use Rattle.pearl_check.specs.Routines.{Routine, routines_of, statements_of}
 use Rattle.pearl_check.specs.Calls.{Caller}
-use Rattle.pearl_check.specs.Rules.{broken}
+use Rattle.pearl_check.proofs.Broken.{broken}
 use Rattle.pearl_check.specs.Sizes.{Declared, counted_sizes, hidden_cells, cells_of, need, overweight, weights}
 
 abbrev declared : Sense → ℕ → Declared

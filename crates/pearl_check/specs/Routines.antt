@@ -6,10 +6,16 @@ use Rattle.pearl_tree.specs.declared.tree.TaskHead.{TaskHead}
 use Rattle.pearl_tree.specs.ShownModules.{ShownBody, ShownDecl, OfTask, OfProc, ShownTree}
 use Rattle.pearl_names.specs.Scopes.{as_stmts, scopes_in_all, scopes_in_decl}
 use Rattle.pearl_scope.specs.Placed.{Placed, placed_body}
+use Rattle.pearl_check.specs.declared.routine.RoutineSort.{RoutineSort as CodeSort}
+use Rattle.pearl_check.specs.declared.routine.RoutineSort.TheVariants as sort
 
 pub data RoutineSort : Type 0 where
   Task : (head : TaskHead) → RoutineSort
   Procedure : (returns : Option Basic) → RoutineSort
+
+abbrev pub shown_sort : CodeSort → RoutineSort
+shown_sort (sort.Task head) = Task head.now
+shown_sort (sort.Procedure returns) = Procedure returns.now
 
 pub record Routine : Type 0 where
   pub name : Name

@@ -16,7 +16,7 @@ use Rattle.pearl_check.specs.Asked.{asked_at}
 use Rattle.pearl_check.specs.Calls.{Caller, s28}
 use Rattle.pearl_check.specs.Dations.{s32}
 use Rattle.pearl_check.specs.Formats.{s33}
-use Rattle.pearl_check.specs.Roles.{part_faults, role_faults, asked_faults}
+use Rattle.pearl_check.specs.Roles.{asked_faults}
 use Rattle.pearl_check.specs.Routines.{RoutineSort, Task, Procedure, Routine, routines_of, statements_of}
 use Rattle.pearl_check.specs.Sizes.{Declared, declared_in, procedure_callers, all_callers, s34}
 use Rattle.pearl_check.specs.Statements.{s24, s26, s27, s31}
@@ -37,56 +37,38 @@ abbrev pub s30 : RoutineSort → List RuleFault
 s30 (Task head) = head_faults head
 s30 (Procedure returns) = []
 
--- of a statement in a routine of this sort, apart from those within it
-abbrev pub statement_faults : Table → RoutineSort → Placed → List RuleFault
-statement_faults table sort place =
-    flat_map (role_faults table) (asked_at place) ++
-    (s24 table place.spot.scope place.statement ++
+-- S24, S26, S27 and S31 to S33: what a statement breaks as a whole, in a routine of this sort
+abbrev pub own_faults : Table → RoutineSort → Placed → List RuleFault
+own_faults table sort place =
+    s24 table place.spot.scope place.statement ++
     (s26 place.spot.in_loop place.statement ++
     (s27 table place.spot.scope sort place.statement ++
     (s31 table place.spot.scope place.statement ++
-    (s32 table place.spot.scope place.statement ++ s33 table place.spot.scope place.statement)))))
+    (s32 table place.spot.scope place.statement ++ s33 table place.spot.scope place.statement))))
+
+-- with S15 to S22, S23, S25 and S29 of what it asks for, and without the statements within it
+abbrev pub statement_faults : Table → RoutineSort → Placed → List RuleFault
+statement_faults table sort place = flat_map (asked_faults table) (asked_at place) ++ own_faults table sort place
 
 abbrev pub routine_faults : Table → Routine → List RuleFault
 routine_faults table routine = s30 routine.sort ++ flat_map (statement_faults table routine.sort) (statements_of routine)
 
--- of the module as a whole
+-- the rules S15 to S27 and S29 to S33 that the tasks and procedures of a module break
+abbrev pub statements_broken : Table → ShownTree → List RuleFault
+statements_broken table tree = flat_map (routine_faults table) (routines_of tree)
+
 abbrev pub whole_faults : List Declared → (procedures callers : List Caller) → List RuleFault
 whole_faults declared procedures callers = s28 procedures ++ s34 (s28 procedures) declared procedures callers
 
--- the rules S23 to S34 that a module breaks, in no order and perhaps more than once
-abbrev pub broken : ShownTree → List RuleFault
-broken tree =
-    flat_map (routine_faults (table_of tree)) (routines_of tree) ++
+-- the rules S28 and S34, of the module as a whole
+abbrev pub whole_broken : ShownTree → List RuleFault
+whole_broken tree =
     whole_faults (declared_in (table_of tree)) (procedure_callers (table_of tree) (routines_of tree))
     (all_callers (table_of tree) (routines_of tree))
 
-abbrev pub routine_part_faults : Table → Routine → List RuleFault
-routine_part_faults table routine =
-    flat_map (λ place. flat_map (part_faults table) (asked_at place)) (statements_of routine)
-
--- the rules S15 to S22
-abbrev pub broken_in_parts : ShownTree → List RuleFault
-broken_in_parts tree = flat_map (routine_part_faults (table_of tree)) (routines_of tree)
-
--- S24 and S26
-abbrev pub own_faults : Table → Placed → List RuleFault
-own_faults table place = s24 table place.spot.scope place.statement ++ s26 place.spot.in_loop place.statement
-
--- S15 to S26 and S29, of a statement apart from those within it
-abbrev pub place_faults : Table → Placed → List RuleFault
-place_faults table place = flat_map (asked_faults table) (asked_at place) ++ own_faults table place
-
-abbrev pub routine_place_faults : Table → Routine → List RuleFault
-routine_place_faults table routine = flat_map (place_faults table) (statements_of routine)
-
--- the rules S15 to S26 and S29 that the statements of a module break
-abbrev pub statements_broken : Table → ShownTree → List RuleFault
-statements_broken table tree = flat_map (routine_place_faults table) (routines_of tree)
-
 -- the rules S1 to S34 that a module breaks, in no order and perhaps more than once
 abbrev pub all_broken : ShownTree → List RuleFault
-all_broken tree = names.broken tree ++ (devices.broken tree ++ (broken_in_parts tree ++ broken tree))
+all_broken tree = names.broken tree ++ (devices.broken tree ++ (statements_broken (table_of tree) tree ++ whole_broken tree))
 
 abbrev pub is_before : RuleFault → RuleFault → Bool
 is_before a b = nat_lt a.place b.place || ((a.place == b.place) && nat_lt a.rule b.rule)

@@ -3,8 +3,13 @@
 #![tactic(auto)]
 
 pub mod asked;
+mod dations;
+mod formats;
 pub mod laws;
 mod roles;
+pub mod routine;
 pub mod rules;
+mod semaphores;
 mod statements;
 mod tell;
+mod views;

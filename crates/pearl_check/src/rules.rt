@@ -1,4 +1,4 @@
-// Which of the rules on statements a module breaks.
+// Which of the rules on statements, and on the heads of tasks, a module breaks.
 #![tactic(auto, using(std::proofs::lemmas::Grind::common_steps))]
 
 ghost use Rattle.std.specs.Prelude.{◌≡◌, ◌+◌, ◌++◌, [], map, IfOk, OnOk};
@@ -12,18 +12,25 @@ ghost use Rattle.pearl_names.specs.Tables as tables;
 ghost use Rattle.pearl_scope.specs.Placed.{placed_at, placed_in, placed_body};
 ghost use Rattle.pearl_check.specs.Asked.{asked_in};
 ghost use Rattle.pearl_check.specs.Roles as roles;
-ghost use Rattle.pearl_check.specs.Routines.{decl_routines, decls_routines};
+ghost use Rattle.pearl_check.specs.Routines.{decl_routines, decls_routines, shown_sort};
 ghost use Rattle.pearl_check.specs.Rules as spec;
 
 use crate::asked::{Asked, add_asked};
 use crate::roles::asked_faults;
+use crate::routine::RoutineSort;
 use crate::statements::own_faults;
+use crate::tell::tell_if;
 use pearl_names::table::SenseTable;
 use pearl_scope::places::{Place, place_body};
+use pearl_tree::declaration::Prio;
 use pearl_tree::fault::{RuleFault, in_order};
+use pearl_tree::rule;
 use pearl_tree::statement::Body;
-use pearl_tree::tree::{Decl, Tree};
+use pearl_tree::tree::{Decl, TaskHead, Tree};
 use std::alloc::{AllocError as NoMemory, Global};
+
+/// The greatest number of a declared priority.
+const GREATEST_PRIORITY: u64 = 255;
 
 fn all_asked_faults(
     alloc: Global,
@@ -40,33 +47,35 @@ fn all_asked_faults(
     Ok(())
 }
 
-fn place_faults(
+fn statement_faults_at(
     alloc: Global,
     table: &SenseTable,
     faults: &mut Vec<RuleFault>,
+    sort: RoutineSort<'_>,
     place: &Place<'_>,
 ) -> Result<(), NoMemory>
     ensures { OnOk result ((t : tables.Table) → HoldsTable table.now t →
-        faults.new.items ≡ faults.old.items ++ spec.place_faults t (placed_at place.now)) }
+        faults.new.items ≡ faults.old.items ++ spec.statement_faults t (shown_sort sort.entry) (placed_at place.now)) }
 {
     let mut asked = Vec::new(alloc);
     add_asked(&mut asked, place)?;
     all_asked_faults(alloc, table, faults, asked.as_slice())?;
-    own_faults(alloc, table, faults, place)?;
+    own_faults(alloc, table, faults, sort, place)?;
     Ok(())
 }
 
-fn all_place_faults(
+fn all_statement_faults(
     alloc: Global,
     table: &SenseTable,
     faults: &mut Vec<RuleFault>,
+    sort: RoutineSort<'_>,
     places: &[Place<'_>],
 ) -> Result<(), NoMemory>
     ensures { OnOk result ((t : tables.Table) → HoldsTable table.now t →
-        faults.new.items ≡ faults.old.items ++ flat_map (spec.place_faults t) (placed_in places.now)) }
+        faults.new.items ≡ faults.old.items ++ flat_map (spec.statement_faults t (shown_sort sort.entry)) (placed_in places.now)) }
 {
     for place in places {
-        place_faults(alloc, table, faults, place)?;
+        statement_faults_at(alloc, table, faults, sort, place)?;
     }
     Ok(())
 }
@@ -76,18 +85,41 @@ fn body_faults(
     alloc: Global,
     table: &SenseTable,
     faults: &mut Vec<RuleFault>,
+    sort: RoutineSort<'_>,
     scope: u32,
     body: &Body,
 ) -> Result<u32, NoMemory>
     ensures next { IfOk result (λ next. next ≡ scope + 1 + scopes_in_all (stmts_shown body.now.statements.items.items)) }
     ensures faults { OnOk result ((t : tables.Table) → HoldsTable table.now t →
         faults.new.items ≡
-        faults.old.items ++ flat_map (spec.place_faults t) (placed_body scope (stmts_shown body.now.statements.items.items))) }
+        faults.old.items ++
+        flat_map (spec.statement_faults t (shown_sort sort.entry)) (placed_body scope (stmts_shown body.now.statements.items.items))) }
 {
     let mut places = Vec::new(alloc);
     let next = place_body(&mut places, scope, body)?;
-    all_place_faults(alloc, table, faults, places.as_slice())?;
+    all_statement_faults(alloc, table, faults, sort, places.as_slice())?;
     Ok(next)
+}
+
+fn unfit_priority(faults: &mut Vec<RuleFault>, prio: &Prio) -> Result<(), NoMemory>
+    ensures { OnOk result (faults.new.items ≡ faults.old.items ++ spec.unfit_priority prio.now) }
+{
+    let number = prio.number;
+    let fits = 1 <= number.value && number.value <= GREATEST_PRIORITY;
+    tell_if(faults, !fits, number.place, rule::S30)?;
+    Ok(())
+}
+
+fn head_faults(faults: &mut Vec<RuleFault>, head: &TaskHead) -> Result<(), NoMemory>
+    ensures { OnOk result (faults.new.items ≡ faults.old.items ++ spec.head_faults head.now) }
+{
+    match head {
+        TaskHead::PrioFirst { prio, .. } => match prio {
+            Some(prio) => unfit_priority(faults, prio),
+            None => Ok(()),
+        },
+        TaskHead::MainFirst { prio } => unfit_priority(faults, prio),
+    }
 }
 
 // Of a declaration, where the next scope has the number `next`. It answers the number of the one behind.
@@ -100,15 +132,17 @@ fn decl_faults(
 ) -> Result<u32, NoMemory>
     ensures next { IfOk result (λ after. after ≡ next + scopes_in_decl (shown_decl decl.now)) }
     ensures faults { OnOk result ((t : tables.Table) → HoldsTable table.now t →
-        faults.new.items ≡ faults.old.items ++ flat_map (spec.routine_place_faults t) (decl_routines next (shown_decl decl.now))) }
+        faults.new.items ≡ faults.old.items ++ flat_map (spec.routine_faults t) (decl_routines next (shown_decl decl.now))) }
 {
     match decl {
-        Decl::Task { body, .. } => {
-            let after = body_faults(alloc, table, faults, next, body)?;
+        Decl::Task { head, body, .. } => {
+            head_faults(faults, head)?;
+            let after = body_faults(alloc, table, faults, RoutineSort::Task(head), next, body)?;
             Ok(after)
         }
-        Decl::Proc { body, .. } => {
-            let after = body_faults(alloc, table, faults, next, body)?;
+        Decl::Proc { returns, body, .. } => {
+            let sort = RoutineSort::Procedure(returns);
+            let after = body_faults(alloc, table, faults, sort, next, body)?;
             Ok(after)
         }
         Decl::Length { .. } => Ok(next),
@@ -126,7 +160,7 @@ fn decls_faults(
 ) -> Result<(), NoMemory>
     ensures { OnOk result ((t : tables.Table) → HoldsTable table.now t →
         faults.new.items ≡
-        faults.old.items ++ flat_map (spec.routine_place_faults t) (decls_routines 1 (map shown_decl decls.entry.now))) }
+        faults.old.items ++ flat_map (spec.routine_faults t) (decls_routines 1 (map shown_decl decls.entry.now))) }
 {
     let mut next = 1;
     while let [decl, rest @ ..] = decls {
@@ -136,8 +170,8 @@ fn decls_faults(
     Ok(())
 }
 
-/// Where the statements of a module break the rules S15 to S26 and S29, by place and then by rule. The table is the
-/// module's own.
+/// Where the tasks and procedures of a module break the rules S15 to S27 and S29 to S33, by place and then by rule. The
+/// table is the module's own.
 pub fn statement_faults(
     alloc: Global,
     table: &SenseTable,

@@ -1,0 +1,12 @@
+// Tests of the rules on statements.
+#![tactic(auto)]
+
+// A table with a case in each line: a module with its marks, and what is expected.
+macro_rules! table {
+    ($($source:literal => $wanted:literal;)*) => { &[$(($source, $wanted)),*] };
+}
+
+#[cfg(test)]
+mod cases;
+#[cfg(test)]
+mod statement_rules;
