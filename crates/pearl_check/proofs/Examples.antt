@@ -20,11 +20,9 @@ use Rattle.pearl_tree.specs.ShownModules.{ShownDecl, OfDeclare, OfTask, OfProc, 
 use Rattle.pearl_scope.specs.Rules.{faults_in}
 use Rattle.pearl_names.specs.FirstNames.{repeated}
 use Rattle.pearl_names.specs.Sorts.{sorted_names, names_of_scopes}
-use Rattle.pearl_check.specs.Calls.{Caller}
 use Rattle.pearl_check.specs.Formats.{format_faults}
 use Rattle.pearl_check.proofs.Broken.{broken}
 use Rattle.pearl_check.specs.Rules.{all_broken, first}
-use Rattle.pearl_check.specs.Sizes.{weight}
 
 abbrev name : String → ℕ → Name
 name text place = record { text = record { items = codes text }; place = place }
@@ -114,10 +112,3 @@ wide_enough = refl
 
 too_wide : blanks 2 ≡ fault 7 33 ∷ []
 too_wide = refl
-
-abbrev caller : ℕ → List ℕ → Caller
-caller own calls = record { name = name "p" 18; own = own; calls = calls }
-
--- the first calls both others, and the second the third: 5 + 10 + 7, which is more than 5 + 7
-heaviest : weight 3 (caller 5 (1 ∷ 2 ∷ []) ∷ caller 10 (2 ∷ []) ∷ caller 7 [] ∷ []) (caller 5 (1 ∷ 2 ∷ [])) ≡ 22
-heaviest = refl

@@ -19,7 +19,7 @@ use Rattle.pearl_names.specs.Sorts.{sorted_names, names_of_scopes}
 use Rattle.pearl_names.specs.Tables.{Sense, Variable, Semaphore, Task, Procedure, table_of}
 use Rattle.pearl_check.proofs.EachSort.{name, number, fault, reference, variable, literal, one, item, fixed, loop, locals, task, procedure, parameter, source}
 use Rattle.pearl_check.specs.Routines.{Routine, routines_of, statements_of}
-use Rattle.pearl_check.specs.Calls.{Caller}
+use Rattle.pearl_check.specs.Calls.{Weighed}
 use Rattle.pearl_check.proofs.Broken.{broken}
 use Rattle.pearl_check.specs.Sizes.{Declared, counted_sizes, hidden_cells, cells_of, need, overweight, weights}
 
@@ -174,17 +174,17 @@ needs_around : needs
     (MoreStmts (OfReturn None 0) NoStmts) 0 0 ∷ []) ≡ 3 ∷ 4 ∷ 7 ∷ 2 ∷ []
 needs_around = refl
 
-abbrev caller : ℕ → List ℕ → Caller
-caller own calls = record { name = name "p" 1; own = own; calls = calls }
+abbrev weighed : ℕ → List ℕ → Weighed
+weighed own calls = record { name = name "p" 1; caller = record { own = own; calls = calls } }
 
-weight_enough : overweight [] (caller 4096 []) ≡ []
+weight_enough : overweight [] (weighed 4096 []) ≡ []
 weight_enough = refl
 
-weight_beyond : overweight [] (caller 4097 []) ≡ fault 1 34 ∷ []
+weight_beyond : overweight [] (weighed 4097 []) ≡ fault 1 34 ∷ []
 weight_beyond = refl
 
 -- where S28 is broken, weights aren't asked
-no_weight : weights (fault 7 28 ∷ []) [] (caller 4097 [] ∷ []) ≡ []
+no_weight : weights (fault 7 28 ∷ []) (weighed 4097 [] ∷ []) [] ≡ []
 no_weight = refl
 
 -- p:PROC;DCL u(n) FIXED;END;t:TASK;CALL p;END; with p at the place 1 and t at 2

@@ -2,6 +2,8 @@
 pub mod Routines
 -- what an expression is made of: literals, names, and the words NOW, TRY, LWB and UPB
 pub mod Pieces
+-- what a list of pieces in memory shows, and the pieces of lists
+pub mod PieceLists
 -- what a statement asks for: expressions in their roles, targets, calls, and names of tasks, semaphores, interrupts and dations
 pub mod Asked
 -- which kinds and names are seen from a statement
@@ -14,11 +16,17 @@ pub mod Statements
 pub mod Dations
 -- which items a format may have for its values or targets: S33
 pub mod Formats
--- which procedures a task or procedure calls, and which reach themselves: S28
+-- which procedures a task or procedure calls, and which call themselves: S28
 pub mod Calls
+-- which procedures names call, by their numbers
+pub mod Calling
 -- the sizes of a module, and the weights of its tasks and procedures: S34
 pub mod Sizes
+-- what a name adds to each size of a module, and the limits
+pub mod SizeSorts
+-- which lists in memory hold the tasks and procedures of a module
+pub mod Weighing
 -- all rules that a module breaks, and the first of them
 pub mod Rules
--- what is told is the first of the faults in order; S28 is broken where calls lead back, and weights add up where it isn't
+-- what is told is the first of the faults in order
 pub mod Laws

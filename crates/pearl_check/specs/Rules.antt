@@ -13,12 +13,12 @@ use Rattle.pearl_scope.specs.Rules as names
 use Rattle.pearl_names.specs.Tables.{Table, table_of}
 use Rattle.pearl_system.specs.Rules as devices
 use Rattle.pearl_check.specs.Asked.{asked_at}
-use Rattle.pearl_check.specs.Calls.{Caller, s28}
+use Rattle.pearl_check.specs.Calls.{Weighed, s28}
 use Rattle.pearl_check.specs.Dations.{s32}
 use Rattle.pearl_check.specs.Formats.{s33}
 use Rattle.pearl_check.specs.Roles.{asked_faults}
 use Rattle.pearl_check.specs.Routines.{RoutineSort, Task, Procedure, Routine, routines_of, statements_of}
-use Rattle.pearl_check.specs.Sizes.{Declared, declared_in, procedure_callers, all_callers, s34}
+use Rattle.pearl_check.specs.Sizes.{Declared, declared_in, weighed_procedures, weighed_tasks, counted_sizes, weights}
 use Rattle.pearl_check.specs.Statements.{s24, s26, s27, s31}
 
 abbrev pub is_priority : ℕ → Bool
@@ -57,14 +57,17 @@ routine_faults table routine = s30 routine.sort ++ flat_map (statement_faults ta
 abbrev pub statements_broken : Table → ShownTree → List RuleFault
 statements_broken table tree = flat_map (routine_faults table) (routines_of tree)
 
-abbrev pub whole_faults : List Declared → (procedures callers : List Caller) → List RuleFault
-whole_faults declared procedures callers = s28 procedures ++ s34 (s28 procedures) declared procedures callers
+abbrev pub whole_faults : List Declared → (procedures tasks : List Weighed) → List RuleFault
+whole_faults declared procedures tasks =
+    counted_sizes declared ++ (s28 procedures ++ weights (s28 procedures) procedures tasks)
+
+abbrev pub module_faults : Table → ShownTree → List RuleFault
+module_faults table tree =
+    whole_faults (declared_in table) (weighed_procedures table (routines_of tree)) (weighed_tasks table (routines_of tree))
 
 -- the rules S28 and S34, of the module as a whole
 abbrev pub whole_broken : ShownTree → List RuleFault
-whole_broken tree =
-    whole_faults (declared_in (table_of tree)) (procedure_callers (table_of tree) (routines_of tree))
-    (all_callers (table_of tree) (routines_of tree))
+whole_broken tree = module_faults (table_of tree) tree
 
 -- the rules S1 to S34 that a module breaks, in no order and perhaps more than once
 abbrev pub all_broken : ShownTree → List RuleFault
@@ -77,7 +80,11 @@ abbrev pub earlier : RuleFault → Option RuleFault → RuleFault
 earlier fault None = fault
 earlier fault (Some other) = if is_before other fault then other else fault
 
+abbrev pub earlier_of : Option RuleFault → Option RuleFault → Option RuleFault
+earlier_of None other = other
+earlier_of (Some fault) other = Some (earlier fault other)
+
 -- the first by place, and of several at one place that with the smallest number
 abbrev pub first : List RuleFault → Option RuleFault
 first [] = None
-first (fault ∷ rest) = Some (earlier fault (first rest))
+first (fault ∷ rest) = earlier_of (Some fault) (first rest)

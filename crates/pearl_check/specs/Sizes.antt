@@ -1,5 +1,5 @@
 -- The sizes of a module, and the weights of its tasks and procedures.
-use Rattle.std.specs.Prelude.{ℕ, zero, suc, ◌+◌, ◌*◌, max, Bool, false, ◌&&◌, ◌||◌, nat_le, nat_lt, if◌then◌else◌, List, [], ◌∷◌, ◌++◌, length, map, take, drop, Option, Some, None, is_some, unwrap_or, slice_get, filter, filter_map}
+use Rattle.std.specs.Prelude.{ℕ, ◌+◌, ◌*◌, Bool, false, ◌&&◌, ◌||◌, nat_le, nat_lt, if◌then◌else◌, List, [], ◌∷◌, ◌++◌, length, map, take, drop, Option, Some, None, is_some, unwrap_or, slice_get, filter}
 use Rattle.std.specs.List.{list_any, flat_map, sum_by}
 use Rattle.pearl_tree.specs.declared.fault.RuleFault.{RuleFault}
 use Rattle.pearl_tree.specs.declared.name.Name.{Name}
@@ -7,14 +7,17 @@ use Rattle.pearl_tree.specs.declared.rule.TheConstants as rule
 use Rattle.pearl_tree.specs.Faults.{fault_if}
 use Rattle.pearl_tree.specs.Names.{name_text}
 use Rattle.pearl_tree.specs.ShownStatements.{ShownStmt, OfRepeat, OfGet}
+use Rattle.pearl_names.specs.Counts.{bytes_behind}
 use Rattle.pearl_names.specs.Layout.{Leaf, leaves_of, slots_of}
 use Rattle.pearl_scope.specs.Placed.{Placed}
 use Rattle.pearl_names.specs.Found.{names_in}
 use Rattle.pearl_names.specs.declared.scope.SortedName.{SortedName}
 use Rattle.pearl_names.specs.Tables.{Form, Sense, Variable, OwnParameter, Semaphore, Task, Procedure, Table}
 use Rattle.pearl_check.specs.Asked.{asked_at}
-use Rattle.pearl_check.specs.Calls.{Caller, asked_pieces, calls_of}
-use Rattle.pearl_check.specs.Routines.{Routine, statements_of, scopes_in_routine, is_procedure}
+use Rattle.pearl_calls.specs.Callers.{Caller}
+use Rattle.pearl_calls.specs.Weights.{greatest, whole_weight}
+use Rattle.pearl_check.specs.Calls.{Weighed, callers_of, asked_pieces, calls_of}
+use Rattle.pearl_check.specs.Routines.{Routine, statements_of, scopes_in_routine, is_procedure, is_task}
 
 -- a name that the module declares, also one that is declared again
 pub record Declared : Type 0 where
@@ -63,7 +66,7 @@ passed size limit before (declared ∷ rest) =
 
 -- the bytes in the name of a leaf: those of the variable and of its fields, with a point before each field
 abbrev pub bytes_in_name : Name → Leaf → ℕ
-bytes_in_name name leaf = length (name_text name) + sum_by (λ field. 1 + length field) leaf.path
+bytes_in_name name leaf = length (name_text name) + bytes_behind leaf
 
 abbrev pub has_long_leaf : Name → Sense → Bool
 has_long_leaf name (Variable form inv) = list_any (λ leaf. nat_lt 1024 (bytes_in_name name leaf)) (leaves_in form)
@@ -72,6 +75,7 @@ has_long_leaf name sense = false
 abbrev pub long_leaf_fault : Declared → List RuleFault
 long_leaf_fault declared = fault_if (has_long_leaf declared.name declared.sense) declared.name.place rule.S34
 
+-- S34: a size is passed
 abbrev pub counted_sizes : List Declared → List RuleFault
 counted_sizes declared =
     passed task_count 200 0 declared ++
@@ -95,55 +99,47 @@ hidden_cells (OfRepeat control begin step end condition declarations statements 
 hidden_cells (OfGet targets dation formats place) = 2 * length targets
 hidden_cells statement = 0
 
-abbrev pub cells_of : Table → Routine → ℕ
-cells_of table routine =
-    sum_by (sum_by cells) (take (scopes_in_routine routine) (drop routine.scope table.senses)) +
-    sum_by (λ (place : Placed). hidden_cells place.statement) (statements_of routine)
-
 -- what a statement needs beside the cells, apart from those within it
 abbrev pub need : Placed → ℕ
 need place = 2 + length (flat_map asked_pieces (asked_at place))
 
-abbrev pub greatest : List ℕ → ℕ
-greatest [] = 0
-greatest (n ∷ rest) = max n (greatest rest)
+-- of all of them, 2 where there is none
+abbrev pub greatest_need : List Placed → ℕ
+greatest_need places = greatest (2 ∷ map need places)
 
+abbrev pub all_hidden : List Placed → ℕ
+all_hidden places = sum_by (λ (place : Placed). hidden_cells place.statement) places
+
+abbrev pub cells_of : Table → Routine → ℕ
+cells_of table routine =
+    sum_by (sum_by cells) (take (scopes_in_routine routine) (drop routine.scope table.senses)) +
+    all_hidden (statements_of routine)
+
+-- of a body that is the scope of this number
 abbrev pub caller_of : Table → (procedures : List Name) → Routine → Caller
 caller_of table procedures routine = record {
-  name = routine.name;
-  own = cells_of table routine + greatest (2 ∷ map need (statements_of routine));
+  own = cells_of table routine + greatest_need (statements_of routine);
   calls = calls_of table procedures routine;
 }
 
-abbrev pub called : List Caller → Caller → List Caller
-called procedures caller = filter_map (slice_get procedures) caller.calls
+abbrev pub weighed_of : Table → (procedures : List Name) → Routine → Weighed
+weighed_of table procedures routine = record { name = routine.name; caller = caller_of table procedures routine }
 
--- the weight of one that calls at most so deep; where no procedure reaches itself, none calls deeper than there are
--- procedures
-abbrev pub weight : (depth : ℕ) → List Caller → Caller → ℕ
-weight zero procedures caller = caller.own
-weight (suc depth) procedures caller = caller.own + greatest (map (weight depth procedures) (called procedures caller))
+abbrev pub overweight : List Caller → Weighed → List RuleFault
+overweight procedures weighed =
+    fault_if (nat_lt 4096 (whole_weight procedures weighed.caller)) weighed.name.place rule.S34
 
-abbrev pub whole_weight : List Caller → Caller → ℕ
-whole_weight procedures caller = weight (length procedures) procedures caller
-
-abbrev pub overweight : List Caller → Caller → List RuleFault
-overweight procedures caller = fault_if (nat_lt 4096 (whole_weight procedures caller)) caller.name.place rule.S34
-
--- weights are asked only where S28 isn't broken
-abbrev pub weights : (cycles : List RuleFault) → (procedures callers : List Caller) → List RuleFault
-weights [] procedures callers = flat_map (overweight procedures) callers
-weights (cycle ∷ cycles) procedures callers = []
+-- S34: a weight is above the limit. Weights are asked only where S28 isn't broken.
+abbrev pub weights : (cycles : List RuleFault) → (procedures tasks : List Weighed) → List RuleFault
+weights [] procedures tasks =
+    flat_map (overweight (callers_of procedures)) procedures ++ flat_map (overweight (callers_of procedures)) tasks
+weights (cycle ∷ cycles) procedures tasks = []
 
 abbrev pub procedure_names : List Routine → List Name
 procedure_names routines = map (λ (routine : Routine). routine.name) (filter is_procedure routines)
 
-abbrev pub procedure_callers : Table → List Routine → List Caller
-procedure_callers table routines = map (caller_of table (procedure_names routines)) (filter is_procedure routines)
+abbrev pub weighed_procedures : Table → List Routine → List Weighed
+weighed_procedures table routines = map (weighed_of table (procedure_names routines)) (filter is_procedure routines)
 
-abbrev pub all_callers : Table → List Routine → List Caller
-all_callers table routines = map (caller_of table (procedure_names routines)) routines
-
--- S34: a size is passed
-abbrev pub s34 : (cycles : List RuleFault) → List Declared → (procedures callers : List Caller) → List RuleFault
-s34 cycles declared procedures callers = counted_sizes declared ++ weights cycles procedures callers
+abbrev pub weighed_tasks : Table → List Routine → List Weighed
+weighed_tasks table routines = map (weighed_of table (procedure_names routines)) (filter is_task routines)

@@ -9,4 +9,6 @@ macro_rules! table {
 #[cfg(test)]
 mod cases;
 #[cfg(test)]
+mod first_faults;
+#[cfg(test)]
 mod statement_rules;

@@ -1,0 +1,245 @@
+// The first of all rules that a module breaks.
+#![tactic(auto, using(std::proofs::lemmas::Grind::common_steps))]
+
+ghost use Rattle.std.specs.Prelude.{◌≡◌, ◌+◌, ℕ, List, map, nat_lt, IfOk};
+ghost use Rattle.std.specs.List.{flat_map};
+ghost use Rattle.pearl_tree.specs.declared.fault.RuleFault.{RuleFault as RuleFaultOf};
+ghost use Rattle.pearl_tree.specs.Faults.{ListFaults, fault_if};
+ghost use Rattle.pearl_tree.specs.ShownModules.{shown_tree};
+ghost use Rattle.pearl_calls.specs.Cycles as cycles;
+ghost use Rattle.pearl_calls.specs.Numberings.{IsNumbering};
+ghost use Rattle.pearl_calls.specs.Weights.{capped, weights_of, whole_weight};
+ghost use Rattle.pearl_names.specs.Holding.{HoldsTable};
+ghost use Rattle.pearl_names.specs.Tables as tables;
+ghost use Rattle.pearl_check.specs.Calls as calls_spec;
+ghost use Rattle.pearl_check.specs.Rules as spec;
+ghost use Rattle.pearl_check.specs.Sizes as sizes_spec;
+ghost use Rattle.pearl_check.specs.Weighing as weighing;
+ghost use Rattle.pearl_check.specs.Weighing.{HoldsWeighed, held_caller, place_of};
+
+use crate::callers::{Routines, routines_of};
+use crate::rules::statement_faults;
+use crate::sizes::tell_sizes;
+use pearl_calls::caller::Caller;
+use pearl_calls::cycle::calls_itself;
+use pearl_calls::numbering::{Numbering, number_procedures};
+use pearl_calls::weight::{weight_of, weights};
+use pearl_names::table::SenseTable;
+use pearl_scope::scopes;
+use pearl_system::system;
+use pearl_tree::fault::{RuleFault, in_order};
+use pearl_tree::rule;
+use pearl_tree::tree::Tree;
+use std::alloc::{AllocError as NoMemory, Global};
+
+/// The most that a task or procedure may weigh.
+const WEIGHT_LIMIT: u32 = 4096;
+
+fn is_before(fault: RuleFault, other: RuleFault) -> bool
+    ensures { result ≡ spec.is_before fault other }
+{
+    fault.place < other.place || (fault.place == other.place && fault.rule < other.rule)
+}
+
+fn earlier(told: Option<RuleFault>, other: Option<RuleFault>) -> Option<RuleFault>
+    ensures { result ≡ spec.earlier_of told other }
+{
+    match (told, other) {
+        (Some(fault), Some(found)) => Some(if is_before(found, fault) {
+            found
+        } else {
+            fault
+        }),
+        (Some(fault), None) => Some(fault),
+        (None, other) => other,
+    }
+}
+
+// What is told once a rule at a place may be broken as well.
+fn told_with(told: Option<RuleFault>, broken: bool, place: u32, rule: u8) -> Option<RuleFault>
+    ensures { result ≡ spec.earlier_of told (spec.first (fault_if broken place rule)) }
+{
+    if broken {
+        earlier(told, Some(RuleFault { place, rule }))
+    } else {
+        told
+    }
+}
+
+// What is told already comes before this place.
+fn comes_before(told: Option<RuleFault>, place: u32) -> bool
+    ensures { result ≡ weighing.comes_before told place }
+{
+    match told {
+        Some(fault) => fault.place < place,
+        None => false,
+    }
+}
+
+fn after(number: u32) -> Result<u32, NoMemory>
+    ensures { IfOk result (λ after. after ≡ number + 1) }
+{
+    match number.checked_add(1) {
+        Some(after) => Ok(after),
+        None => Err(NoMemory),
+    }
+}
+
+// S28 of one procedure, which is asked only where it would be told.
+fn tell_cycle(
+    alloc: Global,
+    callers: &[Caller],
+    number: u32,
+    place: u32,
+    told: Option<RuleFault>,
+) -> Result<Option<RuleFault>, NoMemory>
+    ensures { IfOk result (λ first. first ≡ spec.earlier_of told (spec.first (fault_if (cycles.calls_itself callers.now number) place 28))) }
+{
+    if comes_before(told, place) {
+        return Ok(told);
+    }
+    let broken = calls_itself(alloc, callers, number)?;
+    Ok(told_with(told, broken, place, rule::S28))
+}
+
+fn tell_cycles(
+    alloc: Global,
+    callers: &[Caller],
+    mut places: &[u32],
+    mut told: Option<RuleFault>,
+) -> Result<Option<RuleFault>, NoMemory>
+    ensures { IfOk result (λ first. (of : List calls_spec.Weighed) → callers.now ≡ map held_caller of → places.entry.now ≡ map place_of of →
+        first ≡ spec.earlier_of told (spec.first (calls_spec.s28 of))) }
+{
+    let mut number = 0;
+    while let [place, rest @ ..] = places {
+        told = tell_cycle(alloc, callers, number, *place, told)?;
+        number = after(number)?;
+        places = rest;
+    }
+    Ok(told)
+}
+
+// The procedures of a module, of which none calls itself, with their weights.
+#[derive(Clone, Copy)]
+struct Weights<'a> {
+    procedures: &'a [Caller],
+    numbering: &'a Numbering,
+    weights: &'a [u32],
+}
+
+fn is_overweight(weights: &Weights<'_>, caller: &Caller) -> bool
+    requires numbering { IsNumbering weights.now.procedures.now weights.now.numbering.now }
+    requires weights { weights.now.weights.now ≡ weights_of weights.now.procedures.now }
+    ensures { result ≡ nat_lt 4096 (capped (whole_weight weights.now.procedures.now caller.now)) }
+{
+    let weight = weight_of(
+        weights.procedures,
+        weights.numbering,
+        weights.weights,
+        caller,
+    );
+    WEIGHT_LIMIT < weight
+}
+
+fn tell_overweight(
+    weights: &Weights<'_>,
+    mut places: &[u32],
+    mut callers: &[Caller],
+    mut told: Option<RuleFault>,
+) -> Option<RuleFault>
+    requires numbering { IsNumbering weights.now.procedures.now weights.now.numbering.now }
+    requires weights { weights.now.weights.now ≡ weights_of weights.now.procedures.now }
+    ensures { (procedures of : List calls_spec.Weighed) → weights.now.procedures.now ≡ map held_caller procedures →
+        places.entry.now ≡ map place_of of → callers.entry.now ≡ map held_caller of →
+        result ≡ spec.earlier_of told (spec.first (flat_map (sizes_spec.overweight (calls_spec.callers_of procedures)) of)) }
+{
+    while let [place, other_places @ ..] = places {
+        let [caller, other_callers @ ..] = callers else {
+            return told;
+        };
+        told = told_with(told, is_overweight(weights, caller), *place, rule::S34);
+        places = other_places;
+        callers = other_callers;
+    }
+    told
+}
+
+fn tell_weights(
+    alloc: Global,
+    routines: &Routines,
+    told: Option<RuleFault>,
+) -> Result<Option<RuleFault>, NoMemory>
+    ensures { IfOk result (λ first. (procedures tasks : List calls_spec.Weighed) →
+        HoldsWeighed routines.now.procedures procedures → HoldsWeighed routines.now.tasks tasks →
+        first ≡ spec.earlier_of told (spec.first (sizes_spec.weights (calls_spec.s28 procedures) procedures tasks))) }
+{
+    let procedures = routines.procedures.callers.as_slice();
+    let Some(numbering) = number_procedures(alloc, procedures)? else {
+        return Ok(told);
+    };
+    let found = weights(alloc, procedures, &numbering)?;
+    let weights = Weights {
+        procedures,
+        numbering: &numbering,
+        weights: found.as_slice(),
+    };
+    let told = tell_overweight(
+        &weights,
+        routines.procedures.places.as_slice(),
+        procedures,
+        told,
+    );
+    let tasks = &routines.tasks;
+    let told = tell_overweight(
+        &weights,
+        tasks.places.as_slice(),
+        tasks.callers.as_slice(),
+        told,
+    );
+    Ok(told)
+}
+
+fn told_of(faults: &[RuleFault]) -> Option<RuleFault>
+    ensures { (broken : List RuleFaultOf) → ListFaults broken faults.now → result ≡ spec.first broken }
+{
+    faults.first().copied()
+}
+
+fn tell_module(
+    alloc: Global,
+    table: &SenseTable,
+    tree: &Tree,
+    told: Option<RuleFault>,
+) -> Result<Option<RuleFault>, NoMemory>
+    ensures { IfOk result (λ first. (t : tables.Table) → HoldsTable table.now t →
+        first ≡ spec.earlier_of told (spec.first (spec.module_faults t (shown_tree tree.now)))) }
+{
+    let mut sizes = Vec::new(alloc);
+    tell_sizes(table, &mut sizes)?;
+    let sizes = in_order(sizes);
+    let told = earlier(told, told_of(sizes.as_slice()));
+    let routines = routines_of(alloc, table, tree.declarations.as_slice())?;
+    let procedures = &routines.procedures;
+    let told = tell_cycles(
+        alloc,
+        procedures.callers.as_slice(),
+        procedures.places.as_slice(),
+        told,
+    )?;
+    let told = tell_weights(alloc, &routines, told)?;
+    Ok(told)
+}
+
+/// The first rule that a module breaks: that at the first place, and of several there that with the smallest number.
+pub fn first_fault(alloc: Global, tree: &Tree) -> Result<Option<RuleFault>, NoMemory>
+    ensures { IfOk result (λ fault. fault ≡ spec.first (spec.all_broken (shown_tree tree.now))) }
+{
+    let (table, names) = scopes(alloc, tree)?;
+    let (_, devices) = system(alloc, tree)?;
+    let statements = statement_faults(alloc, &table, tree)?;
+    let told = earlier(told_of(names.as_slice()), told_of(devices.as_slice()));
+    let told = earlier(told, told_of(statements.as_slice()));
+    let told = tell_module(alloc, &table, tree, told)?;
+    Ok(told)
+}
