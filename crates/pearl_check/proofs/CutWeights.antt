@@ -1,5 +1,5 @@
 -- Own weights that are cut off: which procedures call themselves, and which weights are above the limit, stay the same.
-use Rattle.std.proofs.Common.{◌≡◌, ℕ, zero, suc, ◌+◌, ◌<◌, ◌≤◌, ◌^◌, max, min, Bool, true, false, ◌||◌, nat_lt, nat_eq, List, [], ◌∷◌, ◌++◌, Option, Some, None, option_map, length, map, filter_map, slice_get, refl, ap, sym, subst, ◌∙◌, arith, true≢false}
+use Rattle.std.proofs.Common.{◌≡◌, ℕ, zero, suc, ◌+◌, ◌<◌, max, Bool, true, false, ◌||◌, nat_lt, nat_eq, List, [], ◌∷◌, ◌++◌, Option, Some, None, option_map, length, map, filter_map, slice_get, refl, ap, sym, subst, ◌∙◌, arith, true≢false}
 use Rattle.std.proofs.lemmas.Bool.Decides.{nat_tests}
 use Rattle.std.proofs.lemmas.List.{length-map}
 use Rattle.std.specs.List.{list_any, cons_option}
@@ -9,8 +9,8 @@ use Rattle.pearl_calls.proofs.Ways.{cycles, inside}
 use Rattle.pearl_check.proofs.AskedLists.{map-map}
 use Rattle.pearl_tree.specs.declared.fault.RuleFault.{RuleFault}
 use Rattle.pearl_tree.specs.Faults.{fault_if}
-use Rattle.pearl_calls.specs.Callers.{Caller, callees_of, callees, calls}
-use Rattle.pearl_calls.specs.Cycles.{reaches, calls_itself, IsWay, CallsItself, SomeCallsItself}
+use Rattle.pearl_calls.specs.Callers.{Caller, callees}
+use Rattle.pearl_calls.specs.Cycles.{reaches, calls_itself, CallsItself, SomeCallsItself}
 use Rattle.pearl_calls.specs.Weights.{greatest, called, weight, whole_weight, capped}
 use Rattle.pearl_names.specs.Counts.{cut}
 use Rattle.pearl_check.specs.Calls.{Weighed, callers_of, cycles_from, s28}

@@ -1,6 +1,5 @@
 -- Sums over what the names of scopes stand for, one name at a time: what is told so far, with what is still to be told.
-use Rattle.std.proofs.Common.{◌≡◌, ℕ, zero, suc, ◌+◌, ◌-◌, ◌<◌, ◌≤◌, ◌^◌, Bool, ◌&&◌, nat_lt, nat_le, List, [], ◌∷◌, ◌++◌, Option, unwrap_or, slice_get, take, drop, length, get_or, subst, refl, ap, sym, ◌∙◌, append_assoc, append-nil, arith}
-use Rattle.std.proofs.lemmas.Bool.Decides.{nat_tests}
+use Rattle.std.proofs.Common.{◌≡◌, ℕ, zero, suc, ◌+◌, ◌-◌, ◌≤◌, ◌^◌, ◌&&◌, nat_lt, nat_le, List, [], ◌∷◌, ◌++◌, unwrap_or, slice_get, take, drop, length, get_or, subst, refl, ap, sym, ◌∙◌, append_assoc, arith}
 use Rattle.std.proofs.lemmas.Slice.{first_rest}
 use Rattle.std.proofs.lemmas.List.Sums.{sum_by-append}
 use Rattle.std.specs.List.{flat_map, sum_by}
@@ -12,7 +11,7 @@ use Rattle.pearl_names.specs.declared.types.StructForm.{StructForm}
 use Rattle.pearl_names.specs.Counts.{cut}
 use Rattle.pearl_names.specs.Holding.{HoldsAll, HoldsSense}
 use Rattle.pearl_names.specs.Tables.{Sense}
-use Rattle.pearl_check.specs.Sizes.{passed, with_senses, has_long_leaf, long_leaf_fault}
+use Rattle.pearl_check.specs.Sizes.{passed, with_senses, long_leaf_fault}
 
 -- CELLS
 
@@ -22,39 +21,6 @@ summed f x xs = let e : 0 + f x ≡ f x = omega arith in sum_by-append f (x ∷ 
 abbrev pub Sums : (Sense → ℕ) → List StructForm → (all left : List HeldSense) → ℕ → Type 0
 Sums size forms all left sum = (of : List Sense) → HoldsAll forms all of →
     (rest : List Sense) × HoldsAll forms left rest × (sum ≤ 2 ^ 31) × (cut (sum + cut (sum_by size rest)) ≡ cut (sum_by size of))
-
-pub sums_none : (size : Sense → ℕ) (forms : List StructForm) (all : List HeldSense) → Sums size forms all all 0
-sums_none size forms all of holds =
-    let again : cut (0 + cut (sum_by size of)) ≡ cut (sum_by size of) = omega arith in
-    (of, holds, omega arith, again)
-
-joined : (sum own next one others both : ℕ) → own ≡ cut one → next ≡ cut (sum + own) → both ≡ one + others →
-    cut (next + cut others) ≡ cut (sum + cut both)
-joined sum own next one others both is sums all = omega arith
-
-pub sums_more : (size : Sense → ℕ) (forms : List StructForm) (all : List HeldSense) (sense : HeldSense) (left : List HeldSense) (sum own next : ℕ) →
-    Sums size forms all (sense ∷ left) sum → ((of : Sense) → HoldsSense forms sense of → own ≡ cut (size of)) → next ≡ cut (sum + own) →
-    Sums size forms all left next
-sums_more size forms all sense left sum own next before told is of holds = by (before of holds)
-  where
-    by : (rest : List Sense) × HoldsAll forms (sense ∷ left) rest × (sum ≤ 2 ^ 31) × (cut (sum + cut (sum_by size rest)) ≡ cut (sum_by size of)) →
-        (rest : List Sense) × HoldsAll forms left rest × (next ≤ 2 ^ 31) × (cut (next + cut (sum_by size rest)) ≡ cut (sum_by size of))
-    by ([], these, small, same) = absurd these
-    by (one ∷ others, these, small, same) =
-        let e = told one these.0 in
-        let all = summed size one others in
-        let joins = joined sum own next (size one) (sum_by size others) (sum_by size (one ∷ others)) e is all in
-        (others, these.1, omega (arith, is), joins ∙ same)
-
-pub sums_end : (size : Sense → ℕ) (forms : List StructForm) (all : List HeldSense) (sum : ℕ) → Sums size forms all [] sum →
-    (of : List Sense) → HoldsAll forms all of → sum ≡ cut (sum_by size of)
-sums_end size forms all sum whole of holds = by (whole of holds)
-  where
-    by : (rest : List Sense) × HoldsAll forms [] rest × (sum ≤ 2 ^ 31) × (cut (sum + cut (sum_by size rest)) ≡ cut (sum_by size of)) →
-        sum ≡ cut (sum_by size of)
-    by ([], these, small, same) =
-        let own : sum ≡ cut (sum + cut 0) = omega (arith, small) in own ∙ same
-    by (one ∷ others, these, small, same) = absurd these
 
 -- the next of some scopes
 pub next_scope : (size : List Sense → ℕ) → size [] ≡ 0 → (senses : List (List Sense)) (n : ℕ) →
@@ -92,18 +58,10 @@ scopes_more size none senses first scope sum own next after sums is adds =
 
 -- SIZES
 
-same_test : (limit before own : ℕ) → limit < 2 ^ 31 →
-    (nat_le (cut before) limit && nat_lt limit (cut (cut before + cut own))) ≡ (nat_le before limit && nat_lt limit (before + own))
-same_test limit before own small = grind (arith, nat_tests)
-
 abbrev pub Passes : (Sense → ℕ) → ℕ → List StructForm → (all left : List HeldSense) → (names others : List SortedName) → ℕ → (old new : List RuleFault) → Type 0
 Passes size limit forms all left names others before old new = (of : List Sense) → HoldsAll forms all of →
     (rest : List Sense) × (exact : ℕ) × HoldsAll forms left rest × (before ≡ cut exact) ×
     (new ++ passed size limit exact (with_senses others rest) ≡ old ++ passed size limit 0 (with_senses names of))
-
-pub passes_none : (size : Sense → ℕ) (limit : ℕ) (forms : List StructForm) (all : List HeldSense) (names : List SortedName) (old : List RuleFault) →
-    Passes size limit forms all all names names 0 old old
-passes_none size limit forms all names old of holds = (of, 0, holds, refl, refl)
 
 rest_of : {X : Type 0} (xs : List X) (x : X) → 1 ≤ length xs → x ≡ get_or xs 0 x → xs ≡ x ∷ take (length xs - 1) (drop 1 xs)
 rest_of xs x some is = first_rest xs x some ∙ ap (λ y. y ∷ take (length xs - 1) (drop 1 xs)) (sym is)
@@ -143,67 +101,9 @@ passes_next size limit forms all senses names others entry sense before after ol
       ap (λ l. l ++ passed size limit (exact + size one) (with_senses more rest)) (tells one exact these.0 cut_off) ∙ append_assoc new _ _ ∙ same,
     )
 
--- nothing is left
-pub passes_end : (size : Sense → ℕ) (limit : ℕ) (forms : List StructForm) (all left : List HeldSense) (names : List SortedName) (before : ℕ) (old new : List RuleFault) →
-    Passes size limit forms all left names [] before old new → (of : List Sense) → HoldsAll forms all of →
-    new ≡ old ++ passed size limit 0 (with_senses names of)
-passes_end size limit forms all left names before old new whole of holds =
-    let end = whole of holds in sym (append-nil new) ∙ end.4
-
-pub passes_short : (size : Sense → ℕ) (limit : ℕ) (forms : List StructForm) (all : List HeldSense) (names others : List SortedName) (before : ℕ) (old new : List RuleFault) →
-    Passes size limit forms all [] names others before old new → (of : List Sense) → HoldsAll forms all of →
-    new ≡ old ++ passed size limit 0 (with_senses names of)
-passes_short size limit forms all names others before old new whole of holds = by others (whole of holds)
-  where
-    by : (others : List SortedName) → (rest : List Sense) × (exact : ℕ) × HoldsAll forms [] rest × (before ≡ cut exact) ×
-        (new ++ passed size limit exact (with_senses others rest) ≡ old ++ passed size limit 0 (with_senses names of)) →
-        new ≡ old ++ passed size limit 0 (with_senses names of)
-    by [] ([], exact, these, cut_off, same) = sym (append-nil new) ∙ same
-    by (entry ∷ more) ([], exact, these, cut_off, same) = sym (append-nil new) ∙ same
-    by others (one ∷ rest, exact, these, cut_off, same) = absurd these
-
 -- LONG NAMES
 
 abbrev pub Tells : List StructForm → (all left : List HeldSense) → (names others : List SortedName) → (old new : List RuleFault) → Type 0
 Tells forms all left names others old new = (of : List Sense) → HoldsAll forms all of →
     (rest : List Sense) × HoldsAll forms left rest ×
     (new ++ flat_map long_leaf_fault (with_senses others rest) ≡ old ++ flat_map long_leaf_fault (with_senses names of))
-
-pub tells_none : (forms : List StructForm) (all : List HeldSense) (names : List SortedName) (old : List RuleFault) → Tells forms all all names names old old
-tells_none forms all names old of holds = (of, holds, refl)
-
-pub tells_more : (forms : List StructForm) (all : List HeldSense) (sense : HeldSense) (left : List HeldSense)
-    (names : List SortedName) (entry : SortedName) (others : List SortedName) (old new added : List RuleFault) (told : Bool) →
-    Tells forms all (sense ∷ left) names (entry ∷ others) old new →
-    ((of : Sense) → HoldsSense forms sense of → told ≡ has_long_leaf entry.name of) → added ≡ new ++ fault_if told entry.name.place 34 →
-    Tells forms all left names others old added
-tells_more forms all sense left names entry others old new added told earlier is adds of holds = by (earlier of holds)
-  where
-    by : (rest : List Sense) × HoldsAll forms (sense ∷ left) rest ×
-        (new ++ flat_map long_leaf_fault (with_senses (entry ∷ others) rest) ≡ old ++ flat_map long_leaf_fault (with_senses names of)) →
-        (rest : List Sense) × HoldsAll forms left rest ×
-        (added ++ flat_map long_leaf_fault (with_senses others rest) ≡ old ++ flat_map long_leaf_fault (with_senses names of))
-    by ([], these, same) = absurd these
-    by (one ∷ rest, these, same) = (
-      rest,
-      these.1,
-      ap (λ l. l ++ flat_map long_leaf_fault (with_senses others rest)) (adds ∙ ap (λ b. new ++ fault_if b entry.name.place 34) (is one these.0))
-          ∙ append_assoc new _ _ ∙ same,
-    )
-
-pub tells_end : (forms : List StructForm) (all left : List HeldSense) (names : List SortedName) (old new : List RuleFault) →
-    Tells forms all left names [] old new → (of : List Sense) → HoldsAll forms all of →
-    new ≡ old ++ flat_map long_leaf_fault (with_senses names of)
-tells_end forms all left names old new whole of holds = let end = whole of holds in sym (append-nil new) ∙ end.2
-
-pub tells_short : (forms : List StructForm) (all : List HeldSense) (names others : List SortedName) (old new : List RuleFault) →
-    Tells forms all [] names others old new → (of : List Sense) → HoldsAll forms all of →
-    new ≡ old ++ flat_map long_leaf_fault (with_senses names of)
-tells_short forms all names others old new whole of holds = by others (whole of holds)
-  where
-    by : (others : List SortedName) → (rest : List Sense) × HoldsAll forms [] rest ×
-        (new ++ flat_map long_leaf_fault (with_senses others rest) ≡ old ++ flat_map long_leaf_fault (with_senses names of)) →
-        new ≡ old ++ flat_map long_leaf_fault (with_senses names of)
-    by [] ([], these, same) = sym (append-nil new) ∙ same
-    by (entry ∷ more) ([], these, same) = sym (append-nil new) ∙ same
-    by others (one ∷ rest, these, same) = absurd these

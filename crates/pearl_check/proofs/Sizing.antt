@@ -1,5 +1,5 @@
 -- The slots of a variable in memory, and whether one of its leaves has too long a name.
-use Rattle.std.proofs.Common.{◌≡◌, ℕ, suc, ◌+◌, ◌<◌, ◌≤◌, ◌^◌, ◌==◌, Bool, true, false, ◌&&◌, ◌||◌, not, nat_lt, nat_le, List, [], ◌∷◌, Option, Some, None, length, max, min, refl, ap, sym, ◌∙◌, arith}
+use Rattle.std.proofs.Common.{◌≡◌, ℕ, suc, ◌+◌, ◌==◌, Bool, true, false, ◌&&◌, ◌||◌, not, nat_lt, List, [], ◌∷◌, Some, None, length, max, refl, ap, sym, ◌∙◌, arith}
 use Rattle.std.proofs.lemmas.Bool.Decides.{nat_tests}
 use Rattle.std.specs.List.{list_any}
 use Rattle.pearl_tree.specs.declared.name.Name.{Name}
@@ -12,7 +12,7 @@ use Rattle.pearl_names.specs.Counts.{cut, counts, most, bytes_behind}
 use Rattle.pearl_names.specs.Holding.{HoldsForm, HoldsSense}
 use Rattle.pearl_names.specs.Layout.{Leaf, leaves_of, slots_of}
 use Rattle.pearl_names.specs.Tables.{Form, Sense, Variable, Control, OwnParameter, NewType, Semaphore, Interrupt, AlphicDation, BasicDation, Task, Procedure}
-use Rattle.pearl_check.specs.Sizes.{slot_count, bytes_in_name, has_long_leaf}
+use Rattle.pearl_check.specs.Sizes.{slot_count, has_long_leaf}
 use Rattle.pearl_check.specs.SizeSorts.{is_long}
 
 -- these are the counts of what the form stands for

@@ -4,7 +4,7 @@ use Rattle.std.proofs.lemmas.List.{map-append}
 use Rattle.std.proofs.lemmas.List.Elements.{filter_map-append}
 use Rattle.std.proofs.lemmas.List.Sums.{sum_by-append}
 use Rattle.std.proofs.lemmas.Grind.{flat_map-append}
-use Rattle.std.specs.List.{flat_map, sum_by}
+use Rattle.std.specs.List.{flat_map}
 use Rattle.pearl_names.specs.Counts.{cut}
 use Rattle.pearl_scope.specs.Placed.{Placed}
 use Rattle.pearl_calls.specs.Weights.{greatest}

@@ -1,5 +1,5 @@
 -- What is told of the cycles and weights of a module, one procedure or task at a time.
-use Rattle.std.proofs.Common.{◌≡◌, ℕ, ◌+◌, ◌-◌, ◌<◌, ◌≤◌, Bool, nat_lt, List, [], ◌∷◌, ◌++◌, Option, map, length, take, drop, get_or, refl, ap, sym, subst, ◌∙◌, arith}
+use Rattle.std.proofs.Common.{◌≡◌, ℕ, ◌+◌, ◌-◌, ◌<◌, ◌≤◌, Bool, nat_lt, List, [], ◌∷◌, ◌++◌, Option, map, length, take, drop, get_or, refl, ap, sym, ◌∙◌, arith}
 use Rattle.std.proofs.lemmas.Slice.{first_rest}
 use Rattle.std.specs.List.{flat_map}
 use Rattle.pearl_tree.specs.declared.fault.RuleFault.{RuleFault}
@@ -117,31 +117,6 @@ weights_next procedures places left callers others place d caller start told nex
           ap (drop 1) parted,
           sym (told_more told next (overweight (callers_of owners) weighed) (flat_map (overweight (callers_of owners)) rest) own) ∙ same,
         )
-
-pub weights_end : (procedures : List Caller) (places left : List ℕ) (callers others : List Caller) (start told : Option RuleFault) → length left < 1 →
-    TellsWeights procedures places left callers others start told → (owners of : List Weighed) → procedures ≡ map held_caller owners →
-    places ≡ map place_of of → callers ≡ map held_caller of →
-    told ≡ earlier_of start (first (flat_map (overweight (callers_of owners)) of))
-weights_end procedures places left callers others start told none whole owners of owned placed called = by (whole owners of owned placed called)
-  where
-    by : (rest : List Weighed) × (left ≡ map place_of rest) × (others ≡ map held_caller rest) ×
-        (earlier_of told (first (flat_map (overweight (callers_of owners)) rest)) ≡ earlier_of start (first (flat_map (overweight (callers_of owners)) of))) →
-        told ≡ earlier_of start (first (flat_map (overweight (callers_of owners)) of))
-    by ([], listed, calling, same) = sym (none_more told) ∙ same
-    by (weighed ∷ rest, listed, calling, same) = let e = ap length listed in absurd (omega (arith, none, e))
-
--- no caller is left, and so no place
-pub weights_short : (procedures : List Caller) (places left : List ℕ) (callers others : List Caller) (start told : Option RuleFault) → length others < 1 →
-    TellsWeights procedures places left callers others start told → (owners of : List Weighed) → procedures ≡ map held_caller owners →
-    places ≡ map place_of of → callers ≡ map held_caller of →
-    told ≡ earlier_of start (first (flat_map (overweight (callers_of owners)) of))
-weights_short procedures places left callers others start told none whole owners of owned placed called = by (whole owners of owned placed called)
-  where
-    by : (rest : List Weighed) × (left ≡ map place_of rest) × (others ≡ map held_caller rest) ×
-        (earlier_of told (first (flat_map (overweight (callers_of owners)) rest)) ≡ earlier_of start (first (flat_map (overweight (callers_of owners)) of))) →
-        told ≡ earlier_of start (first (flat_map (overweight (callers_of owners)) of))
-    by ([], listed, calling, same) = sym (none_more told) ∙ same
-    by (weighed ∷ rest, listed, calling, same) = let e = ap length calling in absurd (omega (arith, none, e))
 
 -- where one calls itself, weights aren't asked
 pub no_weights : (of tasks : List Weighed) → SomeCallsItself (map held_caller of) → weights (s28 of) of tasks ≡ []

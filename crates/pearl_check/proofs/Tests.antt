@@ -5,14 +5,6 @@ pub by_case : (P : Type 0) (b : Bool) → (b ≡ true → P) → (b ≡ false �
 by_case P true f g = f refl
 by_case P false f g = g refl
 
-pub or_left : (a b : Bool) → a ≡ true → (a || b) ≡ true
-or_left true b h = refl
-or_left false b h = absurd (true≢false (sym h))
-
-pub or_right : (a b : Bool) → b ≡ true → (a || b) ≡ true
-or_right true b h = refl
-or_right false b h = h
-
 pub or_rest : (a b : Bool) → a ≡ false → (a || b) ≡ true → b ≡ true
 or_rest true b h u = absurd (true≢false h)
 or_rest false b h u = u

@@ -1,10 +1,5 @@
-use Rattle.std.proofs.Common.{◌≡◌, ◌++◌, List, map, filter, length}
-use Rattle.pearl_tree.specs.ShownModules.{shown_decl}
-use Rattle.pearl_names.specs.Holding.{HoldsTable}
-use Rattle.pearl_names.specs.Tables.{Table}
-use Rattle.pearl_check.specs.Calls.{Weighed}
-use Rattle.pearl_check.specs.Routines.{decls_routines, is_procedure, is_task}
-use Rattle.pearl_check.specs.Sizes.{weighed_of}
+use Rattle.std.proofs.Common.{length}
+use Rattle.pearl_check.specs.Routines.{is_procedure, is_task}
 use Rattle.pearl_check.proofs.Weighing.{Collects}
 use Rattle.pearl_check.proofs.callers.all_routines.Given as goal
 

@@ -1,13 +1,11 @@
-use Rattle.std.proofs.Common.{◌≡◌, ◌+◌, ◌++◌, [], ap, sym, ◌∙◌, arith}
-use Rattle.std.specs.List.{flat_map, sum_by}
+use Rattle.std.proofs.Common.{◌≡◌, ◌+◌, ◌++◌, ap, sym, ◌∙◌, arith}
+use Rattle.std.specs.List.{flat_map}
 use Rattle.pearl_names.specs.Counts.{cut}
 use Rattle.pearl_names.specs.Listed.{stmts_shown}
 use Rattle.pearl_names.specs.Scopes.{scopes_in_all}
 use Rattle.pearl_scope.specs.Placed.{placed_in, placed_body}
 use Rattle.pearl_scope.proofs.Placing.{placed_in-nil}
-use Rattle.pearl_check.specs.Asked.{asked_at}
-use Rattle.pearl_check.specs.Calling.{calls_of_part, calls_of_place}
-use Rattle.pearl_check.specs.Calls.{called_by, number_of}
+use Rattle.pearl_check.specs.Calling.{calls_of_place}
 use Rattle.pearl_check.specs.Sizes.{greatest_need, all_hidden}
 use Rattle.pearl_check.proofs.Tallying.{calls_listed, own_joined}
 use Rattle.pearl_check.proofs.callers.caller_of.Goals as goal

@@ -1,4 +1,4 @@
-use Rattle.std.proofs.Common.{◌≡◌, List, map, refl, true≢false, subst, sym, ap, ◌∙◌}
+use Rattle.std.proofs.Common.{◌≡◌, map, refl, true≢false, subst, sym, ap, ◌∙◌}
 use Rattle.std.specs.List.{flat_map}
 use Rattle.std.specs.Option.{IsNone}
 use Rattle.pearl_calls.specs.Cycles.{SomeCallsItself}

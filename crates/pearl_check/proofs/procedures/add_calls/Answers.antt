@@ -1,4 +1,4 @@
-use Rattle.std.proofs.Common.{◌≡◌, ◌++◌, [], length, ap, sym, ◌∙◌}
+use Rattle.std.proofs.Common.{◌≡◌, ◌++◌, length, ap, sym, ◌∙◌}
 use Rattle.pearl_check.specs.Asked.{shown_asked}
 use Rattle.pearl_check.specs.Calls.{asked_pieces}
 use Rattle.pearl_check.specs.PieceLists.{pieces_in}

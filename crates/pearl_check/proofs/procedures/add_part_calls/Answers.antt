@@ -1,11 +1,10 @@
-use Rattle.std.proofs.Common.{◌≡◌, ◌++◌, List, ap, sym, ◌∙◌, append_assoc}
+use Rattle.std.proofs.Common.{◌≡◌, ◌++◌, ap, sym, ◌∙◌, append_assoc}
 use Rattle.std.specs.List.{flat_map}
 use Rattle.pearl_check_expr.specs.Subjects.{shown_subject}
 use Rattle.pearl_check.specs.Asked.{shown_asked}
 use Rattle.pearl_check.specs.Calling.{calls_seen, called_name, calls_of_part}
 use Rattle.pearl_check.specs.Calls.{referred, subject_pieces, asked_pieces}
 use Rattle.pearl_check.specs.PieceLists.{pieces_in}
-use Rattle.pearl_check.specs.Pieces.{Piece}
 use Rattle.pearl_check.specs.Views.{view_of}
 use Rattle.pearl_check.proofs.Calling.{part_calls}
 use Rattle.pearl_check.proofs.procedures.add_part_calls.Goals as goal

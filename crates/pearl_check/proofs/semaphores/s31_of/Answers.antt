@@ -1,4 +1,4 @@
-use Rattle.std.proofs.Common.{◌≡◌, ◌++◌, Bool, [], ap, ◌∙◌, append_assoc}
+use Rattle.std.proofs.Common.{◌++◌, [], ap, ◌∙◌, append_assoc}
 use Rattle.std.specs.Prelude.{filter, slice_get}
 use Rattle.pearl_tree.specs.declared.name.Name.{Name}
 use Rattle.pearl_tree.specs.Names.{repeats}

@@ -1,8 +1,7 @@
-use Rattle.std.proofs.Common.{◌≡◌, ◌++◌, [], length, ap, sym, ◌∙◌, append-nil}
+use Rattle.std.proofs.Common.{◌++◌, length, ap, sym, ◌∙◌, append-nil}
 use Rattle.std.specs.List.{flat_map}
 use Rattle.pearl_names.specs.Counts.{cut}
-use Rattle.pearl_names.proofs.Lists.{all_taken}
-use Rattle.pearl_check.specs.Asked.{asked_in, shown_asked}
+use Rattle.pearl_check.specs.Asked.{shown_asked}
 use Rattle.pearl_check.specs.Calling.{calls_of_part}
 use Rattle.pearl_check.specs.Calls.{asked_pieces}
 use Rattle.pearl_check.proofs.AskedLists.{asked_in-nil, asked_taken}

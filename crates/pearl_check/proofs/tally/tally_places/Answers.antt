@@ -1,4 +1,4 @@
-use Rattle.std.proofs.Common.{◌≡◌, [], refl, ap, sym, ◌∙◌}
+use Rattle.std.proofs.Common.{[], refl, ap, sym, ◌∙◌}
 use Rattle.std.specs.List.{flat_map}
 use Rattle.pearl_names.specs.Counts.{cut}
 use Rattle.pearl_names.proofs.Lists.{all_taken}

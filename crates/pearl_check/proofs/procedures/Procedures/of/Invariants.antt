@@ -1,4 +1,4 @@
-use Rattle.std.proofs.Common.{◌≡◌, take, map}
+use Rattle.std.proofs.Common.{◌≡◌, take}
 use Rattle.std.specs.List.{flat_map}
 use Rattle.pearl_tree.specs.ShownModules.{shown_decl}
 use Rattle.pearl_check.specs.Calling.{names_in, procedures_in}
