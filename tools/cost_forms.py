@@ -1,0 +1,120 @@
+"""The forms of tools/costs.py: for each command its sources' names, texts by how much there is, and bounds.
+
+A form is a function from a number to the text of a module that has so many of its parts. Bounds are those at 1 MiB, the
+peak in MB (10^6 bytes) and the time in seconds.
+"""
+
+HEAD, TAIL = "MODULE(m);PROBLEM;", "MODEND;"
+TASK, END = "t:TASK;", "END;"
+
+
+def module(declarations, statements="", procedures=""):
+    """A module with one task."""
+    return HEAD + declarations + TASK + statements + END + procedures + TAIL
+
+
+def task_of(front, part, back):
+    """A form whose only task has a part again and again."""
+    return lambda count: module("", front + part * count + back)
+
+
+def each(part):
+    """A form of declarations, each made of its number."""
+    return lambda count: module("".join(map(part, range(count))))
+
+
+def within(depth, declarations, part):
+    """A form of one statement again and again in the innermost of so many BEGINs."""
+    return lambda count: module(declarations, "BEGIN " * depth + part * count + "END;" * depth)
+
+
+def used_declarations(count):
+    declared = "".join(f"DCL a{i} FIXED;" for i in range(count))
+    return module(declared, "".join(f"a{i}:=1;" for i in range(count // 2)))
+
+
+def devices(count):
+    return "MODULE(m);SYSTEM;" + "".join(f"d{i}:W{i}(1);" for i in range(count)) + "PROBLEM;" + TAIL
+
+
+def specified_devices(count):
+    system = "".join(f"d{i}:TERMINAL({i + 1});" for i in range(count))
+    specified = "".join(f"SPC d{i} INTERRUPT;" for i in range(count))
+    return "MODULE(m);SYSTEM;" + system + "PROBLEM;" + specified + TAIL
+
+
+def doubled_types(init):
+    """60 TYPEs, each with two of the one before, and variables of the last."""
+    types = "TYPE t0 FIXED;" + "".join(f"TYPE t{i + 1} STRUCT[(a,b) t{i}];" for i in range(60))
+    return lambda count: module(types + "".join(f"DCL v{i} t60{init};" for i in range(count)))
+
+
+def nested_types(init):
+    """TYPEs within one another, and as many variables of the last."""
+    def text(count):
+        types = "TYPE t0 FIXED;" + "".join(f"TYPE t{i + 1} STRUCT[a t{i}];" for i in range(count))
+        return module(types + "".join(f"DCL v{i} t{count}{init};" for i in range(count)))
+    return text
+
+
+def wide_struct(count):
+    fields = ",".join(f"f{i} FIXED" for i in range(count))
+    return module(f"DCL v STRUCT[{fields}];", "".join(f"v.f{i}:=1;" for i in range(count)))
+
+
+def callers(count):
+    """Procedures that each call the next; the 201st breaks a rule."""
+    return module("", "", "".join(f"p{i}:PROC;CALL p{i + 1};END;" for i in range(count)) + f"p{count}:PROC;END;")
+
+
+def called_by_all(count):
+    """200 procedures that each call all that come later, again and again."""
+    many = count // 200
+    procedures = "".join(f"p{i}:PROC;" + "".join(f"p{i + 1 + k % (199 - i)};" for k in range(many)) + "END;"
+                         for i in range(199)) + "p199:PROC;END;"
+    return module("", "", procedures)
+
+
+SUM = "a+" * 100 + "a"
+
+PRINTED = [
+    ("`;`", task_of("", ";", ""), 400, 60),
+    ("`x:=1;`", task_of("", "x:=1;", ""), 400, 60),
+    ("`f(1);`", task_of("", "f(1);", ""), 460, 60),
+    ("`a;`", task_of("", "a;", ""), 460, 60),
+    ("`a(a(a(..)));`, 32 deep", task_of("", "a(" * 33 + "a" + ")" * 33 + ";", ""), 460, 60),
+    ("`f(a,a,..);`, one call", task_of("f(", "a,", "a);"), 460, 60),
+    ("`x:=a+a+..;`, 100 operators", task_of("", f"x:={SUM};", ""), 560, 60),
+    ("`x:=+a+ +a+..;`, 100 operators", task_of("", "x:=" + "+a+" * 100 + "+a;", ""), 560, 60),
+    ("`x:=++++++++a;`, 8 signs", task_of("", "x:=" + "+" * 8 + "a;", ""), 560, 60),
+    ("`f(a+a+..,a+a+..,..);`, one call", task_of("f(", SUM + ",", "a);"), 560, 60),
+]
+
+CHECKED = [
+    ("declarations, and assignments to half of them", used_declarations, 560, 2),
+    ("TYPEs", each(lambda i: f"TYPE t{i} FIXED;"), 560, 2),
+    ("TYPEs of a STRUCT", each(lambda i: f"TYPE t{i} STRUCT[a FIXED];"), 560, 2),
+    ("LENGTHs", each(lambda i: "LENGTH FIXED(15);"), 560, 2),
+    ("LENGTHs, a declaration behind each", each(lambda i: f"LENGTH FIXED(15);DCL a{i} FIXED;"), 560, 2),
+    ("devices, each with a word that is none", devices, 560, 2),
+    ("devices, each specified as what it isn't", specified_devices, 560, 2),
+    ("60 TYPEs, each with two of the one before, and variables", doubled_types(""), 560, 2),
+    ("the same with INIT", doubled_types(" INIT(1)"), 560, 2),
+    ("TYPEs within one another, and as many variables", nested_types(""), 560, 2),
+    ("a STRUCT with many fields, and each of them used", wide_struct, 560, 2),
+    ("declarations of one name", each(lambda i: "DCL a FIXED;"), 560, 2),
+    ("a use in the innermost of 30 BEGINs", within(30, "DCL a FIXED;", "a:=a;"), 560, 4),
+    ("`a:=1;`", lambda count: module("DCL a FIXED;", "a:=1;" * count), 560, 2),
+    ("`a:=a+a+..;`, 100 operators", lambda count: module("DCL a FIXED;", f"a:={SUM};" * count), 560, 2),
+    ("`IF a>1 THEN a:=1;FIN;`", lambda count: module("DCL a FIXED;", "IF a>1 THEN a:=1;FIN;" * count), 560, 2),
+    ("`FOR i TO 9 REPEAT a:=i;END;`", lambda count: module("DCL a FIXED;", "FOR i TO 9 REPEAT a:=i;END;" * count), 560, 2),
+    ("`p(a);`", lambda count: module("DCL a FIXED;", "p(a);" * count, "p:PROC((b) FIXED);END;"), 560, 2),
+    ("procedures that each call the next", callers, 560, 2),
+    ("200 procedures that call those which come later", called_by_all, 560, 2),
+    ("assignments of names that nothing declares", task_of("", "a:=1;", ""), 560, 2),
+]
+
+FORMS = {"print": PRINTED, "check": CHECKED}
+
+# The statuses with which a measured run may end: a form may break a rule.
+STATUSES = {"print": {0}, "check": {0, 2}}
