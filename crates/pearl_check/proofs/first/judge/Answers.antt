@@ -9,7 +9,7 @@ use Rattle.pearl_check.specs.Rules.{earlier_of, first, statements_broken, whole_
 use Rattle.pearl_check.proofs.Firsts.{first-append, earlier_of-assoc}
 use Rattle.pearl_check.proofs.first.judge.Goals as goal
 
-pub returns-clause-told : goal.returns-told
+pub returns-clause-told : goal.returns-clause-told
 returns-clause-told c =
     let tree = shown_tree c.args.tree.now in
     let t = table_of tree in
@@ -33,3 +33,6 @@ returns-clause-told c =
     ∙ ap (λ told. earlier_of (first n) (earlier_of (first d) told)) (sym (first-append s w))
     ∙ ap (earlier_of (first n)) (sym (first-append d (s ++ w)))
     ∙ sym (first-append n (d ++ (s ++ w)))
+
+pub returns-clause-sizes : goal.returns-clause-sizes
+returns-clause-sizes c = c.in_ok-judged.ensures.sizes (table_of (shown_tree c.args.tree.now)) c.in_ok-table.ensures.table

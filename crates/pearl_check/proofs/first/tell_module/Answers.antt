@@ -11,13 +11,13 @@ use Rattle.pearl_check.specs.Weighing.{HoldsWeighed}
 use Rattle.pearl_check.proofs.Firsts.{told_more}
 use Rattle.pearl_check.proofs.first.tell_module.Goals as goal
 
-pub returns-clause-told : goal.returns-told
+pub returns-clause-told : goal.returns-clause-told
 returns-clause-told c = λ t holds.
     let routines = routines_of (shown_tree c.args.tree.now) in
     let counted = counted_sizes (declared_in t) in
     let procedures = weighed_procedures t routines in
     let tasks = weighed_tasks t routines in
-    let made : c.tell_sizes-sizes.new.faults.items ≡ counted = c.in_ok-sizes.ensures.told t holds ∙ ap (λ l. l ++ counted) c.new-faults.ensures.items in
+    let made : c.tell_sizes.new.faults.items ≡ counted = c.in_ok-sizes.ensures.told t holds ∙ ap (λ l. l ++ counted) c.new-faults.ensures.items in
     let lists : ListFaults counted c.as_slice.result.now =
     subst (λ (l : List RuleFault). ListFaults counted l) (sym c.as_slice.ensures.value)
     (subst (λ (l : List RuleFault). ListFaults l c.in_order-faults.result.items) made c.in_order-faults.ensures) in
