@@ -22,11 +22,13 @@ pub mod Calls
 pub mod Calling
 -- the sizes of a module, and the weights of its tasks and procedures: S34
 pub mod Sizes
--- what a name adds to each size of a module, and the limits
+-- what a name adds to each size of a module, and the limits; the sizes that are told
 pub mod SizeSorts
 -- which lists in memory hold the tasks and procedures of a module
 pub mod Weighing
 -- all rules that a module breaks, and the first of them
 pub mod Rules
+-- what a check tells of a module
+pub mod Checks
 -- what is told is the first of the faults in order
 pub mod Laws

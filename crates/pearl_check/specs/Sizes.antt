@@ -57,6 +57,10 @@ abbrev pub slot_count : Sense → ℕ
 slot_count (Variable form inv) = slots_in form
 slot_count sense = 0
 
+-- what they add to a size, all together
+abbrev pub size_of : (Sense → ℕ) → List Declared → ℕ
+size_of added declared = sum_by (λ (one : Declared). added one.sense) declared
+
 -- at the name with which a size passes its limit, where so much comes before
 abbrev pub passed : (size : Sense → ℕ) → (limit before : ℕ) → List Declared → List RuleFault
 passed size limit before [] = []

@@ -1,4 +1,4 @@
-// The first of all rules that a module breaks.
+// The first of all rules that a module breaks, and its sizes.
 #![tactic(auto, using(std::proofs::lemmas::Grind::common_steps))]
 
 ghost use Rattle.std.specs.Prelude.{◌≡◌, ◌+◌, ℕ, List, map, nat_lt, IfOk};
@@ -12,14 +12,16 @@ ghost use Rattle.pearl_calls.specs.Weights.{capped, weights_of, whole_weight};
 ghost use Rattle.pearl_names.specs.Holding.{HoldsTable};
 ghost use Rattle.pearl_names.specs.Tables as tables;
 ghost use Rattle.pearl_check.specs.Calls as calls_spec;
+ghost use Rattle.pearl_check.specs.Checks.{sizes_of};
 ghost use Rattle.pearl_check.specs.Rules as spec;
 ghost use Rattle.pearl_check.specs.Sizes as sizes_spec;
+ghost use Rattle.pearl_check.specs.SizeSorts.{cut_sizes, sizes_in};
 ghost use Rattle.pearl_check.specs.Weighing as weighing;
 ghost use Rattle.pearl_check.specs.Weighing.{HoldsWeighed, held_caller, place_of};
 
 use crate::callers::{Routines, routines_of};
 use crate::rules::statement_faults;
-use crate::sizes::tell_sizes;
+use crate::sizes::{Sizes, tell_sizes};
 use pearl_calls::caller::Caller;
 use pearl_calls::cycle::calls_itself;
 use pearl_calls::numbering::{Numbering, number_procedures};
@@ -206,19 +208,28 @@ fn told_of(faults: &[RuleFault]) -> Option<RuleFault>
     faults.first().copied()
 }
 
+// What is told of a module, and its sizes, cut off at 2^31.
+#[derive(Clone, Copy)]
+pub(crate) struct Judged {
+    pub(crate) told: Option<RuleFault>,
+    pub(crate) sizes: Sizes,
+}
+
 fn tell_module(
     alloc: Global,
     table: &SenseTable,
     tree: &Tree,
     told: Option<RuleFault>,
-) -> Result<Option<RuleFault>, NoMemory>
-    ensures { IfOk result (λ first. (t : tables.Table) → HoldsTable table.now t →
-        first ≡ spec.earlier_of told (spec.first (spec.module_faults t (shown_tree tree.now)))) }
+) -> Result<Judged, NoMemory>
+    ensures told { IfOk result (λ judged. (t : tables.Table) → HoldsTable table.now t →
+        judged.told ≡ spec.earlier_of told (spec.first (spec.module_faults t (shown_tree tree.now)))) }
+    ensures sizes { IfOk result (λ judged. (t : tables.Table) → HoldsTable table.now t →
+        judged.sizes ≡ cut_sizes (sizes_in (sizes_spec.declared_in t))) }
 {
-    let mut sizes = Vec::new(alloc);
-    tell_sizes(table, &mut sizes)?;
-    let sizes = in_order(sizes);
-    let told = earlier(told, told_of(sizes.as_slice()));
+    let mut faults = Vec::new(alloc);
+    let sizes = tell_sizes(table, &mut faults)?;
+    let faults = in_order(faults);
+    let told = earlier(told, told_of(faults.as_slice()));
     let routines = routines_of(alloc, table, tree.declarations.as_slice())?;
     let procedures = &routines.procedures;
     let told = tell_cycles(
@@ -228,18 +239,19 @@ fn tell_module(
         told,
     )?;
     let told = tell_weights(alloc, &routines, told)?;
-    Ok(told)
+    Ok(Judged { told, sizes })
 }
 
-/// The first rule that a module breaks: that at the first place, and of several there that with the smallest number.
-pub fn first_fault(alloc: Global, tree: &Tree) -> Result<Option<RuleFault>, NoMemory>
-    ensures { IfOk result (λ fault. fault ≡ spec.first (spec.all_broken (shown_tree tree.now))) }
+/// The first rule that a module breaks, and its sizes.
+pub(crate) fn judge(alloc: Global, tree: &Tree) -> Result<Judged, NoMemory>
+    ensures told { IfOk result (λ judged. judged.told ≡ spec.first (spec.all_broken (shown_tree tree.now))) }
+    ensures sizes { IfOk result (λ judged. judged.sizes ≡ cut_sizes (sizes_of (shown_tree tree.now))) }
 {
     let (table, names) = scopes(alloc, tree)?;
     let (_, devices) = system(alloc, tree)?;
     let statements = statement_faults(alloc, &table, tree)?;
     let told = earlier(told_of(names.as_slice()), told_of(devices.as_slice()));
     let told = earlier(told, told_of(statements.as_slice()));
-    let told = tell_module(alloc, &table, tree, told)?;
-    Ok(told)
+    let judged = tell_module(alloc, &table, tree, told)?;
+    Ok(judged)
 }

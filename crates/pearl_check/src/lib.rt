@@ -2,11 +2,17 @@
 // that a module breaks.
 #![tactic(auto)]
 
+ghost use Rattle.std.specs.Prelude.{◌≡◌, [], IfOk, IfErr};
+ghost use Rattle.pearl_tree.specs.ShownModules.{shown_tree};
+ghost use Rattle.pearl_check.specs.Checks as spec;
+ghost use Rattle.pearl_check.specs.Rules.{all_broken};
+
 pub mod asked;
 pub mod callers;
 mod cut;
 mod dations;
-pub mod first;
+pub mod fault;
+mod first;
 mod formats;
 pub mod laws;
 pub mod pieces;
@@ -20,3 +26,24 @@ mod statements;
 pub mod tally;
 mod tell;
 mod views;
+
+use crate::fault::CheckFault;
+use crate::first::judge;
+use crate::sizes::Sizes;
+use pearl_tree::tree::Tree;
+use std::alloc::Global;
+
+/// The sizes of a module that breaks none of the rules S1 to S34, or the first rule that it breaks.
+pub fn check(alloc: Global, tree: &Tree) -> Result<Sizes, CheckFault>
+    ensures accepted { IfOk result (λ sizes. all_broken (shown_tree tree.now) ≡ []) }
+    ensures sizes { IfOk result (λ sizes. sizes ≡ spec.sizes_of (shown_tree tree.now)) }
+    ensures refused { IfErr result (λ fault. spec.IsRefused (shown_tree tree.now) fault) }
+{
+    let Ok(judged) = judge(alloc, tree) else {
+        return Err(CheckFault::NoMemory);
+    };
+    match judged.told {
+        Some(fault) => Err(CheckFault::Refused(fault)),
+        None => Ok(judged.sizes),
+    }
+}

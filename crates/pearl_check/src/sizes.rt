@@ -1,5 +1,5 @@
-// Rule S34 of the names of a module: how many tasks, procedures, semaphores and slots it has, and how long the names of
-// leaves are.
+// How many tasks, procedures, semaphores and slots a module has, and rule S34 of these and of how long the names of leaves
+// are.
 
 ghost use Rattle.std.specs.Prelude.{◌≡◌, ◌+◌, ◌++◌, ℕ, Bool, List, IfOk, OnOk};
 ghost use Rattle.std.specs.List.{flat_map};
@@ -31,6 +31,17 @@ pub enum Size {
     Procedures,
     Semaphores,
     Slots,
+}
+
+/// What an accepted module has of its own, apart from what stands in its tasks and procedures.
+#[derive(Clone, Copy, PartialEq, Eq, Debug)]
+pub struct Sizes {
+    /// The tasks.
+    pub tasks: u32,
+    /// The procedures.
+    pub procedures: u32,
+    /// The slots of all its variables: one for each leaf, and for an element of an array each one of its own.
+    pub slots: u32,
 }
 
 /// The longest name that a leaf may have, in bytes.
@@ -98,27 +109,29 @@ fn tell_one(
     Ok(after)
 }
 
-// Tells the name with which a size passes its limit.
+// Tells the name with which a size passes its limit. It answers the whole size, cut off at 2^31.
 fn tell_passed(
     forms: &[StructForm],
     size: Size,
     faults: &mut Vec<RuleFault>,
     mut names: &[SortedName],
     mut senses: &[Sense],
-) -> Result<(), NoMemory>
-    ensures { OnOk result ((of : List tables.Sense) → HoldsAll forms.now senses.entry.now of →
+) -> Result<u32, NoMemory>
+    ensures size { IfOk result (λ whole. (of : List tables.Sense) → HoldsAll forms.now senses.entry.now of →
+        whole ≡ cut (spec.size_of (sorts.added size) (spec.with_senses names.entry.now of))) }
+    ensures told { OnOk result ((of : List tables.Sense) → HoldsAll forms.now senses.entry.now of →
         faults.new.items ≡ faults.old.items ++ spec.passed (sorts.added size) (sorts.limit size) 0 (spec.with_senses names.entry.now of)) }
 {
     let mut before = 0;
     while let [entry, other_names @ ..] = names {
         let [sense, other_senses @ ..] = senses else {
-            return Ok(());
+            return Ok(before);
         };
         before = tell_one(forms, size, faults, before, entry, sense)?;
         names = other_names;
         senses = other_senses;
     }
-    Ok(())
+    Ok(before)
 }
 
 fn is_long(bytes: usize, counts: Counts) -> bool
@@ -175,18 +188,24 @@ fn tell_long_leaves(
     Ok(())
 }
 
-/// Adds where the sizes of a module pass their limits.
-pub(crate) fn tell_sizes(table: &SenseTable, faults: &mut Vec<RuleFault>) -> Result<(), NoMemory>
-    ensures { OnOk result ((t : tables.Table) → HoldsTable table.now t →
+/// Adds where the sizes of a module pass their limits. It answers the sizes, cut off at 2^31.
+pub(crate) fn tell_sizes(table: &SenseTable, faults: &mut Vec<RuleFault>) -> Result<Sizes, NoMemory>
+    ensures sizes { IfOk result (λ sizes. (t : tables.Table) → HoldsTable table.now t →
+        sizes ≡ sorts.cut_sizes (sorts.sizes_in (spec.declared_in t))) }
+    ensures told { OnOk result ((t : tables.Table) → HoldsTable table.now t →
         faults.new.items ≡ faults.old.items ++ spec.counted_sizes (spec.declared_in t)) }
 {
     let forms = table.forms();
     let names = table.names_in(0);
     let senses = table.senses_in(0);
-    tell_passed(forms, Size::Tasks, faults, names, senses)?;
-    tell_passed(forms, Size::Procedures, faults, names, senses)?;
+    let tasks = tell_passed(forms, Size::Tasks, faults, names, senses)?;
+    let procedures = tell_passed(forms, Size::Procedures, faults, names, senses)?;
     tell_passed(forms, Size::Semaphores, faults, names, senses)?;
-    tell_passed(forms, Size::Slots, faults, names, senses)?;
+    let slots = tell_passed(forms, Size::Slots, faults, names, senses)?;
     tell_long_leaves(forms, faults, names, senses)?;
-    Ok(())
+    Ok(Sizes {
+        tasks,
+        procedures,
+        slots,
+    })
 }

@@ -9,6 +9,6 @@ macro_rules! table {
 #[cfg(test)]
 mod cases;
 #[cfg(test)]
-mod first_faults;
+mod checks;
 #[cfg(test)]
 mod statement_rules;
