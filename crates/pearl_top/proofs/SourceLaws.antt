@@ -63,8 +63,8 @@ at_source_completes source done refused rose TooLong bytes within never due no_m
 
 -- ONE OUTCOME
 
--- bytes with which a source is done with are one list, and so are those with which it is refused, apart from the lines of one that has
--- tokens and no tree; it is not both; and either way it is within the limit
+-- the bytes with which a source is done with are one list, and so are those with which it is refused, apart from the lines of one that
+-- has tokens and no tree; it is not both; and either way it is within the limit
 pub record IsSettled (source : List ℕ) (done refused : List ℕ → Type 0) : Type 0 where
   pub done_within : (bytes : List ℕ) → done bytes → length source ≤ SOURCE_LIMIT
   pub refused_within : (bytes : List ℕ) → refused bytes → length source ≤ SOURCE_LIMIT
@@ -103,18 +103,18 @@ ended_once : (source : List ℕ) (done refused : List ℕ → Type 0) (status ot
     Ended source done refused status bytes → Ended source done refused other others → (status ≡ other) × AreSameOf source status bytes others
 ended_once source done refused status other bytes others settled (inl (e, is)) (inl (f, also)) =
     (e ∙ sym f, same_at source status Done bytes others e (settled.done_once bytes others is also))
-ended_once source done refused status other bytes others settled (inl (e, is)) (inr (inl (f, no))) = absurd (settled.never_both bytes others is no)
+ended_once source done refused status other bytes others settled (inl (e, is)) (inr (inl (f, why))) = absurd (settled.never_both bytes others is why)
 ended_once source done refused status other bytes others settled (inl (e, is)) (inr (inr (f, long))) =
     absurd (within_or_long source others (settled.done_within bytes is) long)
-ended_once source done refused status other bytes others settled (inr (inl (e, no))) (inl (f, is)) = absurd (settled.never_both others bytes is no)
-ended_once source done refused status other bytes others settled (inr (inl (e, no))) (inr (inl (f, also))) =
-    (e ∙ sym f, same_at source status Refused bytes others e (settled.refused_once bytes others no also))
-ended_once source done refused status other bytes others settled (inr (inl (e, no))) (inr (inr (f, long))) =
-    absurd (within_or_long source others (settled.refused_within bytes no) long)
+ended_once source done refused status other bytes others settled (inr (inl (e, why))) (inl (f, is)) = absurd (settled.never_both others bytes is why)
+ended_once source done refused status other bytes others settled (inr (inl (e, why))) (inr (inl (f, also))) =
+    (e ∙ sym f, same_at source status Refused bytes others e (settled.refused_once bytes others why also))
+ended_once source done refused status other bytes others settled (inr (inl (e, why))) (inr (inr (f, long))) =
+    absurd (within_or_long source others (settled.refused_within bytes why) long)
 ended_once source done refused status other bytes others settled (inr (inr (e, long))) (inl (f, is)) =
     absurd (within_or_long source bytes (settled.done_within others is) long)
-ended_once source done refused status other bytes others settled (inr (inr (e, long))) (inr (inl (f, no))) =
-    absurd (within_or_long source bytes (settled.refused_within others no) long)
+ended_once source done refused status other bytes others settled (inr (inr (e, long))) (inr (inl (f, why))) =
+    absurd (within_or_long source bytes (settled.refused_within others why) long)
 ended_once source done refused status other bytes others settled (inr (inr (e, long))) (inr (inr (f, also))) =
     (e ∙ sym f, same_at source status TooLong bytes others e (long.1 ∙ sym also.1))
 
