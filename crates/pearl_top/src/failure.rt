@@ -66,7 +66,10 @@ impl From<CheckFault> for Failure {
 
     fn from(fault: CheckFault) -> Failure {
         match fault {
-            CheckFault::Refused(RuleFault { place, rule }) => Failure::Refused(Refusal::Source { place, rule }),
+            CheckFault::Refused(RuleFault { place, rule }) => Failure::Refused(Refusal::Source {
+                place,
+                rule,
+            }),
             CheckFault::NoMemory => Failure::Refused(Refusal::Memory),
         }
     }

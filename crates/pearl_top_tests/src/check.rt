@@ -116,7 +116,12 @@ fn places_are_counted_from_0(rt: HostRuntime) -> Result<(), Fail> {
 
 // Words that are no command.
 fn other_words() -> &'static [&'static [&'static str]] {
-    &[&["check"], &["check", "s", "j"], &["checks", "s"], &["CHECK", "s"]]
+    &[
+        &["check"],
+        &["check", "s", "j"],
+        &["checks", "s"],
+        &["CHECK", "s"],
+    ]
 }
 
 #[test]
