@@ -3,15 +3,16 @@ pub mod AskedLists
 pub mod PieceLists
 pub mod Calling
 pub mod Sizing
+pub mod Limits
 pub mod Passing
 pub mod Tallying
 pub mod Weighing
 pub mod Firsts
 pub mod CutWeights
 pub mod TellingModules
+pub mod Accepting
 pub mod KindLists
 pub mod SeenSemaphores
-pub mod Tests
 pub mod FirstFaults
 pub mod Broken
 pub mod Examples

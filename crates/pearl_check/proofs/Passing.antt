@@ -11,7 +11,8 @@ use Rattle.pearl_names.specs.declared.types.StructForm.{StructForm}
 use Rattle.pearl_names.specs.Counts.{cut}
 use Rattle.pearl_names.specs.Holding.{HoldsAll, HoldsSense}
 use Rattle.pearl_names.specs.Tables.{Sense}
-use Rattle.pearl_check.specs.Sizes.{passed, with_senses, long_leaf_fault}
+use Rattle.pearl_check.specs.Sizes.{size_of, passed, with_senses, long_leaf_fault}
+use Rattle.pearl_check.proofs.Limits.{size_of-cons}
 
 -- CELLS
 
@@ -61,6 +62,7 @@ scopes_more size none senses first scope sum own next after sums is adds =
 abbrev pub Passes : (Sense → ℕ) → ℕ → List StructForm → (all left : List HeldSense) → (names others : List SortedName) → ℕ → (old new : List RuleFault) → Type 0
 Passes size limit forms all left names others before old new = (of : List Sense) → HoldsAll forms all of →
     (rest : List Sense) × (exact : ℕ) × HoldsAll forms left rest × (before ≡ cut exact) ×
+    (exact + size_of size (with_senses others rest) ≡ size_of size (with_senses names of)) ×
     (new ++ passed size limit exact (with_senses others rest) ≡ old ++ passed size limit 0 (with_senses names of))
 
 rest_of : {X : Type 0} (xs : List X) (x : X) → 1 ≤ length xs → x ≡ get_or xs 0 x → xs ≡ x ∷ take (length xs - 1) (drop 1 xs)
@@ -80,6 +82,7 @@ passes_next size limit forms all senses names others entry sense before after ol
   where
     Left : List HeldSense → List SortedName → Type 0
     Left senses others = (rest : List Sense) × (exact : ℕ) × HoldsAll forms senses rest × (before ≡ cut exact) ×
+        (exact + size_of size (with_senses others rest) ≡ size_of size (with_senses names of)) ×
         (new ++ passed size limit exact (with_senses others rest) ≡ old ++ passed size limit 0 (with_senses names of))
 
     left : List HeldSense
@@ -89,15 +92,18 @@ passes_next size limit forms all senses names others entry sense before after ol
     more = take (length others - 1) (drop 1 others)
 
     by : (rest : List Sense) × (exact : ℕ) × HoldsAll forms (sense ∷ left) rest × (before ≡ cut exact) ×
+        (exact + size_of size (with_senses (entry ∷ more) rest) ≡ size_of size (with_senses names of)) ×
         (new ++ passed size limit exact (with_senses (entry ∷ more) rest) ≡ old ++ passed size limit 0 (with_senses names of)) →
         (rest : List Sense) × (exact : ℕ) × HoldsAll forms left rest × (after ≡ cut exact) ×
+        (exact + size_of size (with_senses more rest) ≡ size_of size (with_senses names of)) ×
         (added ++ passed size limit exact (with_senses more rest) ≡ old ++ passed size limit 0 (with_senses names of))
-    by ([], exact, these, cut_off, same) = absurd these
-    by (one ∷ rest, exact, these, cut_off, same) = (
+    by ([], exact, these, cut_off, whole, same) = absurd these
+    by (one ∷ rest, exact, these, cut_off, whole, same) = (
       rest,
       exact + size one,
       these.1,
       sums one exact these.0 cut_off,
+      let more_of = size_of-cons size (record { name = entry.name; sense = one }) (with_senses more rest) in omega (arith, whole, more_of),
       ap (λ l. l ++ passed size limit (exact + size one) (with_senses more rest)) (tells one exact these.0 cut_off) ∙ append_assoc new _ _ ∙ same,
     )
 

@@ -30,5 +30,5 @@ pub mod Weighing
 pub mod Rules
 -- what a check tells of a module
 pub mod Checks
--- what is told is the first of the faults in order
+-- what is told is the first of the faults in order, and where sizes are told
 pub mod Laws

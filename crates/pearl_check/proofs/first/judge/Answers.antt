@@ -7,10 +7,10 @@ use Rattle.pearl_names.specs.Tables.{table_of}
 use Rattle.pearl_system.specs.Rules as devices
 use Rattle.pearl_check.specs.Rules.{earlier_of, first, statements_broken, whole_broken}
 use Rattle.pearl_check.proofs.Firsts.{first-append, earlier_of-assoc}
-use Rattle.pearl_check.proofs.first.first_fault.Goals as goal
+use Rattle.pearl_check.proofs.first.judge.Goals as goal
 
-pub returns : goal.returns
-returns c =
+pub returns-clause-told : goal.returns-clause-told
+returns-clause-told c =
     let tree = shown_tree c.args.tree.now in
     let t = table_of tree in
     let holds = c.in_ok-table.ensures.table in
@@ -27,9 +27,12 @@ returns c =
     let b : c.earlier-told-2.result ≡ earlier_of (earlier_of (first n) (first d)) (first s) =
     c.earlier-told-2.ensures ∙ (λ i. earlier_of ((a ∙ first-append n d) i) (three i)) in
     let w = whole_broken tree in
-    c.in_ok-told.ensures t holds ∙ ap (λ told. earlier_of told (first w)) b
+    c.in_ok-judged.ensures.told t holds ∙ ap (λ told. earlier_of told (first w)) b
     ∙ sym (earlier_of-assoc (earlier_of (first n) (first d)) (first s) (first w))
     ∙ sym (earlier_of-assoc (first n) (first d) (earlier_of (first s) (first w)))
     ∙ ap (λ told. earlier_of (first n) (earlier_of (first d) told)) (sym (first-append s w))
     ∙ ap (earlier_of (first n)) (sym (first-append d (s ++ w)))
     ∙ sym (first-append n (d ++ (s ++ w)))
+
+pub returns-clause-sizes : goal.returns-clause-sizes
+returns-clause-sizes c = c.in_ok-judged.ensures.sizes (table_of (shown_tree c.args.tree.now)) c.in_ok-table.ensures.table

@@ -11,16 +11,16 @@ use Rattle.pearl_check.specs.Weighing.{HoldsWeighed}
 use Rattle.pearl_check.proofs.Firsts.{told_more}
 use Rattle.pearl_check.proofs.first.tell_module.Goals as goal
 
-pub returns : goal.returns
-returns c = λ t holds.
+pub returns-clause-told : goal.returns-clause-told
+returns-clause-told c = λ t holds.
     let routines = routines_of (shown_tree c.args.tree.now) in
     let counted = counted_sizes (declared_in t) in
     let procedures = weighed_procedures t routines in
     let tasks = weighed_tasks t routines in
-    let made : c.tell_sizes.new.faults.items ≡ counted = c.in_ok-tell_sizes.ensures t holds ∙ ap (λ l. l ++ counted) c.new-sizes.ensures.items in
+    let made : c.tell_sizes.new.faults.items ≡ counted = c.in_ok-sizes.ensures.told t holds ∙ ap (λ l. l ++ counted) c.new-faults.ensures.items in
     let lists : ListFaults counted c.as_slice.result.now =
     subst (λ (l : List RuleFault). ListFaults counted l) (sym c.as_slice.ensures.value)
-    (subst (λ (l : List RuleFault). ListFaults l c.in_order-sizes.result.items) made c.in_order-sizes.ensures) in
+    (subst (λ (l : List RuleFault). ListFaults l c.in_order-faults.result.items) made c.in_order-faults.ensures) in
     let a : c.earlier-told.result ≡ earlier_of c.args.told (first counted) = c.earlier-told.ensures ∙ ap (earlier_of c.args.told) (c.told_of.ensures counted lists) in
     let held : HoldsWeighed c.in_ok-routines.routines.procedures procedures =
     subst (λ (ds : List Decl). HoldsWeighed c.in_ok-routines.routines.procedures (weighed_procedures t (decls_routines 1 (map shown_decl ds))))
