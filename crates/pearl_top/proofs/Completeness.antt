@@ -4,15 +4,18 @@ use Rattle.pearl_prog.specs.declared.program.Program.{Program}
 use Rattle.pearl_first.proofs.Unique.{one_outcome}
 use Rattle.pearl_top.specs.declared.status.Status.{Status}
 use Rattle.pearl_top.specs.declared.status.Status.TheVariants.{Done, Usage, Refused, BadObject, BadJournal, ReadFault, WriteFault, NoMemory, TooLong}
-use Rattle.pearl_top.specs.Commands.{Command, Run, Print, NoCommand}
+use Rattle.pearl_top.specs.CheckDue.{IsAccepted, IsUnaccepted}
+use Rattle.pearl_top.specs.Commands.{Command, Run, Check, Print, NoCommand}
 use Rattle.pearl_top.specs.Complete.{AreInOrder, IsInOrder}
 use Rattle.pearl_top.specs.Journal.{Entries, All, Bad, entries}
 use Rattle.pearl_top.specs.JournalDue.{IsBadJournal}
 use Rattle.pearl_top.specs.Outcome.{Due, IsRefused, IsSource, RunDue}
-use Rattle.pearl_top.specs.PrintDue.{IsSpelled, PrintDue}
+use Rattle.pearl_top.specs.PrintDue.{IsPrinted, IsUnspelled}
 use Rattle.pearl_top.specs.Taken.{Ends}
+use Rattle.pearl_top.proofs.CheckLaws.{never_unaccepted}
 use Rattle.pearl_top.proofs.DueLaws.{handled-whole}
 use Rattle.pearl_top.proofs.PrintLaws.{never_unspelled}
+use Rattle.pearl_top.proofs.SourceLaws.{at_source_completes}
 use Rattle.pearl_top.proofs.TakenLaws.{finishes_of}
 
 -- an accepted source is not refused
@@ -47,25 +50,17 @@ run_completes source journal a b BadJournal bytes order (inr (p, is_source, due)
 run_completes source journal a b TooLong bytes order (inl due) no_memory no_read = let h = order.is_source.within in absurd (omega (arith, due.0))
 run_completes source journal a b TooLong bytes order (inr (p, is_source, due)) no_memory no_read = let h = order.within in absurd (omega (arith, due.0))
 
-print_completes : (source : List ℕ) (a : Type 0) (status : Status) (bytes : List ℕ) → IsSpelled source → PrintDue source a status bytes →
-    status ≢ NoMemory → status ≢ ReadFault → status ≡ Done
-print_completes source a Done bytes is due no_memory no_read = refl
-print_completes source a NoMemory bytes is due no_memory no_read = absurd (no_memory refl)
-print_completes source a ReadFault bytes is due no_memory no_read = absurd (no_read refl)
-print_completes source a Usage bytes is due no_memory no_read = absurd due
-print_completes source a BadObject bytes is due no_memory no_read = absurd due
-print_completes source a BadJournal bytes is due no_memory no_read = absurd due
-print_completes source a WriteFault bytes is due no_memory no_read = absurd due
-print_completes source a Refused bytes is due no_memory no_read = absurd (never_unspelled source bytes is due)
-print_completes source a TooLong bytes is due no_memory no_read = let h = is.within in absurd (omega (arith, due.0))
-
 due_completes : (command : Command) (files : List ℕ → List ℕ) (rose : List ℕ → Type 0) (status : Status) (bytes : List ℕ) → IsInOrder command files →
     Due command files rose status bytes → status ≢ NoMemory → status ≢ ReadFault → status ≡ Done
 due_completes NoCommand files rose status bytes order due no_memory no_read = absurd order
 due_completes (Run source journal) files rose status bytes order due no_memory no_read =
     run_completes (files source) (files journal) (rose source) (rose journal) status bytes order due no_memory no_read
+due_completes (Check source) files rose status bytes order due no_memory no_read =
+    at_source_completes (files source) (IsAccepted (files source)) (IsUnaccepted (files source)) (rose source) status bytes order.is.within
+    (λ line. never_unaccepted (files source) line order) due no_memory no_read
 due_completes (Print source) files rose status bytes order due no_memory no_read =
-    print_completes (files source) (rose source) status bytes order due no_memory no_read
+    at_source_completes (files source) (IsPrinted (files source)) (IsUnspelled (files source)) (rose source) status bytes order.within
+    (λ line. never_unspelled (files source) line order) due no_memory no_read
 
 pub completes : (command : Command) (files : List ℕ → List ℕ) (rose : List ℕ → Type 0) (old new : Option (List ℕ)) (status : Status) →
     Ends old new (Due command files rose) status → IsInOrder command files → status ≢ NoMemory → status ≢ ReadFault → status ≢ WriteFault → status ≡ Done

@@ -1,5 +1,8 @@
 pub mod JournalLaws
 pub mod TakenLaws
+pub mod SourceLaws
+pub mod CheckLaws
+pub mod CheckEnds
 pub mod PrintLaws
 pub mod PrintEnds
 pub mod PrintsItsText

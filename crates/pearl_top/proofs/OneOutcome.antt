@@ -10,16 +10,20 @@ use Rattle.pearl_script.specs.Refusals.{refusal_line}
 use Rattle.pearl_top.specs.declared.status.Status.{Status}
 use Rattle.pearl_top.specs.declared.status.Status.TheVariants.{Done, Usage, Refused, BadObject, BadJournal, ReadFault, WriteFault, NoMemory, TooLong}
 use Rattle.pearl_top.specs.declared.limits.TheConstants.{SOURCE_LIMIT, JOURNAL_LIMIT}
-use Rattle.pearl_top.specs.Commands.{Run, Print, NoCommand}
+use Rattle.pearl_top.specs.CheckDue.{IsAccepted, IsUnaccepted}
+use Rattle.pearl_top.specs.Commands.{Run, Check, Print, NoCommand}
 use Rattle.pearl_top.specs.Journal.{Ending, Entries, All, Bad}
 use Rattle.pearl_top.specs.JournalDue.{IsRun, JournalDue, handled}
 use Rattle.pearl_top.specs.Laws.{AreAlike, HasOneOutcome}
 use Rattle.pearl_top.specs.Outcome.{line_of_fault, IsRefused, IsSource, RunDue, SourceDue}
+use Rattle.pearl_top.specs.PrintDue.{IsPrinted, IsUnspelled}
 use Rattle.pearl_top.specs.Transcript.{Close, Closed, Cut, IsTranscript}
 use Rattle.pearl_top.proofs.AlikeLaws.{one_meaning, transcript_same}
+use Rattle.pearl_top.proofs.CheckLaws.{check_settled}
 use Rattle.pearl_top.proofs.Completeness.{not_refused}
 use Rattle.pearl_top.proofs.DueLaws.{handled-whole, le_true, le_false}
-use Rattle.pearl_top.proofs.PrintLaws.{print_once}
+use Rattle.pearl_top.proofs.PrintLaws.{print_settled}
+use Rattle.pearl_top.proofs.SourceLaws.{at_source_once}
 
 -- AT AND AFTER THE JOURNAL
 
@@ -152,5 +156,9 @@ one_outcome (Run source journal) files status other bytes others is its =
     ended_once (files source) (files journal) status other bytes others
     (ended (files source) (files journal) status bytes is.memory is.due)
     (ended (files source) (files journal) other others its.memory its.due)
+one_outcome (Check source) files status other bytes others is its =
+    at_source_once (files source) (IsAccepted (files source)) (IsUnaccepted (files source)) status other bytes others (check_settled (files source))
+    is.memory its.memory is.due its.due
 one_outcome (Print source) files status other bytes others is its =
-    print_once source files status other bytes others is.memory its.memory is.due its.due
+    at_source_once (files source) (IsPrinted (files source)) (IsUnspelled (files source)) status other bytes others (print_settled (files source))
+    is.memory its.memory is.due its.due

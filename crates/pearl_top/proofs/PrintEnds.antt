@@ -12,38 +12,23 @@ use Rattle.pearl_parse.specs.Refusals.{IsRefused}
 use Rattle.pearl_top.specs.declared.failure.Failure.TheVariants as failure
 use Rattle.pearl_top.specs.declared.limits.TheConstants.{SOURCE_LIMIT}
 use Rattle.pearl_top.specs.declared.status.Status.{Status}
-use Rattle.pearl_top.specs.declared.status.Status.TheVariants.{Done, Usage, Refused, BadObject, BadJournal, ReadFault, WriteFault, NoMemory, TooLong}
+use Rattle.pearl_top.specs.declared.status.Status.TheVariants.{Done}
 use Rattle.pearl_top.specs.Failures.{IsDue, lex_refusal, parse_refusal}
-use Rattle.pearl_top.specs.PrintDue.{IsPrinted, PrintDue}
+use Rattle.pearl_top.specs.PrintDue.{IsPrinted, IsUnspelled, PrintDue}
 use Rattle.pearl_top.specs.Reading.{UnreadDue}
 use Rattle.pearl_top.specs.Taken.{Leaves}
+use Rattle.pearl_top.proofs.SourceLaws.{at_source_rises, at_source_unread}
 use Rattle.pearl_top.proofs.TakenLaws.{append_nil, stops_short}
 
 -- where the count of faults rose from earlier on
 pub print_rises : (source : List ℕ) (rose risen : Type 0) (status : Status) (bytes : List ℕ) → (rose → risen) → PrintDue source rose status bytes →
     PrintDue source risen status bytes
-print_rises source rose risen Done bytes on due = due
-print_rises source rose risen Usage bytes on due = due
-print_rises source rose risen Refused bytes on due = due
-print_rises source rose risen BadObject bytes on due = due
-print_rises source rose risen BadJournal bytes on due = due
-print_rises source rose risen ReadFault bytes on due = (on due.0, due.1)
-print_rises source rose risen WriteFault bytes on due = due
-print_rises source rose risen NoMemory bytes on due = due
-print_rises source rose risen TooLong bytes on due = due
+print_rises source = at_source_rises source (IsPrinted source) (IsUnspelled source)
 
 -- what is due where the source is not read whole
 pub print_unread : (source : List ℕ) (rose : Type 0) (status : Status) (bytes : List ℕ) → UnreadDue source SOURCE_LIMIT rose status bytes →
     PrintDue source rose status bytes
-print_unread source rose Done bytes due = absurd due
-print_unread source rose Usage bytes due = due
-print_unread source rose Refused bytes due = absurd due
-print_unread source rose BadObject bytes due = due
-print_unread source rose BadJournal bytes due = due
-print_unread source rose ReadFault bytes due = due
-print_unread source rose WriteFault bytes due = due
-print_unread source rose NoMemory bytes due = due
-print_unread source rose TooLong bytes due = due
+print_unread source = at_source_unread source (IsPrinted source) (IsUnspelled source)
 
 -- the source has no tokens
 pub print_stuck : (source : List ℕ) (fault : LexFault) → length source ≤ SOURCE_LIMIT → lexes.IsRefusedAt source fault →

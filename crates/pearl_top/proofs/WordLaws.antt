@@ -16,15 +16,17 @@ use Rattle.pearl_top.specs.declared.failure.Failure.TheVariants as failure
 use Rattle.pearl_top.specs.declared.limits.TheConstants.{SOURCE_LIMIT}
 use Rattle.pearl_top.specs.declared.status.Status.{Status}
 use Rattle.pearl_top.specs.declared.status.Status.TheVariants.{Done, Usage, Refused, BadObject, BadJournal, ReadFault, WriteFault, NoMemory, TooLong}
-use Rattle.pearl_top.specs.Commands.{Command, Run, Print, NoCommand, names_of}
+use Rattle.pearl_top.specs.CheckDue.{CheckDue, IsAccepted, IsUnaccepted}
+use Rattle.pearl_top.specs.Commands.{Command, Run, Check, Print, NoCommand, names_of}
 use Rattle.pearl_top.specs.Failures.{IsDue, front_refusal}
 use Rattle.pearl_top.specs.JournalDue.{JournalDue}
-use Rattle.pearl_top.specs.Outcome.{Due, DueFor, IsOutcome, IsSource, RunDue, SourceDue}
-use Rattle.pearl_top.specs.PrintDue.{PrintDue}
+use Rattle.pearl_top.specs.Outcome.{Due, DueFor, IsOutcome, IsRefused, IsSource, RunDue, SourceDue}
+use Rattle.pearl_top.specs.PrintDue.{IsPrinted, IsUnspelled, PrintDue}
 use Rattle.pearl_top.specs.Reading.{MayHave, UnreadDue}
 use Rattle.pearl_top.specs.Ready.{IsReadyFor}
 use Rattle.pearl_top.specs.Replay.{start_of}
 use Rattle.pearl_top.specs.Taken.{Ends, Finishes, OnlyDue}
+use Rattle.pearl_top.proofs.SourceLaws.{at_source_rises, at_source_unread, at_source_unrisen}
 use Rattle.pearl_top.proofs.TakenLaws.{ends_as, finishes_of}
 
 -- AT THE SOURCE
@@ -46,18 +48,6 @@ source_refused source (fault.Source place rule) within refused =
 source_refused source fault.NoMemory within refused = refl
 
 -- where the count of faults rose from earlier on
-source_rises : (source : List ℕ) (rose risen : Type 0) (status : Status) (bytes : List ℕ) → (rose → risen) → SourceDue source rose status bytes →
-    SourceDue source risen status bytes
-source_rises source rose risen Done bytes on due = due
-source_rises source rose risen Usage bytes on due = due
-source_rises source rose risen Refused bytes on due = due
-source_rises source rose risen BadObject bytes on due = due
-source_rises source rose risen BadJournal bytes on due = due
-source_rises source rose risen ReadFault bytes on due = (on due.0, due.1)
-source_rises source rose risen WriteFault bytes on due = due
-source_rises source rose risen NoMemory bytes on due = due
-source_rises source rose risen TooLong bytes on due = due
-
 journal_rises : (p : Program) (journal : List ℕ) (rose risen : Type 0) (status : Status) (bytes : List ℕ) → (rose → risen) → JournalDue p journal rose status bytes →
     JournalDue p journal risen status bytes
 journal_rises p journal rose risen Done bytes on due = due
@@ -70,28 +60,16 @@ journal_rises p journal rose risen WriteFault bytes on due = due
 journal_rises p journal rose risen NoMemory bytes on due = due
 journal_rises p journal rose risen TooLong bytes on due = due
 
-source_unread : (source : List ℕ) (rose : Type 0) (status : Status) (bytes : List ℕ) → UnreadDue source SOURCE_LIMIT rose status bytes →
-    SourceDue source rose status bytes
-source_unread source rose Done bytes due = due
-source_unread source rose Usage bytes due = due
-source_unread source rose Refused bytes due = absurd due
-source_unread source rose BadObject bytes due = due
-source_unread source rose BadJournal bytes due = due
-source_unread source rose ReadFault bytes due = due
-source_unread source rose WriteFault bytes due = due
-source_unread source rose NoMemory bytes due = due
-source_unread source rose TooLong bytes due = due
-
 -- what is due where the source is not read whole
 pub run_unread : (source journal : List ℕ) (rose also : Type 0) (status : Status) (bytes : List ℕ) → UnreadDue source SOURCE_LIMIT rose status bytes →
     RunDue source journal rose also status bytes
-run_unread source journal rose also status bytes due = inl (source_unread source rose status bytes due)
+run_unread source journal rose also status bytes due = inl (at_source_unread source (λ bytes. ⊥) (IsRefused source) rose status bytes due)
 
 -- what is due where it was read
 pub run_refused : (read source journal : List ℕ) (rose also : Type 0) (status : Status) (bytes : List ℕ) → read ≡ source → SourceDue read ⊥ status bytes →
     RunDue source journal rose also status bytes
 run_refused read source journal rose also status bytes same due =
-    inl (subst (λ file. SourceDue file rose status bytes) same (source_rises read ⊥ rose status bytes absurd due))
+    inl (subst (λ file. SourceDue file rose status bytes) same (at_source_rises read (λ bytes. ⊥) (IsRefused read) ⊥ rose status bytes absurd due))
 
 -- what is due where it is accepted
 pub run_accepted : (read source journal : List ℕ) (rose also later : Type 0) (p : Program) (status : Status) (bytes : List ℕ) → read ≡ source → (also → later) →
@@ -142,23 +120,14 @@ run_unrisen source journal a b WriteFault bytes free due = due
 run_unrisen source journal a b NoMemory bytes free due = due
 run_unrisen source journal a b TooLong bytes free due = due
 
-print_unrisen : (source : List ℕ) (a : Type 0) (status : Status) (bytes : List ℕ) → status ≢ ReadFault → PrintDue source a status bytes →
-    PrintDue source ⊥ status bytes
-print_unrisen source a Done bytes free due = due
-print_unrisen source a Usage bytes free due = due
-print_unrisen source a Refused bytes free due = due
-print_unrisen source a BadObject bytes free due = due
-print_unrisen source a BadJournal bytes free due = due
-print_unrisen source a ReadFault bytes free due = absurd (free refl)
-print_unrisen source a WriteFault bytes free due = due
-print_unrisen source a NoMemory bytes free due = due
-print_unrisen source a TooLong bytes free due = due
-
 unrisen : (command : Command) (files : List ℕ → List ℕ) (rose : List ℕ → Type 0) (status : Status) (bytes : List ℕ) → status ≢ ReadFault →
     Due command files rose status bytes → Due command files (λ name. ⊥) status bytes
 unrisen NoCommand files rose status bytes free due = due
 unrisen (Run source journal) files rose status bytes free due = run_unrisen (files source) (files journal) (rose source) (rose journal) status bytes free due
-unrisen (Print source) files rose status bytes free due = print_unrisen (files source) (rose source) status bytes free due
+unrisen (Check source) files rose status bytes free due =
+    at_source_unrisen (files source) (IsAccepted (files source)) (IsUnaccepted (files source)) (rose source) status bytes free due
+unrisen (Print source) files rose status bytes free due =
+    at_source_unrisen (files source) (IsPrinted (files source)) (IsUnspelled (files source)) (rose source) status bytes free due
 
 -- where the status is none of want of memory, a read fault and a write fault, it is an outcome
 pub settles : (command : Command) (files : List ℕ → List ℕ) (rose : List ℕ → Type 0) (old new : Option (List ℕ)) (status : Status) →
@@ -173,13 +142,19 @@ settles command files rose old new status ends no_memory no_read no_write =
 
 -- WHICH STATUS COMES WHEN
 
--- what is due for `run` and for `print` is due for the bytes of their files
+-- what is due for `run`, for `check` and for `print` is due for the bytes of their files
 run_files : (source journal : List ℕ) (contents : List (List ℕ)) (rose : List ℕ → Type 0) (status : Status) (bytes : List ℕ) →
     DueFor (Run source journal) contents rose status bytes → (first second : List ℕ) × RunDue first second (rose source) (rose journal) status bytes
 run_files source journal [] rose status bytes due = absurd due
 run_files source journal (first ∷ []) rose status bytes due = absurd due
 run_files source journal (first ∷ second ∷ []) rose status bytes due = (first, second, due)
 run_files source journal (first ∷ second ∷ third ∷ more) rose status bytes due = absurd due
+
+check_file : (source : List ℕ) (contents : List (List ℕ)) (rose : List ℕ → Type 0) (status : Status) (bytes : List ℕ) →
+    DueFor (Check source) contents rose status bytes → (file : List ℕ) × CheckDue file (rose source) status bytes
+check_file source [] rose status bytes due = absurd due
+check_file source (file ∷ []) rose status bytes due = (file, due)
+check_file source (file ∷ other ∷ more) rose status bytes due = absurd due
 
 print_file : (source : List ℕ) (contents : List (List ℕ)) (rose : List ℕ → Type 0) (status : Status) (bytes : List ℕ) →
     DueFor (Print source) contents rose status bytes → (file : List ℕ) × PrintDue file (rose source) status bytes
@@ -204,6 +179,7 @@ usage_due : (command : Command) (contents : List (List ℕ)) (rose : List ℕ �
 usage_due NoCommand contents rose bytes due = refl
 usage_due (Run source journal) contents rose bytes due =
     let is = run_files source journal contents rose Usage bytes due in absurd (run_usage is.0 is.1 (rose source) (rose journal) bytes is.2)
+usage_due (Check source) contents rose bytes due = absurd (let is = check_file source contents rose Usage bytes due in is.1)
 usage_due (Print source) contents rose bytes due = absurd (let is = print_file source contents rose Usage bytes due in is.1)
 
 none_due : (contents : List (List ℕ)) (rose : List ℕ → Type 0) (status : Status) (bytes : List ℕ) → DueFor NoCommand contents rose status bytes →
@@ -215,6 +191,7 @@ object_due : (command : Command) (contents : List (List ℕ)) (rose : List ℕ �
 object_due NoCommand contents rose bytes due = let is = none_due contents rose BadObject bytes due in (let e = is.0 in cc)
 object_due (Run source journal) contents rose bytes due =
     let is = run_files source journal contents rose BadObject bytes due in run_object is.0 is.1 (rose source) (rose journal) bytes is.2
+object_due (Check source) contents rose bytes due = let is = check_file source contents rose BadObject bytes due in is.1
 object_due (Print source) contents rose bytes due = let is = print_file source contents rose BadObject bytes due in is.1
 
 some_rose : (source journal : List ℕ) (rose : List ℕ → Type 0) → rose source ⊎ rose journal → Any rose (source ∷ journal ∷ [])
@@ -227,6 +204,8 @@ read_due NoCommand contents rose bytes due = absurd (let is = none_due contents 
 read_due (Run source journal) contents rose bytes due =
     let is = run_files source journal contents rose ReadFault bytes due in
     some_rose source journal rose (run_read is.0 is.1 (rose source) (rose journal) bytes is.2)
+read_due (Check source) contents rose bytes due =
+    let is = check_file source contents rose ReadFault bytes due in (0, source, omega arith, refl, is.1.0)
 read_due (Print source) contents rose bytes due =
     let is = print_file source contents rose ReadFault bytes due in (0, source, omega arith, refl, is.1.0)
 

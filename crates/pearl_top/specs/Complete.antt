@@ -3,7 +3,8 @@ use Rattle.std.specs.Prelude.{◌≡◌, ℕ, ◌≤◌, List, length}
 use Rattle.pearl_rules.specs.declared.entry.Entry.{Entry}
 use Rattle.pearl_prog.specs.declared.program.Program.{Program}
 use Rattle.pearl_top.specs.declared.limits.TheConstants.{JOURNAL_LIMIT}
-use Rattle.pearl_top.specs.Commands.{Command, Run, Print, NoCommand}
+use Rattle.pearl_top.specs.Commands.{Command, Run, Check, Print, NoCommand}
+use Rattle.pearl_top.specs.CheckDue.{BreaksNone}
 use Rattle.pearl_top.specs.Journal.{All, entries, journal_lines}
 use Rattle.pearl_top.specs.Outcome.{IsSource}
 use Rattle.pearl_top.specs.PrintDue.{IsSpelled}
@@ -20,4 +21,5 @@ pub record AreInOrder (source journal : List ℕ) : Type 0 where
 abbrev pub IsInOrder : Command → (List ℕ → List ℕ) → Type 0
 IsInOrder NoCommand files = ⊥
 IsInOrder (Run source journal) files = AreInOrder (files source) (files journal)
+IsInOrder (Check source) files = BreaksNone (files source)
 IsInOrder (Print source) files = IsSpelled (files source)

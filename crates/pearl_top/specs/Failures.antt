@@ -4,6 +4,8 @@ use Rattle.pearl_lex.specs.declared.fault.LexFault.{LexFault}
 use Rattle.pearl_lex.specs.declared.fault.LexFault.TheVariants as lex
 use Rattle.pearl_parse_expr.specs.declared.fault.ParseFault.{ParseFault}
 use Rattle.pearl_parse_expr.specs.declared.fault.ParseFault.TheVariants as parse
+use Rattle.pearl_check.specs.declared.fault.CheckFault.{CheckFault}
+use Rattle.pearl_check.specs.declared.fault.CheckFault.TheVariants as check
 use Rattle.pearl_first.specs.declared.fault.FrontFault.{FrontFault}
 use Rattle.pearl_first.specs.declared.fault.FrontFault.TheVariants as front
 use Rattle.pearl_script.specs.declared.refusal.Refusal.{Refusal}
@@ -23,6 +25,11 @@ lex_refusal lex.NoMemory = Memory
 abbrev pub parse_refusal : ParseFault → Refusal
 parse_refusal (parse.Refused place) = Syntax place
 parse_refusal parse.NoMemory = Memory
+
+-- of a tree that breaks a rule
+abbrev pub check_refusal : CheckFault → Refusal
+check_refusal (check.Refused fault) = Source fault.place fault.rule
+check_refusal check.NoMemory = Memory
 
 -- of a source that has no program
 abbrev pub front_refusal : FrontFault → Refusal

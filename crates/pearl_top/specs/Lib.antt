@@ -14,10 +14,12 @@ pub mod Transcript
 pub mod Replay
 -- what is due at and after the journal of an accepted source
 pub mod JournalDue
--- what is due where a file is not read whole, and what a file of an untold shelf may have
+-- what is due where a file is not read whole and at a source, and what a file of an untold shelf may have
 pub mod Reading
 -- what is due for a source that is printed
 pub mod PrintDue
+-- what is due for a source that is checked
+pub mod CheckDue
 -- which status and which bytes belong to some words and files
 pub mod Outcome
 -- which words and files bring a command to its end

@@ -8,11 +8,12 @@ use Rattle.pearl_script.specs.declared.refusal.Refusal.TheVariants as refusal
 use Rattle.pearl_script.specs.Refusals.{refusal_line}
 use Rattle.pearl_top.specs.declared.limits.TheConstants.{SOURCE_LIMIT}
 use Rattle.pearl_top.specs.declared.status.Status.{Status}
-use Rattle.pearl_top.specs.declared.status.Status.TheVariants.{Usage, Refused, NoMemory}
-use Rattle.pearl_top.specs.Commands.{Command, Run, Print, NoCommand, names_of}
+use Rattle.pearl_top.specs.declared.status.Status.TheVariants.{Usage, NoMemory}
+use Rattle.pearl_top.specs.Commands.{Command, Run, Check, Print, NoCommand, names_of}
+use Rattle.pearl_top.specs.CheckDue.{CheckDue}
 use Rattle.pearl_top.specs.JournalDue.{JournalDue}
 use Rattle.pearl_top.specs.PrintDue.{PrintDue}
-use Rattle.pearl_top.specs.Reading.{UnreadDue}
+use Rattle.pearl_top.specs.Reading.{DueAtSource}
 use Rattle.pearl_top.specs.Taken.{OnlyDue}
 
 -- THE SOURCE
@@ -36,10 +37,9 @@ pub record IsSource (source : List ℕ) (p : Program) : Type 0 where
   pub within : length source ≤ SOURCE_LIMIT
   pub accepted : Accepts source p
 
--- what is due with each way to end at a source that is run: a refusal; what is due where it is not read whole
+-- what is due at a source that is run, with which no command is done: a refusal
 abbrev pub SourceDue : List ℕ → Type 0 → Status → List ℕ → Type 0
-SourceDue source rose Refused bytes = IsRefused source bytes
-SourceDue source rose status bytes = UnreadDue source SOURCE_LIMIT rose status bytes
+SourceDue source = DueAtSource source (λ bytes. ⊥) (IsRefused source)
 
 -- THE WHOLE
 
@@ -53,6 +53,7 @@ RunDue source journal source_rose journal_rose status bytes =
 abbrev pub DueFor : Command → List (List ℕ) → (List ℕ → Type 0) → Status → List ℕ → Type 0
 DueFor NoCommand [] rose = OnlyDue Usage (refusal_line refusal.Usage)
 DueFor (Run source_name journal_name) (source ∷ journal ∷ []) rose = RunDue source journal (rose source_name) (rose journal_name)
+DueFor (Check source_name) (source ∷ []) rose = CheckDue source (rose source_name)
 DueFor (Print source_name) (source ∷ []) rose = PrintDue source (rose source_name)
 DueFor _ contents rose = λ status bytes. ⊥
 

@@ -11,8 +11,7 @@ use Rattle.pearl_script.specs.declared.refusal.Refusal.TheVariants as refusal
 use Rattle.pearl_script.specs.Refusals.{refusal_line}
 use Rattle.pearl_top.specs.declared.limits.TheConstants.{SOURCE_LIMIT}
 use Rattle.pearl_top.specs.declared.status.Status.{Status}
-use Rattle.pearl_top.specs.declared.status.Status.TheVariants.{Done, Refused}
-use Rattle.pearl_top.specs.Reading.{UnreadDue}
+use Rattle.pearl_top.specs.Reading.{DueAtSource}
 
 -- these bytes, within the limit, have tokens that a tree spells
 pub record IsSpelled (source : List ℕ) : Type 0 where
@@ -41,8 +40,6 @@ pub record IsUnspelled (source bytes : List ℕ) : Type 0 where
   pub fault : IsStuck source place ⊎ HasStop source place
   pub text : bytes ≡ refusal_line (refusal.Syntax place)
 
--- what is due with each way to end at a source that is printed: its text; a refusal; what is due where it is not read whole
+-- what is due at a source that is printed: its text, or a refusal
 abbrev pub PrintDue : List ℕ → Type 0 → Status → List ℕ → Type 0
-PrintDue source rose Done bytes = IsPrinted source bytes
-PrintDue source rose Refused bytes = IsUnspelled source bytes
-PrintDue source rose status bytes = UnreadDue source SOURCE_LIMIT rose status bytes
+PrintDue source = DueAtSource source (IsPrinted source) (IsUnspelled source)

@@ -7,6 +7,8 @@ ghost use Rattle.pearl_top.specs.Commands.{command_of, IsCommand};
 pub enum Command<'a> {
     /// `run SOURCE JOURNAL`.
     Run { source: &'a str, journal: &'a str },
+    /// `check SOURCE`.
+    Check { source: &'a str },
     /// `print SOURCE`.
     Print { source: &'a str },
     /// The words are none of the listed forms.
@@ -21,6 +23,9 @@ pub fn command_of_words(words: &[String]) -> Command<'_>
         [word, source, journal] if word.as_str() == "run" => Command::Run {
             source: source.as_str(),
             journal: journal.as_str(),
+        },
+        [word, source] if word.as_str() == "check" => Command::Check {
+            source: source.as_str(),
         },
         [word, source] if word.as_str() == "print" => Command::Print {
             source: source.as_str(),

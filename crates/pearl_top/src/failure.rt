@@ -1,15 +1,17 @@
 // Why a command was not carried out to its end.
 
 ghost use Rattle.std.specs.Prelude.{◌≡◌};
-ghost use Rattle.pearl_top.specs.Failures.{front_refusal, lex_refusal, parse_refusal};
+ghost use Rattle.pearl_top.specs.Failures.{check_refusal, front_refusal, lex_refusal, parse_refusal};
 ghost use Rattle.pearl_top.specs.declared.failure.Failure.TheVariants as failure;
 ghost use Rattle.pearl_script.specs.declared.refusal.Refusal.TheVariants as refusal;
 
+use pearl_check::fault::CheckFault;
 use pearl_first::fault::FrontFault;
 use pearl_io::WriteFault;
 use pearl_lex::fault::LexFault;
 use pearl_parse_expr::fault::ParseFault;
 use pearl_script::refusal::Refusal;
+use pearl_tree::fault::RuleFault;
 use std::alloc::AllocError;
 
 /// Why a command was not carried out to its end.
@@ -55,6 +57,20 @@ impl From<ParseFault> for Failure {
         match fault {
             ParseFault::Refused(place) => Failure::Refused(Refusal::Syntax(place)),
             ParseFault::NoMemory => Failure::Refused(Refusal::Memory),
+        }
+    }
+}
+
+impl From<CheckFault> for Failure {
+    ghost from_gives = { λ fault e. e ≡ failure.Refused (check_refusal fault) };
+
+    fn from(fault: CheckFault) -> Failure {
+        match fault {
+            CheckFault::Refused(RuleFault { place, rule }) => Failure::Refused(Refusal::Source {
+                place,
+                rule,
+            }),
+            CheckFault::NoMemory => Failure::Refused(Refusal::Memory),
         }
     }
 }

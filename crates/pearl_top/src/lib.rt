@@ -1,6 +1,7 @@
 // The top call: words and files to a status and bytes.
 #![tactic(auto)]
 
+mod check;
 mod command;
 mod compile;
 mod failure;

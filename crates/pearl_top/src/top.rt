@@ -4,6 +4,7 @@ ghost use Rattle.std.specs.Prelude.{◌≡◌, ◌≢◌, ◌≤◌, ◌⊎◌, 
 ghost use Rattle.std.specs.List.{AllZip};
 ghost use Rattle.pearl_io.specs.Outside.{Files, CountRose, WriteFailed, content};
 ghost use Rattle.pearl_script.specs.Refusals.{refusal_line};
+ghost use Rattle.pearl_top.specs.CheckDue.{CheckDue};
 ghost use Rattle.pearl_top.specs.Commands.{NoCommand, command_of, names_of};
 ghost use Rattle.pearl_top.specs.Complete.{IsInOrder};
 ghost use Rattle.pearl_top.specs.Outcome.{Due, DueFor, IsOutcome, RunDue};
@@ -11,6 +12,7 @@ ghost use Rattle.pearl_top.specs.PrintDue.{PrintDue};
 ghost use Rattle.pearl_top.specs.Reading.{MayHave};
 ghost use Rattle.pearl_top.specs.Taken.{Ends, Finishes, OnlyDue, Leaves};
 
+use crate::check::{line_of, sizes_of};
 use crate::command::{Command, command_of_words};
 use crate::compile::compile;
 use crate::failure::Failure;
@@ -27,8 +29,8 @@ use std::alloc::Global;
 /// Carries out the command of the words after the program's name: reads the files that it names from the shelf, and
 /// writes what is due to the sink, each line as one piece.
 ///
-/// Memory may run out before a text is printed and before the first line of a journal is carried out, and then the line
-/// `error memory` is due. What is due otherwise, and with which status, is `Due`.
+/// Memory may run out before a text is printed, while a source is checked, and before the first line of a journal is
+/// carried out, and then the line `error memory` is due. What is due otherwise, and with which status, is `Due`.
 pub fn pearl<S: Shelf, K: Sink>(
     alloc: Global,
     words: &[String],
@@ -97,6 +99,7 @@ fn carry_out<S: Shelf, K: Sink>(
 {
     match command_of_words(words) {
         Command::Run { source, journal } => run(alloc, source, journal, shelf, sink),
+        Command::Check { source } => check(alloc, source, shelf, sink),
         Command::Print { source } => print(alloc, source, shelf, sink),
         Command::None => Err(Failure::Refused(Refusal::Usage)),
     }
@@ -121,6 +124,27 @@ fn run<S: Shelf, K: Sink>(
     let bytes = read_whole(alloc, shelf, source, SOURCE_LIMIT)?;
     let mut machine = compile(alloc, bytes.as_slice())?;
     replay(alloc, &mut machine, journal, shelf, sink)
+}
+
+// Carries out `check SOURCE`.
+fn check<S: Shelf, K: Sink>(
+    alloc: Global,
+    source: &str,
+    shelf: &mut S,
+    sink: &mut K,
+) -> Result<(), Failure>
+    ensures ends { let rose = CountRose (S.faults shelf.old source.now) (S.faults shelf.new source.now) in
+        let failed = WriteFailed (K.faults sink.old) (K.faults sink.new) (K.full sink.new) in
+        (file : List ℕ) × MayHave (S.holds shelf.old) source.now file
+        × Leaves (K.taken sink.old) (K.taken sink.new) failed (CheckDue file rose) result }
+    ensures held { S.holds shelf.new ≡ S.holds shelf.old }
+    ensures shelf_later { (name : List ℕ) → S.faults shelf.old name ≤ S.faults shelf.new name }
+    ensures sink_later { K.faults sink.old ≤ K.faults sink.new }
+{
+    let bytes = read_whole(alloc, shelf, source, SOURCE_LIMIT)?;
+    let sizes = sizes_of(alloc, bytes.as_slice())?;
+    put_all(sink, line_of(&sizes).as_slice())?;
+    Ok(())
 }
 
 // Carries out `print SOURCE`.

@@ -7,6 +7,8 @@ macro_rules! table {
 }
 
 #[cfg(test)]
+mod check;
+#[cfg(test)]
 mod mark;
 #[cfg(test)]
 mod print;

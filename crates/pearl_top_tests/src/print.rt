@@ -17,7 +17,7 @@ const PRINTED_HEAD: &str = "MODULE ( m ) ;\nPROBLEM ;\nt : TASK ;\n";
 
 const PRINTED_TAIL: &str = "END ;\nMODEND ;\n";
 
-// Whole sources. The last one is the valve of the readme.
+// Whole sources. The last one is a valve, that of crates/pearl/data/valve.pearl.
 fn modules() -> &'static [(&'static str, &'static str)] {
     table![
         "MODULE;PROBLEM;MODEND" => "MODULE ;\nPROBLEM ;\nMODEND ;\n";

@@ -3,7 +3,7 @@ use Rattle.std.specs.Prelude.{Err}
 use Rattle.pearl_io.specs.Outside.{CountRose, WriteFailed}
 use Rattle.pearl_script.specs.declared.refusal.Refusal.TheVariants as refusal
 use Rattle.pearl_top.specs.declared.failure.Failure.TheVariants as failure
-use Rattle.pearl_top.specs.Commands.{Run, Print, NoCommand}
+use Rattle.pearl_top.specs.Commands.{Run, Check, Print, NoCommand}
 use Rattle.pearl_top.specs.Taken.{Leaves}
 use Rattle.pearl_top.proofs.TakenLaws.{takes_none}
 use Rattle.pearl_top.proofs.WordLaws.{due_as}
@@ -16,6 +16,14 @@ returns-in-Run-clause-ends g c =
     let ends = c.run.ensures.ends in
     due_as _ (Run c.in-Run.source.now c.in-Run.journal.now) (g.S.Shelf.holds c.args.shelf.now) (ends.0 ∷ ends.1 ∷ []) rose
     (λ due. Leaves (g.K.Sink.taken c.args.sink.now) (g.K.Sink.taken c.run.new.sink) failed due c.run.result) c.in-Run.ensures (ends.2, (ends.3, tt)) ends.4
+
+pub returns-in-Check-clause-ends : goal.returns-in-Check-clause-ends
+returns-in-Check-clause-ends g c =
+    let rose : List ℕ → Type 0 = λ name. CountRose (g.S.Shelf.faults c.args.shelf.now name) (g.S.Shelf.faults c.check.new.shelf name) in
+    let failed : Type 0 = WriteFailed (g.K.Sink.faults c.args.sink.now) (g.K.Sink.faults c.check.new.sink) (g.K.Sink.full c.check.new.sink) in
+    let ends = c.check.ensures.ends in
+    due_as _ (Check c.in-Check.source.now) (g.S.Shelf.holds c.args.shelf.now) (ends.0 ∷ []) rose
+    (λ due. Leaves (g.K.Sink.taken c.args.sink.now) (g.K.Sink.taken c.check.new.sink) failed due c.check.result) c.in-Check.ensures (ends.1, tt) ends.2
 
 pub returns-in-Print-clause-ends : goal.returns-in-Print-clause-ends
 returns-in-Print-clause-ends g c =
