@@ -9,11 +9,12 @@ use Rattle.pearl_instructions.specs.declared.object.Code.{Code}
 use Rattle.pearl_instructions.specs.declared.object.Object.{Object}
 use Rattle.pearl_instructions.specs.Objects.{routine_at, routines}
 use Rattle.pearl_instructions.specs.Lawful.{IsInstr, IsProcedure, IsTask, IsObject}
+use Rattle.pearl_instructions.specs.Steps.{Step, Silent, Offers, Missing}
 use Rattle.pearl_instructions.specs.Rows.{act, instr_at, row}
 use Rattle.pearl_instructions.specs.Operands.{Shape}
 use Rattle.pearl_instructions.specs.Valid.{shape_before, IsValid}
-use Rattle.pearl_instructions.specs.Stacks.{IsTop, IsStack, Goes}
-use Rattle.pearl_instructions.proofs.Kept.{Here, here, goes, given_goes}
+use Rattle.pearl_instructions.specs.Stacks.{IsTop, IsStack, task_of, Goes}
+use Rattle.pearl_instructions.proofs.Kept.{IsSound, Here, here, goes, given_goes}
 use Rattle.pearl_instructions.proofs.SoundCells.{const_sound, load_sound, drop_sound, store_sound, fill_sound, load_at_sound, store_at_sound, ref_cell_sound, ref_cell_at_sound}
 use Rattle.pearl_instructions.proofs.SoundOperators.{conv_sound, monadic_sound, dyadic_sound, non_zero_sound}
 use Rattle.pearl_instructions.proofs.SoundIndex.{index_sound}
@@ -24,7 +25,7 @@ use Rattle.pearl_instructions.proofs.SoundActivate.{activate_sound}
 use Rattle.pearl_instructions.proofs.SoundGet.{get_sound}
 
 act_sound : (o : Object) (v : IsValid o) (w : IsObject o) (f : Frame) (lower : List Frame) (t : IsTop o f lower) (code : Code) (instr : Instr) (s : Shape) → IsInstr instr →
-    Here o f lower code instr s → Goes o (act o instr f lower)
+    Here o f lower code instr s → IsSound o (act o instr f lower)
 act_sound o v w f lower t code (Const x) s is h = const_sound o f lower code s x is h
 act_sound o v w f lower t code (Load c) s is h = load_sound o f lower code s c h
 act_sound o v w f lower t code (Store c) s is h = store_sound o f lower code s c h
@@ -50,29 +51,29 @@ act_sound o v w f lower t code (Case targets) s is h = case_sound o f lower code
 act_sound o v w f lower t code Turn s is h = turn_sound o f lower code s h
 act_sound o v w f lower t code (Call p) s is h = call_sound o v w f lower code s p h
 act_sound o v w f lower t code Return s is h = return_sound o v f lower code s h
-act_sound o v w f lower t code End s is h = λ answer never. absurd never
-act_sound o v w f lower t code (Trap trap) s is h = λ answer never. absurd never
+act_sound o v w f lower t code End s is h = λ answer own never. absurd never
+act_sound o v w f lower t code (Trap trap) s is h = λ answer own never. absurd never
 act_sound o v w f lower t code (Within c) s is h = within_sound o f lower code s c h
 act_sound o v w f lower t code (Advance c i) s is h = advance_sound o f lower code s c i h
 act_sound o v w f lower t code NonZero s is h = non_zero_sound o f lower code s h
 act_sound o v w f lower t code (Monadic op) s is h = monadic_sound o f lower code s op h
 act_sound o v w f lower t code (Dyadic op) s is h = dyadic_sound o f lower code s op h
 act_sound o v w f lower t code Now s is h = now_sound o f lower code s h
-act_sound o v w f lower t code (Request list) s is h = λ answer e. goes o f lower code (Request list) s h f.cells f.operands s refl refl h.stands.cells h.stands.operands
-act_sound o v w f lower t code (Release list) s is h = λ answer e. goes o f lower code (Release list) s h f.cells f.operands s refl refl h.stands.cells h.stands.operands
+act_sound o v w f lower t code (Request list) s is h = λ answer own e. goes o f lower code (Request list) s h f.cells f.operands s refl refl h.stands.cells h.stands.operands
+act_sound o v w f lower t code (Release list) s is h = λ answer own e. goes o f lower code (Release list) s h f.cells f.operands s refl refl h.stands.cells h.stands.operands
 act_sound o v w f lower t code (Try n) s is h = try_sound o f lower code s n h
 act_sound o v w f lower t code (Activate a) s is h = activate_sound o f lower code s a h
 act_sound o v w f lower t code (Continue c) s is h = continue_sound o f lower code s c h
 act_sound o v w f lower t code (Resume once) s is h = resume_sound o f lower code s once h
-act_sound o v w f lower t code (Suspend n) s is h = λ answer e. goes o f lower code (Suspend n) s h f.cells f.operands s refl refl h.stands.cells h.stands.operands
-act_sound o v w f lower t code (Terminate n) s is h = λ answer e. goes o f lower code (Terminate n) s h f.cells f.operands s refl refl h.stands.cells h.stands.operands
-act_sound o v w f lower t code (Prevent n) s is h = λ answer e. goes o f lower code (Prevent n) s h f.cells f.operands s refl refl h.stands.cells h.stands.operands
-act_sound o v w f lower t code SuspendOwn s is h = λ answer e. goes o f lower code SuspendOwn s h f.cells f.operands s refl refl h.stands.cells h.stands.operands
-act_sound o v w f lower t code TerminateOwn s is h = λ answer e. t
-act_sound o v w f lower t code PreventOwn s is h = λ answer e. goes o f lower code PreventOwn s h f.cells f.operands s refl refl h.stands.cells h.stands.operands
-act_sound o v w f lower t code (Enable n) s is h = λ answer e. goes o f lower code (Enable n) s h f.cells f.operands s refl refl h.stands.cells h.stands.operands
-act_sound o v w f lower t code (Disable n) s is h = λ answer e. goes o f lower code (Disable n) s h f.cells f.operands s refl refl h.stands.cells h.stands.operands
-act_sound o v w f lower t code (Trigger n) s is h = λ answer e. goes o f lower code (Trigger n) s h f.cells f.operands s refl refl h.stands.cells h.stands.operands
+act_sound o v w f lower t code (Suspend n) s is h = λ answer own e. goes o f lower code (Suspend n) s h f.cells f.operands s refl refl h.stands.cells h.stands.operands
+act_sound o v w f lower t code (Terminate n) s is h = λ answer own e. goes o f lower code (Terminate n) s h f.cells f.operands s refl refl h.stands.cells h.stands.operands
+act_sound o v w f lower t code (Prevent n) s is h = λ answer own e. goes o f lower code (Prevent n) s h f.cells f.operands s refl refl h.stands.cells h.stands.operands
+act_sound o v w f lower t code SuspendOwn s is h = λ answer own e. goes o f lower code SuspendOwn s h f.cells f.operands s refl refl h.stands.cells h.stands.operands
+act_sound o v w f lower t code TerminateOwn s is h = λ answer own e. t
+act_sound o v w f lower t code PreventOwn s is h = λ answer own e. goes o f lower code PreventOwn s h f.cells f.operands s refl refl h.stands.cells h.stands.operands
+act_sound o v w f lower t code (Enable n) s is h = λ answer own e. goes o f lower code (Enable n) s h f.cells f.operands s refl refl h.stands.cells h.stands.operands
+act_sound o v w f lower t code (Disable n) s is h = λ answer own e. goes o f lower code (Disable n) s h f.cells f.operands s refl refl h.stands.cells h.stands.operands
+act_sound o v w f lower t code (Trigger n) s is h = λ answer own e. goes o f lower code (Trigger n) s h f.cells f.operands s refl refl h.stands.cells h.stands.operands
 act_sound o v w f lower t code (Put d n) s is h = put_sound o f lower code s d n h
 act_sound o v w f lower t code (Get g) s is h = get_sound o f lower code s g h
 act_sound o v w f lower t code (Take d) s is h = take_sound o f lower code s d h
@@ -97,9 +98,17 @@ lawful_code o r code w e = all_of HasInstrs (routines o) r code
     (all_mapped IsTask HasInstrs (λ t. t.code) o.tasks (λ t is. is.code.instructions) w.tasks)) e
 
 -- Every row is there, and leads to a stack of the object: the next one, or the one after each answer that suits.
-pub row_sound : (o : Object) → IsValid o → IsObject o → (frames : List Frame) → IsStack o frames → Goes o (row o frames)
+pub row_sound : (o : Object) → IsValid o → IsObject o → (frames : List Frame) → IsStack o frames → IsSound o (row o frames)
 row_sound o v w [] never = absurd never
 row_sound o v w (f ∷ lower) t =
     let at = here o v f lower t in
     let is = all_of IsInstr t.code.instructions f.place at.0 (lawful_code o f.routine t.code w t.routine) at.2.at in
     given_goes o at.0 (instr_at o f) _ at.1 (act_sound o v w f lower t t.code at.0 (shape_before o f.routine t.code f.place) is at.2)
+
+goes_own : (o : Object) (own : ℕ) (step : Step) → IsSound o step → Goes o own step
+goes_own o own (Silent frames) h = h
+goes_own o own (Offers action go) h = λ answer suits. h answer own suits
+goes_own o own Missing h = h
+
+pub row_goes : (o : Object) → IsValid o → IsObject o → (frames : List Frame) → IsStack o frames → Goes o (task_of o frames) (row o frames)
+row_goes o v w frames t = goes_own o (task_of o frames) (row o frames) (row_sound o v w frames t)

@@ -34,22 +34,22 @@ use Rattle.pearl_instructions.specs.Operands.{Shape, Anything, values_asked, sch
 use Rattle.pearl_instructions.specs.Named.{is_input, takes_texts}
 use Rattle.pearl_instructions.specs.Kinds.{plain_kind, kind_taken}
 use Rattle.pearl_instructions.specs.Valid.{plain_kinds, suits_format, values_suit}
-use Rattle.pearl_instructions.specs.Stacks.{routines_of, Suits, IsTop, Goes}
+use Rattle.pearl_instructions.specs.Stacks.{routines_of, Suits, IsTop}
 use Rattle.pearl_instructions.proofs.Tests.{and_true, is_some_true}
 use Rattle.pearl_instructions.proofs.Lists.{scheduled_ends, scheduled_long, kinds_of_values}
-use Rattle.pearl_instructions.proofs.Kept.{Here, goes, given_goes, needed_goes, popped_goes, taken_goes, traps_goes}
+use Rattle.pearl_instructions.proofs.Kept.{IsSound, Here, goes, given_goes, needed_goes, popped_goes, taken_goes, traps_goes}
 use Rattle.pearl_instructions.proofs.SoundCells.{if_goes}
 use Rattle.pearl_instructions.proofs.SoundVariables.{asks_goes}
 use Rattle.pearl_instructions.proofs.SoundFlow.{any_ends}
 
-pub now_sound : (o : Object) (f : Frame) (lower : List Frame) (code : Code) (s : Shape) → Here o f lower code Now s → Goes o (act o Now f lower)
+pub now_sound : (o : Object) (f : Frame) (lower : List Frame) (code : Code) (s : Shape) → Here o f lower code Now s → IsSound o (act o Now f lower)
 now_sound o f lower code s h =
-    asks_goes o action.Now f lower f.operands kind.Clock (Some kind.Clock) (λ answer h. h) refl (λ x fits.
+    asks_goes o action.Now f lower f.operands kind.Clock (Some kind.Clock) (λ answer own h. h) refl (λ x fits.
     goes o f lower code Now s h f.cells (x ∷ f.operands) (Plain kind.Clock ∷ s) refl refl h.stands.cells (fits, h.stands.operands))
 
-pub try_sound : (o : Object) (f : Frame) (lower : List Frame) (code : Code) (s : Shape) (n : ℕ) → Here o f lower code (Try n) s → Goes o (act o (Try n) f lower)
+pub try_sound : (o : Object) (f : Frame) (lower : List Frame) (code : Code) (s : Shape) (n : ℕ) → Here o f lower code (Try n) s → IsSound o (act o (Try n) f lower)
 try_sound o f lower code s n h =
-    asks_goes o (action.Try n) f lower f.operands (kind.Bits 1) (Some (kind.Bits 1)) (λ answer h. h) refl (λ x fits.
+    asks_goes o (action.Try n) f lower f.operands (kind.Bits 1) (Some (kind.Bits 1)) (λ answer own h. h) refl (λ x fits.
     goes o f lower code (Try n) s h f.cells (x ∷ f.operands) (Plain (kind.Bits 1) ∷ s) refl refl h.stands.cells (fits, h.stands.operands))
 
 input_is : (device : Option Device) → is_input device ≡ true → (of : Kind) × (kind_taken device ≡ Some (Plain of))
@@ -59,17 +59,17 @@ input_is (Some (Terminal number way)) e = cc
 input_is (Some (Input number of)) e = (of, refl)
 input_is (Some (Output number of)) e = cc
 
-pub take_sound : (o : Object) (f : Frame) (lower : List Frame) (code : Code) (s : Shape) (d : ℕ) → Here o f lower code (Take d) s → Goes o (act o (Take d) f lower)
+pub take_sound : (o : Object) (f : Frame) (lower : List Frame) (code : Code) (s : Shape) (d : ℕ) → Here o f lower code (Take d) s → IsSound o (act o (Take d) f lower)
 take_sound o f lower code s d h =
     let of = input_is (slice_get o.devices d) h.keeps.named in
-    asks_goes o (action.Take d) f lower f.operands of.0 (option_and_then plain_kind (kind_taken (slice_get o.devices d))) (λ answer h. h)
+    asks_goes o (action.Take d) f lower f.operands of.0 (option_and_then plain_kind (kind_taken (slice_get o.devices d))) (λ answer own h. h)
     (ap (option_and_then plain_kind) of.1) (λ x fits.
     goes o f lower code (Take d) s h f.cells (x ∷ f.operands) (Plain of.0 ∷ s) refl (ap (λ k. option_to_list k ++ s) (sym of.1)) h.stands.cells (fits, h.stands.operands))
 
-pub send_sound : (o : Object) (f : Frame) (lower : List Frame) (code : Code) (s : Shape) (d : ℕ) → Here o f lower code (Send d) s → Goes o (act o (Send d) f lower)
+pub send_sound : (o : Object) (f : Frame) (lower : List Frame) (code : Code) (s : Shape) (d : ℕ) → Here o f lower code (Send d) s → IsSound o (act o (Send d) f lower)
 send_sound o f lower code [] d h = let e = h.keeps.ends in cc
 send_sound o f lower code (k ∷ ks) d h =
-    popped_goes o (Suits o (f.routine ∷ routines_of lower)) k ks f.operands _ h.stands.operands (λ x left suits rest answer e.
+    popped_goes o (Suits o (f.routine ∷ routines_of lower)) k ks f.operands _ h.stands.operands (λ x left suits rest answer own e.
     goes o f lower code (Send d) (k ∷ ks) h f.cells left ks refl refl h.stands.cells rest)
 
 pub clock_is : (x : Cell) → IsValueOf kind.Clock x → (time : ℕ) × (x ≡ cell.Clock time)
@@ -112,35 +112,35 @@ span_is (cell.Clock time) w = absurd (never w.same_kind)
     never e = cc
 span_is (cell.Ref of at) w = absurd w.is_value
 
-pub lasting_goes : (o : Object) (least time : ℤ) (f : Frame) (lower : List Frame) (go : Step) → Goes o go → Goes o (lasting least time f lower go)
+pub lasting_goes : (o : Object) (least time : ℤ) (f : Frame) (lower : List Frame) (go : Step) → IsSound o go → IsSound o (lasting least time f lower go)
 lasting_goes o least time f lower go h = if_goes o (int_le least time) go (traps Range f lower) (λ e. h) (λ e. traps_goes o Range f lower)
 
 -- the values of a start lie there, and more may lie above them
 pub started_goes : (o : Object) (rs : List ℕ) (when : StartForm) (more : Shape) (values : List Cell) (f : Frame) (lower : List Frame) (go : Start → List Cell → Step) →
-    AllZip (Suits o rs) (map Plain (start_kinds when) ++ more) values → ((start : Start) (rest : List Cell) → AllZip (Suits o rs) more rest → Goes o (go start rest)) →
-    Goes o (started when values f lower go)
+    AllZip (Suits o rs) (map Plain (start_kinds when) ++ more) values → ((start : Start) (rest : List Cell) → AllZip (Suits o rs) more rest → IsSound o (go start rest)) →
+    IsSound o (started when values f lower go)
 started_goes o rs form.Free more values f lower go z h = h start.Free values z
 started_goes o rs form.At more [] f lower go z h = absurd z
 started_goes o rs form.At more (x ∷ values) f lower go z h =
     let t = clock_is x z.0 in
-    subst (λ x. Goes o (started form.At (x ∷ values) f lower go)) (sym t.1) (h (start.At t.0) values z.1)
+    subst (λ x. IsSound o (started form.At (x ∷ values) f lower go)) (sym t.1) (h (start.At t.0) values z.1)
 started_goes o rs form.After more [] f lower go z h = absurd z
 started_goes o rs form.After more (x ∷ values) f lower go z h =
     let t = span_is x z.0 in
-    subst (λ x. Goes o (started form.After (x ∷ values) f lower go)) (sym t.1)
+    subst (λ x. IsSound o (started form.After (x ∷ values) f lower go)) (sym t.1)
     (lasting_goes o (pos 0) t.0 f lower (go (start.After t.0) values) (h (start.After t.0) values z.1))
 started_goes o rs (form.When device) more values f lower go z h = h (start.When device) values z
 started_goes o rs (form.WhenAfter device) more [] f lower go z h = absurd z
 started_goes o rs (form.WhenAfter device) more (x ∷ values) f lower go z h =
     let t = span_is x z.0 in
-    subst (λ x. Goes o (started (form.WhenAfter device) (x ∷ values) f lower go)) (sym t.1)
+    subst (λ x. IsSound o (started (form.WhenAfter device) (x ∷ values) f lower go)) (sym t.1)
     (lasting_goes o (pos 0) t.0 f lower (go (start.WhenAfter device t.0) values) (h (start.WhenAfter device t.0) values z.1))
 
 -- an action whose schedule has a start alone
 once_goes : (o : Object) (f : Frame) (lower : List Frame) (when : StartForm) (s : Shape) (operands : List Cell) (go : Start → List Cell → Step) → v2 (scheduled (start_kinds when)) s ≡ true →
     AllZip (Suits o (f.routine ∷ routines_of lower)) s operands →
-    ((start : Start) (left : List Cell) → AllZip (Suits o (f.routine ∷ routines_of lower)) (drop (length (start_kinds when)) s) left → Goes o (go start left)) →
-    Goes o (taken (length (start_kinds when)) operands (λ values left. started when values f lower (λ start rest. go start left)))
+    ((start : Start) (left : List Cell) → AllZip (Suits o (f.routine ∷ routines_of lower)) (drop (length (start_kinds when)) s) left → IsSound o (go start left)) →
+    IsSound o (taken (length (start_kinds when)) operands (λ values left. started when values f lower (λ start rest. go start left)))
 once_goes o f lower when s operands go e z h =
     let rs = f.routine ∷ routines_of lower in
     let ends = scheduled_ends (start_kinds when) s e in
@@ -150,22 +150,22 @@ once_goes o f lower when s operands go e z h =
     (λ start rest none. h start left under))
 
 pub continue_sound : (o : Object) (f : Frame) (lower : List Frame) (code : Code) (s : Shape) (c : Box Continuation Global) → Here o f lower code (Continue c) s →
-    Goes o (act o (Continue c) f lower)
+    IsSound o (act o (Continue c) f lower)
 continue_sound o f lower code s c h =
     let kinds = start_kinds (start_or_free c.value.once) in
-    once_goes o f lower (start_or_free c.value.once) s f.operands (λ start left. acts (action.Continue c.value.task start) f lower left) h.keeps.ends h.stands.operands (λ start left rest answer e.
+    once_goes o f lower (start_or_free c.value.once) s f.operands (λ start left. acts (action.Continue c.value.task start) f lower left) h.keeps.ends h.stands.operands (λ start left rest answer own e.
     goes o f lower code (Continue c) s h f.cells left (drop (length kinds) s) refl (ap (λ n. drop n s) (sym (scheduled_long kinds))) h.stands.cells rest)
 
 pub resume_sound : (o : Object) (f : Frame) (lower : List Frame) (code : Code) (s : Shape) (once : OnceForm) → Here o f lower code (Resume once) s →
-    Goes o (act o (Resume once) f lower)
+    IsSound o (act o (Resume once) f lower)
 resume_sound o f lower code s once h =
     let kinds = start_kinds (as_start once) in
-    once_goes o f lower (as_start once) s f.operands (λ start left. acts (action.Resume start) f lower left) h.keeps.ends h.stands.operands (λ start left rest answer e.
+    once_goes o f lower (as_start once) s f.operands (λ start left. acts (action.Resume start) f lower left) h.keeps.ends h.stands.operands (λ start left rest answer own e.
     goes o f lower code (Resume once) s h f.cells left (drop (length kinds) s) refl (ap (λ n. drop n s) (sym (scheduled_long kinds))) h.stands.cells rest)
 
-pub put_goes : (o : Object) (device : ℕ) (text : Option (List ℕ)) (f : Frame) (lower : List Frame) (left : List Cell) → IsTop o (next f left) lower → Goes o (put_text device text f lower left)
+pub put_goes : (o : Object) (device : ℕ) (text : Option (List ℕ)) (f : Frame) (lower : List Frame) (left : List Cell) → IsTop o (next f left) lower → IsSound o (put_text device text f lower left)
 put_goes o device None f lower left t = traps_goes o Format f lower
-put_goes o device (Some text) f lower left t = λ answer e. t
+put_goes o device (Some text) f lower left t = λ answer own e. t
 
 -- the kinds that suit a format
 pub format_kinds : (items : List Item) (kinds : Option (List Kind)) → suits_format items kinds ≡ true →
@@ -174,7 +174,7 @@ format_kinds items None e = cc
 format_kinds items (Some ks) e = (ks, refl, (and_true _ _ (and_true _ _ e).0).0)
 
 put_with : (o : Object) (f : Frame) (lower : List Frame) (code : Code) (s : Shape) (d n : ℕ) (items : List Item) → items_at o n ≡ Some items → Here o f lower code (Put d n) s →
-    Goes o (taken (data_count items) f.operands (λ values left. given (value_kinds values) (λ kinds. needed (items_suit items kinds) (put_text d (text_of items values) f lower left))))
+    IsSound o (taken (data_count items) f.operands (λ values left. given (value_kinds values) (λ kinds. needed (items_suit items kinds) (put_text d (text_of items values) f lower left))))
 put_with o f lower code s d n items there h =
     let rs = f.routine ∷ routines_of lower in
     let count = data_count items in
@@ -190,7 +190,7 @@ put_with o f lower code s d n items there h =
     (ap (λ n. drop n s) (sym (length-replicate count Anything)) ∙ ap (λ i. drop (length (values_asked i)) s) (sym there))
     h.stands.cells under))))
 
-pub put_sound : (o : Object) (f : Frame) (lower : List Frame) (code : Code) (s : Shape) (d n : ℕ) → Here o f lower code (Put d n) s → Goes o (act o (Put d n) f lower)
+pub put_sound : (o : Object) (f : Frame) (lower : List Frame) (code : Code) (s : Shape) (d n : ℕ) → Here o f lower code (Put d n) s → IsSound o (act o (Put d n) f lower)
 put_sound o f lower code s d n h =
     let named = and_true (takes_texts (slice_get o.devices d)) (is_some (items_at o n)) h.keeps.named in
     let items = is_some_true (items_at o n) named.1 in

@@ -22,39 +22,39 @@ use Rattle.pearl_instructions.specs.Steps.{Step, acts}
 use Rattle.pearl_instructions.specs.Offers.{start_kinds, repeat_kinds, activation_count, started, repeated, with_priority}
 use Rattle.pearl_instructions.specs.Rows.{act}
 use Rattle.pearl_instructions.specs.Operands.{Shape, is_fixed, scheduled, priority_asked, v2}
-use Rattle.pearl_instructions.specs.Stacks.{routines_of, Suits, Goes}
+use Rattle.pearl_instructions.specs.Stacks.{routines_of, Suits}
 use Rattle.pearl_instructions.proofs.Tests.{and_true}
 use Rattle.pearl_instructions.proofs.Lists.{scheduled_ends, scheduled_long}
-use Rattle.pearl_instructions.proofs.Kept.{Here, goes, taken_goes, traps_goes}
+use Rattle.pearl_instructions.proofs.Kept.{IsSound, Here, goes, taken_goes, traps_goes}
 use Rattle.pearl_instructions.proofs.SoundCells.{if_goes}
 use Rattle.pearl_instructions.proofs.SoundOperators.{fixed_is, fixed_kind}
 use Rattle.pearl_instructions.proofs.SoundActions.{clock_is, span_is, lasting_goes, started_goes}
 
 -- the values of a repetition lie there, and more may lie above them
 repeated_goes : (o : Object) (rs : List ℕ) (how : RepeatForm) (more : Shape) (values : List Cell) (f : Frame) (lower : List Frame) (go : Repeat → List Cell → Step) →
-    AllZip (Suits o rs) (map Plain (repeat_kinds how) ++ more) values → ((repeat : Repeat) (rest : List Cell) → AllZip (Suits o rs) more rest → Goes o (go repeat rest)) →
-    Goes o (repeated how values f lower go)
+    AllZip (Suits o rs) (map Plain (repeat_kinds how) ++ more) values → ((repeat : Repeat) (rest : List Cell) → AllZip (Suits o rs) more rest → IsSound o (go repeat rest)) →
+    IsSound o (repeated how values f lower go)
 repeated_goes o rs again.Once more values f lower go z h = h repeat.Once values z
 repeated_goes o rs again.All more [] f lower go z h = absurd z
 repeated_goes o rs again.All more (x ∷ values) f lower go z h =
     let p = span_is x z.0 in
-    subst (λ x. Goes o (repeated again.All (x ∷ values) f lower go)) (sym p.1)
+    subst (λ x. IsSound o (repeated again.All (x ∷ values) f lower go)) (sym p.1)
     (lasting_goes o (pos 1) p.0 f lower (go (repeat.All p.0) values) (h (repeat.All p.0) values z.1))
 repeated_goes o rs again.Until more [] f lower go z h = absurd z
 repeated_goes o rs again.Until more (x ∷ []) f lower go z h = absurd z.1
 repeated_goes o rs again.Until more (x ∷ y ∷ values) f lower go z h =
     let p = span_is x z.0 in
     let t = clock_is y z.1.0 in
-    subst (λ x. Goes o (repeated again.Until (x ∷ y ∷ values) f lower go)) (sym p.1)
-    (subst (λ y. Goes o (repeated again.Until (cell.Span p.0 ∷ y ∷ values) f lower go)) (sym t.1)
+    subst (λ x. IsSound o (repeated again.Until (x ∷ y ∷ values) f lower go)) (sym p.1)
+    (subst (λ y. IsSound o (repeated again.Until (cell.Span p.0 ∷ y ∷ values) f lower go)) (sym t.1)
     (lasting_goes o (pos 1) p.0 f lower (go (repeat.Until p.0 t.0) values) (h (repeat.Until p.0 t.0) values z.1.1)))
 repeated_goes o rs again.During more [] f lower go z h = absurd z
 repeated_goes o rs again.During more (x ∷ []) f lower go z h = absurd z.1
 repeated_goes o rs again.During more (x ∷ y ∷ values) f lower go z h =
     let p = span_is x z.0 in
     let t = span_is y z.1.0 in
-    subst (λ x. Goes o (repeated again.During (x ∷ y ∷ values) f lower go)) (sym p.1)
-    (subst (λ y. Goes o (repeated again.During (cell.Span p.0 ∷ y ∷ values) f lower go)) (sym t.1)
+    subst (λ x. IsSound o (repeated again.During (x ∷ y ∷ values) f lower go)) (sym p.1)
+    (subst (λ y. IsSound o (repeated again.During (cell.Span p.0 ∷ y ∷ values) f lower go)) (sym t.1)
     (lasting_goes o (pos 1) p.0 f lower _ (lasting_goes o (pos 0) t.0 f lower (go (repeat.During p.0 t.0) values) (h (repeat.During p.0 t.0) values z.1.1))))
 
 -- the operand that a priority takes, where one is given
@@ -64,7 +64,7 @@ HasPriority true (k ∷ []) = is_fixed k ≡ true
 HasPriority b s = ⊥
 
 priority_goes : (o : Object) (rs : List ℕ) (b : Bool) (tail : Shape) (values : List Cell) (f : Frame) (lower : List Frame) (go : Option ℕ → Step) → HasPriority b tail →
-    AllZip (Suits o rs) tail values → ((p : Option ℕ) → Goes o (go p)) → Goes o (with_priority b values f lower go)
+    AllZip (Suits o rs) tail values → ((p : Option ℕ) → IsSound o (go p)) → IsSound o (with_priority b values f lower go)
 priority_goes o rs false tail values f lower go p z h = h None
 priority_goes o rs true [] values f lower go p z h = absurd p
 priority_goes o rs true (k ∷ l ∷ tail) values f lower go p z h = absurd p
@@ -72,7 +72,7 @@ priority_goes o rs true (k ∷ []) [] f lower go p z h = absurd z
 priority_goes o rs true (k ∷ []) (x ∷ values) f lower go p z h =
     let fixed = fixed_kind k p in
     let n = fixed_is fixed.0 x (subst (λ k. Suits o rs k x) fixed.1 z.0) in
-    subst (λ x. Goes o (with_priority true (x ∷ values) f lower go)) (sym n.1)
+    subst (λ x. IsSound o (with_priority true (x ∷ values) f lower go)) (sym n.1)
     (if_goes o (int_le (pos 1) n.0 && int_le n.0 (pos 255)) _ _ (λ e. h (Some (unsigned_abs n.0))) (λ e. traps_goes o Range f lower))
 
 -- what ACTIVATE finds on the stack: n values, the last of them the priority where one is given
@@ -109,7 +109,7 @@ planned kinds true n (k ∷ s) e h =
     }
 
 pub activate_sound : (o : Object) (f : Frame) (lower : List Frame) (code : Code) (s : Shape) (a : Box Activation Global) → Here o f lower code (Activate a) s →
-    Goes o (act o (Activate a) f lower)
+    IsSound o (act o (Activate a) f lower)
 activate_sound o f lower code s a h =
     let rs = f.routine ∷ routines_of lower in
     let first = start_kinds a.value.start in
@@ -132,5 +132,5 @@ activate_sound o f lower code s a h =
     repeated_goes o rs a.value.repeat p.tail more f lower (λ how rest.
     with_priority a.value.priority rest f lower (λ priority.
     acts (action.Activate a.value.task when how priority) f lower left)) z (λ how rest w.
-    priority_goes o rs b p.tail rest f lower (λ priority. acts (action.Activate a.value.task when how priority) f lower left) p.priority w (λ priority answer e.
+    priority_goes o rs b p.tail rest f lower (λ priority. acts (action.Activate a.value.task when how priority) f lower left) p.priority w (λ priority answer own e.
     goes o f lower code (Activate a) s h f.cells left (drop n s) refl (ap (λ n. drop n s) (sym p.long)) h.stands.cells under))))

@@ -24,12 +24,12 @@ use Rattle.pearl_instructions.specs.Rows.{act}
 use Rattle.pearl_instructions.specs.Operands.{Shape}
 use Rattle.pearl_instructions.specs.Named.{has_cells, has_read_cells, cells_at, read_cells, gives_texts}
 use Rattle.pearl_instructions.specs.Valid.{plain_kinds, cells_suit}
-use Rattle.pearl_instructions.specs.Stacks.{routines_of, Suits, AreOf, IsTop, Goes}
+use Rattle.pearl_instructions.specs.Stacks.{routines_of, Suits, AreOf, IsTop}
 use Rattle.pearl_instructions.proofs.Tests.{and_true, or_true}
 use Rattle.pearl_instructions.proofs.Zips.{zip_length, zip_take, zip_drop}
 use Rattle.pearl_instructions.proofs.Ranges.{zip_put}
 use Rattle.pearl_instructions.proofs.Lists.{kinds_of_values, values_suit_cells}
-use Rattle.pearl_instructions.proofs.Kept.{Here, goes, given_goes, needed_goes}
+use Rattle.pearl_instructions.proofs.Kept.{IsSound, Here, goes, given_goes, needed_goes}
 use Rattle.pearl_instructions.proofs.SoundActions.{format_kinds}
 
 read_items : (code : Code) (c : ℕ) (items : Option (List Item)) → has_read_cells code c items ≡ true →
@@ -103,18 +103,18 @@ room_is o code cells c n rs z (inr long) =
 -- the values that were read become the cells
 read_goes : (o : Object) (f : Frame) (lower : List Frame) (g : Reading) (kinds : List Kind) →
     ((xs : List Cell) → AllZip IsValueOf kinds xs → IsTop o (next (record f { cells = with_values f.cells g.first xs }) f.operands) lower) →
-    Goes o (Offers (action.Get g.device g.format (record { items = kinds }))
+    IsSound o (Offers (action.Get g.device g.format (record { items = kinds }))
     (λ answer. next (record f { cells = with_values f.cells g.first (all_heard answer) }) f.operands ∷ lower))
 read_goes o f lower g kinds go = by_answer
   where
-    by_answer : (answer : Answer) → AreOf kinds answer → IsTop o (next (record f { cells = with_values f.cells g.first (all_heard answer) }) f.operands) lower
-    by_answer Nothing e = absurd e
-    by_answer (One x) e = absurd e
-    by_answer (Many xs) e = go xs.items e
+    by_answer : (answer : Answer) (own : ℕ) → AreOf kinds answer → IsTop o (next (record f { cells = with_values f.cells g.first (all_heard answer) }) f.operands) lower
+    by_answer Nothing own e = absurd e
+    by_answer (One x) own e = absurd e
+    by_answer (Many xs) own e = go xs.items e
 
 get_with : (o : Object) (f : Frame) (lower : List Frame) (code : Code) (s : Shape) (g : Box Reading Global) (items : List Item) → items_at o g.value.format ≡ Some items →
     ((data_count items ≡ 0) ⊎ (g.value.first + data_count items ≤ length code.cells)) → Here o f lower code (Get g) s →
-    Goes o (given (option_and_then value_kinds (cells_from f.cells g.value.first (data_count items))) (λ kinds. needed (items_suit items kinds)
+    IsSound o (given (option_and_then value_kinds (cells_from f.cells g.value.first (data_count items))) (λ kinds. needed (items_suit items kinds)
     (Offers (action.Get g.value.device g.value.format (record { items = kinds }))
     (λ answer. next (record f { cells = with_values f.cells g.value.first (all_heard answer) }) f.operands ∷ lower))))
 get_with o f lower code s g items there size h =
@@ -132,7 +132,7 @@ get_with o f lower code s g items there size h =
     (room.put xs (values_suit_cells o rs (cells_at code c n) suits.0 xs suits.1 fits)) h.stands.operands)))
 
 pub get_sound : (o : Object) (f : Frame) (lower : List Frame) (code : Code) (s : Shape) (g : Box Reading Global) → Here o f lower code (Get g) s →
-    Goes o (act o (Get g) f lower)
+    IsSound o (act o (Get g) f lower)
 get_sound o f lower code s g h =
     let named = and_true (gives_texts (slice_get o.devices g.value.device)) (has_read_cells code g.value.first (items_at o g.value.format)) h.keeps.named in
     let items = read_items code g.value.first (items_at o g.value.format) named.1 in

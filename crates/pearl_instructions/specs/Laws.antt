@@ -7,7 +7,7 @@ use Rattle.pearl_instructions.specs.Objects.{routines, routine_at}
 use Rattle.pearl_instructions.specs.Lawful.{IsObject}
 use Rattle.pearl_instructions.specs.Rows.{row, begun}
 use Rattle.pearl_instructions.specs.Valid.{IsValid}
-use Rattle.pearl_instructions.specs.Stacks.{IsStack, Goes, room, all_rows, OffersWithin}
+use Rattle.pearl_instructions.specs.Stacks.{IsStack, task_of, Goes, room, all_rows, OffersWithin}
 
 -- a task's routine begins with a stack of the object
 abbrev pub Begins : Type 0
@@ -15,7 +15,7 @@ Begins = (o : Object) (r : ℕ) (code : Code) → IsValid o → IsObject o → l
 
 -- at each stack of the object there is a row, and it leads to such stacks only: the next one, or the one after each answer that suits
 abbrev pub Leads : Type 0
-Leads = (o : Object) → IsValid o → IsObject o → (frames : List Frame) → IsStack o frames → Goes o (row o frames)
+Leads = (o : Object) → IsValid o → IsObject o → (frames : List Frame) → IsStack o frames → Goes o (task_of o frames) (row o frames)
 
 -- the depth that the task states isn't passed
 abbrev pub KeepsDepth : Type 0
