@@ -19,6 +19,7 @@ use Rattle.pearl_instructions.specs.Named.{v1}
 use Rattle.pearl_instructions.specs.Kinds.{v3, v4, v5, shape_after}
 use Rattle.pearl_instructions.specs.Valid.{shape_before, goes_on, targets, v6, v7, v8, v10, v11, v12, judged, judged_at, judged_whole, is_closed, unsound_in, IsValid}
 use Rattle.pearl_instructions.specs.Stacks.{routines_of, Suits, Stands, Below, IsTop, IsStack, Answers}
+use Rattle.pearl_instructions.specs.Actions.{IsOffered}
 use Rattle.pearl_instructions.proofs.Tests.{and_true, or_true, same_shape_true, keep_none, all_at, closed_more}
 use Rattle.pearl_instructions.proofs.Zips.{some_at, none_past, zip_length, zip_take, zip_drop, zip_reverse}
 
@@ -150,10 +151,10 @@ here o v f lower t =
       },
     )
 
--- a row is there, and leads to stacks of the object only, whose ever it is
+-- a row is there, leads to stacks of the object only, whose ever it is, and offers only what the object has
 abbrev pub IsSound : Object → Step → Type 0
 IsSound o (Silent frames) = IsStack o frames
-IsSound o (Offers action go) = (answer : Answer) (own : ℕ) → Answers o own action answer → IsStack o (go answer)
+IsSound o (Offers action go) = IsOffered o action × ((answer : Answer) (own : ℕ) → Answers o own action answer → IsStack o (go answer))
 IsSound o Missing = ⊥
 
 pub given_goes : {A : Type 0} (o : Object) (x : A) (option : Option A) (go : A → Step) → option ≡ Some x → IsSound o (go x) → IsSound o (given option go)
@@ -182,4 +183,4 @@ taken_goes o R n s operands go less z h =
 
 -- a trap is answered by nothing
 pub traps_goes : (o : Object) (trap : Trap) (f : Frame) (lower : List Frame) → IsSound o (traps trap f lower)
-traps_goes o trap f lower = λ answer own never. absurd never
+traps_goes o trap f lower = (tt, λ answer own never. absurd never)

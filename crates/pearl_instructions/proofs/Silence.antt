@@ -40,9 +40,8 @@ use Rattle.pearl_instructions.specs.Operands.{Shape}
 use Rattle.pearl_instructions.specs.Valid.{shape_before, targets, is_turn, IsValid}
 use Rattle.pearl_instructions.specs.Stacks.{routines_of, IsCalling, Below, IsStack, all_rows, Then, OffersWithin}
 use Rattle.pearl_instructions.proofs.Tests.{or_true, all_at}
-use Rattle.pearl_instructions.proofs.Kept.{Here, here}
+use Rattle.pearl_instructions.proofs.Kept.{IsSound, Here, here}
 use Rattle.pearl_instructions.proofs.SoundFlow.{Loop, loop_within, loop_past, target_is}
-use Rattle.pearl_instructions.proofs.Kept.{IsSound}
 use Rattle.pearl_instructions.proofs.Sound.{row_sound}
 use Rattle.pearl_instructions.proofs.Begun.{task_or_procedure, smaller}
 

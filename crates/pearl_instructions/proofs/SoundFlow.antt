@@ -97,7 +97,7 @@ case_sound o f lower code (k ∷ ks) targets h =
         (jumped o f.routine code f.place (Case targets) (shape_after o f.routine code (Case targets) (k ∷ ks)) there.0 t h.keeps.flows there.1) h.stands.cells rest
 
 pub turn_sound : (o : Object) (f : Frame) (lower : List Frame) (code : Code) (s : Shape) → Here o f lower code Turn s → IsSound o (act o Turn f lower)
-turn_sound o f lower code s h = λ answer own e. goes o f lower code Turn s h f.cells f.operands s refl refl h.stands.cells h.stands.operands
+turn_sound o f lower code s h = (tt, λ answer own e. goes o f lower code Turn s h f.cells f.operands s refl refl h.stands.cells h.stands.operands)
 
 pub fits_is : (len : ℕ) (value : ℤ) → IsKind (kind.Fixed len) → fits_fixed len value ≡ true → IsValueOf (kind.Fixed len) (cell.Fixed len value)
 fits_is len value is e = record { is_value = (is, record { low = grind (arith, ints, e); high = grind (arith, ints, e) }); same_kind = refl }
@@ -194,6 +194,11 @@ all_drop P zero xs all = all
 all_drop P (suc n) [] all = tt
 all_drop P (suc n) (x ∷ xs) all = all_drop P n xs all.1
 
+pub all_take : {A : Type 0} (P : A → Type 0) (n : ℕ) (xs : List A) → AllByRecursion P xs → AllByRecursion P (take n xs)
+all_take P zero xs all = tt
+all_take P (suc n) [] all = tt
+all_take P (suc n) (x ∷ xs) all = (all.0, all_take P n xs all.1)
+
 pub fresh_suits : (o : Object) (rs : List ℕ) (ks : List CellKind) → AllByRecursion IsPlain ks → AllByRecursion IsCellKind ks → AllZip (Suits o rs) ks (map flow.fresh ks)
 fresh_suits o rs [] p k = tt
 fresh_suits o rs (Plain of ∷ ks) p k = (blank_gives of k.0, fresh_suits o rs ks p.1 k.1)
@@ -222,27 +227,30 @@ call_sound o v w f lower code s p h =
     args (fresh_suits o rs (drop d.params d.code.cells) is.plain (all_drop IsCellKind d.params d.code.cells is.kinds))) in
     let kinds : drop d.params s ≡ drop d.params (shape_before o f.routine code f.place) = ap (drop d.params) h.is in
     given_goes o d (slice_get o.procedures p) _ callee.1
-    (needed_goes o (nat_le d.params (length f.operands)) _ (le-leb d.params (length f.operands) (omega (arith, few, long))) (λ answer own suits. record {
-      code = d.code;
-      routine = procedure_code o p d callee.1;
-      place = closed_some d.code.instructions (whole_at o p d.code v (procedure_code o p d callee.1)).closed;
-      stands = record { cells = cells; operands = tt };
-      below = (
-        record {
-          callee = d;
-          called = callee.1;
-          code = code;
-          routine = h.routine;
-          place = h.at;
-          stands = record {
-            cells = h.stands.cells;
-            operands = subst (λ ks. AllZip (Suits o rs) ks (drop d.params f.operands)) kinds
-                (zip_drop (Suits o rs) d.params s f.operands operands);
-          };
-        },
-        h.below,
-      );
-    }))
+    (needed_goes o (nat_le d.params (length f.operands)) _ (le-leb d.params (length f.operands) (omega (arith, few, long))) (
+      tt,
+      λ answer own suits. record {
+        code = d.code;
+        routine = procedure_code o p d callee.1;
+        place = closed_some d.code.instructions (whole_at o p d.code v (procedure_code o p d callee.1)).closed;
+        stands = record { cells = cells; operands = tt };
+        below = (
+          record {
+            callee = d;
+            called = callee.1;
+            code = code;
+            routine = h.routine;
+            place = h.at;
+            stands = record {
+              cells = h.stands.cells;
+              operands = subst (λ ks. AllZip (Suits o rs) ks (drop d.params f.operands)) kinds
+                  (zip_drop (Suits o rs) d.params s f.operands operands);
+            };
+          },
+          h.below,
+        );
+      },
+    ))
 
 -- the caller goes on with the results
 back_sound : (o : Object) (v : IsValid o) (g : Frame) (lower : List Frame) (p : ℕ) (results : List Cell) (call : IsCalling o p g (routines_of lower)) →
