@@ -74,6 +74,7 @@ behind o r i code at less =
     let other : (i == length code.instructions) ≡ false = ne_eqb i (length code.instructions) (λ same. omega (arith, same, less)) in
     ap (λ c. unsound_in o r c i) at ∙ (ap (judged_at o r code i) (past code.instructions i less) ∙ ap (λ b. if b then judged_whole code else None) other)
 
+-- so nothing fails anywhere in it
 nowhere : (o : Object) (r : ℕ) (code : Code) → routine_at o r ≡ Some code → is_clean o r (suc (length code.instructions)) ≡ true → (i : ℕ) → unsound o r i ≡ None
 nowhere o r code at clean i = by (nat_lt i (suc (length code.instructions))) refl
   where

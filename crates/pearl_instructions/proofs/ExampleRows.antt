@@ -15,6 +15,7 @@ use Rattle.pearl_rules.specs.declared.action.Action.{Action}
 use Rattle.pearl_rules.specs.declared.action.Action.TheVariants as action
 use Rattle.pearl_rules.specs.declared.action.Start.TheVariants as start
 use Rattle.pearl_rules.specs.declared.action.Repeat.TheVariants as repeat
+use Rattle.pearl_rules.specs.declared.action.Answer.{Answer}
 use Rattle.pearl_rules.specs.declared.action.Answer.TheVariants.{Nothing, Many}
 use Rattle.pearl_stack.specs.Frames.{Frame}
 use Rattle.pearl_instructions.specs.declared.schedule.StartForm.TheVariants as form
@@ -26,6 +27,7 @@ use Rattle.pearl_instructions.specs.declared.object.Leaf.{Leaf}
 use Rattle.pearl_instructions.specs.declared.object.Object.{Object}
 use Rattle.pearl_instructions.specs.Steps.{Step, Silent, Offers, Missing}
 use Rattle.pearl_instructions.specs.Rows.{row, after, begun}
+use Rattle.pearl_instructions.specs.Stacks.{Answers}
 use Rattle.pearl_instructions.proofs.Examples.{fixed, code, task, sound, boxed, bounds, item}
 
 abbrev number : ℕ → Cell
@@ -163,6 +165,9 @@ goes_on_at_once = refl
 -- the task is number 0 of the tasks, and routine 1
 ends_itself : offered (row (record returning { tasks = (only TerminateOwn).tasks }) (caller 0 [] [] ∷ [])) ≡ Some (action.Terminate 0)
 ends_itself = refl
+
+hears_nothing : (answer : Answer) → Answers returning 0 (action.Terminate 0) answer → ⊥
+hears_nothing answer suits = suits.0 refl
 
 -- a terminal, and the format A(3), F(2)
 abbrev transfers : Instr → Object

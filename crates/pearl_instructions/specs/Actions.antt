@@ -79,11 +79,12 @@ IsStart o (start.After time) = Lasts (pos 0) time
 IsStart o (start.When interrupt) = IsInterrupt (device_at o interrupt)
 IsStart o (start.WhenAfter interrupt time) = IsInterrupt (device_at o interrupt) × Lasts (pos 0) time
 
--- a task goes on once, and not some time after each interrupt
+-- a task goes on once, so not some time after each interrupt
 abbrev pub IsOnce : Object → Start → Type 0
 IsOnce o (start.WhenAfter interrupt time) = ⊥
 IsOnce o when = IsStart o when
 
+-- and not at once
 abbrev pub IsLater : Object → Start → Type 0
 IsLater o start.Free = ⊥
 IsLater o when = IsOnce o when
@@ -118,6 +119,7 @@ pub record IsGet (o : Object) (device format : ℕ) (kinds : List Kind) : Type 0
   pub are : AllByRecursion IsKind kinds
   pub fits : FitsSome (items_at o format) kinds
 
+-- a task of the object may offer this
 abbrev pub IsOffered : Object → Action → Type 0
 IsOffered o (action.Read slot) = IsSlotNumber o slot
 IsOffered o (action.Write slot value) = IsSlotNumber o slot × IsOf (slot_kind o.leaves slot) value
