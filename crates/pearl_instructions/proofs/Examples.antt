@@ -1,31 +1,33 @@
--- Small objects, which rule fails where, and what their instructions do.
-use Rattle.std.specs.Prelude.{◌≡◌, ℕ, pos, false, List, [], ◌∷◌, Some, None}
-use Rattle.std.proofs.Common.{refl}
+-- Small objects, and which rule fails where.
+use Rattle.std.specs.Prelude.{◌≡◌, ℕ, pos, false, List, [], ◌∷◌, ◌++◌, Some, None}
+use Rattle.std.proofs.Common.{refl, Box, Global}
+use denote.RawPtr.{null_ptr}
 use Rattle.pearl_value.specs.declared.kind.Kind.TheVariants as kind
 use Rattle.pearl_value.specs.declared.kind.CellKind.{CellKind}
-use Rattle.pearl_value.specs.declared.kind.CellKind.TheVariants.{Plain}
-use Rattle.pearl_value.specs.declared.cell.Cell.{Cell}
-use Rattle.pearl_value.specs.declared.cell.Cell.TheVariants.{Fixed}
+use Rattle.pearl_value.specs.declared.kind.CellKind.TheVariants.{Plain, RefTo}
 use Rattle.pearl_value.specs.declared.operator.Monad.TheVariants.{Not}
 use Rattle.pearl_value.specs.declared.operator.Dyad.TheVariants.{Add}
-use Rattle.pearl_stack.specs.Frames.{Frame}
+use Rattle.pearl_format.specs.declared.item.Item.{Item}
+use Rattle.pearl_format.specs.declared.item.ItemCode.{ItemCode}
+use Rattle.pearl_format.specs.declared.item.ItemCode.TheVariants.{A, F, X}
+use Rattle.pearl_rules.specs.declared.setup.Device.TheVariants.{Terminal}
+use Rattle.pearl_rules.specs.declared.setup.Direction.TheVariants.{InOut}
+use Rattle.pearl_instructions.specs.declared.instr.Bounds.{Bounds}
 use Rattle.pearl_instructions.specs.declared.instr.Instr.{Instr}
-use Rattle.pearl_instructions.specs.declared.instr.Instr.TheVariants.{Load, Store, Drop, Jump, JumpZero, Turn, Call, Return, End, Advance, Monadic, Dyadic}
+use Rattle.pearl_instructions.specs.declared.instr.Instr.TheVariants.{Load, Store, Drop, Index, Jump, JumpZero, Turn, Call, Return, End, Monadic, Dyadic, Request, Put}
 use Rattle.pearl_instructions.specs.declared.object.Shape.{Shape as Stated}
 use Rattle.pearl_instructions.specs.declared.object.Code.{Code}
 use Rattle.pearl_instructions.specs.declared.object.Object.{Object}
-use Rattle.pearl_instructions.specs.Steps.{Silent}
-use Rattle.pearl_instructions.specs.Rows.{row, begun}
 use Rattle.pearl_instructions.specs.Valid.{unsound}
 
-abbrev fixed : CellKind
+abbrev pub fixed : CellKind
 fixed = Plain (kind.Fixed 31)
 
-abbrev code : List CellKind → ℕ → List Instr → List Stated → Code
+abbrev pub code : List CellKind → ℕ → List Instr → List Stated → Code
 code cells depth instructions shapes = record { cells = cells; depth = depth; instructions = instructions; shapes = shapes }
 
 -- an object with one task of this code
-abbrev task : Code → Object
+abbrev pub task : Code → Object
 task code = record {
   devices = [];
   semaphores = [];
@@ -36,7 +38,7 @@ task code = record {
 }
 
 -- an object with one procedure that returns a FIXED(31)
-abbrev procedure : Code → Object
+abbrev pub procedure : Code → Object
 procedure code = record {
   devices = [];
   semaphores = [];
@@ -46,10 +48,10 @@ procedure code = record {
   procedures = record { params = 0; result = Some (kind.Fixed 31); code = code } ∷ [];
 }
 
-abbrev stated : ℕ → List CellKind → Stated
+abbrev pub stated : ℕ → List CellKind → Stated
 stated instruction kinds = record { instruction = instruction; kinds = kinds }
 
-abbrev sound : Object
+abbrev pub sound : Object
 sound = task (code (fixed ∷ []) 3 (Load 0 ∷ Load 0 ∷ Dyadic Add ∷ Store 0 ∷ End ∷ []) [])
 
 nothing_fails_1 : unsound sound 0 0 ≡ None
@@ -91,6 +93,13 @@ no_row = refl
 another_kind : unsound (task (code (fixed ∷ Plain (kind.Fixed 7) ∷ []) 9 (Load 0 ∷ Store 1 ∷ End ∷ []) [])) 0 1 ≡ Some 4
 another_kind = refl
 
+-- a reference is copied, but stored in no cell
+copies_a_reference : unsound (procedure (code (RefTo (kind.Fixed 31) ∷ []) 9 (Load 0 ∷ Store 0 ∷ Return ∷ []) [])) 0 0 ≡ None
+copies_a_reference = refl
+
+stores_a_reference : unsound (procedure (code (RefTo (kind.Fixed 31) ∷ []) 9 (Load 0 ∷ Store 0 ∷ Return ∷ []) [])) 0 1 ≡ Some 5
+stores_a_reference = refl
+
 -- a jump names the instruction, so the shape before it is empty where none is stated
 another_shape : unsound (task (code (fixed ∷ []) 9 (Load 0 ∷ Jump 2 ∷ End ∷ []) [])) 0 1 ≡ Some 6
 another_shape = refl
@@ -123,31 +132,56 @@ too_deep = refl
 states_too_much : unsound (task (code [] 4097 (End ∷ []) [])) 0 1 ≡ Some 11
 states_too_much = refl
 
--- frames of the one task
-abbrev frame : ℕ → List Cell → List Cell → List Frame
-frame place cells operands = record { routine = 0; place = place; cells = cells; operands = operands } ∷ []
+abbrev pub boxed : {T : Type 0} → T → Box T Global
+boxed x = record { ptr = null_ptr; alloc = record { memory = record { seal = tt } }; value = x }
 
-abbrev one : Cell
-one = Fixed 31 (pos 1)
+-- an object with three semaphores, whose task begins by requesting these
+abbrev requests : List ℕ → Object
+requests semaphores = record (task (code [] 9 (Request (boxed semaphores) ∷ End ∷ []) [])) { semaphores = 0 ∷ 1 ∷ 1 ∷ [] }
 
-begins_unset : begun sound 0 ≡ frame 0 (Fixed 31 (pos 0) ∷ []) []
-begins_unset = refl
+two_semaphores : unsound (requests (2 ∷ 0 ∷ [])) 0 0 ≡ None
+two_semaphores = refl
 
-loads : row sound (frame 0 (one ∷ []) []) ≡ Silent (frame 1 (one ∷ []) (one ∷ []))
-loads = refl
+no_semaphore : unsound (requests []) 0 0 ≡ Some 12
+no_semaphore = refl
 
-adds : row sound (frame 2 (one ∷ []) (one ∷ one ∷ [])) ≡ Silent (frame 3 (one ∷ []) (Fixed 31 (pos 2) ∷ []))
-adds = refl
+one_semaphore_twice : unsound (requests (2 ∷ 0 ∷ 2 ∷ [])) 0 0 ≡ Some 12
+one_semaphore_twice = refl
 
-stores : row sound (frame 3 (one ∷ []) (Fixed 31 (pos 2) ∷ [])) ≡ Silent (frame 4 (Fixed 31 (pos 2) ∷ []) [])
-stores = refl
+abbrev pub bounds : ℕ → ℕ → Bounds
+bounds low high = record { low = pos low; high = pos high }
 
--- a loop of the control 127, the step 1 and the limit 127 of FIXED(7): the sum leaves the kind, so the loop is left
-abbrev short : ℕ → Cell
-short n = Fixed 7 (pos n)
+-- the task takes one subscript for each of these dimensions
+abbrev indexes : List Bounds → List Instr → Object
+indexes dimensions subscripts = task (code (fixed ∷ []) 9 (subscripts ++ (Index (boxed dimensions) ∷ Drop ∷ End ∷ [])) [])
 
-advances : row (task (code [] 9 (Advance 0 5 ∷ []) [])) (frame 0 (short 126 ∷ short 1 ∷ short 127 ∷ []) []) ≡ Silent (frame 1 (short 127 ∷ short 1 ∷ short 127 ∷ []) [])
-advances = refl
+full_array : unsound (indexes (bounds 1 256 ∷ bounds 0 255 ∷ []) (Load 0 ∷ Load 0 ∷ [])) 0 2 ≡ None
+full_array = refl
 
-leaves_its_kind : row (task (code [] 9 (Advance 0 5 ∷ []) [])) (frame 0 (short 127 ∷ short 1 ∷ short 127 ∷ []) []) ≡ Silent (frame 5 (short 127 ∷ short 1 ∷ short 127 ∷ []) [])
-leaves_its_kind = refl
+too_many_elements : unsound (indexes (bounds 0 65536 ∷ []) (Load 0 ∷ [])) 0 1 ≡ Some 12
+too_many_elements = refl
+
+bounds_turned_round : unsound (indexes (bounds 1 0 ∷ []) (Load 0 ∷ [])) 0 1 ≡ Some 12
+bounds_turned_round = refl
+
+abbrev pub item : ItemCode → ℕ → Item
+item code width = record { code = code; width = width }
+
+-- an object with a terminal, whose task writes a FIXED(31) by these items
+abbrev puts : List Item → Object
+puts items = record (task (code (fixed ∷ []) 9 (Load 0 ∷ Put 0 0 ∷ End ∷ []) [])) {
+  devices = Terminal 1 InOut ∷ [];
+  formats = items ∷ [];
+}
+
+abbrev blanks : List Item
+blanks = item X 255 ∷ item X 255 ∷ item X 255 ∷ item X 255 ∷ []
+
+full_text : unsound (puts (item F 4 ∷ blanks)) 0 1 ≡ None
+full_text = refl
+
+text_too_long : unsound (puts (item F 5 ∷ blanks)) 0 1 ≡ Some 12
+text_too_long = refl
+
+another_item : unsound (puts (item A 4 ∷ [])) 0 1 ≡ Some 12
+another_item = refl

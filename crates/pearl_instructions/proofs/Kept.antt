@@ -6,18 +6,20 @@ use Rattle.std.proofs.lemmas.Option.{same_Some}
 use Rattle.pearl_value.specs.declared.kind.CellKind.{CellKind}
 use Rattle.pearl_value.specs.declared.cell.Cell.{Cell}
 use Rattle.pearl_value.specs.declared.trap.Trap.{Trap}
+use Rattle.pearl_rules.specs.declared.action.Answer.{Answer}
 use Rattle.pearl_stack.specs.Frames.{Frame}
 use Rattle.pearl_instructions.specs.declared.instr.Instr.{Instr}
 use Rattle.pearl_instructions.specs.declared.object.Code.{Code}
 use Rattle.pearl_instructions.specs.declared.object.Object.{Object}
 use Rattle.pearl_instructions.specs.Objects.{routine_at}
-use Rattle.pearl_instructions.specs.Steps.{Step, given, needed, popped, taken, traps}
+use Rattle.pearl_instructions.specs.Steps.{Step, Silent, Offers, Missing, given, needed, popped, taken, traps}
 use Rattle.pearl_instructions.specs.Rows.{instr_at}
 use Rattle.pearl_instructions.specs.Operands.{Shape, same_shape, asked, v2}
 use Rattle.pearl_instructions.specs.Named.{v1}
 use Rattle.pearl_instructions.specs.Kinds.{v3, v4, v5, shape_after}
 use Rattle.pearl_instructions.specs.Valid.{shape_before, goes_on, targets, v6, v7, v8, v10, v11, v12, judged, judged_at, judged_whole, is_closed, unsound_in, IsValid}
-use Rattle.pearl_instructions.specs.Stacks.{routines_of, Suits, Stands, Below, IsTop, Goes}
+use Rattle.pearl_instructions.specs.Stacks.{routines_of, Suits, Stands, Below, IsTop, IsStack, Answers}
+use Rattle.pearl_instructions.specs.Actions.{IsOffered}
 use Rattle.pearl_instructions.proofs.Tests.{and_true, or_true, same_shape_true, keep_none, all_at, closed_more}
 use Rattle.pearl_instructions.proofs.Zips.{some_at, none_past, zip_length, zip_take, zip_drop, zip_reverse}
 
@@ -149,24 +151,30 @@ here o v f lower t =
       },
     )
 
-pub given_goes : {A : Type 0} (o : Object) (x : A) (option : Option A) (go : A → Step) → option ≡ Some x → Goes o (go x) → Goes o (given option go)
-given_goes o x None go e h = cc
-given_goes o x (Some y) go e h = subst (λ y. Goes o (go y)) (sym (same_Some y x e)) h
+-- a row is there, leads to stacks of the object only, whose ever it is, and offers only what the object has
+abbrev pub IsSound : Object → Step → Type 0
+IsSound o (Silent frames) = IsStack o frames
+IsSound o (Offers action go) = IsOffered o action × ((answer : Answer) (own : ℕ) → Answers o own action answer → IsStack o (go answer))
+IsSound o Missing = ⊥
 
-pub needed_goes : (o : Object) (b : Bool) (step : Step) → b ≡ true → Goes o step → Goes o (needed b step)
+pub given_goes : {A : Type 0} (o : Object) (x : A) (option : Option A) (go : A → Step) → option ≡ Some x → IsSound o (go x) → IsSound o (given option go)
+given_goes o x None go e h = cc
+given_goes o x (Some y) go e h = subst (λ y. IsSound o (go y)) (sym (same_Some y x e)) h
+
+pub needed_goes : (o : Object) (b : Bool) (step : Step) → b ≡ true → IsSound o step → IsSound o (needed b step)
 needed_goes o true step e h = h
 needed_goes o false step e h = cc
 
 -- the top operand is there
 pub popped_goes : (o : Object) (R : CellKind → Cell → Type 0) (k : CellKind) (ks : Shape) (operands : List Cell) (go : Cell → List Cell → Step) →
-    AllZip R (k ∷ ks) operands → ((x : Cell) (left : List Cell) → R k x → AllZip R ks left → Goes o (go x left)) → Goes o (popped operands go)
+    AllZip R (k ∷ ks) operands → ((x : Cell) (left : List Cell) → R k x → AllZip R ks left → IsSound o (go x left)) → IsSound o (popped operands go)
 popped_goes o R k ks [] go z h = absurd z
 popped_goes o R k ks (x ∷ left) go z h = h x left z.0 z.1
 
 -- so are the top n operands
 pub taken_goes : (o : Object) (R : CellKind → Cell → Type 0) (n : ℕ) (s : Shape) (operands : List Cell) (go : List Cell → List Cell → Step) →
-    n ≤ length s → AllZip R s operands → ((xs left : List Cell) → AllZip R (reverse (take n s)) xs → AllZip R (drop n s) left → Goes o (go xs left)) →
-    Goes o (taken n operands go)
+    n ≤ length s → AllZip R s operands → ((xs left : List Cell) → AllZip R (reverse (take n s)) xs → AllZip R (drop n s) left → IsSound o (go xs left)) →
+    IsSound o (taken n operands go)
 taken_goes o R n s operands go less z h =
     let long = zip_length R s operands z in
     let there : n ≤ length operands = omega (arith, less, long) in
@@ -174,5 +182,5 @@ taken_goes o R n s operands go less z h =
     (h (reverse (take n operands)) (drop n operands) (zip_reverse R (take n s) (take n operands) (zip_take R n s operands z)) (zip_drop R n s operands z))
 
 -- a trap is answered by nothing
-pub traps_goes : (o : Object) (trap : Trap) (f : Frame) (lower : List Frame) → Goes o (traps trap f lower)
-traps_goes o trap f lower = λ answer never. absurd never
+pub traps_goes : (o : Object) (trap : Trap) (f : Frame) (lower : List Frame) → IsSound o (traps trap f lower)
+traps_goes o trap f lower = (tt, λ answer own never. absurd never)

@@ -2,6 +2,7 @@ mod Tests
 mod Zips
 mod Ranges
 mod Referred
+mod Offered
 mod Kept
 mod SoundCells
 mod SoundOperators
@@ -15,4 +16,6 @@ mod SoundIndex
 mod Sound
 mod Begun
 mod Examples
+mod ExampleRows
+mod ExampleObject
 mod Silence

@@ -1,15 +1,18 @@
 -- Lists that are taken from above and turned round.
 use Rattle.std.proofs.Common.{◌≡◌, ℕ, ◌≤◌, List, [], ◌∷◌, Option, Some, None, length, map, reverse, take, refl, sym, ap, ◌∙◌, subst, arith, Bool, true}
 use Rattle.std.specs.Prelude.{option_map, option_and_then}
-use Rattle.std.specs.List.{AllZip, list_all}
+use Rattle.std.specs.List.{AllByRecursion, AllZip, list_all}
 use Rattle.std.proofs.lemmas.List.{length-reverse, length-map, reverse-reverse}
 use Rattle.std.proofs.lemmas.Option.{same_Some}
 use mathlib.Core.List.{reverse_aux}
 use Rattle.pearl_value.specs.declared.kind.Kind.{Kind}
 use Rattle.pearl_value.specs.declared.kind.CellKind.TheVariants.{Plain, RefTo}
 use Rattle.pearl_value.specs.declared.cell.Cell.{Cell}
-use Rattle.pearl_value.specs.WellFormed.{IsValueOf}
+use Rattle.pearl_value.specs.Cells.{kind_of}
+use Rattle.pearl_value.specs.Kinds.{IsKind}
+use Rattle.pearl_value.specs.WellFormed.{IsValue, IsValueOf}
 use Rattle.pearl_instructions.specs.declared.object.Object.{Object}
+use Rattle.pearl_instructions.specs.Lawful.{IsCellKind}
 use Rattle.pearl_instructions.specs.Offers.{value_kinds}
 use Rattle.pearl_instructions.specs.Operands.{Shape, Exactly, same_cell, scheduled, v2}
 use Rattle.pearl_instructions.specs.Valid.{plain_kinds}
@@ -78,6 +81,38 @@ values_suit_cells o rs (Plain k ∷ s) kinds (x ∷ xs) e z =
     let m = mapped_is k (plain_kinds s) kinds e in
     let both : AllZip IsValueOf (k ∷ m.0) (x ∷ xs) = subst (λ ks. AllZip IsValueOf ks (x ∷ xs)) (sym m.2) z in
     (both.0, values_suit_cells o rs s m.0 xs m.1 both.1)
+
+-- and the other way round
+pub values_of_kinds : (o : Object) (rs : List ℕ) (s : Shape) (kinds : List Kind) (xs : List Cell) → plain_kinds s ≡ Some kinds → AllZip (Suits o rs) s xs → AllZip IsValueOf kinds xs
+values_of_kinds o rs [] [] [] e z = tt
+values_of_kinds o rs [] kinds (x ∷ xs) e z = absurd z
+values_of_kinds o rs [] (k ∷ kinds) [] e z = cc
+values_of_kinds o rs (k ∷ s) kinds [] e z = absurd z
+values_of_kinds o rs (RefTo k ∷ s) kinds (x ∷ xs) e z = cc
+values_of_kinds o rs (Plain k ∷ s) kinds (x ∷ xs) e z =
+    let m = mapped_is k (plain_kinds s) kinds e in
+    subst (λ ks. AllZip IsValueOf ks (x ∷ xs)) m.2 (z.0, values_of_kinds o rs s m.0 xs m.1 z.1)
+
+pub kinds_mapped : (kinds : List Kind) (xs : List Cell) → AllZip IsValueOf kinds xs → map kind_of xs ≡ kinds
+kinds_mapped [] [] z = refl
+kinds_mapped [] (x ∷ xs) z = absurd z
+kinds_mapped (k ∷ kinds) [] z = absurd z
+kinds_mapped (k ∷ kinds) (x ∷ xs) z = ap (λ k. k ∷ map kind_of xs) z.0.same_kind ∙ ap (λ ks. k ∷ ks) (kinds_mapped kinds xs z.1)
+
+pub all_values : (kinds : List Kind) (xs : List Cell) → AllZip IsValueOf kinds xs → AllByRecursion IsValue xs
+all_values [] [] z = tt
+all_values [] (x ∷ xs) z = absurd z
+all_values (k ∷ kinds) [] z = absurd z
+all_values (k ∷ kinds) (x ∷ xs) z = (z.0.is_value, all_values kinds xs z.1)
+
+-- plain cells are of kinds
+pub are_kinds : (s : Shape) (kinds : List Kind) → plain_kinds s ≡ Some kinds → AllByRecursion IsCellKind s → AllByRecursion IsKind kinds
+are_kinds [] [] e all = tt
+are_kinds [] (k ∷ kinds) e all = cc
+are_kinds (RefTo k ∷ s) kinds e all = cc
+are_kinds (Plain k ∷ s) kinds e all =
+    let m = mapped_is k (plain_kinds s) kinds e in
+    subst (AllByRecursion IsKind) m.2 (all.0, are_kinds s m.0 m.1 all.1)
 
 all_onto : {A : Type 0} (test : A → Bool) (xs ys : List A) → list_all test xs ≡ true → list_all test ys ≡ true → list_all test (reverse_aux xs ys) ≡ true
 all_onto test [] ys e h = h

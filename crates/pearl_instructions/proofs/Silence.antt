@@ -38,9 +38,9 @@ use Rattle.pearl_instructions.specs.Offers as offers
 use Rattle.pearl_instructions.specs.Rows.{act, instr_at, row}
 use Rattle.pearl_instructions.specs.Operands.{Shape}
 use Rattle.pearl_instructions.specs.Valid.{shape_before, targets, is_turn, IsValid}
-use Rattle.pearl_instructions.specs.Stacks.{routines_of, IsCalling, Below, IsStack, Goes, all_rows, Then, OffersWithin}
+use Rattle.pearl_instructions.specs.Stacks.{routines_of, IsCalling, Below, IsStack, all_rows, Then, OffersWithin}
 use Rattle.pearl_instructions.proofs.Tests.{or_true, all_at}
-use Rattle.pearl_instructions.proofs.Kept.{Here, here}
+use Rattle.pearl_instructions.proofs.Kept.{IsSound, Here, here}
 use Rattle.pearl_instructions.proofs.SoundFlow.{Loop, loop_within, loop_past, target_is}
 use Rattle.pearl_instructions.proofs.Sound.{row_sound}
 use Rattle.pearl_instructions.proofs.Begun.{task_or_procedure, smaller}
@@ -426,7 +426,7 @@ at_turn_soon : (o : Object) (n : ℕ) (frames : List Frame) → AtTurn o frames 
 at_turn_soon o zero frames e h = absurd (omega (arith, h))
 at_turn_soon o (suc n) frames e h = at_turn_offers o n frames e
 
-offers_then : (o : Object) (n w : ℕ) (step : Step) → Goes o step → IsLight o w step → w ≤ suc n →
+offers_then : (o : Object) (n w : ℕ) (step : Step) → IsSound o step → IsLight o w step → w ≤ suc n →
     ((frames : List Frame) → IsStack o frames → weight o frames ≤ n → OffersWithin o n frames) → Then (OffersWithin o n) step
 offers_then o n w Missing g l h more = g
 offers_then o n w (Offers a go) g l h more = tt

@@ -26,14 +26,14 @@ use Rattle.pearl_instructions.specs.Rows.{act}
 use Rattle.pearl_instructions.specs.Operands.{Shape, meets, offset, v2}
 use Rattle.pearl_instructions.specs.Named.{has_cells, cells_at}
 use Rattle.pearl_instructions.specs.Kinds.{is_kind, has_on_top, first_kind, is_uniform, reference_to}
-use Rattle.pearl_instructions.specs.Stacks.{routines_of, cell_kinds, plain_at, cell_kind, Suits, IsTop, Goes}
+use Rattle.pearl_instructions.specs.Stacks.{routines_of, cell_kinds, plain_at, cell_kind, Suits, IsTop}
 use Rattle.pearl_instructions.proofs.Tests.{and_true, same_cell_true}
 use Rattle.pearl_instructions.proofs.Zips.{some_at, zip_get, zip_set, zip_length}
 use Rattle.pearl_instructions.proofs.Ranges.{all_front, Range, range_is, zip_fill}
 use Rattle.pearl_instructions.proofs.Referred.{is_plain_at, suits_grown, kinds_is}
-use Rattle.pearl_instructions.proofs.Kept.{Here, goes, given_goes, needed_goes, popped_goes, traps_goes}
+use Rattle.pearl_instructions.proofs.Kept.{IsSound, Here, goes, given_goes, needed_goes, popped_goes, traps_goes}
 
-pub if_goes : (o : Object) (b : Bool) (x y : Step) → (b ≡ true → Goes o x) → (b ≡ false → Goes o y) → Goes o (if b then x else y)
+pub if_goes : (o : Object) (b : Bool) (x y : Step) → (b ≡ true → IsSound o x) → (b ≡ false → IsSound o y) → IsSound o (if b then x else y)
 if_goes o true x y h g = h refl
 if_goes o false x y h g = g refl
 
@@ -50,7 +50,7 @@ same_length a b e = cc
 
 -- an offset of the right kind lies in the range, or Index is trapped
 pub within_goes : (o : Object) (n : ℕ) (x : Cell) (f : Frame) (lower : List Frame) (go : ℕ → Step) → IsValueOf (kind.Fixed 31) x →
-    ((i : ℕ) → i < n → Goes o (go i)) → Goes o (within n x f lower go)
+    ((i : ℕ) → i < n → IsSound o (go i)) → IsSound o (within n x f lower go)
 within_goes o n (cell.Fixed len (pos i)) f lower go w h =
     needed_goes o (len == 31) _ (eq-eqb len 31 (same_length len 31 w.same_kind))
     (if_goes o (nat_lt i n) (go i) (traps Index f lower) (λ e. h i (ltb-true i n e)) (λ e. traps_goes o Index f lower))
@@ -76,12 +76,12 @@ pub offset_on_top : (k : CellKind) (ks : Shape) → v2 (offset ∷ []) (k ∷ ks
 offset_on_top k ks e = same_cell_true (Plain (kind.Fixed 31)) k (and_true (meets offset k) (v2 [] ks) e).0
 
 pub const_sound : (o : Object) (f : Frame) (lower : List Frame) (code : Code) (s : Shape) (x : Box Cell Global) → IsValue x.value → Here o f lower code (Const x) s →
-    Goes o (act o (Const x) f lower)
+    IsSound o (act o (Const x) f lower)
 const_sound o f lower code s x w h =
     goes o f lower code (Const x) s h f.cells (x.value ∷ f.operands) (cell_kind_of x.value ∷ s) refl refl h.stands.cells
     (value_suits o (f.routine ∷ routines_of lower) x.value w, h.stands.operands)
 
-pub load_sound : (o : Object) (f : Frame) (lower : List Frame) (code : Code) (s : Shape) (c : ℕ) → Here o f lower code (Load c) s → Goes o (act o (Load c) f lower)
+pub load_sound : (o : Object) (f : Frame) (lower : List Frame) (code : Code) (s : Shape) (c : ℕ) → Here o f lower code (Load c) s → IsSound o (act o (Load c) f lower)
 load_sound o f lower code s c h =
     let held = some_at code.cells c (ltb-true c (length code.cells) h.keeps.named) in
     let got = zip_get (Suits o (routines_of lower)) code.cells f.cells c held.0 h.stands.cells held.1 in
@@ -89,7 +89,7 @@ load_sound o f lower code s c h =
     (goes o f lower code (Load c) s h f.cells (got.0 ∷ f.operands) (held.0 ∷ s) refl (ap (λ k. option_to_list k ++ s) (sym held.1)) h.stands.cells
     (suits_grown o f.routine (routines_of lower) held.0 got.0 got.2, h.stands.operands))
 
-pub drop_sound : (o : Object) (f : Frame) (lower : List Frame) (code : Code) (s : Shape) → Here o f lower code Drop s → Goes o (act o Drop f lower)
+pub drop_sound : (o : Object) (f : Frame) (lower : List Frame) (code : Code) (s : Shape) → Here o f lower code Drop s → IsSound o (act o Drop f lower)
 drop_sound o f lower code [] h = let e = h.keeps.ends in cc
 drop_sound o f lower code (k ∷ ks) h =
     popped_goes o (Suits o (f.routine ∷ routines_of lower)) k ks f.operands _ h.stands.operands (λ x left suits rest.
@@ -108,14 +108,14 @@ put_goes : (o : Object) (f : Frame) (lower : List Frame) (code : Code) (instr : 
     (x : Cell) (left : List Cell) (ks : Shape) → m ≡ c + i → i < n → Suits o (f.routine ∷ routines_of lower) (Plain r.kind) x →
     ((cells : List Cell) → AllZip (Suits o (routines_of lower)) code.cells cells →
     IsTop o (record { routine = f.routine; place = f.place + 1; cells = cells; operands = left }) lower) →
-    Goes o (store m x f lower left)
+    IsSound o (store m x f lower left)
 put_goes o f lower code instr s h c n i m r x left ks e less suits go =
     let at : slice_get code.cells m ≡ Some (Plain r.kind) = r.each i m e less in
     let got = zip_get (Suits o (routines_of lower)) code.cells f.cells m (Plain r.kind) h.stands.cells at in
     given_goes o got.0 (slice_get f.cells m) _ got.1
     (go (slice_set f.cells m x) (zip_set (Suits o (routines_of lower)) code.cells f.cells m (Plain r.kind) x h.stands.cells at suits))
 
-pub store_sound : (o : Object) (f : Frame) (lower : List Frame) (code : Code) (s : Shape) (c : ℕ) → Here o f lower code (Store c) s → Goes o (act o (Store c) f lower)
+pub store_sound : (o : Object) (f : Frame) (lower : List Frame) (code : Code) (s : Shape) (c : ℕ) → Here o f lower code (Store c) s → IsSound o (act o (Store c) f lower)
 store_sound o f lower code [] c h = let e = h.keeps.ends in cc
 store_sound o f lower code (k ∷ ks) c h =
     let rs = f.routine ∷ routines_of lower in
@@ -127,7 +127,7 @@ store_sound o f lower code (k ∷ ks) c h =
     goes o f lower code (Store c) (k ∷ ks) h cells left ks refl refl z rest))
 
 pub fill_sound : (o : Object) (f : Frame) (lower : List Frame) (code : Code) (s : Shape) (c n : ℕ) (of : Kind) →
-    IsValueOf of (blank_of of) → Here o f lower code (Fill c n of) s → Goes o (act o (Fill c n of) f lower)
+    IsValueOf of (blank_of of) → Here o f lower code (Fill c n of) s → IsSound o (act o (Fill c n of) f lower)
 fill_sound o f lower code s c n of blank h =
     let exact = and_true (is_uniform (cells_at code c n)) (is_kind (Plain of) (first_kind (cells_at code c n))) h.keeps.exact in
     let r = range_is code c n h.keeps.named exact.0 (all_front _ (cells_at code c n) [] h.keeps.plain) in
@@ -139,7 +139,7 @@ fill_sound o f lower code s c n of blank h =
     (zip_fill (Suits o (routines_of lower)) code.cells f.cells c n (c + n) (Plain r.kind) (blank_of of) refl r.within r.each
     (subst (λ k. Suits o (routines_of lower) k (blank_of of)) same blank) h.stands.cells) h.stands.operands)
 
-pub load_at_sound : (o : Object) (f : Frame) (lower : List Frame) (code : Code) (s : Shape) (c n : ℕ) → Here o f lower code (LoadAt c n) s → Goes o (act o (LoadAt c n) f lower)
+pub load_at_sound : (o : Object) (f : Frame) (lower : List Frame) (code : Code) (s : Shape) (c n : ℕ) → Here o f lower code (LoadAt c n) s → IsSound o (act o (LoadAt c n) f lower)
 load_at_sound o f lower code [] c n h = let e = h.keeps.ends in cc
 load_at_sound o f lower code (k ∷ ks) c n h =
     let rs = f.routine ∷ routines_of lower in
@@ -153,7 +153,7 @@ load_at_sound o f lower code (k ∷ ks) c n h =
     (goes o f lower code (LoadAt c n) (k ∷ ks) h f.cells (got.0 ∷ left) (Plain r.kind ∷ ks) refl (ap (λ k. option_to_list k ++ ks) (sym r.first)) h.stands.cells
     (got.2, rest))))
 
-pub store_at_sound : (o : Object) (f : Frame) (lower : List Frame) (code : Code) (s : Shape) (c n : ℕ) → Here o f lower code (StoreAt c n) s → Goes o (act o (StoreAt c n) f lower)
+pub store_at_sound : (o : Object) (f : Frame) (lower : List Frame) (code : Code) (s : Shape) (c n : ℕ) → Here o f lower code (StoreAt c n) s → IsSound o (act o (StoreAt c n) f lower)
 store_at_sound o f lower code [] c n h = let e = h.keeps.ends in cc
 store_at_sound o f lower code (k ∷ []) c n h = let e = h.keeps.ends in cc
 store_at_sound o f lower code (k ∷ l ∷ ks) c n h =
@@ -171,7 +171,7 @@ store_at_sound o f lower code (k ∷ l ∷ ks) c n h =
 reference_goes : (o : Object) (f : Frame) (lower : List Frame) (code : Code) (instr : Instr) (s : Shape) (h : Here o f lower code instr s) (c n i m : ℕ) (r : Range code c n)
     (left : List Cell) → m ≡ c + i → i < n →
     ((x : Cell) → Suits o (f.routine ∷ routines_of lower) (RefTo r.kind) x → IsTop o (record { routine = f.routine; place = f.place + 1; cells = f.cells; operands = x ∷ left }) lower) →
-    Goes o (cell_reference m f lower left)
+    IsSound o (cell_reference m f lower left)
 reference_goes o f lower code instr s h c n i m r left e less go =
     let at : slice_get code.cells m ≡ Some (Plain r.kind) = r.each i m e less in
     let got = zip_get (Suits o (routines_of lower)) code.cells f.cells m (Plain r.kind) h.stands.cells at in
@@ -184,7 +184,7 @@ reference_goes o f lower code instr s h c n i m r left e less go =
     ap (λ b. if b then plain_at (cell_kinds o f.routine) m else cell_kind o (routines_of lower) (length lower) m) own ∙ plain in
     given_goes o r.kind (option_and_then value_kind (slice_get f.cells m)) _ there (go (cell.Ref r.kind (place.Cell (length lower) m)) (refl, named))
 
-pub ref_cell_sound : (o : Object) (f : Frame) (lower : List Frame) (code : Code) (s : Shape) (c : ℕ) → Here o f lower code (RefCell c) s → Goes o (act o (RefCell c) f lower)
+pub ref_cell_sound : (o : Object) (f : Frame) (lower : List Frame) (code : Code) (s : Shape) (c : ℕ) → Here o f lower code (RefCell c) s → IsSound o (act o (RefCell c) f lower)
 ref_cell_sound o f lower code s c h =
     let exact = and_true (is_uniform (cells_at code c 1)) true h.keeps.exact in
     let r = range_is code c 1 (one_cell code c (ltb-true c (length code.cells) h.keeps.named)) exact.0 (all_front _ (cells_at code c 1) [] h.keeps.plain) in
@@ -193,7 +193,7 @@ ref_cell_sound o f lower code s c h =
     h.stands.cells (suits, h.stands.operands))
 
 pub ref_cell_at_sound : (o : Object) (f : Frame) (lower : List Frame) (code : Code) (s : Shape) (c n : ℕ) → Here o f lower code (RefCellAt c n) s →
-    Goes o (act o (RefCellAt c n) f lower)
+    IsSound o (act o (RefCellAt c n) f lower)
 ref_cell_at_sound o f lower code [] c n h = let e = h.keeps.ends in cc
 ref_cell_at_sound o f lower code (k ∷ ks) c n h =
     let rs = f.routine ∷ routines_of lower in

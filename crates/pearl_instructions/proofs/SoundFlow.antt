@@ -29,16 +29,16 @@ use Rattle.pearl_instructions.specs.Operands.{Shape, Anything, Exactly, is_fixed
 use Rattle.pearl_instructions.specs.Named.{cells_at}
 use Rattle.pearl_instructions.specs.Kinds.{is_uniform, are_fixed, suits_parameters, shape_after}
 use Rattle.pearl_instructions.specs.Valid.{shape_before, result_shape, IsValid}
-use Rattle.pearl_instructions.specs.Stacks.{routines_of, Suits, IsCalling, Below, IsTop, Goes}
+use Rattle.pearl_instructions.specs.Stacks.{routines_of, Suits, IsCalling, Below, IsTop}
 use Rattle.pearl_instructions.proofs.Tests.{and_true, not_true, same_cell_true, same_shape_true, all_at, closed_some}
 use Rattle.pearl_instructions.proofs.Zips.{some_at, zip_get, zip_set, zip_length, zip_take, zip_drop, zip_reverse, zip_append}
 use Rattle.pearl_instructions.proofs.Ranges.{all_front, Range, range_is}
-use Rattle.pearl_instructions.proofs.Kept.{keeps_at, whole_at, onward, jumped, Here, lands, goes, given_goes, needed_goes, popped_goes}
+use Rattle.pearl_instructions.proofs.Kept.{keeps_at, whole_at, onward, jumped, IsSound, Here, lands, goes, given_goes, needed_goes, popped_goes}
 use Rattle.pearl_instructions.proofs.SoundCells.{if_goes}
 use Rattle.pearl_instructions.proofs.SoundOperators.{fixed_is, fixed_kind}
 use Rattle.pearl_instructions.proofs.SoundVariables.{all_of}
 
-pub jump_sound : (o : Object) (f : Frame) (lower : List Frame) (code : Code) (s : Shape) (i : ℕ) → Here o f lower code (Jump i) s → Goes o (act o (Jump i) f lower)
+pub jump_sound : (o : Object) (f : Frame) (lower : List Frame) (code : Code) (s : Shape) (i : ℕ) → Here o f lower code (Jump i) s → IsSound o (act o (Jump i) f lower)
 jump_sound o f lower code s i h =
     lands o f lower code (Jump i) s h i f.cells f.operands (ltb-true i (length code.instructions) h.keeps.named)
     (jumped o f.routine code f.place (Jump i) (shape_after o f.routine code (Jump i) s) 0 i h.keeps.flows refl) h.stands.cells h.stands.operands
@@ -47,7 +47,7 @@ same_bits : (a b : ℕ) → kind.Bits a ≡ kind.Bits b → a ≡ b
 same_bits a b e = cc
 
 jump_zero_goes : (o : Object) (f : Frame) (lower : List Frame) (left : List Cell) (i : ℕ) (x : Cell) → IsValueOf (kind.Bits 1) x →
-    IsTop o (at i f left) lower → IsTop o (next f left) lower → Goes o (flow.jump_zero i f lower left x)
+    IsTop o (at i f left) lower → IsTop o (next f left) lower → IsSound o (flow.jump_zero i f lower left x)
 jump_zero_goes o f lower left i (cell.Bits len value) w t n =
     needed_goes o (len == 1) _ (eq-eqb len 1 (same_bits len 1 w.same_kind)) (by_bit (value == 0))
   where
@@ -60,7 +60,7 @@ jump_zero_goes o f lower left i (cell.Clock time) w t n = let e = w.same_kind in
 jump_zero_goes o f lower left i (cell.Span time) w t n = let e = w.same_kind in cc
 jump_zero_goes o f lower left i (cell.Ref of place) w t n = absurd w.is_value
 
-pub jump_zero_sound : (o : Object) (f : Frame) (lower : List Frame) (code : Code) (s : Shape) (i : ℕ) → Here o f lower code (JumpZero i) s → Goes o (act o (JumpZero i) f lower)
+pub jump_zero_sound : (o : Object) (f : Frame) (lower : List Frame) (code : Code) (s : Shape) (i : ℕ) → Here o f lower code (JumpZero i) s → IsSound o (act o (JumpZero i) f lower)
 jump_zero_sound o f lower code [] i h = let e = h.keeps.ends in cc
 jump_zero_sound o f lower code (k ∷ ks) i h =
     let rs = f.routine ∷ routines_of lower in
@@ -77,18 +77,18 @@ target_is targets (pos (suc n)) t e = (n, e)
 target_is targets (negsuc n) t e = cc
 
 pub case_sound : (o : Object) (f : Frame) (lower : List Frame) (code : Code) (s : Shape) (targets : Box (List ℕ) Global) → Here o f lower code (Case targets) s →
-    Goes o (act o (Case targets) f lower)
+    IsSound o (act o (Case targets) f lower)
 case_sound o f lower code [] targets h = let e = h.keeps.ends in cc
 case_sound o f lower code (k ∷ ks) targets h =
     let rs = f.routine ∷ routines_of lower in
     let fixed = fixed_kind k (and_true (is_fixed k) (v2 [] ks) h.keeps.ends).0 in
     popped_goes o (Suits o rs) k ks f.operands _ h.stands.operands (λ x left suits rest.
     let number = fixed_is fixed.0 x (subst (λ k. Suits o rs k x) fixed.1 suits) in
-    subst (λ x. Goes o (flow.branch targets.value f lower left x)) (sym number.1)
+    subst (λ x. IsSound o (flow.branch targets.value f lower left x)) (sym number.1)
     (by_target left rest (flow.target_of targets.value number.0) (λ t e. target_is targets.value number.0 t e)))
   where
     by_target : (left : List Cell) → AllZip (Suits o (f.routine ∷ routines_of lower)) ks left → (target : Option ℕ) →
-        ((t : ℕ) → target ≡ Some t → (n : ℕ) × (slice_get targets.value n ≡ Some t)) → Goes o (flow.goes_or_on target f lower left)
+        ((t : ℕ) → target ≡ Some t → (n : ℕ) × (slice_get targets.value n ≡ Some t)) → IsSound o (flow.goes_or_on target f lower left)
     by_target left rest None is = goes o f lower code (Case targets) (k ∷ ks) h f.cells left ks refl refl h.stands.cells rest
     by_target left rest (Some t) is =
         let there = is t refl in
@@ -96,8 +96,8 @@ case_sound o f lower code (k ∷ ks) targets h =
         (ltb-true t (length code.instructions) (all_at (λ i. nat_lt i (length code.instructions)) targets.value there.0 t h.keeps.named there.1))
         (jumped o f.routine code f.place (Case targets) (shape_after o f.routine code (Case targets) (k ∷ ks)) there.0 t h.keeps.flows there.1) h.stands.cells rest
 
-pub turn_sound : (o : Object) (f : Frame) (lower : List Frame) (code : Code) (s : Shape) → Here o f lower code Turn s → Goes o (act o Turn f lower)
-turn_sound o f lower code s h = λ answer e. goes o f lower code Turn s h f.cells f.operands s refl refl h.stands.cells h.stands.operands
+pub turn_sound : (o : Object) (f : Frame) (lower : List Frame) (code : Code) (s : Shape) → Here o f lower code Turn s → IsSound o (act o Turn f lower)
+turn_sound o f lower code s h = (tt, λ answer own e. goes o f lower code Turn s h f.cells f.operands s refl refl h.stands.cells h.stands.operands)
 
 pub fits_is : (len : ℕ) (value : ℤ) → IsKind (kind.Fixed len) → fits_fixed len value ≡ true → IsValueOf (kind.Fixed len) (cell.Fixed len value)
 fits_is len value is e = record { is_value = (is, record { low = grind (arith, ints, e); high = grind (arith, ints, e) }); same_kind = refl }
@@ -134,7 +134,7 @@ loop_is o f code c rs r fixed z =
     record { len = of.0; control = a.0; step = b.0; limit = d.0; held = r.first ∙ ap Some of.1; first = a.1; second = b.1; third = d.1; value = a.2 }
 
 loop_goes : (o : Object) (f : Frame) (code : Code) (c : ℕ) (rs : List ℕ) (l : Loop o f code c rs) (go : ℕ → ℤ → ℤ → ℤ → Step) →
-    Goes o (go l.len l.control l.step l.limit) → Goes o (flow.loop_cells f c go)
+    IsSound o (go l.len l.control l.step l.limit) → IsSound o (flow.loop_cells f c go)
 loop_goes o f code c rs l go h =
     given_goes o (cell.Fixed l.len l.control) (slice_get f.cells c) _ l.first
     (given_goes o (cell.Fixed l.len l.step) (slice_get f.cells (c + 1)) _ l.second
@@ -154,7 +154,7 @@ loop_past o f lower code s c i h =
     let r = range_is code c 3 named.0 exact.0 (all_front _ (cells_at code c 3) [] h.keeps.plain) in
     loop_is o f code c (routines_of lower) r exact.1 h.stands.cells
 
-pub within_sound : (o : Object) (f : Frame) (lower : List Frame) (code : Code) (s : Shape) (c : ℕ) → Here o f lower code (Within c) s → Goes o (act o (Within c) f lower)
+pub within_sound : (o : Object) (f : Frame) (lower : List Frame) (code : Code) (s : Shape) (c : ℕ) → Here o f lower code (Within c) s → IsSound o (act o (Within c) f lower)
 within_sound o f lower code s c h =
     let l = loop_within o f lower code s c h in
     loop_goes o f code c (routines_of lower) l _
@@ -162,7 +162,7 @@ within_sound o f lower code s c h =
     h.stands.cells (bit_is (flow.is_past l.control l.step l.limit), h.stands.operands))
 
 pub advance_sound : (o : Object) (f : Frame) (lower : List Frame) (code : Code) (s : Shape) (c i : ℕ) → Here o f lower code (Advance c i) s →
-    Goes o (act o (Advance c i) f lower)
+    IsSound o (act o (Advance c i) f lower)
 advance_sound o f lower code s c i h =
     let rs = routines_of lower in
     let named = and_true _ (nat_lt i (length code.instructions)) h.keeps.named in
@@ -194,13 +194,18 @@ all_drop P zero xs all = all
 all_drop P (suc n) [] all = tt
 all_drop P (suc n) (x ∷ xs) all = all_drop P n xs all.1
 
+pub all_take : {A : Type 0} (P : A → Type 0) (n : ℕ) (xs : List A) → AllByRecursion P xs → AllByRecursion P (take n xs)
+all_take P zero xs all = tt
+all_take P (suc n) [] all = tt
+all_take P (suc n) (x ∷ xs) all = (all.0, all_take P n xs all.1)
+
 pub fresh_suits : (o : Object) (rs : List ℕ) (ks : List CellKind) → AllByRecursion IsPlain ks → AllByRecursion IsCellKind ks → AllZip (Suits o rs) ks (map flow.fresh ks)
 fresh_suits o rs [] p k = tt
 fresh_suits o rs (Plain of ∷ ks) p k = (blank_gives of k.0, fresh_suits o rs ks p.1 k.1)
 fresh_suits o rs (RefTo of ∷ ks) p k = absurd p.0
 
 pub call_sound : (o : Object) (v : IsValid o) (w : IsObject o) (f : Frame) (lower : List Frame) (code : Code) (s : Shape) (p : ℕ) → Here o f lower code (Call p) s →
-    Goes o (act o (Call p) f lower)
+    IsSound o (act o (Call p) f lower)
 call_sound o v w f lower code s p h =
     let rs = f.routine ∷ routines_of lower in
     let callee = some_at o.procedures p (ltb-true p (length o.procedures) h.keeps.named) in
@@ -222,27 +227,30 @@ call_sound o v w f lower code s p h =
     args (fresh_suits o rs (drop d.params d.code.cells) is.plain (all_drop IsCellKind d.params d.code.cells is.kinds))) in
     let kinds : drop d.params s ≡ drop d.params (shape_before o f.routine code f.place) = ap (drop d.params) h.is in
     given_goes o d (slice_get o.procedures p) _ callee.1
-    (needed_goes o (nat_le d.params (length f.operands)) _ (le-leb d.params (length f.operands) (omega (arith, few, long))) (λ answer suits. record {
-      code = d.code;
-      routine = procedure_code o p d callee.1;
-      place = closed_some d.code.instructions (whole_at o p d.code v (procedure_code o p d callee.1)).closed;
-      stands = record { cells = cells; operands = tt };
-      below = (
-        record {
-          callee = d;
-          called = callee.1;
-          code = code;
-          routine = h.routine;
-          place = h.at;
-          stands = record {
-            cells = h.stands.cells;
-            operands = subst (λ ks. AllZip (Suits o rs) ks (drop d.params f.operands)) kinds
-                (zip_drop (Suits o rs) d.params s f.operands operands);
-          };
-        },
-        h.below,
-      );
-    }))
+    (needed_goes o (nat_le d.params (length f.operands)) _ (le-leb d.params (length f.operands) (omega (arith, few, long))) (
+      tt,
+      λ answer own suits. record {
+        code = d.code;
+        routine = procedure_code o p d callee.1;
+        place = closed_some d.code.instructions (whole_at o p d.code v (procedure_code o p d callee.1)).closed;
+        stands = record { cells = cells; operands = tt };
+        below = (
+          record {
+            callee = d;
+            called = callee.1;
+            code = code;
+            routine = h.routine;
+            place = h.at;
+            stands = record {
+              cells = h.stands.cells;
+              operands = subst (λ ks. AllZip (Suits o rs) ks (drop d.params f.operands)) kinds
+                  (zip_drop (Suits o rs) d.params s f.operands operands);
+            };
+          },
+          h.below,
+        );
+      },
+    ))
 
 -- the caller goes on with the results
 back_sound : (o : Object) (v : IsValid o) (g : Frame) (lower : List Frame) (p : ℕ) (results : List Cell) (call : IsCalling o p g (routines_of lower)) →
@@ -271,21 +279,21 @@ back_sound o v g lower p results call below fits =
     }
 
 returned_goes : (o : Object) (v : IsValid o) (r : ℕ) (lower : List Frame) (results : List Cell) → r < length o.procedures → Below o r lower →
-    ((rs : List ℕ) → AllZip (Suits o rs) (result_shape (result_of o r)) results) → Goes o (flow.returned lower results)
+    ((rs : List ℕ) → AllZip (Suits o rs) (result_shape (result_of o r)) results) → IsSound o (flow.returned lower results)
 returned_goes o v r [] results less b fits = absurd (omega (arith, less, b))
 returned_goes o v r (g ∷ lower) results less b fits =
     let same : result_of o r ≡ b.0.callee.result = ap (option_and_then (λ p. p.result)) b.0.called in
     back_sound o v g lower r results b.0 b.1 (subst (λ k. AllZip (Suits o (g.routine ∷ routines_of lower)) (result_shape k) results) same (fits (g.routine ∷ routines_of lower)))
 
 returns_goes : (o : Object) (v : IsValid o) (f : Frame) (lower : List Frame) (result : Option Kind) → f.routine < length o.procedures → Below o f.routine lower →
-    result ≡ result_of o f.routine → AllZip (Suits o (f.routine ∷ routines_of lower)) (result_shape result) f.operands → Goes o (flow.returns result f lower)
+    result ≡ result_of o f.routine → AllZip (Suits o (f.routine ∷ routines_of lower)) (result_shape result) f.operands → IsSound o (flow.returns result f lower)
 returns_goes o v f lower None less b same z =
     returned_goes o v f.routine lower [] less b (λ rs. subst (λ k. AllZip (Suits o rs) (result_shape k) []) same tt)
 returns_goes o v f lower (Some k) less b same z =
     popped_goes o (Suits o (f.routine ∷ routines_of lower)) (Plain k) [] f.operands _ z (λ x left suits rest.
     returned_goes o v f.routine lower (x ∷ []) less b (λ rs. subst (λ k. AllZip (Suits o rs) (result_shape k) (x ∷ [])) same (suits, tt)))
 
-pub return_sound : (o : Object) (v : IsValid o) (f : Frame) (lower : List Frame) (code : Code) (s : Shape) → Here o f lower code Return s → Goes o (act o Return f lower)
+pub return_sound : (o : Object) (v : IsValid o) (f : Frame) (lower : List Frame) (code : Code) (s : Shape) → Here o f lower code Return s → IsSound o (act o Return f lower)
 return_sound o v f lower code s h =
     let closes = and_true (not (is_task o f.routine)) (same_shape s (result_shape (result_of o f.routine))) h.keeps.closes in
     let less : f.routine < length o.procedures = leb-false (length o.procedures) f.routine (not_true (is_task o f.routine) closes.0) in

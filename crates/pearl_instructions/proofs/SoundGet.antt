@@ -3,12 +3,13 @@ use Rattle.std.proofs.Common.{◌≡◌, ℕ, zero, suc, ◌+◌, ◌≤◌, Lis
 use Rattle.std.specs.Prelude.{◌⊎◌, nat_lt, nat_le, if◌then◌else◌, option_and_then}
 use Rattle.std.proofs.Common.{inl, inr}
 use Rattle.std.proofs.lemmas.List.{append-nil}
-use Rattle.std.specs.List.{AllZip}
+use Rattle.std.specs.List.{AllByRecursion, AllZip}
 use Rattle.pearl_value.specs.declared.kind.Kind.{Kind}
 use Rattle.pearl_value.specs.declared.cell.Cell.{Cell}
 use Rattle.pearl_value.specs.WellFormed.{IsValueOf}
 use Rattle.pearl_format.specs.declared.item.Item.{Item}
 use Rattle.pearl_format.specs.Items.{data_count}
+use Rattle.pearl_rules.specs.Tables.{IsFormat}
 use Rattle.pearl_rules.specs.declared.action.Action.TheVariants as action
 use Rattle.pearl_rules.specs.declared.action.Answer.{Answer}
 use Rattle.pearl_rules.specs.declared.action.Answer.TheVariants.{Nothing, One, Many}
@@ -18,18 +19,23 @@ use Rattle.pearl_instructions.specs.declared.instr.Instr.TheVariants.{Get}
 use Rattle.pearl_instructions.specs.declared.object.Code.{Code}
 use Rattle.pearl_instructions.specs.declared.object.Object.{Object}
 use Rattle.pearl_instructions.specs.Objects.{items_at}
+use Rattle.pearl_instructions.specs.Lawful.{IsCellKind, IsObject}
 use Rattle.pearl_instructions.specs.Offers.{items_suit, value_kinds, cells_from, with_values}
 use Rattle.pearl_instructions.specs.Steps.{Offers, given, needed, next, all_heard}
 use Rattle.pearl_instructions.specs.Rows.{act}
 use Rattle.pearl_instructions.specs.Operands.{Shape}
 use Rattle.pearl_instructions.specs.Named.{has_cells, has_read_cells, cells_at, read_cells, gives_texts}
 use Rattle.pearl_instructions.specs.Valid.{plain_kinds, cells_suit}
-use Rattle.pearl_instructions.specs.Stacks.{routines_of, Suits, AreOf, IsTop, Goes}
+use Rattle.pearl_instructions.specs.Stacks.{routines_of, Suits, AreOf, IsTop}
+use Rattle.pearl_instructions.specs.Actions.{FitsFormat, FitsSome, IsGet}
 use Rattle.pearl_instructions.proofs.Tests.{and_true, or_true}
 use Rattle.pearl_instructions.proofs.Zips.{zip_length, zip_take, zip_drop}
 use Rattle.pearl_instructions.proofs.Ranges.{zip_put}
-use Rattle.pearl_instructions.proofs.Lists.{kinds_of_values, values_suit_cells}
-use Rattle.pearl_instructions.proofs.Kept.{Here, goes, given_goes, needed_goes}
+use Rattle.pearl_instructions.proofs.Lists.{kinds_of_values, values_suit_cells, are_kinds}
+use Rattle.pearl_instructions.proofs.Offered.{readable_there, items_suited}
+use Rattle.pearl_instructions.proofs.Kept.{IsSound, Here, goes, given_goes, needed_goes}
+use Rattle.pearl_instructions.proofs.SoundVariables.{all_of}
+use Rattle.pearl_instructions.proofs.SoundFlow.{all_take, all_drop}
 use Rattle.pearl_instructions.proofs.SoundActions.{format_kinds}
 
 read_items : (code : Code) (c : ℕ) (items : Option (List Item)) → has_read_cells code c items ≡ true →
@@ -101,43 +107,55 @@ room_is o code cells c n rs z (inr long) =
     }
 
 -- the values that were read become the cells
-read_goes : (o : Object) (f : Frame) (lower : List Frame) (g : Reading) (kinds : List Kind) →
+read_goes : (o : Object) (f : Frame) (lower : List Frame) (g : Reading) (kinds : List Kind) → IsGet o g.device g.format kinds →
     ((xs : List Cell) → AllZip IsValueOf kinds xs → IsTop o (next (record f { cells = with_values f.cells g.first xs }) f.operands) lower) →
-    Goes o (Offers (action.Get g.device g.format (record { items = kinds }))
+    IsSound o (Offers (action.Get g.device g.format (record { items = kinds }))
     (λ answer. next (record f { cells = with_values f.cells g.first (all_heard answer) }) f.operands ∷ lower))
-read_goes o f lower g kinds go = by_answer
+read_goes o f lower g kinds there go = (there, by_answer)
   where
-    by_answer : (answer : Answer) → AreOf kinds answer → IsTop o (next (record f { cells = with_values f.cells g.first (all_heard answer) }) f.operands) lower
-    by_answer Nothing e = absurd e
-    by_answer (One x) e = absurd e
-    by_answer (Many xs) e = go xs.items e
+    by_answer : (answer : Answer) (own : ℕ) → AreOf kinds answer → IsTop o (next (record f { cells = with_values f.cells g.first (all_heard answer) }) f.operands) lower
+    by_answer Nothing own e = absurd e
+    by_answer (One x) own e = absurd e
+    by_answer (Many xs) own e = go xs.items e
 
-get_with : (o : Object) (f : Frame) (lower : List Frame) (code : Code) (s : Shape) (g : Box Reading Global) (items : List Item) → items_at o g.value.format ≡ Some items →
-    ((data_count items ≡ 0) ⊎ (g.value.first + data_count items ≤ length code.cells)) → Here o f lower code (Get g) s →
-    Goes o (given (option_and_then value_kinds (cells_from f.cells g.value.first (data_count items))) (λ kinds. needed (items_suit items kinds)
+get_with : (o : Object) (w : IsObject o) (f : Frame) (lower : List Frame) (code : Code) (s : Shape) (g : Box Reading Global) (items : List Item) → items_at o g.value.format ≡ Some items →
+    ((data_count items ≡ 0) ⊎ (g.value.first + data_count items ≤ length code.cells)) → gives_texts (slice_get o.devices g.value.device) ≡ true →
+    AllByRecursion IsCellKind code.cells → Here o f lower code (Get g) s →
+    IsSound o (given (option_and_then value_kinds (cells_from f.cells g.value.first (data_count items))) (λ kinds. needed (items_suit items kinds)
     (Offers (action.Get g.value.device g.value.format (record { items = kinds }))
     (λ answer. next (record f { cells = with_values f.cells g.value.first (all_heard answer) }) f.operands ∷ lower))))
-get_with o f lower code s g items there size h =
+get_with o w f lower code s g items there size gives kinds h =
     let rs = routines_of lower in
     let c = g.value.first in
     let n = data_count items in
     let suits = format_kinds items (plain_kinds (cells_at code c n)) (ap (λ i. cells_suit i (read_cells code c i)) (sym there) ∙ h.keeps.limits) in
     let room = room_is o code f.cells c n rs h.stands.cells size in
-    given_goes o suits.0 (option_and_then value_kinds (cells_from f.cells c n)) (λ kinds. needed (items_suit items kinds)
+    let lawful = are_kinds (cells_at code c n) suits.kinds suits.are (all_take IsCellKind n (drop c code.cells) (all_drop IsCellKind c code.cells kinds)) in
+    let fits : FitsFormat items suits.kinds = record {
+      suits = items_suited items suits.kinds (all_of IsFormat o.formats g.value.format items w.formats there) suits.suit;
+      few = suits.few;
+      short = suits.short;
+    } in
+    let is : IsGet o g.value.device g.value.format suits.kinds = record {
+      gives = readable_there (slice_get o.devices g.value.device) gives;
+      are = lawful;
+      fits = subst (λ i. FitsSome i suits.kinds) (sym there) fits;
+    } in
+    given_goes o suits.kinds (option_and_then value_kinds (cells_from f.cells c n)) (λ kinds. needed (items_suit items kinds)
     (Offers (action.Get g.value.device g.value.format (record { items = kinds }))
     (λ answer. next (record f { cells = with_values f.cells g.value.first (all_heard answer) }) f.operands ∷ lower)))
-    (ap (option_and_then value_kinds) room.there ∙ kinds_of_values o rs (cells_at code c n) room.held suits.0 suits.1 room.suits)
-    (needed_goes o (items_suit items suits.0) _ suits.2 (read_goes o f lower g.value suits.0 (λ xs fits.
+    (ap (option_and_then value_kinds) room.there ∙ kinds_of_values o rs (cells_at code c n) room.held suits.kinds suits.are room.suits)
+    (needed_goes o (items_suit items suits.kinds) _ suits.suit (read_goes o f lower g.value suits.kinds is (λ xs fits.
     goes o f lower code (Get g) s h (with_values f.cells c xs) f.operands s refl refl
-    (room.put xs (values_suit_cells o rs (cells_at code c n) suits.0 xs suits.1 fits)) h.stands.operands)))
+    (room.put xs (values_suit_cells o rs (cells_at code c n) suits.kinds xs suits.are fits)) h.stands.operands)))
 
-pub get_sound : (o : Object) (f : Frame) (lower : List Frame) (code : Code) (s : Shape) (g : Box Reading Global) → Here o f lower code (Get g) s →
-    Goes o (act o (Get g) f lower)
-get_sound o f lower code s g h =
+pub get_sound : (o : Object) (w : IsObject o) (f : Frame) (lower : List Frame) (code : Code) (s : Shape) (g : Box Reading Global) → AllByRecursion IsCellKind code.cells → Here o f lower code (Get g) s →
+    IsSound o (act o (Get g) f lower)
+get_sound o w f lower code s g kinds h =
     let named = and_true (gives_texts (slice_get o.devices g.value.device)) (has_read_cells code g.value.first (items_at o g.value.format)) h.keeps.named in
     let items = read_items code g.value.first (items_at o g.value.format) named.1 in
     given_goes o items.0 (items_at o g.value.format) (λ items.
     given (option_and_then value_kinds (cells_from f.cells g.value.first (data_count items))) (λ kinds. needed (items_suit items kinds)
     (Offers (action.Get g.value.device g.value.format (record { items = kinds }))
     (λ answer. next (record f { cells = with_values f.cells g.value.first (all_heard answer) }) f.operands ∷ lower))))
-    items.1 (get_with o f lower code s g items.0 items.1 items.2 h)
+    items.1 (get_with o w f lower code s g items.0 items.1 items.2 named.0 kinds h)

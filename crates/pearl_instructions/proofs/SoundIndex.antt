@@ -21,10 +21,10 @@ use Rattle.pearl_instructions.specs.Operators.{numbers_of, offset_of, index_of}
 use Rattle.pearl_instructions.specs.Rows.{act}
 use Rattle.pearl_instructions.specs.Operands.{Shape, SomeFixed, is_fixed, v2}
 use Rattle.pearl_instructions.specs.Valid.{extent, elements}
-use Rattle.pearl_instructions.specs.Stacks.{routines_of, Suits, Goes}
+use Rattle.pearl_instructions.specs.Stacks.{routines_of, Suits}
 use Rattle.pearl_instructions.proofs.Tests.{and_true}
 use Rattle.pearl_instructions.proofs.Lists.{all_reversed}
-use Rattle.pearl_instructions.proofs.Kept.{Here, goes, given_goes, taken_goes}
+use Rattle.pearl_instructions.proofs.Kept.{IsSound, Here, goes, given_goes, taken_goes}
 use Rattle.pearl_instructions.proofs.SoundOperators.{makes_goes, number_is}
 
 -- how far one number is above another
@@ -109,7 +109,7 @@ numbers_are o rs (k ∷ s) (x ∷ xs) e z =
     (n.0 ∷ more.0, ap (option_and_then (λ n. option_map (λ ns. n ∷ ns) (numbers_of xs))) n.1 ∙ ap (option_map (λ ns. n.0 ∷ ns)) more.1)
 
 pub index_sound : (o : Object) (f : Frame) (lower : List Frame) (code : Code) (s : Shape) (bounds : Box (List Bounds) Global) → Here o f lower code (Index bounds) s →
-    Goes o (act o (Index bounds) f lower)
+    IsSound o (act o (Index bounds) f lower)
 index_sound o f lower code s bounds h =
     let rs = f.routine ∷ routines_of lower in
     let n = length bounds.value in

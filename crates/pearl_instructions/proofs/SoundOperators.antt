@@ -30,14 +30,14 @@ use Rattle.pearl_instructions.specs.Operators.{suits_kind, number_of}
 use Rattle.pearl_instructions.specs.Rows.{act}
 use Rattle.pearl_instructions.specs.Operands.{Shape, is_fixed, v2}
 use Rattle.pearl_instructions.specs.Kinds.{plain_kind}
-use Rattle.pearl_instructions.specs.Stacks.{routines_of, Suits, IsTop, Goes}
+use Rattle.pearl_instructions.specs.Stacks.{routines_of, Suits, IsTop}
 use Rattle.pearl_instructions.proofs.Tests.{and_true, is_some_true}
-use Rattle.pearl_instructions.proofs.Kept.{Here, goes, given_goes, needed_goes, popped_goes, traps_goes}
+use Rattle.pearl_instructions.proofs.Kept.{IsSound, Here, goes, given_goes, needed_goes, popped_goes, traps_goes}
 use Rattle.pearl_instructions.proofs.SoundCells.{if_goes, value_kind_is}
 
 -- what was made is of a kind, or a trap is offered
 pub makes_goes : (o : Object) (f : Frame) (lower : List Frame) (left : List Cell) (made : Result Cell Trap) (k : Kind) → Gives k made →
-    ((x : Cell) → IsValueOf k x → IsTop o (next f (x ∷ left)) lower) → Goes o (makes f lower left made)
+    ((x : Cell) → IsValueOf k x → IsTop o (next f (x ∷ left)) lower) → IsSound o (makes f lower left made)
 makes_goes o f lower left (Ok x) k g h = h x g
 makes_goes o f lower left (Err trap) k g h = traps_goes o trap f lower
 
@@ -49,7 +49,7 @@ plain_kind_is : (k : CellKind) (of : Kind) → plain_kind k ≡ Some of → k �
 plain_kind_is (Plain a) of e = ap Plain (same_Some a of e)
 plain_kind_is (RefTo a) of e = cc
 
-pub conv_sound : (o : Object) (f : Frame) (lower : List Frame) (code : Code) (s : Shape) (to : Kind) → IsKind to → Here o f lower code (Conv to) s → Goes o (act o (Conv to) f lower)
+pub conv_sound : (o : Object) (f : Frame) (lower : List Frame) (code : Code) (s : Shape) (to : Kind) → IsKind to → Here o f lower code (Conv to) s → IsSound o (act o (Conv to) f lower)
 conv_sound o f lower code [] to w h = let e = h.keeps.ends in cc
 conv_sound o f lower code (RefTo k ∷ ks) to w h = let e = h.keeps.fits in cc
 conv_sound o f lower code (Plain k ∷ ks) to w h =
@@ -60,7 +60,7 @@ conv_sound o f lower code (Plain k ∷ ks) to w h =
     goes o f lower code (Conv to) (Plain k ∷ ks) h f.cells (y ∷ left) (Plain to ∷ ks) refl refl h.stands.cells (fits, rest)))))
 
 pub monadic_sound : (o : Object) (f : Frame) (lower : List Frame) (code : Code) (s : Shape) (op : Monad) → Here o f lower code (Monadic op) s →
-    Goes o (act o (Monadic op) f lower)
+    IsSound o (act o (Monadic op) f lower)
 monadic_sound o f lower code [] op h = let e = h.keeps.ends in cc
 monadic_sound o f lower code (RefTo k ∷ ks) op h = let e = h.keeps.fits in cc
 monadic_sound o f lower code (Plain k ∷ ks) op h =
@@ -73,7 +73,7 @@ monadic_sound o f lower code (Plain k ∷ ks) op h =
     (ap (λ k. option_to_list (option_map Plain k) ++ ks) (sym row.1)) h.stands.cells (fits, rest))))
 
 pub dyadic_sound : (o : Object) (f : Frame) (lower : List Frame) (code : Code) (s : Shape) (op : Dyad) → Here o f lower code (Dyadic op) s →
-    Goes o (act o (Dyadic op) f lower)
+    IsSound o (act o (Dyadic op) f lower)
 dyadic_sound o f lower code [] op h = let e = h.keeps.ends in cc
 dyadic_sound o f lower code (k ∷ []) op h = let e = h.keeps.fits in cc
 dyadic_sound o f lower code (RefTo k ∷ Plain l ∷ ks) op h = let e = h.keeps.fits in cc
@@ -132,7 +132,7 @@ number_is o rs k x e suits =
     let value = fixed_is of.0 x (subst (λ k. Suits o rs k x) of.1 suits) in
     (value.0, ap number_of value.1)
 
-pub non_zero_sound : (o : Object) (f : Frame) (lower : List Frame) (code : Code) (s : Shape) → Here o f lower code NonZero s → Goes o (act o NonZero f lower)
+pub non_zero_sound : (o : Object) (f : Frame) (lower : List Frame) (code : Code) (s : Shape) → Here o f lower code NonZero s → IsSound o (act o NonZero f lower)
 non_zero_sound o f lower code [] h = let e = h.keeps.ends in cc
 non_zero_sound o f lower code (k ∷ ks) h =
     let fixed = and_true (is_fixed k) (v2 [] ks) h.keeps.ends in

@@ -5,6 +5,7 @@ use Rattle.pearl_value.specs.declared.kind.CellKind.{CellKind}
 use Rattle.pearl_value.specs.declared.kind.CellKind.TheVariants.{Plain, RefTo}
 use Rattle.pearl_value.specs.Kinds.{IsKind}
 use Rattle.pearl_value.specs.WellFormed.{IsValue, IsValueOf, IsLetter}
+use Rattle.pearl_rules.specs.Tables.{IsFormat}
 use Rattle.pearl_instructions.specs.declared.instr.Instr.{Instr}
 use Rattle.pearl_instructions.specs.declared.instr.Instr.TheVariants.{Const, Fill, Conv}
 use Rattle.pearl_instructions.specs.declared.object.Leaf.{Leaf}
@@ -63,6 +64,7 @@ pub record IsTask (t : Task) : Type 0 where
 -- at most 200 procedures and tasks each, 1,000 semaphores, 396 devices and 65,536 slots
 pub record IsObject (o : Object) : Type 0 where
   pub leaves : AllByRecursion IsLeaf o.leaves
+  pub formats : AllByRecursion IsFormat o.formats
   pub procedures : AllByRecursion IsProcedure o.procedures
   pub tasks : AllByRecursion IsTask o.tasks
   pub semaphores : AllByRecursion (λ count. count < 2 ^ 31) o.semaphores

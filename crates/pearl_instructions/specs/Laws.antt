@@ -1,13 +1,17 @@
 -- What holds of every valid object.
 use Rattle.std.specs.Prelude.{◌≡◌, ℕ, ◌+◌, ◌≤◌, List, Some, length}
+use Rattle.pearl_rules.specs.declared.action.Action.{Action}
+use Rattle.pearl_rules.specs.declared.action.Answer.{Answer}
 use Rattle.pearl_stack.specs.Frames.{Frame, used}
 use Rattle.pearl_instructions.specs.declared.object.Code.{Code}
 use Rattle.pearl_instructions.specs.declared.object.Object.{Object}
 use Rattle.pearl_instructions.specs.Objects.{routines, routine_at}
 use Rattle.pearl_instructions.specs.Lawful.{IsObject}
+use Rattle.pearl_instructions.specs.Steps.{Offers}
 use Rattle.pearl_instructions.specs.Rows.{row, begun}
 use Rattle.pearl_instructions.specs.Valid.{IsValid}
-use Rattle.pearl_instructions.specs.Stacks.{IsStack, Goes, room, all_rows, OffersWithin}
+use Rattle.pearl_instructions.specs.Stacks.{IsStack, task_of, Goes, room, all_rows, OffersWithin}
+use Rattle.pearl_instructions.specs.Actions.{IsOffered}
 
 -- a task's routine begins with a stack of the object
 abbrev pub Begins : Type 0
@@ -15,7 +19,13 @@ Begins = (o : Object) (r : ℕ) (code : Code) → IsValid o → IsObject o → l
 
 -- at each stack of the object there is a row, and it leads to such stacks only: the next one, or the one after each answer that suits
 abbrev pub Leads : Type 0
-Leads = (o : Object) → IsValid o → IsObject o → (frames : List Frame) → IsStack o frames → Goes o (row o frames)
+Leads = (o : Object) → IsValid o → IsObject o → (frames : List Frame) → IsStack o frames → Goes o (task_of o frames) (row o frames)
+
+-- what an action names is there, and its values are of the kinds that are needed there
+abbrev pub OffersWhatIsThere : Type 0
+OffersWhatIsThere =
+    (o : Object) → IsValid o → IsObject o → (frames : List Frame) → IsStack o frames →
+    (action : Action) (go : Answer → List Frame) → row o frames ≡ Offers action go → IsOffered o action
 
 -- the depth that the task states isn't passed
 abbrev pub KeepsDepth : Type 0

@@ -22,6 +22,8 @@ pub mod Kinds
 pub mod Valid
 -- which stacks are stacks of an object, and which answers suit an action
 pub mod Stacks
+-- which actions a task may offer
+pub mod Actions
 -- what is asked of each object, before any rule of the validator
 pub mod Lawful
 -- what holds of every valid object

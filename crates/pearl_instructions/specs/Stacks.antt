@@ -1,5 +1,5 @@
 -- Which stacks are stacks of an object, and which answers suit an action.
-use Rattle.std.specs.Prelude.{◌≡◌, ℕ, zero, suc, ◌+◌, ◌<◌, ◌≤◌, ◌==◌, if◌then◌else◌, List, [], ◌∷◌, Option, Some, None, option_and_then, map, drop, slice_get, length}
+use Rattle.std.specs.Prelude.{◌≡◌, ◌≢◌, ℕ, zero, suc, ◌+◌, ◌<◌, ◌≤◌, ◌==◌, if◌then◌else◌, List, [], ◌∷◌, Option, Some, None, option_and_then, map, drop, slice_get, length}
 use Rattle.std.specs.List.{AllZip}
 use Rattle.pearl_value.specs.declared.kind.Kind.{Kind}
 use Rattle.pearl_value.specs.declared.kind.Kind.TheVariants as kind
@@ -24,7 +24,7 @@ use Rattle.pearl_instructions.specs.Steps.{Step, Silent, Offers, Missing}
 use Rattle.pearl_instructions.specs.Operands.{Shape}
 use Rattle.pearl_instructions.specs.Kinds.{plain_kind, kind_taken}
 use Rattle.pearl_instructions.specs.Valid.{shape_before}
-use Rattle.pearl_instructions.specs.Rows.{row}
+use Rattle.pearl_instructions.specs.Rows.{row, own_task}
 
 abbrev pub routines_of : List Frame → List ℕ
 routines_of frames = map (λ f. f.routine) frames
@@ -101,22 +101,28 @@ abbrev pub AreOf : List Kind → Answer → Type 0
 AreOf kinds (Many xs) = AllZip IsValueOf kinds xs.items
 AreOf kinds answer = ⊥
 
--- the answers that suit an action; a task that ends hears nothing more
-abbrev pub Answers : Object → Action → Answer → Type 0
-Answers o (action.Read slot) answer = IsOneOf (slot_kind o.leaves slot) answer
-Answers o action.Now answer = IsOneOf (Some kind.Clock) answer
-Answers o (action.Try semaphore) answer = IsOneOf (Some (kind.Bits 1)) answer
-Answers o (action.Take device) answer = IsOneOf (option_and_then plain_kind (kind_taken (slice_get o.devices device))) answer
-Answers o (action.Get device format kinds) answer = AreOf kinds.items answer
-Answers o action.End answer = ⊥
-Answers o (action.Trap trap) answer = ⊥
-Answers o action answer = answer ≡ Nothing
+-- the number of the task whose stack this is
+abbrev pub task_of : Object → List Frame → ℕ
+task_of o [] = 0
+task_of o (f ∷ lower) = own_task o f lower
 
--- a row is there, and leads to stacks of this object only
-abbrev pub Goes : Object → Step → Type 0
-Goes o (Silent frames) = IsStack o frames
-Goes o (Offers action go) = (answer : Answer) → Answers o action answer → IsStack o (go answer)
-Goes o Missing = ⊥
+-- the answers that suit an action of the task with this number; a task that ends, also by terminating itself, hears nothing more
+abbrev pub Answers : Object → ℕ → Action → Answer → Type 0
+Answers o own (action.Read slot) answer = IsOneOf (slot_kind o.leaves slot) answer
+Answers o own action.Now answer = IsOneOf (Some kind.Clock) answer
+Answers o own (action.Try semaphore) answer = IsOneOf (Some (kind.Bits 1)) answer
+Answers o own (action.Take device) answer = IsOneOf (option_and_then plain_kind (kind_taken (slice_get o.devices device))) answer
+Answers o own (action.Get device format kinds) answer = AreOf kinds.items answer
+Answers o own action.End answer = ⊥
+Answers o own (action.Trap trap) answer = ⊥
+Answers o own (action.Terminate task) answer = (task ≢ own) × (answer ≡ Nothing)
+Answers o own action answer = answer ≡ Nothing
+
+-- a row of this task is there, and leads to stacks of this object only
+abbrev pub Goes : Object → ℕ → Step → Type 0
+Goes o own (Silent frames) = IsStack o frames
+Goes o own (Offers action go) = (answer : Answer) → Answers o own action answer → IsStack o (go answer)
+Goes o own Missing = ⊥
 
 -- how many cells and operands the routine of the lowest frame states, with all that it calls
 abbrev pub depth_or_none : Option Code → ℕ

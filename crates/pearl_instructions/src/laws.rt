@@ -1,6 +1,6 @@
 // What holds of every valid object. Each function's contract is one theorem; none does anything.
 
-ghost use Rattle.pearl_instructions.specs.Laws.{Begins, Leads, KeepsDepth, CountsFrames, OffersSoon};
+ghost use Rattle.pearl_instructions.specs.Laws.{Begins, Leads, OffersWhatIsThere, KeepsDepth, CountsFrames, OffersSoon};
 
 /// A task's code begins with a stack of the object.
 pub fn tasks_begin_with_a_stack()
@@ -11,6 +11,11 @@ pub fn tasks_begin_with_a_stack()
 /// nothing. It leads to a stack of the object, and so does each answer that suits the action that is offered.
 pub fn rows_lead_to_stacks()
     ensures { Leads }
+{}
+
+/// An action that is offered names what is there, of the right sort, direction and kind, within its limits.
+pub fn offers_name_what_is_there()
+    ensures { OffersWhatIsThere }
 {}
 
 /// The stated depth isn't passed.
