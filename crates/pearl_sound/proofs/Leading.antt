@@ -21,7 +21,7 @@ use Rattle.pearl_program.specs.Typing.{Around}
 use Rattle.pearl_program.specs.Sound.{around_of}
 use Rattle.pearl_resolve.specs.Expressions.{Numbered, meant_at, begun, walk_from}
 use Rattle.pearl_resolve.specs.Resolve.{numbered_of, resolve}
-use Rattle.pearl_resolve.specs.SoundNames.{Follows, Reaches, LeadNames}
+use Rattle.pearl_sound.specs.SoundNames.{Follows, Reaches, LeadNames}
 use Rattle.pearl_resolve.proofs.Examples.{source, variable, item, fixed}
 
 abbrev one : ShownTree

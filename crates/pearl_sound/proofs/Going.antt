@@ -23,7 +23,7 @@ use Rattle.pearl_value.specs.declared.kind.Kind.TheVariants.{Fixed}
 use Rattle.pearl_resolve.specs.Expressions.{Numbered, target_kind}
 use Rattle.pearl_resolve.specs.Cells.{sense_cells, scope_cells, counter_cells, get_cells, cells_in, cells_in_all, cells_in_branches, cells_in_otherwise, routine_cells}
 use Rattle.pearl_resolve.specs.Resolve.{formats_in, formats_in_all, formats_in_branches, formats_in_otherwise}
-use Rattle.pearl_resolve.specs.Laws.{GoesPast}
+use Rattle.pearl_sound.specs.Laws.{GoesPast}
 
 same_sums : {X : Type 0} (f g : X → ℕ) → ((x : X) → f x ≡ g x) → (xs : List X) → sum_by f xs ≡ sum_by g xs
 same_sums f g same [] = refl

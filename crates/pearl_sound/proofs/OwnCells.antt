@@ -9,9 +9,9 @@ use Rattle.pearl_names.specs.Tables.{Sense, Variable, Control, OwnParameter, New
 use Rattle.pearl_resolve.specs.Laying.{cells_of_sense}
 use Rattle.pearl_resolve.specs.Numbers.{own_number, own_numbers}
 use Rattle.pearl_resolve.specs.Cells.{sense_cells}
-use Rattle.pearl_resolve.specs.Laws.{IsNoControl}
-use Rattle.pearl_resolve.proofs.Going.{sense_length}
-use Rattle.pearl_resolve.proofs.SoundParts.{some_one}
+use Rattle.pearl_sound.specs.Laws.{IsNoControl}
+use Rattle.pearl_sound.proofs.Going.{sense_length}
+use Rattle.pearl_sound.proofs.SoundParts.{some_one}
 
 front : (n : ℕ) (xs ys : List CellKind) → length xs ≡ n → take n (xs ++ ys) ≡ xs
 front n xs ys is = subst (λ m. take m (xs ++ ys) ≡ xs) is (by xs)

@@ -21,8 +21,8 @@ use Rattle.pearl_program.specs.declared.expression.Bound.{Bound}
 use Rattle.pearl_program.specs.PlainExpressions.{PlainExprs}
 use Rattle.pearl_program.specs.Typing.{Around, IsVariable, AreSubscripts}
 use Rattle.pearl_resolve.specs.Expressions.{Numbered, number_at, meant_at, meant, Walk, bound_of, own_or_param, target_in, begun, walk_of, walk_from, to_field, field_of, count, joined_exprs, variable_of}
-use Rattle.pearl_resolve.specs.SoundNames.{IsEnd, Follows, Reaches, LeadNames}
-use Rattle.pearl_resolve.proofs.Subscripting.{cut_small, AreAllFixed, count_joined, fixed_given, joined_given, sound_behind}
+use Rattle.pearl_sound.specs.SoundNames.{IsEnd, Follows, Reaches, LeadNames}
+use Rattle.pearl_sound.proofs.Subscripting.{cut_small, AreAllFixed, count_joined, fixed_given, joined_given, sound_behind}
 
 pub record StandsSound (around : Around) (dimensions : ℕ) (shape : Shape) (walk : Walk) : Type 0 where
   pub same : walk.shape ≡ shape

@@ -23,7 +23,7 @@ use Rattle.pearl_program.specs.Typing.{Around, HasKind, IsVariable}
 use Rattle.pearl_resolve.specs.Numbers.{At, own_numbers, after_all, after_body, numbers_in_all}
 use Rattle.pearl_resolve.specs.Laying.{cells_of_sense}
 use Rattle.pearl_resolve.specs.Expressions.{Numbered, number_of, resolve_expr, resolve_arguments, resolve_variable, target_kind}
-use Rattle.pearl_resolve.specs.SoundNames.{IsLiteral, HasLiterals, HaveLiterals, SelectorsHaveLiterals, LeadNames}
+use Rattle.pearl_sound.specs.SoundNames.{IsLiteral, HasLiterals, HaveLiterals, SelectorsHaveLiterals, LeadNames}
 use Rattle.pearl_resolve.specs.Cells.{sense_cells, cells_in_all, routine_cells}
 use Rattle.pearl_resolve.specs.Resolve.{formats_in_all}
 

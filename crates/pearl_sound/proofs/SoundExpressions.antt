@@ -23,10 +23,10 @@ use Rattle.pearl_program.specs.Typing.{Around, HasKind, IsVariable, Suit, SuitsP
 use Rattle.pearl_resolve.specs.Expressions as resolved
 use Rattle.pearl_resolve.specs.Expressions.{Numbered, meant, number_of, Walk, walk_from, variable_of, count, params_of, handed, along, step, resolve_expr, resolve_primary, resolve_exprs, resolve_call, first_arguments, resolve_arguments, resolve_variable}
 use Rattle.pearl_resolve.specs.Cells.{param_cell}
-use Rattle.pearl_resolve.specs.SoundNames.{HasLiterals, PrimaryHasLiterals, SelectorsHaveLiterals, SelectorHasLiterals, HaveLiterals, param_cells, LeadNames}
-use Rattle.pearl_resolve.proofs.Subscripting.{both, some_of, AreAllFixed}
-use Rattle.pearl_resolve.proofs.SoundWalks.{IsSoundAt, starts_sound, component_sound, subscripts_sound, element_sound, variable_sound}
-use Rattle.pearl_resolve.proofs.SoundParts.{some_one, dyadic_is, monadics_sound, try_is, limit_sound, fixed_is, value_suits, variable_suits, well_is, params_of_callee, same_params, callee_is}
+use Rattle.pearl_sound.specs.SoundNames.{HasLiterals, PrimaryHasLiterals, SelectorsHaveLiterals, SelectorHasLiterals, HaveLiterals, param_cells, LeadNames}
+use Rattle.pearl_sound.proofs.Subscripting.{both, some_of, AreAllFixed}
+use Rattle.pearl_sound.proofs.SoundWalks.{IsSoundAt, starts_sound, component_sound, subscripts_sound, element_sound, variable_sound}
+use Rattle.pearl_sound.proofs.SoundParts.{some_one, dyadic_is, monadics_sound, try_is, limit_sound, fixed_is, value_suits, variable_suits, well_is, params_of_callee, same_params, callee_is}
 
 -- what a reference reads
 read_sound : (around : Around) (name : Name) (standing : Standing) (walk : Walk) (kind : Kind) → IsSoundAt around standing walk →

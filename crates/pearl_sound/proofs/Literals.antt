@@ -22,9 +22,9 @@ use Rattle.pearl_names.specs.Durations.{is_too_long}
 use Rattle.pearl_names.specs.Lengths.{is_length, is_same_sort, length_set, lengths_set, holds_at, last_length, length_at}
 use Rattle.pearl_check_expr.specs.Literals.{fixed_length}
 use Rattle.pearl_resolve.specs.Expressions.{literal_cell}
-use Rattle.pearl_resolve.specs.SoundNames.{IsLiteral}
-use Rattle.pearl_resolve.proofs.Subscripting.{both}
-use Rattle.pearl_resolve.proofs.SoundParts.{some_one}
+use Rattle.pearl_sound.specs.SoundNames.{IsLiteral}
+use Rattle.pearl_sound.proofs.Subscripting.{both}
+use Rattle.pearl_sound.proofs.SoundParts.{some_one}
 
 abbrev IsSet : DefaultLength → Type 0
 IsSet default = is_length default.sort default.len ≡ true

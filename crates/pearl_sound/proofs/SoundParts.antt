@@ -31,8 +31,8 @@ use Rattle.pearl_program.specs.PlainExpressions.{PlainExpr, OfRead, PlainVariabl
 use Rattle.pearl_program.specs.Typing.{Around, IsBound, HasKind, IsVariable, SuitsParam}
 use Rattle.pearl_resolve.specs.Expressions.{Numbered, number_at, meant_at, meant, Walk, count, params_of, handed, monadics_over, open_bounds, limit_value}
 use Rattle.pearl_resolve.specs.Cells.{param_cell}
-use Rattle.pearl_resolve.proofs.Subscripting.{sound_behind}
-use Rattle.pearl_resolve.proofs.SoundWalks.{IsSoundAt}
+use Rattle.pearl_sound.proofs.Subscripting.{sound_behind}
+use Rattle.pearl_sound.proofs.SoundWalks.{IsSoundAt}
 
 pub some_one : {X : Type 0} {x y : X} → Some x ≡ Some y → x ≡ y
 some_one {x = x} same = ap (λ o. unwrap_or o x) same
