@@ -25,13 +25,13 @@ use Rattle.pearl_program.specs.Typing.{Around, AreOpen, IsLeafOf, HasKind, IsVar
 use Rattle.pearl_program.specs.SoundStatements.{AreStmts, within}
 use Rattle.pearl_program.specs.Sound.{around_of, IsProcedure, IsTask, IsSound}
 
-abbrev short : Kind
+abbrev pub short : Kind
 short = Fixed 31
 
-abbrev number : ℕ → PlainExpr
+abbrev pub number : ℕ → PlainExpr
 number n = OfLiteral (cell.Fixed 31 (pos n))
 
-abbrev alone : ℕ → PlainVariable
+abbrev pub alone : ℕ → PlainVariable
 alone cell = OfVariable (Own cell) [] NoExprs
 
 abbrev element : PlainExpr → PlainVariable
@@ -91,10 +91,10 @@ small = (omega arith, omega arith)
 free : AreOpen (1 ∷ 2 ∷ 3 ∷ 4 ∷ 5 ∷ []) 0 1
 free = (inr (omega arith), (inr (omega arith), (inr (omega arith), (inr (omega arith), (inr (omega arith), tt)))))
 
-abbrev around_task : Around
+abbrev pub around_task : Around
 around_task = around_of program task.routine None
 
-abbrev counter : PlainCounter
+abbrev pub counter : PlainCounter
 counter = record { cell = 1; begin = None; step = None; end = Some (number 3) }
 
 element_is : (around : Around) (e : PlainExpr) → around.leaves ≡ program.leaves → HasKind around e short →
