@@ -17,11 +17,12 @@ use Rattle.pearl_names.specs.Shapes.{Shape, OfKind}
 use Rattle.pearl_names.specs.Tables.{Variable, Semaphore, Procedure, Parameter, Sense, sense_at, table_of}
 use Rattle.pearl_check_expr.specs.Standings.{Standing, Broken, Open, variable_start}
 use Rattle.pearl_program.specs.declared.expression.Target.TheVariants.{Leaf}
+use Rattle.pearl_program.specs.PlainStatements.{NoStmts}
 use Rattle.pearl_program.specs.Typing.{Around}
 use Rattle.pearl_program.specs.Sound.{around_of}
 use Rattle.pearl_resolve.specs.Expressions.{Numbered, meant_at, begun, walk_from}
 use Rattle.pearl_resolve.specs.Resolve.{numbered_of, resolve}
-use Rattle.pearl_sound.specs.SoundNames.{Follows, Reaches, LeadNames}
+use Rattle.pearl_sound.specs.SoundNames.{Follows, Reaches, is_control, LeadNames}
 use Rattle.pearl_resolve.proofs.Examples.{source, variable, item, fixed}
 
 abbrev one : ShownTree
@@ -31,7 +32,7 @@ abbrev numbered : Numbered
 numbered = numbered_of (table_of one) [] [] one
 
 abbrev around : Around
-around = around_of (resolve (table_of one) [] [] one) [] [] None
+around = around_of (resolve (table_of one) [] [] one) (record { cells = []; body = NoStmts }) None
 
 -- a name is x, or none
 abbrev found_if : Bool → Option Found
@@ -41,14 +42,15 @@ abbrev is_open : Standing → Bool
 is_open Broken = false
 is_open (Open dimensions shape) = true
 
-reaches : (path : List Name) → Follows around (begun (Leaf 0) [] (OfKind (Fixed 31))) path
+reaches : (path : List Name) → Follows around false (begun (Leaf 0) [] (OfKind (Fixed 31))) path
 unfolding names_of_scopes sorted_names
 reaches [] = record { few = omega arith; sound = tt; end = (refl, refl) }
 reaches (name ∷ path) = reaches path
 
 variables_lead : (name : Name) (x : Bool) (dimensions : ℕ) (shape : Shape) →
     (variable_start name (option_and_then (sense_at numbered.table.senses) (found_if x))).standing ≡ Open dimensions shape →
-    Reaches around (walk_from (option_and_then (meant_at numbered) (found_if x)))
+    Reaches around (is_control (option_and_then (sense_at numbered.table.senses) (found_if x)))
+    (walk_from (option_and_then (meant_at numbered) (found_if x)))
 unfolding names_of_scopes sorted_names
 variables_lead name true dimensions shape is = reaches
 variables_lead name false dimensions shape is = absurd (true≢false (sym (ap is_open is)))

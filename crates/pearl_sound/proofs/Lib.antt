@@ -6,4 +6,7 @@ pub mod SoundParts
 pub mod SoundExpressions
 pub mod Literals
 pub mod OwnCells
+pub mod Apart
 mod Leading
+mod WholeModule
+mod TwoOfEach

@@ -1,5 +1,5 @@
 -- The cells of a name lie from its number on.
-use Rattle.std.specs.Prelude.{◌≡◌, ℕ, zero, suc, ◌+◌, ◌-◌, ◌≤◌, List, [], ◌∷◌, ◌++◌, length, take, drop, Some, slice_get}
+use Rattle.std.specs.Prelude.{◌≡◌, ℕ, zero, suc, ◌+◌, ◌-◌, ◌≤◌, ◌<◌, List, [], ◌∷◌, ◌++◌, length, take, drop, Some, slice_get}
 use Rattle.std.specs.List.{flat_map}
 use Rattle.std.proofs.Common.{refl, ap, ◌∙◌, sym, subst, arith}
 use Rattle.std.proofs.Math.Seq.{drop-append-add}
@@ -79,3 +79,18 @@ own_cells_lie control from (first ∷ rest) (suc i) number sense there own is =
   where
     apart : (from number n m : ℕ) → m ≡ n → from + n ≤ number → number - from ≡ m + (number - (from + n))
     apart from number n m same low = omega (arith, same, low)
+
+pub cells_apart : (control from : ℕ) (senses : List Sense) (i j first second : ℕ) (one two : Sense) → i < j →
+    slice_get senses i ≡ Some one → IsNoControl one → slice_get (own_numbers control from senses) i ≡ Some first →
+    slice_get senses j ≡ Some two → IsNoControl two → slice_get (own_numbers control from senses) j ≡ Some second →
+    (from ≤ first) × (first + cells_of_sense one ≤ second)
+cells_apart control from [] i j first second one two less there own is other also at = absurd (none-some one there)
+cells_apart control from (head ∷ rest) i zero first second one two less there own is other also at = absurd (omega (arith, less))
+cells_apart control from (head ∷ rest) zero (suc j) first second one two less there own is other also at =
+    let same = own_is control from first head (subst IsNoControl (sym (some_one there)) own) (some_one is) in
+    let cells = ap cells_of_sense (some_one there) in
+    let low = not_before control (from + cells_of_sense head) rest j second two other also at in
+    (omega (arith, same), omega (arith, same, cells, low))
+cells_apart control from (head ∷ rest) (suc i) (suc j) first second one two less there own is other also at =
+    let behind = cells_apart control (from + cells_of_sense head) rest i j first second one two (omega (arith, less)) there own is other also at in
+    let low = behind.0 in (omega (arith, low), behind.1)

@@ -1,6 +1,6 @@
 -- What an expression becomes has the kind with which the expression is judged.
 use Rattle.std.specs.Prelude.{◌≡◌, ℕ, zero, suc, ◌==◌, Bool, true, false, ◌&&◌, if◌then◌else◌, List, [], ◌∷◌, length, Option, Some, None, is_some, unwrap_or}
-use Rattle.std.proofs.Common.{refl, ap, ◌∙◌, sym, subst, arith, true≢false}
+use Rattle.std.proofs.Common.{inl, inr, refl, ap, ◌∙◌, sym, subst, arith, true≢false}
 use Rattle.std.proofs.lemmas.Option.{none-some}
 use Rattle.std.proofs.lemmas.Bool.{eqb-true}
 use Rattle.pearl_value.specs.declared.kind.Kind.{Kind}
@@ -16,26 +16,37 @@ use Rattle.pearl_check_expr.specs.Senses.{Callee, callee_of, is_fixed}
 use Rattle.pearl_check_expr.specs.Standings.{Standing, Broken, Open, Walked, variable_start, behind, as_value, value_of, all_fixed, all_known, is_fixed_or_unknown}
 use Rattle.pearl_check_expr.specs.Judged as judging
 use Rattle.pearl_check_expr.specs.Judged.{called, Argument, judged, judged_variable, judged_primary, judged_all, applied, first_applied, beyond, is_last, arguments, argument_of, fitted, ident_argument, variable_argument, no_variable, all_well, call_value, called_or, dimension_of, expr_place, result_kind, plain_name}
-use Rattle.pearl_program.specs.PlainExpressions.{PlainExpr, OfRead, PlainArguments, NoArguments}
+use Rattle.pearl_program.specs.PlainExpressions.{PlainExpr, OfRead, PlainVariable, PlainArguments, NoArguments}
 use Rattle.pearl_program.specs.PlainExpressions as plain
 use Rattle.pearl_program.specs.SoundStatements.{IsCall}
 use Rattle.pearl_program.specs.Typing.{Around, HasKind, IsVariable, Suit, SuitsParam}
 use Rattle.pearl_resolve.specs.Expressions as resolved
 use Rattle.pearl_resolve.specs.Expressions.{Numbered, meant, number_of, Walk, walk_from, variable_of, count, params_of, handed, along, step, resolve_expr, resolve_primary, resolve_exprs, resolve_call, first_arguments, resolve_arguments, resolve_variable}
 use Rattle.pearl_resolve.specs.Cells.{param_cell}
-use Rattle.pearl_sound.specs.SoundNames.{HasLiterals, PrimaryHasLiterals, SelectorsHaveLiterals, SelectorHasLiterals, HaveLiterals, param_cells, LeadNames}
+use Rattle.pearl_sound.specs.SoundNames.{HasLiterals, PrimaryHasLiterals, SelectorsHaveLiterals, SelectorHasLiterals, HaveLiterals, param_cells, is_control, LeadNames}
 use Rattle.pearl_sound.proofs.Subscripting.{both, some_of, AreAllFixed}
-use Rattle.pearl_sound.proofs.SoundWalks.{IsSoundAt, starts_sound, component_sound, subscripts_sound, element_sound, variable_sound}
-use Rattle.pearl_sound.proofs.SoundParts.{some_one, dyadic_is, monadics_sound, try_is, limit_sound, fixed_is, value_suits, variable_suits, well_is, params_of_callee, same_params, callee_is}
+use Rattle.pearl_sound.proofs.SoundWalks.{IsSoundAt, Reads, starts_sound, component_sound, subscripts_sound, element_sound, variable_sound}
+use Rattle.pearl_sound.proofs.SoundParts.{some_one, dyadic_is, monadics_sound, try_is, limit_sound, fixed_is, no_control, value_suits, variable_suits, well_is, params_of_callee, same_params, callee_is}
 
 -- what a reference reads
-read_sound : (around : Around) (name : Name) (standing : Standing) (walk : Walk) (kind : Kind) → IsSoundAt around standing walk →
-    (value_of name standing).kind ≡ Some kind → IsVariable around (variable_of walk) kind
-read_sound around name Broken walk kind stands is = absurd (none-some kind is)
-read_sound around name (Open zero (OfKind of)) walk kind stands is =
-    subst (λ k. IsVariable around (variable_of walk) k) (some_one is) (variable_sound around walk of stands)
-read_sound around name (Open zero (OfFields fields)) walk kind stands is = absurd (none-some kind is)
-read_sound around name (Open (suc n) shape) walk kind stands is = absurd (none-some kind is)
+reads_is : (around : Around) (control : Bool) (name : Name) (standing : Standing) (walk : Walk) (kind : Kind) →
+    IsSoundAt around control standing walk → (value_of name standing).kind ≡ Some kind → Reads around control (variable_of walk) kind
+reads_is around control name Broken walk kind stands is = absurd (none-some kind is)
+reads_is around control name (Open zero (OfKind of)) walk kind stands is =
+    subst (λ k. Reads around control (variable_of walk) k) (some_one is) (variable_sound around control walk of stands)
+reads_is around control name (Open zero (OfFields fields)) walk kind stands is = absurd (none-some kind is)
+reads_is around control name (Open (suc n) shape) walk kind stands is = absurd (none-some kind is)
+
+either : (around : Around) (control : Bool) (variable : PlainVariable) (kind : Kind) → Reads around control variable kind →
+    HasKind around (OfRead variable) kind
+either around false variable kind reads = inl reads
+either around true variable kind reads = inr reads
+
+read_sound : (around : Around) (control : Bool) (name : Name) (standing : Standing) (walk : Walk) (kind : Kind) →
+    IsSoundAt around control standing walk → (value_of name standing).kind ≡ Some kind →
+    HasKind around (OfRead (variable_of walk)) kind
+read_sound around control name standing walk kind stands is =
+    either around control (variable_of walk) kind (reads_is around control name standing walk kind stands is)
 
 module _ (numbered : Numbered) (view : View) (around : Around) (lead : LeadNames numbered view around) where
   abbrev read_of : Name → ShownSelectors → PlainExpr
@@ -48,9 +59,23 @@ module _ (numbered : Numbered) (view : View) (around : Around) (lead : LeadNames
   walked name selectors =
       judging.along numbered.table view name (variable_start name (sense_from numbered.table view (name_text name))) selectors
 
+  abbrev control_of : Name → Bool
+  control_of name = is_control (sense_from numbered.table view (name_text name))
+
+  -- where a reference is there
+  abbrev Stands : Name → ShownSelectors → Type 0
+  Stands name selectors =
+      IsSoundAt around (control_of name) (walked name selectors).standing
+      (along numbered view (walk_from (meant numbered view name)) selectors)
+
+  -- a reference that stands alone, in no brackets
+  abbrev StandsAlone : ShownExpr → Type 0
+  StandsAlone (OfOperand [] (OfRef name selectors at) end) = Stands name selectors
+  StandsAlone e = Unit {0}
+
   ref_sound : (name : Name) (selectors : ShownSelectors) (c : Option Callee) →
       callee_of (sense_from numbered.table view (name_text name)) ≡ c →
-      IsSoundAt around (walked name selectors).standing (along numbered view (walk_from (meant numbered view name)) selectors) →
+      Stands name selectors →
       ((callee : Callee) → (applied numbered.table view name callee selectors).well ≡ true →
       Suit around (param_cells callee.parameters) (resolve_call numbered view callee.parameters selectors)) →
       (kind : Kind) → (called_or c (λ callee. call_value name callee (applied numbered.table view name callee selectors))
@@ -59,7 +84,7 @@ module _ (numbered : Numbered) (view : View) (around : Around) (lead : LeadNames
   ref_sound name selectors None found stands suits kind is =
       subst (λ parameters. HasKind around (resolved.called_or parameters (call_of name selectors) (read_of name selectors)) kind)
       (sym (same_params numbered view name ∙ ap params_of_callee found))
-      (read_sound around name (walked name selectors).standing
+      (read_sound around (control_of name) name (walked name selectors).standing
       (along numbered view (walk_from (meant numbered view name)) selectors) kind stands is)
   ref_sound name selectors (Some callee) found stands suits kind is =
       let parts = well_is (applied numbered.table view name callee selectors).well (result_kind callee) kind is in
@@ -74,44 +99,47 @@ module _ (numbered : Numbered) (view : View) (around : Around) (lead : LeadNames
       )
 
   -- an argument for an IDENT parameter
-  named_suits : (place : ℕ) (name : Name) (selectors : ShownSelectors) (to value : Option Kind) (c : Option Callee) →
-      callee_of (sense_from numbered.table view (name_text name)) ≡ c →
-      ((kind : Kind) → value ≡ Some kind →
-      HasKind around (resolved.called_or (params_of (meant numbered view name)) (call_of name selectors) (read_of name selectors)) kind) →
+  named_suits : (place : ℕ) (name : Name) (selectors : ShownSelectors) (to : Option Kind) (c : Option Callee) →
+      callee_of (sense_from numbered.table view (name_text name)) ≡ c → Stands name selectors →
       (if is_some c then no_variable place else
-      variable_argument place (is_fixed (sense_from numbered.table view (name_text name))) to value).well ≡ true →
+      variable_argument place (is_fixed (sense_from numbered.table view (name_text name))) to
+      (called_or c (λ callee. call_value name callee (applied numbered.table view name callee selectors))
+      (as_value name (walked name selectors))).kind).well ≡ true →
       SuitsParam around (param_cell true (unwrap_or to (Fixed 31)))
       (handed true (resolved.called_or (params_of (meant numbered view name)) (call_of name selectors) (read_of name selectors)))
-  named_suits place name selectors to value (Some callee) found sound well = absurd (true≢false (sym well))
-  named_suits place name selectors to value None found sound well =
-      let none = same_params numbered view name ∙ ap params_of_callee found in
+  named_suits place name selectors to (Some callee) found stands well = absurd (true≢false (sym well))
+  named_suits place name selectors to None found stands well =
+      let walk = along numbered view (walk_from (meant numbered view name)) selectors in
       subst (λ parameters. SuitsParam around (param_cell true (unwrap_or to (Fixed 31)))
-      (handed true (resolved.called_or parameters (call_of name selectors) (read_of name selectors)))) (sym none)
-      (variable_suits around place (is_fixed (sense_from numbered.table view (name_text name)))
-      (variable_of (along numbered view (walk_from (meant numbered view name)) selectors)) to value
-      (λ kind is. subst (λ parameters. HasKind around (resolved.called_or parameters (call_of name selectors) (read_of name selectors)) kind)
-      none (sound kind is)) well)
+      (handed true (resolved.called_or parameters (call_of name selectors) (read_of name selectors))))
+      (sym (same_params numbered view name ∙ ap params_of_callee found))
+      (variable_suits around place (is_fixed (sense_from numbered.table view (name_text name))) (variable_of walk) to
+      (as_value name (walked name selectors)).kind
+      (λ kind free is. subst (λ control. Reads around control (variable_of walk) kind)
+      (no_control (sense_from numbered.table view (name_text name)) free)
+      (reads_is around (control_of name) name (walked name selectors).standing walk kind stands is)) well)
 
-  ident_suits : (place : ℕ) (e : ShownExpr) (to value : Option Kind) →
-      ((kind : Kind) → value ≡ Some kind → HasKind around (resolve_expr numbered view e) kind) →
-      (ident_argument numbered.table view place to value (plain_name e)).well ≡ true →
+  ident_suits : (place : ℕ) (e : ShownExpr) (to : Option Kind) → StandsAlone e →
+      (ident_argument numbered.table view place to (judged numbered.table view e).kind (plain_name e)).well ≡ true →
       SuitsParam around (param_cell true (unwrap_or to (Fixed 31))) (handed true (resolve_expr numbered view e))
-  ident_suits place (OfOperand [] (OfRef name selectors at) end) to value sound well =
-      named_suits place name selectors to value (callee_of (sense_from numbered.table view (name_text name))) refl sound well
-  ident_suits place (OfOperand [] (OfLiteral part) end) to value sound well = absurd (true≢false (sym well))
-  ident_suits place (OfOperand [] (OfGroup inner at) end) to value sound well = absurd (true≢false (sym well))
-  ident_suits place (OfOperand [] (OfNow at) end) to value sound well = absurd (true≢false (sym well))
-  ident_suits place (OfOperand [] (OfTry name at) end) to value sound well = absurd (true≢false (sym well))
-  ident_suits place (OfOperand [] (OfLimit dimension side name selectors at other) end) to value sound well = absurd (true≢false (sym well))
-  ident_suits place (OfOperand (monadic ∷ rest) part end) to value sound well = absurd (true≢false (sym well))
-  ident_suits place (OfDyadic left dyadic right end) to value sound well = absurd (true≢false (sym well))
+  ident_suits place (OfOperand [] (OfRef name selectors at) end) to stands well =
+      named_suits place name selectors to (callee_of (sense_from numbered.table view (name_text name))) refl stands well
+  ident_suits place (OfOperand [] (OfLiteral part) end) to stands well = absurd (true≢false (sym well))
+  ident_suits place (OfOperand [] (OfGroup inner at) end) to stands well = absurd (true≢false (sym well))
+  ident_suits place (OfOperand [] (OfNow at) end) to stands well = absurd (true≢false (sym well))
+  ident_suits place (OfOperand [] (OfTry name at) end) to stands well = absurd (true≢false (sym well))
+  ident_suits place (OfOperand [] (OfLimit dimension side name selectors at other) end) to stands well = absurd (true≢false (sym well))
+  ident_suits place (OfOperand (monadic ∷ rest) part end) to stands well = absurd (true≢false (sym well))
+  ident_suits place (OfDyadic left dyadic right end) to stands well = absurd (true≢false (sym well))
 
-  argument_suits : (e : ShownExpr) (ident : Bool) (to value : Option Kind) →
-      ((kind : Kind) → value ≡ Some kind → HasKind around (resolve_expr numbered view e) kind) →
-      (fitted numbered.table view (record { kind = to; ident = ident }) e value).well ≡ true →
+  argument_suits : (e : ShownExpr) (ident : Bool) (to : Option Kind) →
+      ((kind : Kind) → (judged numbered.table view e).kind ≡ Some kind → HasKind around (resolve_expr numbered view e) kind) →
+      StandsAlone e →
+      (fitted numbered.table view (record { kind = to; ident = ident }) e (judged numbered.table view e).kind).well ≡ true →
       SuitsParam around (param_cell ident (unwrap_or to (Fixed 31))) (handed ident (resolve_expr numbered view e))
-  argument_suits e true to value sound well = ident_suits (expr_place e) e to value sound well
-  argument_suits e false to value sound well = value_suits around (expr_place e) (resolve_expr numbered view e) to value sound well
+  argument_suits e true to sound stands well = ident_suits (expr_place e) e to stands well
+  argument_suits e false to sound stands well =
+      value_suits around (expr_place e) (resolve_expr numbered view e) to (judged numbered.table view e).kind sound well
 
   no_arguments : (parameters : List Parameter) (more : Bool) → (0 == length parameters && more) ≡ true →
       Suit around (param_cells parameters) NoArguments
@@ -139,41 +167,53 @@ module _ (numbered : Numbered) (view : View) (around : Around) (lead : LeadNames
     primary_sound (OfLiteral part) lits kind is = lits kind is
     primary_sound (OfRef name selectors place) lits kind is =
         ref_sound name selectors (callee_of (sense_from numbered.table view (name_text name))) refl
-        (along_sound name (variable_start name (sense_from numbered.table view (name_text name))) (walk_from (meant numbered view name))
-        selectors lits (starts_sound numbered view around lead name))
+        (along_sound name (control_of name) (variable_start name (sense_from numbered.table view (name_text name)))
+        (walk_from (meant numbered view name)) selectors lits (starts_sound numbered view around lead name))
         (λ callee well. call_suits name callee selectors lits well) kind is
     primary_sound (OfGroup inner place) lits kind is = expr_sound inner lits kind is
     primary_sound (OfNow place) lits kind is = sym (some_one is)
     primary_sound (OfTry name place) lits kind is =
         let parts = try_is name (sense_from numbered.table view (name_text name)) kind is in (lead.semaphores name parts.0, parts.1)
     primary_sound (OfLimit dimension side name selectors ref_place place) lits kind is =
-        limit_sound around name (dimension_of dimension) side (along numbered view (walk_from (meant numbered view name)) selectors)
+        limit_sound around (control_of name) name (dimension_of dimension) side (along numbered view (walk_from (meant numbered view name)) selectors)
         (walked name selectors).standing kind
-        (along_sound name (variable_start name (sense_from numbered.table view (name_text name))) (walk_from (meant numbered view name))
-        selectors lits (starts_sound numbered view around lead name)) is
+        (along_sound name (control_of name) (variable_start name (sense_from numbered.table view (name_text name)))
+        (walk_from (meant numbered view name)) selectors lits (starts_sound numbered view around lead name)) is
 
-    along_sound : (name : Name) (before : Walked) (walk : Walk) (selectors : ShownSelectors) →
-        SelectorsHaveLiterals numbered.table.lengths selectors → IsSoundAt around before.standing walk →
-        IsSoundAt around (judging.along numbered.table view name before selectors).standing (along numbered view walk selectors)
-    along_sound name before walk NoSelectors lits stands = stands
-    along_sound name before walk (MoreSelectors selector rest) lits stands =
-        along_sound name (behind before.faults (judging.step numbered.table view name before.standing selector))
-        (step numbered view walk selector) rest lits.1 (step_sound name before.standing walk selector lits.0 stands)
+    stands_alone : (e : ShownExpr) → HasLiterals numbered.table.lengths e → StandsAlone e
+    stands_alone (OfOperand [] (OfRef name selectors at) end) lits =
+        along_sound name (control_of name) (variable_start name (sense_from numbered.table view (name_text name)))
+        (walk_from (meant numbered view name)) selectors lits (starts_sound numbered view around lead name)
+    stands_alone (OfOperand [] (OfLiteral part) end) lits = tt
+    stands_alone (OfOperand [] (OfGroup inner at) end) lits = tt
+    stands_alone (OfOperand [] (OfNow at) end) lits = tt
+    stands_alone (OfOperand [] (OfTry name at) end) lits = tt
+    stands_alone (OfOperand [] (OfLimit dimension side name selectors at other) end) lits = tt
+    stands_alone (OfOperand (monadic ∷ rest) part end) lits = tt
+    stands_alone (OfDyadic left dyadic right end) lits = tt
 
-    step_sound : (name : Name) (standing : Standing) (walk : Walk) (selector : ShownSelector) →
-        SelectorHasLiterals numbered.table.lengths selector → IsSoundAt around standing walk →
-        IsSoundAt around (judging.step numbered.table view name standing selector).standing (step numbered view walk selector)
-    step_sound name Broken walk (OfSubscripts exprs place) lits stands = tt
-    step_sound name (Open dimensions shape) walk (OfSubscripts exprs place) lits stands =
+    along_sound : (name : Name) (control : Bool) (before : Walked) (walk : Walk) (selectors : ShownSelectors) →
+        SelectorsHaveLiterals numbered.table.lengths selectors → IsSoundAt around control before.standing walk →
+        IsSoundAt around control (judging.along numbered.table view name before selectors).standing (along numbered view walk selectors)
+    along_sound name control before walk NoSelectors lits stands = stands
+    along_sound name control before walk (MoreSelectors selector rest) lits stands =
+        along_sound name control (behind before.faults (judging.step numbered.table view name before.standing selector))
+        (step numbered view walk selector) rest lits.1 (step_sound name control before.standing walk selector lits.0 stands)
+
+    step_sound : (name : Name) (control : Bool) (standing : Standing) (walk : Walk) (selector : ShownSelector) →
+        SelectorHasLiterals numbered.table.lengths selector → IsSoundAt around control standing walk →
+        IsSoundAt around control (judging.step numbered.table view name standing selector).standing (step numbered view walk selector)
+    step_sound name control Broken walk (OfSubscripts exprs place) lits stands = tt
+    step_sound name control (Open dimensions shape) walk (OfSubscripts exprs place) lits stands =
         let parts = judged_all numbered.table view exprs in
-        element_sound around name.place rule.S17 (length parts == dimensions && all_fixed parts) (all_known parts) shape
+        element_sound around control name.place rule.S17 (length parts == dimensions && all_fixed parts) (all_known parts) shape
         (step numbered view walk (OfSubscripts exprs place))
         (λ test known. let tests = both (length parts == dimensions) (all_fixed parts) test in
-        subscripts_sound around dimensions shape walk (resolve_exprs numbered view exprs) stands
+        subscripts_sound around control dimensions shape walk (resolve_exprs numbered view exprs) stands
         (counted exprs ∙ eqb-true (length parts) dimensions tests.0) (exprs_fixed exprs lits tests.1 known))
-    step_sound name Broken walk (OfComponent field place) lits stands = tt
-    step_sound name (Open zero shape) walk (OfComponent field place) lits stands = component_sound around field walk shape stands
-    step_sound name (Open (suc n) shape) walk (OfComponent field place) lits stands = tt
+    step_sound name control Broken walk (OfComponent field place) lits stands = tt
+    step_sound name control (Open zero shape) walk (OfComponent field place) lits stands = component_sound around control field walk shape stands
+    step_sound name control (Open (suc n) shape) walk (OfComponent field place) lits stands = tt
 
     exprs_fixed : (exprs : ShownExprs) → HaveLiterals numbered.table.lengths exprs →
         all_fixed (judged_all numbered.table view exprs) ≡ true → all_known (judged_all numbered.table view exprs) ≡ true →
@@ -217,18 +257,24 @@ module _ (numbered : Numbered) (view : View) (around : Around) (lead : LeadNames
     arguments_suit (parameter ∷ parameters) (MoreExprs e rest) lits same well =
         let wells = both (argument_of numbered.table view (Some parameter) e (judged numbered.table view e)).well
         (all_well (arguments numbered.table view parameters rest)) well in (
-          argument_suits e parameter.ident parameter.kind (judged numbered.table view e).kind
-              (λ kind is. expr_sound e lits.0 kind is) wells.0,
+          argument_suits e parameter.ident parameter.kind (λ kind is. expr_sound e lits.0 kind is) (stands_alone e lits.0) wells.0,
           arguments_suit parameters rest lits.1 (omega (arith, same)) wells.1,
         )
 
-  pub target_sound : (reference : ShownRef) → SelectorsHaveLiterals numbered.table.lengths reference.selectors → (kind : Kind) →
+  -- a reference by itself
+  ref_stands : (name : Name) (selectors : ShownSelectors) → SelectorsHaveLiterals numbered.table.lengths selectors → Stands name selectors
+  ref_stands name selectors lits =
+      along_sound name (control_of name) (variable_start name (sense_from numbered.table view (name_text name)))
+      (walk_from (meant numbered view name)) selectors lits (starts_sound numbered view around lead name)
+
+  pub target_sound : (reference : ShownRef) → SelectorsHaveLiterals numbered.table.lengths reference.selectors →
+      is_control (sense_from numbered.table view (name_text reference.name)) ≡ false → (kind : Kind) →
       (judged_variable numbered.table view reference).kind ≡ Some kind → IsVariable around (resolve_variable numbered view reference) kind
-  target_sound reference lits kind is =
-      read_sound around reference.name (walked reference.name reference.selectors).standing
+  target_sound reference lits free kind is =
+      subst (λ control. Reads around control (resolve_variable numbered view reference) kind) free
+      (reads_is around (control_of reference.name) reference.name (walked reference.name reference.selectors).standing
       (along numbered view (walk_from (meant numbered view reference.name)) reference.selectors) kind
-      (along_sound reference.name (variable_start reference.name (sense_from numbered.table view (name_text reference.name)))
-      (walk_from (meant numbered view reference.name)) reference.selectors lits (starts_sound numbered view around lead reference.name)) is
+      (ref_stands reference.name reference.selectors lits) is)
 
   pub call_sound : (name : Name) (callee : Callee) (exprs : ShownExprs) → HaveLiterals numbered.table.lengths exprs →
       callee_of (sense_from numbered.table view (name_text name)) ≡ Some callee →
@@ -248,6 +294,7 @@ module _ (numbered : Numbered) (view : View) (around : Around) (lead : LeadNames
 pub all_sound : (numbered : Numbered) (view : View) (around : Around) → LeadNames numbered view around →
     ((e : ShownExpr) → HasLiterals numbered.table.lengths e → (kind : Kind) →
     (judged numbered.table view e).kind ≡ Some kind → HasKind around (resolve_expr numbered view e) kind) ×
-    ((reference : ShownRef) → SelectorsHaveLiterals numbered.table.lengths reference.selectors → (kind : Kind) →
+    ((reference : ShownRef) → SelectorsHaveLiterals numbered.table.lengths reference.selectors →
+    is_control (sense_from numbered.table view (name_text reference.name)) ≡ false → (kind : Kind) →
     (judged_variable numbered.table view reference).kind ≡ Some kind → IsVariable around (resolve_variable numbered view reference) kind)
 all_sound numbered view around lead = (expr_sound numbered view around lead, target_sound numbered view around lead)

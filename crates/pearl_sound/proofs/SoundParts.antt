@@ -22,7 +22,7 @@ use Rattle.pearl_names.specs.declared.meaning.Found.{Found}
 use Rattle.pearl_names.specs.Found.{found_from}
 use Rattle.pearl_names.specs.Tables.{Parameter, Sense, Variable, Control, OwnParameter, NewType, Semaphore, Interrupt, AlphicDation, BasicDation, Task, Procedure, sense_at, sense_from}
 use Rattle.pearl_check_expr.specs.Kinds.{suits_kind, is_kind}
-use Rattle.pearl_check_expr.specs.Senses.{Callee, callee_of}
+use Rattle.pearl_check_expr.specs.Senses.{Callee, callee_of, is_fixed}
 use Rattle.pearl_check_expr.specs.Standings.{Judged, Standing, Broken, Open, is_fixed_or_unknown, faulty}
 use Rattle.pearl_check_expr.specs.Judged.{result_of, monadic_result, dyadic_result, with_monadics, try_judged, limit_of, variable_argument, value_argument, if_well}
 use Rattle.pearl_check_expr.proofs.Suiting.{suits_both}
@@ -31,6 +31,7 @@ use Rattle.pearl_program.specs.PlainExpressions.{PlainExpr, OfRead, PlainVariabl
 use Rattle.pearl_program.specs.Typing.{Around, IsBound, HasKind, IsVariable, SuitsParam}
 use Rattle.pearl_resolve.specs.Expressions.{Numbered, number_at, meant_at, meant, Walk, count, params_of, handed, monadics_over, open_bounds, limit_value}
 use Rattle.pearl_resolve.specs.Cells.{param_cell}
+use Rattle.pearl_sound.specs.SoundNames.{is_control}
 use Rattle.pearl_sound.proofs.Subscripting.{sound_behind}
 use Rattle.pearl_sound.proofs.SoundWalks.{IsSoundAt}
 
@@ -92,11 +93,11 @@ bound_there around side [] i below sound = absurd (omega (arith, below))
 bound_there around side (bound ∷ rest) zero below sound = bound_is around side bound sound.0
 bound_there around side (bound ∷ rest) (suc i) below sound = bound_there around side rest i (omega (arith, below)) sound.1
 
-pub limit_sound : (around : Around) (name : Name) (dimension : ℕ) (side : Side) (walk : Walk) (standing : Standing) (kind : Kind) →
-    IsSoundAt around standing walk → (limit_of name dimension standing).kind ≡ Some kind →
+pub limit_sound : (around : Around) (control : Bool) (name : Name) (dimension : ℕ) (side : Side) (walk : Walk) (standing : Standing) (kind : Kind) →
+    IsSoundAt around control standing walk → (limit_of name dimension standing).kind ≡ Some kind →
     HasKind around (limit_value side (slice_get (open_bounds walk) (dimension - 1))) kind
-limit_sound around name dimension side walk Broken kind stands is = absurd (none-some kind is)
-limit_sound around name dimension side walk (Open dimensions shape) kind stands is =
+limit_sound around control name dimension side walk Broken kind stands is = absurd (none-some kind is)
+limit_sound around control name dimension side walk (Open dimensions shape) kind stands is =
     by (nat_le 1 dimension) (nat_le dimension dimensions) refl refl is
   where
     by : (low high : Bool) → nat_le 1 dimension ≡ low → nat_le dimension dimensions ≡ high →
@@ -130,6 +131,20 @@ pub fixed_is : (kind : Kind) → is_fixed_or_unknown (Some kind) ≡ true → (l
 fixed_is (Fixed len) is = (len, refl)
 fixed_is kind is = absurd (true≢false (sym is))
 
+-- what may be changed is no control variable
+pub no_control : (sense : Option Sense) → is_fixed sense ≡ false → is_control sense ≡ false
+no_control None is = refl
+no_control (Some (Variable form inv)) is = refl
+no_control (Some (Control of)) is = is
+no_control (Some (OwnParameter parameter)) is = refl
+no_control (Some NewType) is = refl
+no_control (Some Semaphore) is = refl
+no_control (Some Interrupt) is = refl
+no_control (Some (AlphicDation direction)) is = refl
+no_control (Some (BasicDation direction of)) is = refl
+no_control (Some Task) is = refl
+no_control (Some (Procedure parameters result)) is = refl
+
 -- arguments
 pub value_suits : (around : Around) (place : ℕ) (e : PlainExpr) (to value : Option Kind) →
     ((kind : Kind) → value ≡ Some kind → HasKind around e kind) → (value_argument place to value).well ≡ true →
@@ -140,13 +155,14 @@ value_suits around place e (Some to) (Some from) sound well =
     (from, sound from refl, (suits_both from to).0 (not_not (suits_kind from to) well))
 
 pub variable_suits : (around : Around) (place : ℕ) (fixed : Bool) (variable : PlainVariable) (to value : Option Kind) →
-    ((kind : Kind) → value ≡ Some kind → HasKind around (OfRead variable) kind) → (variable_argument place fixed to value).well ≡ true →
+    ((kind : Kind) → fixed ≡ false → value ≡ Some kind → IsVariable around variable kind) →
+    (variable_argument place fixed to value).well ≡ true →
     SuitsParam around (param_cell true (unwrap_or to (Fixed 31))) (handed true (OfRead variable))
 variable_suits around place true variable to value sound well = absurd (true≢false (sym well))
 variable_suits around place false variable to None sound well = absurd (true≢false (sym well))
 variable_suits around place false variable None (Some from) sound well = absurd (true≢false (sym well))
 variable_suits around place false variable (Some to) (Some from) sound well =
-    subst (λ kind. IsVariable around variable kind) (same_kinds from to (not_not (is_kind from to) well)) (sound from refl)
+    subst (λ kind. IsVariable around variable kind) (same_kinds from to (not_not (is_kind from to) well)) (sound from refl refl)
 
 pub well_is : (well : Bool) (result : Option Kind) (kind : Kind) → if_well well result ≡ Some kind → (well ≡ true) × (result ≡ Some kind)
 well_is true result kind is = (refl, is)

@@ -1,6 +1,6 @@
 // What holds of the scopes, cells and formats that statements go past, and of what expressions and targets become.
 
-ghost use Rattle.pearl_sound.specs.Laws.{CallsAreSound, ExpressionsAreSound, LiteralsAreValues, NamesHaveTheirCells, RoutinesHaveCells, StatementsGoPast, TargetsHaveTheirKind};
+ghost use Rattle.pearl_sound.specs.Laws.{CallsAreSound, ExpressionsAreSound, LiteralsAreValues, NamesHaveTheirCells, NamesNameOthers, NamesShareNoCells, RoutinesHaveCells, StatementsGoPast, TargetsHaveTheirKind};
 
 /// Behind some statements the counters stand at what comes behind the scopes, cells and formats of these.
 pub fn statements_go_past()
@@ -36,4 +36,14 @@ pub fn calls_are_sound()
 /// In the cells of a scope those of each name lie where its number says.
 pub fn names_have_their_cells()
     ensures { NamesHaveTheirCells }
+{}
+
+/// The cells of two names of a scope are others.
+pub fn names_share_no_cells()
+    ensures { NamesShareNoCells }
+{}
+
+/// Two names of the module don't name the same leaf, semaphore or task, nor the same place among the procedures' numbers.
+pub fn names_name_others()
+    ensures { NamesNameOthers }
 {}
