@@ -1,2 +1,4 @@
 pub mod OneKind
 pub mod FirstValues
+pub mod WholeProgram
+mod Unsound

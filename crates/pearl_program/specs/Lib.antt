@@ -6,6 +6,8 @@ pub mod PlainStatements
 pub mod PlainPrograms
 -- which kinds the expressions of a program have
 pub mod Typing
+-- which cells of a routine are hidden
+pub mod HiddenCells
 -- which statements of a program are sound
 pub mod SoundStatements
 -- how many cells a routine's operands and calls need beside its own

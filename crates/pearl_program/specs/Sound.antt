@@ -1,8 +1,8 @@
--- Which programs are sound: every number names a thing of the needed sort, every value suits, no procedure calls its
--- own or a greater number, and every size is in its range.
-use Rattle.std.specs.Prelude.{◌≡◌, ◌⊎◌, ℕ, ◌<◌, ◌≤◌, ◌^◌, Bool, false, ◌&&◌, ◌||◌, ◌==◌, nat_le, IsTrue, List, [], ◌∷◌, ◌++◌, length, map, take, drop, slice_index, Option, Some, None}
+-- Which programs are sound: every number names a thing of the needed sort, every value suits, hidden cells serve nothing
+-- else, no procedure calls its own or a greater number, and every size is in its range.
+use Rattle.std.specs.Prelude.{◌≡◌, ◌⊎◌, ℕ, ◌+◌, ◌<◌, ◌≤◌, ◌^◌, Bool, false, ◌&&◌, ◌||◌, ◌==◌, nat_eq, nat_le, IsTrue, List, [], ◌∷◌, length, map, take, drop, slice_index, Option, Some, None}
 use Rattle.std.specs.Char.{is_ascii_alphabetic, is_ascii_digit}
-use Rattle.std.specs.List.{AllByRecursion, list_all, sum_by}
+use Rattle.std.specs.List.{AllByRecursion, IsDistinct, list_all, sum_by}
 use Rattle.pearl_value.specs.declared.kind.Kind.{Kind}
 use Rattle.pearl_value.specs.declared.kind.CellKind.{CellKind}
 use Rattle.pearl_value.specs.declared.kind.CellKind.TheVariants.{Plain, RefTo}
@@ -12,10 +12,11 @@ use Rattle.pearl_format.specs.declared.item.Item.{Item}
 use Rattle.pearl_format.specs.Items.{HasWidth}
 use Rattle.pearl_program.specs.declared.table.Device.{Device}
 use Rattle.pearl_program.specs.declared.table.Device.TheVariants.{Interrupt, Terminal, Input, Output}
-use Rattle.pearl_program.specs.PlainPrograms.{PlainLeaf, PlainProcedure, PlainTask, PlainProg}
+use Rattle.pearl_program.specs.PlainPrograms.{PlainLeaf, PlainRoutine, PlainProcedure, PlainTask, PlainProg}
 use Rattle.pearl_program.specs.Typing.{Signature, Around}
 use Rattle.pearl_program.specs.SoundStatements.{IsIf, AreFirst, AreStmts}
-use Rattle.pearl_program.specs.Weights.{weight, weights_of}
+use Rattle.pearl_program.specs.HiddenCells.{hidden_in_all}
+use Rattle.pearl_program.specs.Weights.{calls, greatest_of_all, weight, weights_of}
 
 -- a leaf's name has from 1 to 1,024 bytes from 32 to 126
 pub record IsLeaf (leaf : PlainLeaf) : Type 0 where
@@ -71,54 +72,58 @@ abbrev pub IsPlain : CellKind → Type 0
 IsPlain (Plain kind) = IsKind kind
 IsPlain (RefTo kind) = ⊥
 
--- what stands around a routine's statements, where these procedures may be called
-abbrev pub around_of : PlainProg → List Signature → List CellKind → Option (Option Kind) → Around
-around_of p procedures cells returns = record {
+abbrev pub signature_of : PlainProcedure → Signature
+signature_of procedure =
+    record { params = take procedure.params procedure.routine.cells; result = procedure.result }
+
+-- what stands around a routine's statements
+abbrev pub around_of : PlainProg → PlainRoutine → Option (Option Kind) → Around
+around_of p routine returns = record {
   leaves = p.leaves;
   semaphores = length p.semaphores;
   devices = p.devices;
   formats = p.formats;
   tasks = length p.tasks;
-  procedures = procedures;
-  cells = cells;
+  procedures = map signature_of p.procedures;
+  cells = routine.cells;
+  hidden = hidden_in_all routine.body;
+  controls = [];
   returns = returns;
   in_loop = false;
 }
 
-abbrev pub signature_of : PlainProcedure → Signature
-signature_of procedure =
-    record { params = take procedure.params procedure.routine.cells; result = procedure.result }
+-- a routine with so many parameters. A cell that is none is no reference. No hidden cell is a parameter, or two at once
+pub record IsRoutine (p : PlainProg) (count : ℕ) (returns : Option (Option Kind)) (routine : PlainRoutine) : Type 0 where
+  pub params : AllByRecursion IsCellKind (take count routine.cells)
+  pub others : AllByRecursion IsPlain (drop count routine.cells)
+  pub behind : AllByRecursion (λ cell. count ≤ cell) (hidden_in_all routine.body)
+  pub apart : IsDistinct nat_eq (hidden_in_all routine.body)
+  pub body : AreStmts (around_of p routine returns) routine.body
 
--- a cell that isn't a parameter is no reference
-pub record IsProcedure (p : PlainProg) (callable : List Signature) (procedure : PlainProcedure) : Type 0 where
+pub record IsProcedure (p : PlainProg) (procedure : PlainProcedure) : Type 0 where
   pub few : procedure.params ≤ length procedure.routine.cells
-  pub params : AllByRecursion IsCellKind (take procedure.params procedure.routine.cells)
-  pub others : AllByRecursion IsPlain (drop procedure.params procedure.routine.cells)
   pub result : IsIf IsKind procedure.result
-  pub body : AreStmts (around_of p callable procedure.routine.cells (Some procedure.result)) procedure.routine.body
+  pub routine : IsRoutine p procedure.params (Some procedure.result) procedure.routine
 
--- each may call those of smaller numbers
-abbrev pub AreProcedures : PlainProg → List Signature → List PlainProcedure → Type 0
-AreProcedures p callable [] = Unit {0}
-AreProcedures p callable (procedure ∷ rest) =
-    IsProcedure p callable procedure × AreProcedures p (callable ++ signature_of procedure ∷ []) rest
+-- where the first of these has this number
+abbrev pub CallSmaller : ℕ → List PlainProcedure → Type 0
+CallSmaller number [] = Unit {0}
+CallSmaller number (procedure ∷ rest) =
+    (greatest_of_all calls procedure.routine.body ≤ number) × CallSmaller (number + 1) rest
 
 -- a letter, a digit or `_`
 abbrev pub is_name_byte : ℕ → Bool
 is_name_byte b = is_ascii_alphabetic b || is_ascii_digit b || b == 95
 
--- an id begins with a letter, goes on with letters, digits and `_`, and has at most 63 bytes; that it is also none
--- of the
+-- an id begins with a letter, goes on with letters, digits and `_`, and has at most 63 bytes; that it is also none of the
 -- language's words isn't asked here
 abbrev pub is_id : List ℕ → Bool
 is_id name = is_ascii_alphabetic (slice_index name 0) && list_all is_name_byte name && nat_le (length name) 63
 
--- a task may call all procedures
 pub record IsTask (p : PlainProg) (task : PlainTask) : Type 0 where
   pub named : IsTrue (is_id task.name)
   pub urgent : (0 < task.priority) × (task.priority ≤ 255)
-  pub cells : AllByRecursion IsPlain task.routine.cells
-  pub body : AreStmts (around_of p (map signature_of p.procedures) task.routine.cells None) task.routine.body
+  pub routine : IsRoutine p 0 None task.routine
 
 abbrev pub IsPreset : ℕ → Type 0
 IsPreset preset = preset < 2 ^ 31
@@ -139,6 +144,7 @@ pub record IsSound (p : PlainProg) : Type 0 where
   pub devices : AllByRecursion IsDevice p.devices
   pub rising : AreRising p.devices
   pub formats : AllByRecursion IsFormat p.formats
-  pub procedures : AreProcedures p [] p.procedures
+  pub procedures : AllByRecursion (IsProcedure p) p.procedures
+  pub order : CallSmaller 0 p.procedures
   pub tasks : AllByRecursion (IsTask p) p.tasks
   pub sizes : HasSizes p

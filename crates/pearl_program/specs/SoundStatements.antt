@@ -1,5 +1,6 @@
 -- Which statements of a program are sound: every number in them names a thing of the needed sort, and every value suits.
-use Rattle.std.specs.Prelude.{◌≡◌, ℕ, ◌+◌, ◌<◌, ◌≤◌, true, nat_eq, List, ◌++◌, length, map, take, drop, replicate, Option, Some, None, slice_get}
+-- Control variables aren't assigned, and no variable lies in hidden cells.
+use Rattle.std.specs.Prelude.{◌≡◌, ℕ, ◌+◌, ◌<◌, ◌≤◌, true, nat_eq, List, [], ◌∷◌, ◌++◌, length, map, take, drop, replicate, Option, Some, None, slice_get}
 use Rattle.std.specs.List.{AllByRecursion, AllZip, IsDistinct}
 use Rattle.pearl_value.specs.declared.kind.Kind.{Kind}
 use Rattle.pearl_value.specs.declared.kind.Kind.TheVariants.{Fixed, Bits, Clock, Span}
@@ -15,7 +16,7 @@ use Rattle.pearl_program.specs.declared.table.Device.{Device}
 use Rattle.pearl_program.specs.declared.table.Device.TheVariants.{Interrupt, Terminal, Input, Output}
 use Rattle.pearl_program.specs.PlainExpressions.{PlainExpr, PlainVariable, PlainExprs, PlainArguments}
 use Rattle.pearl_program.specs.PlainStatements.{PlainValues, PlainPeriodEnd, OfUntil, OfDuring, PlainPeriod, PlainStart, OfAt, OfAfter, OfWhen, OfWhenAfter, PlainOnce, OnceAt, OnceAfter, OnceWhen, PlainCounter, PlainStmt, OfRenew, OfAssign, OfCallOf, OfIf, OfCase, OfRepeat, OfExit, OfReturn, OfActivate, OfContinue, OfResume, OfSuspend, OfTerminate, OfPrevent, OfRequest, OfRelease, OfEnable, OfDisable, OfTrigger, OfPut, OfGet, OfSend, OfTake, PlainStmts, NoStmts, MoreStmts, PlainBranches, NoBranches, MoreBranches}
-use Rattle.pearl_program.specs.Typing.{Signature, Around, AreCells, HasKind, IsVariable, Suit, HasValueFor, IsFixed, HaveKinds}
+use Rattle.pearl_program.specs.Typing.{Signature, Around, AreCells, AreOwn, HasKind, IsVariable, Suit, HasValueFor, IsFixed, HaveKinds}
 
 -- where it is there
 abbrev pub IsIf : {X : Type 0} → (X → Type 0) → Option X → Type 0
@@ -30,7 +31,7 @@ pub record AreFirst (values : PlainValues) : Type 0 where
   pub constants : AllByRecursion (IsValueOf values.kind) values.constants
 
 abbrev pub IsRenewal : Around → ℕ → PlainValues → Type 0
-IsRenewal around cell values = AreFirst values × AreCells around.cells cell values.count (Plain values.kind)
+IsRenewal around cell values = AreFirst values × AreOwn around cell values.count values.kind
 
 abbrev pub IsAssign : Around → PlainVariable → PlainExpr → Type 0
 IsAssign around target value = (to : Kind) × IsVariable around target to × HasValueFor around value to
@@ -156,6 +157,14 @@ abbrev pub IsTake : Around → PlainVariable → ℕ → Type 0
 IsTake around target device =
     (from : Kind) × (to : Kind) × IsInput (slice_get around.devices device) from × IsVariable around target to × SuitsKind from to
 
+abbrev pub with_control : Option PlainCounter → List ℕ → List ℕ
+with_control None controls = controls
+with_control (Some counter) controls = counter.cell ∷ controls
+
+-- what stands around the condition and the statements of a loop
+abbrev pub within : Around → Option PlainCounter → Around
+within around counter = record around { in_loop = true; controls = with_control counter around.controls }
+
 abbrev mutual
   pub IsStmt : Around → PlainStmt → Type 0
   IsStmt around (OfRenew cell values) = IsRenewal around cell values
@@ -166,7 +175,8 @@ abbrev mutual
   IsStmt around (OfCase selector alternatives otherwise) =
       IsFixed around selector × AreBranches around alternatives × AreStmts around otherwise
   IsStmt around (OfRepeat counter condition statements) =
-      IsIf (IsCounter around) counter × IsIf (IsCondition around) condition × AreStmts (record around { in_loop = true }) statements
+      IsIf (IsCounter around) counter × IsIf (IsCondition (within around counter)) condition ×
+      AreStmts (within around counter) statements
   IsStmt around OfExit = around.in_loop ≡ true
   IsStmt around (OfReturn value) = IsReturn around around.returns value
   IsStmt around (OfActivate task start period priority) = IsActivate around task start period priority

@@ -1,6 +1,7 @@
 -- Which kinds the expressions of a program have, and which variables and arguments there are: every number names a
 -- thing of the needed sort, and every operator has a row for its operands.
-use Rattle.std.specs.Prelude.{◌≡◌, ℕ, ◌+◌, ◌-◌, ◌*◌, ◌^◌, ◌<◌, pos, negsuc, ◌-ℤ◌, ◌≤ℤ◌, unsigned_abs, Bool, List, [], ◌∷◌, take, drop, replicate, Option, Some, None, slice_get}
+use Rattle.std.specs.Prelude.{◌≡◌, ℕ, ◌+◌, ◌-◌, ◌*◌, ◌^◌, ◌<◌, pos, negsuc, ◌-ℤ◌, ◌≤ℤ◌, ◌≤◌, ◌⊎◌, unsigned_abs, nat_eq, Bool, IsTrue, List, [], ◌∷◌, take, drop, replicate, Option, Some, None, slice_get}
+use Rattle.std.specs.List.{AllByRecursion, list_any}
 use Rattle.pearl_value.specs.declared.kind.Kind.{Kind}
 use Rattle.pearl_value.specs.declared.kind.Kind.TheVariants.{Fixed, Bits, Clock}
 use Rattle.pearl_value.specs.declared.kind.CellKind.{CellKind}
@@ -30,10 +31,13 @@ pub record Around : Type 0 where
   pub formats : List (List Item)
   -- how many tasks there are
   pub tasks : ℕ
-  -- those that may be called
   pub procedures : List Signature
   -- the cells of the routine
   pub cells : List CellKind
+  -- those of them that are hidden
+  pub hidden : List ℕ
+  -- the control variables of the loops around
+  pub controls : List ℕ
   -- none in a task; else what the procedure's RETURNS says
   pub returns : Option (Option Kind)
   pub in_loop : Bool
@@ -52,21 +56,33 @@ pub record IsBound (bound : Bound) : Type 0 where
 abbrev pub AreCells : List CellKind → (cell count : ℕ) → CellKind → Type 0
 AreCells cells cell count kind = take count (drop cell cells) ≡ replicate count kind
 
+-- none of so many cells from this one on is hidden
+abbrev pub AreOpen : List ℕ → (cell count : ℕ) → Type 0
+AreOpen hidden cell count = AllByRecursion (λ other. (other < cell) ⊎ (cell + count ≤ other)) hidden
+
+-- in so many cells of the routine a variable of this kind may lie
+abbrev pub AreOwn : Around → (cell count : ℕ) → Kind → Type 0
+AreOwn around cell count kind = AreCells around.cells cell count (Plain kind) × AreOpen around.hidden cell count
+
 abbrev pub IsLeafOf : Option PlainLeaf → List Bound → Kind → Type 0
 IsLeafOf None bounds kind = ⊥
 IsLeafOf (Some leaf) bounds kind = (leaf.values.kind ≡ kind) × (elements bounds ≡ leaf.values.count)
 
--- a variable of this kind begins there: the bounds have as many elements as its leaf, or as there are cells of its kind;
--- what a reference leads to is one element
-abbrev pub Points : Around → Target → List Bound → Kind → Type 0
-Points around (Leaf number) bounds kind = IsLeafOf (slice_get around.leaves number) bounds kind
-Points around (Own cell) bounds kind = AreCells around.cells cell (elements bounds) (Plain kind)
-Points around (Param cell) bounds kind = (bounds ≡ []) × (slice_get around.cells cell ≡ Some (RefTo kind))
+-- a parameter with IDENT is one element, and has no subscripts
+abbrev pub IsParam : Option CellKind → List Bound → PlainExprs → Kind → Type 0
+IsParam (Some (RefTo of)) [] NoExprs kind = of ≡ kind
+IsParam _ bounds subscripts kind = ⊥
+
+-- what is only read: the control variable of a loop around
+abbrev pub IsControl : Around → PlainVariable → Kind → Type 0
+IsControl around (OfVariable (Own cell) [] NoExprs) kind =
+    IsTrue (list_any (nat_eq cell) around.controls) × AreCells around.cells cell 1 (Plain kind)
+IsControl around variable kind = ⊥
 
 abbrev mutual
   pub HasKind : Around → PlainExpr → Kind → Type 0
   HasKind around (OfLiteral value) kind = IsValueOf kind value
-  HasKind around (OfRead variable) kind = IsVariable around variable kind
+  HasKind around (OfRead variable) kind = IsVariable around variable kind ⊎ IsControl around variable kind
   HasKind around (OfMonadic op operand) kind = (one : Kind) × HasKind around operand one × (row1 op one ≡ Some kind)
   HasKind around (OfDyadic op left right) kind =
       (one : Kind) × (two : Kind) × HasKind around left one × HasKind around right two × (row2 op one two ≡ Some kind)
@@ -76,10 +92,15 @@ abbrev mutual
   HasKind around OfNow kind = kind ≡ Clock
   HasKind around (OfTry semaphore) kind = (semaphore < around.semaphores) × (kind ≡ Bits 1)
 
-  -- at most three dimensions, and a subscript for each
+  -- what is read, written and handed over: the bounds have as many elements as the leaf, or as there are cells; there are at
+  -- most three of them, and a subscript for each
   pub IsVariable : Around → PlainVariable → Kind → Type 0
-  IsVariable around (OfVariable target bounds subscripts) kind =
-      Points around target bounds kind × (drop 3 bounds ≡ []) × AreSubscripts around bounds subscripts
+  IsVariable around (OfVariable (Leaf number) bounds subscripts) kind =
+      IsLeafOf (slice_get around.leaves number) bounds kind × (drop 3 bounds ≡ []) × AreSubscripts around bounds subscripts
+  IsVariable around (OfVariable (Own cell) bounds subscripts) kind =
+      AreOwn around cell (elements bounds) kind × (drop 3 bounds ≡ []) × AreSubscripts around bounds subscripts
+  IsVariable around (OfVariable (Param cell) bounds subscripts) kind =
+      IsParam (slice_get around.cells cell) bounds subscripts kind
 
   pub AreSubscripts : Around → List Bound → PlainExprs → Type 0
   AreSubscripts around [] NoExprs = Unit {0}

@@ -105,6 +105,10 @@ module _ (sizes : Sizes) where
     greatest_of_branches NoBranches = 0
     greatest_of_branches (MoreBranches statements rest) = max (greatest_of_all statements) (greatest_of_branches rest)
 
+-- the number next to the greatest that is called, or else 0
+abbrev pub calls : Sizes
+calls = record { one = 0; call = λ procedure. procedure + 1; both = max }
+
 -- how many values stand in expressions; a call's result is one
 abbrev pub values : Sizes
 values = record { one = 1; call = λ procedure. 0; both = λ a b. a + b }

@@ -1,10 +1,1 @@
 pub mod Examples
-pub mod Going
-pub mod Shapes
-pub mod Subscripting
-pub mod SoundWalks
-pub mod SoundParts
-pub mod SoundExpressions
-pub mod Literals
-pub mod OwnCells
-mod Leading

@@ -1,5 +1,0 @@
-use Rattle.pearl_resolve.proofs.SoundExpressions.{call_sound}
-use Rattle.pearl_resolve.proofs.laws.calls_are_sound.Goals as goal
-
-pub returns : goal.returns
-returns c = call_sound

@@ -1,5 +1,0 @@
-use Rattle.pearl_resolve.proofs.OwnCells.{own_cells_lie}
-use Rattle.pearl_resolve.proofs.laws.names_have_their_cells.Goals as goal
-
-pub returns : goal.returns
-returns c = own_cells_lie

@@ -1,5 +1,0 @@
-use Rattle.pearl_resolve.proofs.Going.{routine_cells_there}
-use Rattle.pearl_resolve.proofs.laws.routines_have_cells.Goals as goal
-
-pub returns : goal.returns
-returns c = routine_cells_there

@@ -1,5 +1,0 @@
-use Rattle.pearl_resolve.proofs.Going.{all_go}
-use Rattle.pearl_resolve.proofs.laws.statements_go_past.Goals as goal
-
-pub returns : goal.returns
-returns c = all_go

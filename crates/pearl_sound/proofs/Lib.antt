@@ -1,0 +1,12 @@
+pub mod Going
+pub mod Shapes
+pub mod Subscripting
+pub mod SoundWalks
+pub mod SoundParts
+pub mod SoundExpressions
+pub mod Literals
+pub mod OwnCells
+pub mod Apart
+mod Leading
+mod WholeModule
+mod TwoOfEach

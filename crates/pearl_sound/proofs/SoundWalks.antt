@@ -1,0 +1,231 @@
+-- References come to what is there, with a subscript for each bound on the way.
+use Rattle.std.specs.Prelude.{◌≡◌, ℕ, ℤ, zero, suc, ◌+◌, ◌≤◌, Bool, true, false, if◌then◌else◌, List, [], ◌∷◌, length, map, take, drop, Option, Some, None, option_map}
+use Rattle.std.specs.Option.{option_and_then}
+use Rattle.std.proofs.Common.{refl, ap, ◌∙◌, sym, subst, arith}
+use Rattle.std.proofs.lemmas.List.{length-append, length-map, take-append-drop, take-append-le}
+use Rattle.pearl_value.specs.declared.kind.Kind.{Kind}
+use Rattle.pearl_tree.specs.declared.name.Name.{Name}
+use Rattle.pearl_tree.specs.Names.{name_text}
+use Rattle.pearl_names.specs.declared.scope.View.{View}
+use Rattle.pearl_names.specs.declared.meaning.Found.{Found}
+use Rattle.pearl_names.specs.Counts.{cut}
+use Rattle.pearl_names.specs.Found.{found_from}
+use Rattle.pearl_names.specs.Shapes.{Shape, OfKind, OfFields}
+use Rattle.pearl_names.specs.Forms.{Component, component}
+use Rattle.pearl_names.specs.Tables.{Form, Sense, Variable, Control, OwnParameter, NewType, Semaphore, Interrupt, AlphicDation, BasicDation, Task, Procedure, sense_at, sense_from}
+use Rattle.pearl_check_expr.specs.Standings as judged
+use Rattle.pearl_check_expr.specs.Standings.{Standing, Broken, Open, standing_of, start_at, variable_start, element_standing, walked_on, stopped}
+use Rattle.pearl_program.specs.declared.expression.Target.{Target}
+use Rattle.pearl_program.specs.declared.expression.Target.TheVariants.{Leaf, Own, Param}
+use Rattle.pearl_program.specs.declared.expression.Bound.{Bound}
+use Rattle.pearl_program.specs.PlainExpressions.{PlainVariable, OfVariable, PlainExprs, NoExprs, MoreExprs}
+use Rattle.pearl_program.specs.Typing.{Around, IsParam, IsControl, IsVariable, AreSubscripts}
+use Rattle.pearl_resolve.specs.Expressions.{Numbered, number_at, meant_at, meant, Walk, bound_of, own_or_param, target_in, begun, walk_of, walk_from, to_field, field_of, count, joined_exprs, variable_of}
+use Rattle.pearl_sound.specs.SoundNames.{Points, IsEnd, Follows, Reaches, is_control, LeadNames}
+use Rattle.pearl_sound.proofs.Subscripting.{cut_small, AreAllFixed, count_joined, fixed_given, joined_given, sound_behind}
+
+pub record StandsSound (around : Around) (control : Bool) (dimensions : ℕ) (shape : Shape) (walk : Walk) : Type 0 where
+  pub same : walk.shape ≡ shape
+  pub reaches : Reaches around control walk
+  pub left : dimensions + count walk.subscripts ≡ length walk.bounds
+  pub given : AreSubscripts around (take (count walk.subscripts) walk.bounds) walk.subscripts
+
+abbrev pub IsSoundAt : Around → Bool → Standing → Walk → Type 0
+IsSoundAt around control Broken walk = Unit {0}
+IsSoundAt around control (Open dimensions shape) walk = StandsSound around control dimensions shape walk
+
+-- a variable by its name
+begun_sound : (around : Around) (control : Bool) (target : Target) (bounds : List (ℤ × ℤ)) (shape : Shape) →
+    Reaches around control (begun target bounds shape) → StandsSound around control (cut (length bounds)) shape (begun target bounds shape)
+begun_sound around control target bounds shape reaches = record {
+  same = refl;
+  reaches = reaches;
+  left = let a = (reaches []).few in let b = length-map bounds bound_of in let c = cut_small (length bounds) (omega (arith, a, b)) in
+      omega (arith, b, c);
+  given = tt;
+}
+
+one_sound : (around : Around) (control : Bool) (target : Target) (kind : Kind) →
+    Reaches around control (begun target [] (OfKind kind)) → StandsSound around control 0 (OfKind kind) (begun target [] (OfKind kind))
+one_sound around control target kind reaches = record { same = refl; reaches = reaches; left = refl; given = tt }
+
+form_sound : (around : Around) (control : Bool) (scope number : ℕ) (form : Option Form) (inv : Bool) →
+    ((d : ℕ) (s : Shape) → judged.form_standing form ≡ Open d s →
+    Reaches around control (walk_of (record { sense = Variable form inv; scope = scope; number = number }))) →
+    IsSoundAt around control (judged.form_standing form) (walk_of (record { sense = Variable form inv; scope = scope; number = number }))
+form_sound around control scope number None inv reach = tt
+form_sound around control scope number (Some form) inv reach =
+    begun_sound around control (target_in scope number) form.bounds form.shape (reach (cut (length form.bounds)) form.shape refl)
+
+kind_sound : (around : Around) (control : Bool) (scope number : ℕ) (kind : Option Kind) (ident : Bool) →
+    ((d : ℕ) (s : Shape) → judged.kind_standing kind ≡ Open d s → Reaches around control (walk_of
+    (record { sense = OwnParameter (record { kind = kind; ident = ident }); scope = scope; number = number }))) →
+    IsSoundAt around control (judged.kind_standing kind)
+    (walk_of (record { sense = OwnParameter (record { kind = kind; ident = ident }); scope = scope; number = number }))
+kind_sound around control scope number None ident reach = tt
+kind_sound around control scope number (Some kind) ident reach =
+    one_sound around control (own_or_param ident number) kind (reach 0 (OfKind kind) refl)
+
+sense_sound : (around : Around) (control : Bool) (name : Name) (scope number : ℕ) (sense : Sense) →
+    ((d : ℕ) (s : Shape) → (start_at name (standing_of sense)).standing ≡ Open d s →
+    Reaches around control (walk_of (record { sense = sense; scope = scope; number = number }))) →
+    IsSoundAt around control (start_at name (standing_of sense)).standing (walk_of (record { sense = sense; scope = scope; number = number }))
+sense_sound around control name scope number (Variable form inv) reach = form_sound around control scope number form inv reach
+sense_sound around control name scope number (Control kind) reach = one_sound around control (Own number) kind (reach 0 (OfKind kind) refl)
+sense_sound around control name scope number (OwnParameter parameter) reach =
+    kind_sound around control scope number parameter.kind parameter.ident reach
+sense_sound around control name scope number NewType reach = tt
+sense_sound around control name scope number Semaphore reach = tt
+sense_sound around control name scope number Interrupt reach = tt
+sense_sound around control name scope number (AlphicDation direction) reach = tt
+sense_sound around control name scope number (BasicDation direction kind) reach = tt
+sense_sound around control name scope number Task reach = tt
+sense_sound around control name scope number (Procedure parameters result) reach = tt
+
+if_sense : (around : Around) (control : Bool) (name : Name) (scope number : ℕ) (sense : Option Sense) →
+    ((d : ℕ) (s : Shape) → (variable_start name sense).standing ≡ Open d s →
+    Reaches around control (walk_from (option_map (λ s. record { sense = s; scope = scope; number = number }) sense))) →
+    IsSoundAt around control (variable_start name sense).standing
+    (walk_from (option_map (λ s. record { sense = s; scope = scope; number = number }) sense))
+if_sense around control name scope number None reach = tt
+if_sense around control name scope number (Some sense) reach = sense_sound around control name scope number sense reach
+
+if_found : (around : Around) (control : Bool) (numbered : Numbered) (name : Name) (found : Option Found) →
+    ((d : ℕ) (s : Shape) → (variable_start name (option_and_then (sense_at numbered.table.senses) found)).standing ≡ Open d s →
+    Reaches around control (walk_from (option_and_then (meant_at numbered) found))) →
+    IsSoundAt around control (variable_start name (option_and_then (sense_at numbered.table.senses) found)).standing
+    (walk_from (option_and_then (meant_at numbered) found))
+if_found around control numbered name None reach = tt
+if_found around control numbered name (Some found) reach =
+    if_sense around control name found.scope (number_at numbered.numbers found) (sense_at numbered.table.senses found) reach
+
+pub starts_sound : (numbered : Numbered) (view : View) (around : Around) → LeadNames numbered view around → (name : Name) →
+    IsSoundAt around (is_control (sense_from numbered.table view (name_text name)))
+    (variable_start name (sense_from numbered.table view (name_text name))).standing (walk_from (meant numbered view name))
+starts_sound numbered view around lead name =
+    if_found around (is_control (sense_from numbered.table view (name_text name))) numbered name
+    (found_from numbered.table.names view (name_text name)) (lead.variables name)
+
+-- a component
+to_field_sound : (around : Around) (control : Bool) (name : Name) (shape : Shape) (walk : Walk) (field : Option Component) →
+    field_of walk.shape name ≡ field → StandsSound around control 0 shape walk →
+    IsSoundAt around control (judged.to_field name field).standing (to_field walk field)
+to_field_sound around control name shape walk None is stands = tt
+to_field_sound around control name shape walk (Some field) is stands =
+    let reaches : Reaches around control (to_field walk (Some field)) =
+    λ path. subst (λ f. Follows around control (to_field walk f) path) is (stands.reaches (name ∷ path)) in
+    let few = (reaches []).few in
+    let a = length-append walk.bounds (map bound_of field.bounds) in
+    let b = length-map field.bounds bound_of in
+    let c = stands.left in
+    let d = cut_small (length field.bounds) (omega (arith, few, a, b)) in
+    record {
+      same = refl;
+      reaches = reaches;
+      left = omega (arith, a, b, c, d);
+      given = subst (λ bounds. AreSubscripts around bounds walk.subscripts)
+          (sym (take-append-le (count walk.subscripts) walk.bounds (map bound_of field.bounds) (omega (arith, c)))) stands.given;
+    }
+
+pub component_sound : (around : Around) (control : Bool) (name : Name) (walk : Walk) (shape : Shape) → StandsSound around control 0 shape walk →
+    IsSoundAt around control (judged.field_of shape name).standing (to_field walk (field_of walk.shape name))
+component_sound around control name walk (OfKind kind) stands = tt
+component_sound around control name walk (OfFields fields) stands =
+    subst (λ field. IsSoundAt around control (judged.to_field name (component 0 0 fields (name_text name))).standing (to_field walk field))
+    (sym (ap (λ shape. field_of shape name) stands.same))
+    (to_field_sound around control name (OfFields fields) walk (component 0 0 fields (name_text name))
+    (ap (λ shape. field_of shape name) stands.same) stands)
+
+-- subscripts lead to no other place
+field_behind : (walk : Walk) (subscripts : PlainExprs) (field : Option Component) →
+    record (to_field walk field) { subscripts = subscripts } ≡ to_field (record walk { subscripts = subscripts }) field
+field_behind walk subscripts None = refl
+field_behind walk subscripts (Some field) = refl
+
+follows_behind : (around : Around) (control : Bool) (path : List Name) (walk : Walk) (subscripts : PlainExprs) →
+    Follows around control walk path → Follows around control (record walk { subscripts = subscripts }) path
+follows_behind around control [] walk subscripts there = record { few = there.few; sound = there.sound; end = there.end }
+follows_behind around control (name ∷ path) walk subscripts follows =
+    subst (λ w. Follows around control w path) (field_behind walk subscripts (field_of walk.shape name))
+    (follows_behind around control path (to_field walk (field_of walk.shape name)) subscripts follows)
+
+take_whole : (n : ℕ) (bounds : List Bound) → n ≡ length bounds → take n bounds ≡ bounds
+take_whole n bounds is = ap (λ m. take m bounds) is ∙ whole bounds
+  where
+    whole : (xs : List Bound) → take (length xs) xs ≡ xs
+    whole [] = refl
+    whole (x ∷ xs) = ap (λ rest. x ∷ rest) (whole xs)
+
+pub subscripts_sound : (around : Around) (control : Bool) (dimensions : ℕ) (shape : Shape) (walk : Walk) (exprs : PlainExprs) →
+    StandsSound around control dimensions shape walk → count exprs ≡ dimensions → AreAllFixed around exprs →
+    StandsSound around control 0 shape (record walk { subscripts = joined_exprs walk.subscripts exprs })
+subscripts_sound around control dimensions shape walk exprs stands counted fixed =
+    let all = count_joined walk.subscripts exprs in
+    let left = stands.left in
+    let whole : count (joined_exprs walk.subscripts exprs) ≡ length walk.bounds = omega (arith, all, left, counted) in
+    let split = take-append-drop (count walk.subscripts) walk.bounds in
+    let lengths = length-append (take (count walk.subscripts) walk.bounds) (drop (count walk.subscripts) walk.bounds) in
+    record {
+      same = stands.same;
+      reaches = λ path. follows_behind around control path walk (joined_exprs walk.subscripts exprs) (stands.reaches path);
+      left = omega (arith, whole);
+      given = subst (λ bounds. AreSubscripts around bounds (joined_exprs walk.subscripts exprs))
+          (split ∙ sym (take_whole (count (joined_exprs walk.subscripts exprs)) walk.bounds whole))
+          (joined_given around (take (count walk.subscripts) walk.bounds) (drop (count walk.subscripts) walk.bounds) walk.subscripts exprs
+          stands.given
+          (fixed_given around (drop (count walk.subscripts) walk.bounds) exprs (behind_length (count walk.subscripts) walk.bounds exprs (omega (arith, left, counted)))
+          (sound_behind (count walk.subscripts) walk.bounds (stands.reaches []).sound) fixed));
+    }
+  where
+    behind_length : (n : ℕ) (bounds : List Bound) (exprs : PlainExprs) → count exprs + n ≡ length bounds →
+        count exprs ≡ length (drop n bounds)
+    behind_length zero bounds exprs is = omega (arith, is)
+    behind_length (suc n) [] exprs is = absurd (omega (arith, is))
+    behind_length (suc n) (bound ∷ rest) exprs is = behind_length n rest exprs (omega (arith, is))
+
+pub element_sound : (around : Around) (control : Bool) (place rule : ℕ) (test known : Bool) (shape : Shape) (walk : Walk) →
+    (test ≡ true → known ≡ true → StandsSound around control 0 shape walk) →
+    IsSoundAt around control (if test then walked_on (element_standing known shape) [] else stopped place rule).standing walk
+element_sound around control place rule false known shape walk stands = tt
+element_sound around control place rule true false shape walk stands = tt
+element_sound around control place rule true true shape walk stands = stands refl refl
+
+-- the variable at the end of a reference
+few_dropped : (bounds : List Bound) → length bounds ≤ 3 → drop 3 bounds ≡ []
+few_dropped [] few = refl
+few_dropped (a ∷ []) few = refl
+few_dropped (a ∷ b ∷ []) few = refl
+few_dropped (a ∷ b ∷ c ∷ []) few = refl
+few_dropped (a ∷ b ∷ c ∷ d ∷ rest) few = absurd (omega (arith, few))
+
+abbrev pub Reads : Around → (control : Bool) → PlainVariable → Kind → Type 0
+Reads around false variable kind = IsVariable around variable kind
+Reads around true variable kind = IsControl around variable kind
+
+no_bounds : (bound : Bound) (bounds : List Bound) → (bound ∷ bounds) ≡ [] → ⊥
+no_bounds bound bounds is = let same = ap (λ (xs : List Bound). length xs) is in omega (arith, same)
+
+element_is : (around : Around) (control : Bool) (target : Target) (bounds : List Bound) (subscripts : PlainExprs) (kind : Kind) →
+    Points around control target bounds kind → drop 3 bounds ≡ [] → AreSubscripts around bounds subscripts →
+    Reads around control (OfVariable target bounds subscripts) kind
+element_is around false (Leaf number) bounds subscripts kind points few given = (points, few, given)
+element_is around false (Own cell) bounds subscripts kind points few given = (points, few, given)
+element_is around false (Param cell) [] NoExprs kind points few given =
+    subst (λ at. IsParam at [] NoExprs kind) (sym points.1) refl
+element_is around false (Param cell) [] (MoreExprs e rest) kind points few given = absurd given
+element_is around false (Param cell) (bound ∷ bounds) subscripts kind points few given = absurd (no_bounds bound bounds points.0)
+element_is around true (Own cell) [] NoExprs kind points few given = points
+element_is around true (Own cell) [] (MoreExprs e rest) kind points few given = absurd given
+element_is around true (Own cell) (bound ∷ bounds) subscripts kind points few given = absurd points
+element_is around true (Leaf number) bounds subscripts kind points few given = absurd points
+element_is around true (Param cell) bounds subscripts kind points few given = absurd points
+
+pub variable_sound : (around : Around) (control : Bool) (walk : Walk) (kind : Kind) →
+    StandsSound around control 0 (OfKind kind) walk → Reads around control (variable_of walk) kind
+variable_sound around control walk kind stands =
+    let left = stands.left in
+    element_is around control walk.target walk.bounds walk.subscripts kind
+    (subst (λ shape. IsEnd around control shape walk.target walk.bounds) stands.same (stands.reaches []).end)
+    (few_dropped walk.bounds (stands.reaches []).few)
+    (subst (λ bounds. AreSubscripts around bounds walk.subscripts)
+    (take_whole (count walk.subscripts) walk.bounds (omega (arith, left))) stands.given)

@@ -1,0 +1,111 @@
+-- What holds of the scopes, cells and formats that statements go past, and of what expressions and targets become.
+use Rattle.std.specs.Prelude.{◌≡◌, ℕ, ◌+◌, ◌-◌, ◌≤◌, ◌<◌, false, true, List, length, take, drop, Some, unwrap_or, slice_get}
+use Rattle.std.specs.List.{flat_map}
+use Rattle.pearl_value.specs.declared.kind.Kind.{Kind}
+use Rattle.pearl_value.specs.declared.kind.CellKind.{CellKind}
+use Rattle.pearl_format.specs.declared.item.Item.{Item}
+use Rattle.pearl_tree.specs.ShownExpressions.{ShownExpr, ShownExprs, ShownRef}
+use Rattle.pearl_tree.specs.ShownStatements.{ShownStmts}
+use Rattle.pearl_tree.specs.declared.literal.Literal.{Literal}
+use Rattle.pearl_tree.specs.Lawful.{IsLawfulLiteral}
+use Rattle.pearl_tree.specs.ShownLiterals.{shown_literal}
+use Rattle.pearl_tree.specs.ShownModules.{ShownBody, ShownDecl}
+use Rattle.pearl_names.specs.Lengths.{lengths_set}
+use Rattle.pearl_names.specs.Scopes.{scopes_in_all}
+use Rattle.pearl_names.specs.declared.scope.View.{View}
+use Rattle.pearl_check_expr.specs.Judged.{judged, judged_variable, called}
+use Rattle.pearl_check_expr.specs.Senses.{Callee, callee_of}
+use Rattle.pearl_names.specs.declared.scope.SortedName.{SortedName}
+use Rattle.pearl_names.specs.Tables.{Sense, Variable, Control, Semaphore, Task, Procedure, sense_from}
+use Rattle.pearl_tree.specs.declared.name.Name.{Name}
+use Rattle.pearl_tree.specs.Names.{name_text}
+use Rattle.pearl_program.specs.SoundStatements.{IsCall}
+use Rattle.pearl_program.specs.Typing.{Around, HasKind, IsVariable}
+use Rattle.pearl_system.specs.declared.device.SpecifiedDevice.{SpecifiedDevice}
+use Rattle.pearl_resolve.specs.Numbers.{At, Before, module_numbers, own_numbers, after_all, after_body, numbers_in_all}
+use Rattle.pearl_resolve.specs.Laying.{leaves_in, cells_of_sense}
+use Rattle.pearl_resolve.specs.Expressions.{Numbered, number_of, resolve_expr, resolve_arguments, resolve_variable, target_kind}
+use Rattle.pearl_sound.specs.SoundNames.{IsLiteral, HasLiterals, HaveLiterals, SelectorsHaveLiterals, is_control, LeadNames}
+use Rattle.pearl_resolve.specs.Cells.{sense_cells, cells_in_all, routine_cells}
+use Rattle.pearl_resolve.specs.Resolve.{formats_in_all}
+
+-- from here to there the text has these scopes, each with the numbers of its names, these cells and these formats
+pub record GoesPast (from to : At) (scopes : ℕ) (numbers : List (List ℕ)) (cells : List CellKind) (formats : List (List Item)) : Type 0 where
+  pub each : length numbers ≡ scopes
+  pub next : to.next ≡ from.next + scopes
+  pub cell : to.cell ≡ from.cell + length cells
+  pub format : to.format ≡ from.format + length formats
+
+-- statements go past the scopes, cells and formats that they have
+abbrev pub StatementsGoPast : Type 0
+StatementsGoPast = (numbered : Numbered) (scope : ℕ) (at : At) (statements : ShownStmts) →
+    GoesPast at (after_all numbered.table at statements) (scopes_in_all statements)
+    (numbers_in_all numbered.table at statements) (cells_in_all numbered scope at statements) (formats_in_all statements)
+
+-- a routine has as many cells as its text goes past
+abbrev pub RoutinesHaveCells : Type 0
+RoutinesHaveCells = (numbered : Numbered) (at : At) (body : ShownBody) →
+    (after_body numbered.table at body).cell ≡ length (routine_cells numbered at body)
+
+-- a target in which no rule is broken has the kind that is asked of it
+abbrev pub TargetsHaveTheirKind : Type 0
+TargetsHaveTheirKind = (numbered : Numbered) (view : View) (reference : ShownRef) (kind : Kind) →
+    (judged_variable numbered.table view reference).kind ≡ Some kind → target_kind numbered view reference ≡ kind
+
+-- where names lead to what is there, what an expression becomes has the kind with which the expression is judged, and so
+-- has what a target becomes, whose name is that of no control variable
+abbrev pub ExpressionsAreSound : Type 0
+ExpressionsAreSound = (numbered : Numbered) (view : View) (around : Around) → LeadNames numbered view around →
+    ((e : ShownExpr) → HasLiterals numbered.table.lengths e → (kind : Kind) →
+    (judged numbered.table view e).kind ≡ Some kind → HasKind around (resolve_expr numbered view e) kind) ×
+    ((reference : ShownRef) → SelectorsHaveLiterals numbered.table.lengths reference.selectors →
+    is_control (sense_from numbered.table view (name_text reference.name)) ≡ false → (kind : Kind) →
+    (judged_variable numbered.table view reference).kind ≡ Some kind → IsVariable around (resolve_variable numbered view reference) kind)
+
+-- a lawful literal is a value of the kind that it has
+abbrev pub LiteralsAreValues : Type 0
+LiteralsAreValues = (declarations : List ShownDecl) (part : Literal) → IsLawfulLiteral part →
+    IsLiteral (lengths_set declarations) (shown_literal part)
+
+-- what a call hands over, whose arguments are as many as the parameters and suit them, suits in the program
+abbrev pub CallsAreSound : Type 0
+CallsAreSound = (numbered : Numbered) (view : View) (around : Around) → LeadNames numbered view around →
+    (name : Name) (callee : Callee) (exprs : ShownExprs) → HaveLiterals numbered.table.lengths exprs →
+    callee_of (sense_from numbered.table view (name_text name)) ≡ Some callee →
+    (called numbered.table view name callee exprs).well ≡ true →
+    IsCall around (number_of numbered view name) (resolve_arguments numbered view callee.parameters exprs)
+
+abbrev pub IsNoControl : Sense → Type 0
+IsNoControl (Control kind) = ⊥
+IsNoControl sense = Unit {0}
+
+-- of the cells of a scope, which begin with this number, those of a name lie from its number on; a control variable's lie
+-- before them
+abbrev pub NamesHaveTheirCells : Type 0
+NamesHaveTheirCells = (control from : ℕ) (senses : List Sense) (i number : ℕ) (sense : Sense) →
+    slice_get senses i ≡ Some sense → IsNoControl sense → slice_get (own_numbers control from senses) i ≡ Some number →
+    take (cells_of_sense sense) (drop (number - from) (flat_map sense_cells senses)) ≡ sense_cells sense
+
+-- the cells of two names of a scope are others, those of the later name behind those of the earlier
+abbrev pub NamesShareNoCells : Type 0
+NamesShareNoCells = (control from : ℕ) (senses : List Sense) (i j first second : ℕ) (one two : Sense) → i < j →
+    slice_get senses i ≡ Some one → IsNoControl one → slice_get (own_numbers control from senses) i ≡ Some first →
+    slice_get senses j ≡ Some two → IsNoControl two → slice_get (own_numbers control from senses) j ≡ Some second →
+    (from ≤ first) × (first + cells_of_sense one ≤ second)
+
+-- two names of the module with these numbers, the second declared behind the first, don't name the same: leaves,
+-- semaphores, tasks, and of the numbers that procedures are given those at two places
+abbrev pub AreApart : (numbers : List ℕ) → Sense → Sense → (first second : ℕ) → Type 0
+AreApart numbers (Variable form inv) (Variable other also) first second = first + length (leaves_in form) ≤ second
+AreApart numbers Semaphore Semaphore first second = first < second
+AreApart numbers Task Task first second = first < second
+AreApart numbers (Procedure parameters result) (Procedure others other) first second =
+    (p : ℕ) × (q : ℕ) × (p < q) × (first ≡ unwrap_or (slice_get numbers p) 0) × (second ≡ unwrap_or (slice_get numbers q) 0)
+AreApart numbers one two first second = Unit {0}
+
+abbrev pub NamesNameOthers : Type 0
+NamesNameOthers = (devices : List SpecifiedDevice) (numbers : List ℕ) (before : Before) (entries : List SortedName) (senses : List Sense)
+    (i j first second : ℕ) (one two : Sense) → i < j →
+    slice_get senses i ≡ Some one → slice_get (module_numbers devices numbers before entries senses) i ≡ Some first →
+    slice_get senses j ≡ Some two → slice_get (module_numbers devices numbers before entries senses) j ≡ Some second →
+    AreApart numbers one two first second

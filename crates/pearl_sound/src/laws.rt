@@ -1,0 +1,49 @@
+// What holds of the scopes, cells and formats that statements go past, and of what expressions and targets become.
+
+ghost use Rattle.pearl_sound.specs.Laws.{CallsAreSound, ExpressionsAreSound, LiteralsAreValues, NamesHaveTheirCells, NamesNameOthers, NamesShareNoCells, RoutinesHaveCells, StatementsGoPast, TargetsHaveTheirKind};
+
+/// Behind some statements the counters stand at what comes behind the scopes, cells and formats of these.
+pub fn statements_go_past()
+    ensures { StatementsGoPast }
+{}
+
+/// A routine has as many cells as its parameters, its variables, its loops and its GETs are given.
+pub fn routines_have_cells()
+    ensures { RoutinesHaveCells }
+{}
+
+/// The kind of a target's cell is the one that the static rules ask of the target.
+pub fn targets_have_their_kind()
+    ensures { TargetsHaveTheirKind }
+{}
+
+/// Where names lead to what is there, an expression in which no rule is broken becomes one of a program with the same
+/// kind, and so does a target.
+pub fn expressions_are_sound()
+    ensures { ExpressionsAreSound }
+{}
+
+/// A literal of a lawful tree is a value of the kind that it has.
+pub fn literals_are_values()
+    ensures { LiteralsAreValues }
+{}
+
+/// Where names lead to what is there, a call in which no rule is broken hands over what suits the procedure's parameters.
+pub fn calls_are_sound()
+    ensures { CallsAreSound }
+{}
+
+/// In the cells of a scope those of each name lie where its number says.
+pub fn names_have_their_cells()
+    ensures { NamesHaveTheirCells }
+{}
+
+/// The cells of two names of a scope are others.
+pub fn names_share_no_cells()
+    ensures { NamesShareNoCells }
+{}
+
+/// Two names of the module don't name the same leaf, semaphore or task, nor the same place among the procedures' numbers.
+pub fn names_name_others()
+    ensures { NamesNameOthers }
+{}
