@@ -7,6 +7,7 @@ pub mod SoundExpressions
 pub mod Literals
 pub mod OwnCells
 pub mod Apart
+pub mod Components
 mod Leading
 mod WholeModule
 mod TwoOfEach
