@@ -8,6 +8,7 @@ pub mod Literals
 pub mod OwnCells
 pub mod Apart
 pub mod Components
+pub mod HiddenRising
 mod Leading
 mod WholeModule
 mod TwoOfEach
