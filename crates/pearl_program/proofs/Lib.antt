@@ -1,4 +1,5 @@
 pub mod OneKind
 pub mod FirstValues
 pub mod WholeProgram
+pub mod NotHidden
 mod Unsound

@@ -1,11 +1,11 @@
 -- What is not sound: hidden cells serve nothing else, control variables are only read, and only in their loops, and no
 -- procedure calls its own number.
-use Rattle.std.specs.Prelude.{◌≡◌, ◌⊎◌, ℕ, ◌+◌, ◌<◌, ◌≤◌, nat_eq, false, true, IsTrue, List, [], ◌∷◌, Option, Some, None}
-use Rattle.std.specs.List.{IsDistinct, list_any}
+use Rattle.std.specs.Prelude.{◌≡◌, ◌⊎◌, ℕ, ◌+◌, ◌<◌, ◌≤◌, nat_eq, [], ◌∷◌, Some, None}
+use Rattle.std.specs.List.{IsDistinct}
 use Rattle.std.proofs.Common.{inl, inr, refl, sym, arith, true≢false}
 use Rattle.pearl_value.specs.declared.kind.Kind.{Kind}
-use Rattle.pearl_program.specs.PlainExpressions.{OfRead, OfIdent, NoArguments, MoreArguments}
-use Rattle.pearl_program.specs.PlainStatements.{PlainCounter, PlainStmts, OfAssign, OfCallOf, OfRepeat, OfGet, NoStmts, MoreStmts}
+use Rattle.pearl_program.specs.PlainExpressions.{OfRead, OfIdent, NoArguments}
+use Rattle.pearl_program.specs.PlainStatements.{PlainStmts, OfAssign, OfCallOf, OfRepeat, NoStmts, MoreStmts}
 use Rattle.pearl_program.specs.Typing.{Around, HasKind, IsVariable, SuitsParam}
 use Rattle.pearl_value.specs.declared.kind.CellKind.TheVariants.{RefTo}
 use Rattle.pearl_program.specs.HiddenCells.{hidden_in_all}

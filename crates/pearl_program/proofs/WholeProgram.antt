@@ -1,21 +1,18 @@
 -- A whole program that is sound:
 -- SPC tty DATION INOUT ALPHIC;DCL a(3) FIXED INIT(1);p:PROC(x FIXED IDENT);x:=x+a(1);END;
 -- t:TASK MAIN;DCL n FIXED;FOR i TO 3 REPEAT a(i):=i;CALL p(n);GET n FROM tty BY F(3);END;END;
-use Prim.Native.String.{String}
-use Rattle.std.specs.Prelude.{◌≡◌, ◌⊎◌, ℕ, ◌+◌, ◌<◌, ◌≤◌, ◌^◌, nat_eq, pos, true, List, [], ◌∷◌, Some, None, slice_get, codes}
+use Rattle.std.specs.Prelude.{◌≡◌, ℕ, ◌<◌, ◌≤◌, ◌^◌, nat_eq, pos, true, [], ◌∷◌, Some, None, slice_get, codes}
 use Rattle.std.specs.List.{IsDistinct}
 use Rattle.std.proofs.Common.{inl, inr, refl, sym, subst, arith}
 use Rattle.std.proofs.lemmas.Int.{ints}
 use Rattle.pearl_value.specs.declared.kind.Kind.{Kind}
 use Rattle.pearl_value.specs.declared.kind.Kind.TheVariants.{Fixed}
-use Rattle.pearl_value.specs.declared.kind.CellKind.{CellKind}
 use Rattle.pearl_value.specs.declared.kind.CellKind.TheVariants.{Plain, RefTo}
 use Rattle.pearl_value.specs.declared.cell.Cell.TheVariants as cell
 use Rattle.pearl_value.specs.declared.operator.Dyad.TheVariants.{Add}
 use Rattle.pearl_value.specs.WellFormed.{IsValueOf}
 use Rattle.pearl_format.specs.declared.item.ItemCode.TheVariants.{F}
 use Rattle.pearl_program.specs.declared.expression.Target.TheVariants.{Leaf, Own, Param}
-use Rattle.pearl_program.specs.declared.expression.Bound.{Bound}
 use Rattle.pearl_program.specs.declared.table.Direction.TheVariants.{InOut}
 use Rattle.pearl_program.specs.declared.table.Device.TheVariants.{Terminal}
 use Rattle.pearl_program.specs.PlainExpressions.{PlainExpr, OfLiteral, OfRead, OfDyadic, PlainVariable, OfVariable, NoExprs, MoreExprs, OfIdent, NoArguments, MoreArguments}
@@ -65,8 +62,8 @@ task = record {
   routine = record {
     cells = Plain short ∷ Plain short ∷ Plain short ∷ Plain short ∷ Plain short ∷ Plain short ∷ [];
     body =
-      MoreStmts (OfRenew 0 (record { kind = short; count = 1; constants = [] }))
-      (MoreStmts (OfRepeat (Some (record { cell = 1; begin = None; step = None; end = Some (number 3) })) None loop_body) NoStmts);
+        MoreStmts (OfRenew 0 (record { kind = short; count = 1; constants = [] }))
+        (MoreStmts (OfRepeat (Some (record { cell = 1; begin = None; step = None; end = Some (number 3) })) None loop_body) NoStmts);
   };
 }
 
@@ -134,9 +131,13 @@ read_control = inr (refl, refl)
 loop_sound : AreStmts (within around_task (Some counter)) loop_body
 loop_sound = (
   (short, element_is (within around_task (Some counter)) (OfRead (alone 1)) refl read_control, (short, read_control, tt)),
-  ((record { params = RefTo short ∷ []; result = None }, refl, (((refl, free), refl, tt), tt)),
-  ((tt, short ∷ [], (((refl, free), refl, tt), tt), record { suits = (omega arith, tt); few = omega arith; short = omega arith }, refl),
-  tt)),
+  (
+    (record { params = RefTo short ∷ []; result = None }, refl, (((refl, free), refl, tt), tt)),
+    (
+      (tt, short ∷ [], (((refl, free), refl, tt), tt), record { suits = (omega arith, tt); few = omega arith; short = omega arith }, refl),
+      tt,
+    ),
+  ),
 )
 
 distinct : IsDistinct nat_eq (1 ∷ 2 ∷ 3 ∷ 4 ∷ 5 ∷ [])
@@ -161,11 +162,14 @@ task_sound = record {
 
 pub program_sound : IsSound program
 program_sound = record {
-  leaves = (record {
-    named = (omega arith, omega arith);
-    spelled = ((omega arith, omega arith), tt);
-    values = record { kind = small; some = omega arith; few = omega arith; constants = (value_is 1 (omega arith), tt) };
-  }, tt);
+  leaves = (
+    record {
+      named = (omega arith, omega arith);
+      spelled = ((omega arith, omega arith), tt);
+      values = record { kind = small; some = omega arith; few = omega arith; constants = (value_is 1 (omega arith), tt) };
+    },
+    tt,
+  );
   semaphores = tt;
   devices = ((omega arith, omega arith, tt), tt);
   rising = tt;

@@ -16,5 +16,5 @@ pub mod Weights
 pub mod Sound
 -- what slots and cells hold at first
 pub mod FirstCells
--- what holds of the kinds of expressions, and of first values
+-- what holds of the kinds of expressions, of first values, and of hidden cells
 pub mod Laws

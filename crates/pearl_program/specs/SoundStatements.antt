@@ -1,6 +1,6 @@
 -- Which statements of a program are sound: every number in them names a thing of the needed sort, and every value suits.
 -- Control variables aren't assigned, and no variable lies in hidden cells.
-use Rattle.std.specs.Prelude.{◌≡◌, ℕ, ◌+◌, ◌<◌, ◌≤◌, true, nat_eq, List, [], ◌∷◌, ◌++◌, length, map, take, drop, replicate, Option, Some, None, slice_get}
+use Rattle.std.specs.Prelude.{◌≡◌, ℕ, ◌+◌, ◌<◌, ◌≤◌, true, nat_eq, List, ◌∷◌, ◌++◌, length, map, take, drop, replicate, Option, Some, None, slice_get}
 use Rattle.std.specs.List.{AllByRecursion, AllZip, IsDistinct}
 use Rattle.pearl_value.specs.declared.kind.Kind.{Kind}
 use Rattle.pearl_value.specs.declared.kind.Kind.TheVariants.{Fixed, Bits, Clock, Span}

@@ -32,7 +32,7 @@ same_sums f g same (x ∷ xs) = rw (sum_by-cons f x xs, sum_by-cons g x xs, same
 leaf_length : (leaf : Leaf) → length (leaf_slots leaf) ≡ elements leaf.bounds
 leaf_length leaf = length-replicate (elements leaf.bounds) leaf.kind
 
-slots_length : (leaves : List Leaf) → length (slots_of leaves) ≡ slots leaves
+pub slots_length : (leaves : List Leaf) → length (slots_of leaves) ≡ slots leaves
 slots_length leaves =
     length-flat_map leaf_slots leaves ∙ same_sums (λ leaf. length (leaf_slots leaf)) (λ leaf. elements leaf.bounds) leaf_length leaves
 

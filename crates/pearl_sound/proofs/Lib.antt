@@ -7,6 +7,8 @@ pub mod SoundExpressions
 pub mod Literals
 pub mod OwnCells
 pub mod Apart
+pub mod Components
+pub mod HiddenRising
 mod Leading
 mod WholeModule
 mod TwoOfEach

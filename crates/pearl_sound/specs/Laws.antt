@@ -1,6 +1,6 @@
 -- What holds of the scopes, cells and formats that statements go past, and of what expressions and targets become.
-use Rattle.std.specs.Prelude.{◌≡◌, ℕ, ◌+◌, ◌-◌, ◌≤◌, ◌<◌, false, true, List, length, take, drop, Some, unwrap_or, slice_get}
-use Rattle.std.specs.List.{flat_map}
+use Rattle.std.specs.Prelude.{◌≡◌, ℕ, ℤ, ◌+◌, ◌-◌, ◌*◌, ◌≤◌, ◌<◌, nat_eq, false, true, List, [], ◌∷◌, ◌++◌, length, take, drop, Some, unwrap_or, slice_get}
+use Rattle.std.specs.List.{AllByRecursion, IsDistinct, flat_map, sum_by}
 use Rattle.pearl_value.specs.declared.kind.Kind.{Kind}
 use Rattle.pearl_value.specs.declared.kind.CellKind.{CellKind}
 use Rattle.pearl_format.specs.declared.item.Item.{Item}
@@ -11,6 +11,9 @@ use Rattle.pearl_tree.specs.Lawful.{IsLawfulLiteral}
 use Rattle.pearl_tree.specs.ShownLiterals.{shown_literal}
 use Rattle.pearl_tree.specs.ShownModules.{ShownBody, ShownDecl}
 use Rattle.pearl_names.specs.Lengths.{lengths_set}
+use Rattle.pearl_names.specs.Shapes.{Fields}
+use Rattle.pearl_names.specs.Layout.{Leaf, leaves_of, leaves_of_fields, elements}
+use Rattle.pearl_names.specs.Forms.{Component, component}
 use Rattle.pearl_names.specs.Scopes.{scopes_in_all}
 use Rattle.pearl_names.specs.declared.scope.View.{View}
 use Rattle.pearl_check_expr.specs.Judged.{judged, judged_variable, called}
@@ -19,15 +22,16 @@ use Rattle.pearl_names.specs.declared.scope.SortedName.{SortedName}
 use Rattle.pearl_names.specs.Tables.{Sense, Variable, Control, Semaphore, Task, Procedure, sense_from}
 use Rattle.pearl_tree.specs.declared.name.Name.{Name}
 use Rattle.pearl_tree.specs.Names.{name_text}
+use Rattle.pearl_program.specs.HiddenCells.{hidden_in_all}
 use Rattle.pearl_program.specs.SoundStatements.{IsCall}
 use Rattle.pearl_program.specs.Typing.{Around, HasKind, IsVariable}
 use Rattle.pearl_system.specs.declared.device.SpecifiedDevice.{SpecifiedDevice}
-use Rattle.pearl_resolve.specs.Numbers.{At, Before, module_numbers, own_numbers, after_all, after_body, numbers_in_all}
-use Rattle.pearl_resolve.specs.Laying.{leaves_in, cells_of_sense}
+use Rattle.pearl_resolve.specs.Numbers.{At, Before, senses_at, module_numbers, own_numbers, after_all, after_body, numbers_in_all}
+use Rattle.pearl_resolve.specs.Laying.{leaves_in, slots, cells_of_sense}
 use Rattle.pearl_resolve.specs.Expressions.{Numbered, number_of, resolve_expr, resolve_arguments, resolve_variable, target_kind}
 use Rattle.pearl_sound.specs.SoundNames.{IsLiteral, HasLiterals, HaveLiterals, SelectorsHaveLiterals, is_control, LeadNames}
 use Rattle.pearl_resolve.specs.Cells.{sense_cells, cells_in_all, routine_cells}
-use Rattle.pearl_resolve.specs.Resolve.{formats_in_all}
+use Rattle.pearl_resolve.specs.Resolve.{formats_in_all, resolve_routine}
 
 -- from here to there the text has these scopes, each with the numbers of its names, these cells and these formats
 pub record GoesPast (from to : At) (scopes : ℕ) (numbers : List (List ℕ)) (cells : List CellKind) (formats : List (List Item)) : Type 0 where
@@ -109,3 +113,25 @@ NamesNameOthers = (devices : List SpecifiedDevice) (numbers : List ℕ) (before 
     slice_get senses i ≡ Some one → slice_get (module_numbers devices numbers before entries senses) i ≡ Some first →
     slice_get senses j ≡ Some two → slice_get (module_numbers devices numbers before entries senses) j ≡ Some second →
     AreApart numbers one two first second
+
+-- where a variable with these fields lies, its component's leaves lie behind so many of the variable's as the component
+-- says, and their slots behind so many, for each element of the variable
+pub record LiesIn (path : List (List ℕ)) (bounds : List (ℤ × ℤ)) (fields : Fields) (field : Component) : Type 0 where
+  pub name : List ℕ
+  pub before : List Leaf
+  pub behind : List Leaf
+  pub is : leaves_of_fields path bounds fields ≡ before ++ (leaves_of (path ++ name ∷ []) (bounds ++ field.bounds) field.shape ++ behind)
+  pub leaf : field.leaf ≡ length before
+  pub slot : elements bounds * field.slot ≡ slots before
+
+abbrev pub ComponentsLieInTheirVariables : Type 0
+ComponentsLieInTheirVariables = (path : List (List ℕ)) (bounds : List (ℤ × ℤ)) (fields : Fields) (text : List ℕ) (field : Component) →
+    component 0 0 fields text ≡ Some field → LiesIn path bounds fields field
+
+-- the hidden cells of a routine are all different, and stand behind those of the names that it declares for itself, which
+-- its parameters are among
+abbrev pub HiddenCellsAreApart : Type 0
+HiddenCellsAreApart = (numbered : Numbered) (at : At) (body : ShownBody) →
+    IsDistinct nat_eq (hidden_in_all (resolve_routine numbered at body).body) ×
+    AllByRecursion (λ cell. sum_by cells_of_sense (senses_at numbered.table at.next) ≤ cell)
+    (hidden_in_all (resolve_routine numbered at body).body)

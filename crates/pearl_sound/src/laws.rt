@@ -1,6 +1,6 @@
 // What holds of the scopes, cells and formats that statements go past, and of what expressions and targets become.
 
-ghost use Rattle.pearl_sound.specs.Laws.{CallsAreSound, ExpressionsAreSound, LiteralsAreValues, NamesHaveTheirCells, NamesNameOthers, NamesShareNoCells, RoutinesHaveCells, StatementsGoPast, TargetsHaveTheirKind};
+ghost use Rattle.pearl_sound.specs.Laws.{CallsAreSound, ComponentsLieInTheirVariables, ExpressionsAreSound, HiddenCellsAreApart, LiteralsAreValues, NamesHaveTheirCells, NamesNameOthers, NamesShareNoCells, RoutinesHaveCells, StatementsGoPast, TargetsHaveTheirKind};
 
 /// Behind some statements the counters stand at what comes behind the scopes, cells and formats of these.
 pub fn statements_go_past()
@@ -46,4 +46,14 @@ pub fn names_share_no_cells()
 /// Two names of the module don't name the same leaf, semaphore or task, nor the same place among the procedures' numbers.
 pub fn names_name_others()
     ensures { NamesNameOthers }
+{}
+
+/// A component's leaves and slots lie among those of its variable where its place in the structure says.
+pub fn components_lie_in_their_variables()
+    ensures { ComponentsLieInTheirVariables }
+{}
+
+/// The hidden cells of a task or procedure are all different, and none is a parameter.
+pub fn hidden_cells_are_apart()
+    ensures { HiddenCellsAreApart }
 {}
