@@ -1,6 +1,10 @@
 // Why a module isn't accepted.
 
+ghost use Rattle.std.specs.Prelude.{◌≡◌};
+ghost use Rattle.pearl_check.specs.declared.fault.CheckFault.TheVariants as fault;
+
 use pearl_tree::fault::RuleFault;
+use std::alloc::AllocError;
 use thiserror::Error;
 
 /// Why a module isn't accepted.
@@ -11,4 +15,12 @@ pub enum CheckFault {
     Refused(RuleFault),
     #[error("NoMemory")]
     NoMemory,
+}
+
+impl From<AllocError> for CheckFault {
+    ghost from_gives = { λ _ e. e ≡ fault.NoMemory };
+
+    fn from(_error: AllocError) -> CheckFault {
+        CheckFault::NoMemory
+    }
 }

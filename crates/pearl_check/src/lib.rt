@@ -39,9 +39,7 @@ pub fn check(alloc: Global, tree: &Tree) -> Result<Sizes, CheckFault>
     ensures sizes { IfOk result (λ sizes. sizes ≡ spec.sizes_of (shown_tree tree.now)) }
     ensures refused { IfErr result (λ fault. spec.IsRefused (shown_tree tree.now) fault) }
 {
-    let Ok(judged) = judge(alloc, tree) else {
-        return Err(CheckFault::NoMemory);
-    };
+    let judged = judge(alloc, tree)?;
     match judged.told {
         Some(fault) => Err(CheckFault::Refused(fault)),
         None => Ok(judged.sizes),
