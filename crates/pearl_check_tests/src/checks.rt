@@ -29,6 +29,10 @@ fn modules() -> &'static [(&'static str, &'static str)] {
         "DCL c CHAR(3);t:TASK;^c:='abcde';c:='abcdef';END;" => "S24";
         "t:TASK;^x:=1;END;t:TASK;END;" => "S2";
         "^p:PROC;CALL p;END;p:PROC;END;" => "S28";
+        "DCL (a,^a) FIXED;" => "S1";
+        "DCL ^k INV FIXED;" => "S8";
+        "DCL x FIXED;t:TASK;x:=x^+'a';END;" => "S15";
+        "DCL i INV FIXED INIT(1);t:TASK;^i:='a';END;" => "S24";
     ]
 }
 

@@ -164,6 +164,7 @@ fn faults() -> &'static [Fault] {
         b"MODULE;PROBLEM;MODEND" [1] [] usize::MAX => ReadFault b"error read\n";
         b"MODULE;PROBLEM;MODEND" [9] [] 1 => ReadFault b"error read\n";
         b"MODULE;PROBLEM;MODEND" [] [1] usize::MAX => WriteFault b"";
+        b"MODULE;PROBLEM;MODEND" [] [2] usize::MAX => Done b"accepted 0 0 0\n";
         b"MODULE;PROBLEM;MODEND" [] [4] 1 => WriteFault b"acc";
         b"MODULE;PROBLEM;MODEND" [1] [1] usize::MAX => WriteFault b"";
         b"MODULE;PROBLEM;t:TASK;EXIT;END;MODEND" [] [14] 1 => WriteFault b"error source ";
