@@ -1,5 +1,5 @@
 -- Printing a printed text writes it again.
-use Rattle.std.proofs.Common.{◌≡◌, ◌≢◌, ◌<◌, ◌≤◌, ◌-◌, ◌^◌, ℕ, List, length, sym, ◌∙◌, subst, arith}
+use Rattle.std.proofs.Common.{◌<◌, ◌≤◌, ◌-◌, ◌^◌, ℕ, List, length, sym, ◌∙◌, subst, arith}
 use Rattle.pearl_lex.specs.Lexes.{Lexes}
 use Rattle.pearl_print.specs.Modules.{tokens_of}
 use Rattle.pearl_print.specs.Spelled.{text_of_tokens}

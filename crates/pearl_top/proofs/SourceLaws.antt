@@ -63,8 +63,8 @@ at_source_completes source done refused rose TooLong bytes within never due no_m
 
 -- ONE OUTCOME
 
--- the bytes with which a source is done with are one list, and so are those with which it is refused, apart from the lines of one that
--- has tokens and no tree; it is not both; and either way it is within the limit
+-- what is written of a source that is done with is one list, and so is what is written of one that is refused, apart from one that has
+-- tokens and no tree; it is not both; and either way it is within the limit
 pub record IsSettled (source : List ℕ) (done refused : List ℕ → Type 0) : Type 0 where
   pub done_within : (bytes : List ℕ) → done bytes → length source ≤ SOURCE_LIMIT
   pub refused_within : (bytes : List ℕ) → refused bytes → length source ≤ SOURCE_LIMIT

@@ -205,26 +205,27 @@ fn a_checked_source_has_at_most_1048576_bytes(rt: HostRuntime) -> Result<(), Fai
     Ok(())
 }
 
-// A module with so many tasks.
-fn tasks(alloc: Global, count: usize) -> Result<String, AllocError> {
+// A module with so many tasks, and the place of the last one.
+fn tasks(alloc: Global, count: usize) -> Result<(String, usize), AllocError> {
     let mut source = String::from_str(alloc, "MODULE;PROBLEM;")?;
+    let mut place = 0;
     for number in 0..count {
+        place = source.len();
         write!(source, "t{number}:TASK;END;")?;
     }
     source.push_str("MODEND")?;
-    Ok(source)
+    Ok((source, place))
 }
 
 #[test]
 fn a_module_has_at_most_200_tasks(rt: HostRuntime) -> Result<(), Fail> {
     let alloc = rt.alloc();
-    let all = tasks(alloc, 200)?;
+    let (all, _) = tasks(alloc, 200)?;
     let (status, written) = checked(alloc, all.as_bytes())?;
     let line: &[u8] = b"accepted 200 0 0\n";
     assert_eq!(rt; written.as_slice(), line);
     assert_eq!(rt; status, Status::Done);
-    let more = tasks(alloc, 201)?;
-    let place = more.len() - "t200:TASK;END;MODEND".len();
+    let (more, place) = tasks(alloc, 201)?;
     let (status, written) = checked(alloc, more.as_bytes())?;
     let told = format!(in alloc; "error source {place} S34\n")?;
     assert_eq!(rt; written.as_slice(), told.as_bytes());
