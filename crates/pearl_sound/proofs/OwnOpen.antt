@@ -1,7 +1,7 @@
 -- The names that a routine declares for itself lie in no hidden cell.
-use Rattle.std.specs.Prelude.{◌≡◌, ◌⊎◌, ℕ, ◌+◌, ◌<◌, ◌≤◌, List, [], ◌∷◌, Some, slice_get}
+use Rattle.std.specs.Prelude.{◌≡◌, ℕ, ◌+◌, ◌≤◌, List, [], ◌∷◌, Some, slice_get}
 use Rattle.std.specs.List.{AllByRecursion, sum_by}
-use Rattle.std.proofs.Common.{inl, inr, arith}
+use Rattle.std.proofs.Common.{inr, arith}
 use Rattle.pearl_tree.specs.ShownModules.{ShownBody}
 use Rattle.pearl_names.specs.Tables.{Sense}
 use Rattle.pearl_program.specs.Typing.{AreOpen}

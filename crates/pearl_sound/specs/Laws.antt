@@ -1,4 +1,4 @@
--- What holds of the scopes, cells and formats that statements go past, and of what expressions and targets become.
+-- What holds of scopes, cells, hidden cells and formats, of names and components, and of what expressions and targets become.
 use Rattle.std.specs.Prelude.{◌≡◌, ℕ, ℤ, ◌+◌, ◌-◌, ◌*◌, ◌≤◌, ◌<◌, nat_eq, false, true, List, [], ◌∷◌, ◌++◌, length, take, drop, Some, unwrap_or, slice_get}
 use Rattle.std.specs.List.{AllByRecursion, IsDistinct, flat_map, sum_by}
 use Rattle.pearl_value.specs.declared.kind.Kind.{Kind}

@@ -1,4 +1,4 @@
-// What holds of the scopes, cells and formats that statements go past, and of what expressions and targets become.
+// What holds of scopes, cells, hidden cells and formats, of names and components, and of what expressions and targets become.
 
 ghost use Rattle.pearl_sound.specs.Laws.{CallsAreSound, ComponentsLieInTheirVariables, ExpressionsAreSound, HiddenCellsAreApart, LiteralsAreValues, NamesHaveTheirCells, NamesNameOthers, NamesShareNoCells, OwnNamesAreNotHidden, RoutinesHaveCells, StatementsGoPast, TargetsHaveTheirKind};
 
