@@ -1,11 +1,10 @@
 -- Two names of the module don't name the same.
-use Rattle.std.specs.Prelude.{◌≡◌, ℕ, zero, suc, ◌+◌, ◌≤◌, ◌<◌, List, [], ◌∷◌, length, Some, unwrap_or, slice_get}
+use Rattle.std.specs.Prelude.{◌≡◌, ℕ, zero, suc, ◌≤◌, ◌<◌, List, [], ◌∷◌, Some, slice_get}
 use Rattle.std.proofs.Common.{refl, ap, ◌∙◌, sym, subst, arith}
 use Rattle.std.proofs.lemmas.Option.{none-some}
 use Rattle.pearl_names.specs.declared.scope.SortedName.{SortedName}
 use Rattle.pearl_names.specs.Tables.{Sense, Variable, Control, OwnParameter, NewType, Semaphore, Interrupt, AlphicDation, BasicDation, Task, Procedure}
 use Rattle.pearl_system.specs.declared.device.SpecifiedDevice.{SpecifiedDevice}
-use Rattle.pearl_resolve.specs.Laying.{leaves_in}
 use Rattle.pearl_resolve.specs.Numbers.{Before, behind, module_number, module_numbers}
 use Rattle.pearl_sound.specs.Laws.{AreApart}
 use Rattle.pearl_sound.proofs.SoundParts.{some_one}

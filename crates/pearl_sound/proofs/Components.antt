@@ -1,5 +1,5 @@
 -- The leaves and cells of a component lie among those of its variable where the component says.
-use Rattle.std.specs.Prelude.{◌≡◌, ℕ, zero, suc, ◌+◌, ◌*◌, ℤ, Bool, true, false, List, [], ◌∷◌, ◌++◌, length, if◌then◌else◌, Some}
+use Rattle.std.specs.Prelude.{◌≡◌, ℕ, ◌+◌, ◌*◌, ℤ, Bool, true, false, List, [], ◌∷◌, ◌++◌, length, if◌then◌else◌, Some}
 use Rattle.std.specs.Str.{bytes_eq}
 use Rattle.std.proofs.Common.{refl, ap, ◌∙◌, sym, subst, arith}
 use Rattle.std.proofs.Math.Nat.{mul-add, mul_assoc}
@@ -7,7 +7,7 @@ use Rattle.std.proofs.lemmas.List.{length-append, length-map, length-replicate, 
 use Rattle.std.proofs.lemmas.List.Sums.{sum_by-append}
 use Rattle.std.proofs.lemmas.Option.{none-some}
 use Rattle.pearl_names.specs.Shapes.{Shape, OfKind, OfFields, Fields, NoField, MoreField}
-use Rattle.pearl_names.specs.Layout.{Leaf, leaves_of, leaves_of_fields, elements, slots_of}
+use Rattle.pearl_names.specs.Layout.{Leaf, leaves_of, leaves_of_fields, elements}
 use Rattle.pearl_names.specs.Forms.{Component, component, leaf_count, slot_count}
 use Rattle.pearl_names.specs.Runs.{shape_slots, field_slots}
 use Rattle.pearl_names.proofs.Counting.{elements-append, leaves_behind, behind}

@@ -9,6 +9,7 @@ pub mod OwnCells
 pub mod Apart
 pub mod Components
 pub mod HiddenRising
+pub mod OwnOpen
 mod Leading
 mod WholeModule
 mod TwoOfEach

@@ -1,8 +1,9 @@
 -- The cells of a name lie from its number on.
 use Rattle.std.specs.Prelude.{◌≡◌, ℕ, zero, suc, ◌+◌, ◌-◌, ◌≤◌, ◌<◌, List, [], ◌∷◌, ◌++◌, length, take, drop, Some, slice_get}
-use Rattle.std.specs.List.{flat_map}
+use Rattle.std.specs.List.{flat_map, sum_by}
 use Rattle.std.proofs.Common.{refl, ap, ◌∙◌, sym, subst, arith}
 use Rattle.std.proofs.Math.Seq.{drop-append-add}
+use Rattle.std.proofs.lemmas.List.Sums.{sum_by-cons}
 use Rattle.std.proofs.lemmas.Option.{none-some}
 use Rattle.pearl_value.specs.declared.kind.CellKind.{CellKind}
 use Rattle.pearl_names.specs.Tables.{Sense, Variable, Control, OwnParameter, NewType, Semaphore, Interrupt, AlphicDation, BasicDation, Task, Procedure}
@@ -94,3 +95,17 @@ cells_apart control from (head ∷ rest) zero (suc j) first second one two less 
 cells_apart control from (head ∷ rest) (suc i) (suc j) first second one two less there own is other also at =
     let behind = cells_apart control (from + cells_of_sense head) rest i j first second one two (omega (arith, less)) there own is other also at in
     let low = behind.0 in (omega (arith, low), behind.1)
+
+pub not_beyond : (control from : ℕ) (senses : List Sense) (i number : ℕ) (sense : Sense) → slice_get senses i ≡ Some sense →
+    IsNoControl sense → slice_get (own_numbers control from senses) i ≡ Some number →
+    number + cells_of_sense sense ≤ from + sum_by cells_of_sense senses
+not_beyond control from [] i number sense there own is = absurd (none-some sense there)
+not_beyond control from (first ∷ rest) zero number sense there own is =
+    let same = own_is control from number first (subst IsNoControl (sym (some_one there)) own) (some_one is) in
+    let cells = ap cells_of_sense (some_one there) in
+    let sum = sum_by-cons cells_of_sense first rest in
+    omega (arith, same, cells, sum)
+not_beyond control from (first ∷ rest) (suc i) number sense there own is =
+    let more = not_beyond control (from + cells_of_sense first) rest i number sense there own is in
+    let sum = sum_by-cons cells_of_sense first rest in
+    omega (arith, more, sum)

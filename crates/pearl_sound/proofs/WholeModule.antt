@@ -11,7 +11,7 @@ use Rattle.pearl_tree.specs.declared.typing.Bound.{Bound}
 use Rattle.pearl_tree.specs.declared.declaration.Direction.TheVariants.{InOut}
 use Rattle.pearl_tree.specs.declared.declaration.Class.TheVariants.{Alphic}
 use Rattle.pearl_tree.specs.declared.tree.TaskHead.TheVariants.{PrioFirst}
-use Rattle.pearl_tree.specs.ShownLiterals.{OfNumber, ShownConst}
+use Rattle.pearl_tree.specs.ShownLiterals.{OfNumber}
 use Rattle.pearl_tree.specs.ShownExpressions.{ShownExpr, OfOperand, OfDyadic, OfLiteral, OfRef, ShownSelectors, NoSelectors, MoreSelectors, OfSubscripts, NoExprs, MoreExprs, ShownRef}
 use Rattle.pearl_tree.specs.ShownDeclarations.{OfOne, OfBasic, OfDation}
 use Rattle.pearl_tree.specs.ShownStatements.{ShownStmt, OfAssign, OfCall, OfRepeat, OfGet, NoStmts, MoreStmts}

@@ -1,4 +1,4 @@
--- What holds of the scopes, cells and formats that statements go past, and of what expressions and targets become.
+-- What holds of scopes, cells, hidden cells and formats, of names and components, and of what expressions and targets become.
 use Rattle.std.specs.Prelude.{◌≡◌, ℕ, ℤ, ◌+◌, ◌-◌, ◌*◌, ◌≤◌, ◌<◌, nat_eq, false, true, List, [], ◌∷◌, ◌++◌, length, take, drop, Some, unwrap_or, slice_get}
 use Rattle.std.specs.List.{AllByRecursion, IsDistinct, flat_map, sum_by}
 use Rattle.pearl_value.specs.declared.kind.Kind.{Kind}
@@ -24,9 +24,9 @@ use Rattle.pearl_tree.specs.declared.name.Name.{Name}
 use Rattle.pearl_tree.specs.Names.{name_text}
 use Rattle.pearl_program.specs.HiddenCells.{hidden_in_all}
 use Rattle.pearl_program.specs.SoundStatements.{IsCall}
-use Rattle.pearl_program.specs.Typing.{Around, HasKind, IsVariable}
+use Rattle.pearl_program.specs.Typing.{Around, AreOpen, HasKind, IsVariable}
 use Rattle.pearl_system.specs.declared.device.SpecifiedDevice.{SpecifiedDevice}
-use Rattle.pearl_resolve.specs.Numbers.{At, Before, senses_at, module_numbers, own_numbers, after_all, after_body, numbers_in_all}
+use Rattle.pearl_resolve.specs.Numbers.{At, Before, senses_at, routine_start, scope_numbers, module_numbers, own_numbers, after_all, after_body, numbers_in_all}
 use Rattle.pearl_resolve.specs.Laying.{leaves_in, slots, cells_of_sense}
 use Rattle.pearl_resolve.specs.Expressions.{Numbered, number_of, resolve_expr, resolve_arguments, resolve_variable, target_kind}
 use Rattle.pearl_sound.specs.SoundNames.{IsLiteral, HasLiterals, HaveLiterals, SelectorsHaveLiterals, is_control, LeadNames}
@@ -135,3 +135,10 @@ HiddenCellsAreApart = (numbered : Numbered) (at : At) (body : ShownBody) →
     IsDistinct nat_eq (hidden_in_all (resolve_routine numbered at body).body) ×
     AllByRecursion (λ cell. sum_by cells_of_sense (senses_at numbered.table at.next) ≤ cell)
     (hidden_in_all (resolve_routine numbered at body).body)
+
+-- the names that a routine declares for itself lie in no hidden cell
+abbrev pub OwnNamesAreNotHidden : Type 0
+OwnNamesAreNotHidden = (numbered : Numbered) (at : At) (body : ShownBody) (i number : ℕ) (sense : Sense) →
+    slice_get (senses_at numbered.table at.next) i ≡ Some sense → IsNoControl sense →
+    slice_get (scope_numbers numbered.table 0 (routine_start at)) i ≡ Some number →
+    AreOpen (hidden_in_all (resolve_routine numbered at body).body) number (cells_of_sense sense)

@@ -1,6 +1,6 @@
-// What holds of the scopes, cells and formats that statements go past, and of what expressions and targets become.
+// What holds of scopes, cells, hidden cells and formats, of names and components, and of what expressions and targets become.
 
-ghost use Rattle.pearl_sound.specs.Laws.{CallsAreSound, ComponentsLieInTheirVariables, ExpressionsAreSound, HiddenCellsAreApart, LiteralsAreValues, NamesHaveTheirCells, NamesNameOthers, NamesShareNoCells, RoutinesHaveCells, StatementsGoPast, TargetsHaveTheirKind};
+ghost use Rattle.pearl_sound.specs.Laws.{CallsAreSound, ComponentsLieInTheirVariables, ExpressionsAreSound, HiddenCellsAreApart, LiteralsAreValues, NamesHaveTheirCells, NamesNameOthers, NamesShareNoCells, OwnNamesAreNotHidden, RoutinesHaveCells, StatementsGoPast, TargetsHaveTheirKind};
 
 /// Behind some statements the counters stand at what comes behind the scopes, cells and formats of these.
 pub fn statements_go_past()
@@ -56,4 +56,9 @@ pub fn components_lie_in_their_variables()
 /// The hidden cells of a task or procedure are all different, and none is a parameter.
 pub fn hidden_cells_are_apart()
     ensures { HiddenCellsAreApart }
+{}
+
+/// Parameters and variables that a task or procedure declares for itself lie in no hidden cell of it.
+pub fn own_names_are_not_hidden()
+    ensures { OwnNamesAreNotHidden }
 {}
