@@ -4,8 +4,10 @@ use Rattle.std.specs.Prelude.{◌&&◌, ◌==◌, nat_le, option_and_then, optio
 use Rattle.std.proofs.lemmas.Bool.{lt-leb, le-leb}
 use Rattle.std.proofs.Common.{ne_eqb}
 use Rattle.std.proofs.Math.Dec.{eqb-suc-suc}
+use Rattle.std.proofs.Math.Nat.{mul_assoc, le-mul_of_pos_right}
 use Rattle.std.proofs.Math.ListN.{drop_of_length-le}
 use Rattle.std.proofs.lemmas.List.{drop_more, drop-drop}
+use Rattle.std.proofs.lemmas.Option.{same_Some}
 use Rattle.pearl_value.specs.declared.kind.Kind.{Kind}
 use Rattle.pearl_value.specs.declared.kind.CellKind.{CellKind}
 use Rattle.pearl_value.specs.declared.kind.CellKind.TheVariants.{Plain, RefTo}
@@ -105,3 +107,50 @@ at_end items kinds n at width h less =
     and_more : (b : Bool) → b && true ≡ b
     and_more true = refl
     and_more false = refl
+
+-- bounds
+extent_some : (b : Bounds) → 0 < extent b
+extent_some b = omega arith
+
+pub elements_some : (bounds : List Bounds) → 0 < elements bounds
+elements_some [] = omega arith
+elements_some (b ∷ bounds) =
+    let least : extent b ≤ extent b * elements bounds = le-mul_of_pos_right (extent b) (elements_some bounds) in
+    let some = extent_some b in
+    omega (arith, least, some)
+
+pub elements_more : (bounds : List Bounds) (n size : ℕ) (b : Bounds) → n < length bounds → b ≡ get_or bounds n b → elements bounds ≡ size * elements (drop n bounds) →
+    elements bounds ≡ size * extent b * elements (drop (n + 1) bounds)
+elements_more bounds n size b less e h =
+    let a : drop n bounds ≡ b ∷ drop (n + 1) bounds = drop_more bounds n b less ∙ ap (λ z. z ∷ drop (n + 1) bounds) (sym e) in
+    h ∙ ap (λ bs. size * elements bs) a ∙ sym (mul_assoc size (extent b) (elements (drop (n + 1) bounds)))
+
+pub too_many : (bounds rest : List Bounds) (size : ℕ) → elements bounds ≡ size * elements rest → 65536 < size → false ≡ nat_le (elements bounds) 65536
+too_many bounds rest size h more =
+    let some = elements_some rest in
+    let enough : size ≤ size * elements rest = le-mul_of_pos_right size some in
+    sym (lt-leb (elements bounds) 65536 (omega (arith, h, enough, more)))
+
+-- kinds of which none is a reference
+mapped_long : (of : Kind) (cells : List CellKind) (o : Option (List Kind)) (kinds : List Kind) → plain_kinds cells ≡ o →
+    ((kinds : List Kind) → plain_kinds cells ≡ Some kinds → length kinds ≡ length cells) → option_map (λ kinds. of ∷ kinds) o ≡ Some kinds → length kinds ≡ suc (length cells)
+mapped_long of cells None kinds is long e = cc
+mapped_long of cells (Some rest) kinds is long e =
+    let same : of ∷ rest ≡ kinds = same_Some (of ∷ rest) kinds e in
+    ap length (sym same) ∙ ap suc (long rest is)
+
+pub plain_long : (cells : List CellKind) (kinds : List Kind) → plain_kinds cells ≡ Some kinds → length kinds ≡ length cells
+plain_long [] kinds e = let same : [] ≡ kinds = same_Some [] kinds e in ap length (sym same)
+plain_long (Plain of ∷ cells) kinds e = mapped_long of cells (plain_kinds cells) kinds refl (plain_long cells) e
+plain_long (RefTo of ∷ cells) kinds e = cc
+
+refused : (items : List Item) (cells : List CellKind) (o : Option (List Kind)) → 64 < length cells → plain_kinds cells ≡ o → false ≡ suits_format items o
+refused items cells None more e = refl
+refused items cells (Some kinds) more e =
+    let long = plain_long cells kinds e in
+    let a : nat_le (length kinds) 64 ≡ false = lt-leb (length kinds) 64 (omega (arith, long, more)) in
+    sym (ap (λ b. (items_suit items kinds && b) && nat_le (text_width items kinds) 1024) a
+        ∙ ap (λ b. b && nat_le (text_width items kinds) 1024) (and_false (items_suit items kinds)))
+
+pub long_refused : (items : List Item) (cells : List CellKind) → 64 < length cells → false ≡ suits_format items (plain_kinds cells)
+long_refused items cells more = refused items cells (plain_kinds cells) more refl
