@@ -67,10 +67,10 @@ asked_any zero s = sym (leb-zero (length s))
 asked_any (suc n) [] = sym (leb-suc-zero n)
 asked_any (suc n) (k ∷ s) = asked_any n s ∙ sym (leb-suc-suc n (length s))
 
-pub asked_append : (as bs : List Asked) (s : Shape) → v2 (as ++ bs) s ≡ (v2 as s && v2 bs (drop (length as) s))
+pub asked_append : (ones bs : List Asked) (s : Shape) → v2 (ones ++ bs) s ≡ (v2 ones s && v2 bs (drop (length ones) s))
 asked_append [] bs s = refl
-asked_append (a ∷ as) bs [] = refl
-asked_append (a ∷ as) bs (k ∷ s) = ap (λ b. meets a k && b) (asked_append as bs s) ∙ and_onto (meets a k) (v2 as s) (v2 bs (drop (length as) s))
+asked_append (a ∷ ones) bs [] = refl
+asked_append (a ∷ ones) bs (k ∷ s) = ap (λ b. meets a k && b) (asked_append ones bs s) ∙ and_onto (meets a k) (v2 ones s) (v2 bs (drop (length ones) s))
 
 -- so many of one sort, from one on
 pub asked_times : (want : Asked) (s : Shape) (n m all : ℕ) → m ≡ suc all → v2 (replicate m want) (drop n s) ≡ (v2 (want ∷ []) (drop n s) && v2 (replicate all want) (drop (n + 1) s))

@@ -58,17 +58,17 @@ further items kinds n at width item h less e suits small =
     let here : drop n items ≡ item ∷ drop (n + 1) items = cut items n item less e in
     let some = suits_some item.code (drop at kinds) suits in
     let rest : drop (data_here item.code) (drop at kinds) ≡ drop (at + data_here item.code) kinds =
-        drop-drop (data_here item.code) at kinds ∙ ap (λ m. drop m kinds) (omega arith) in
+    drop-drop (data_here item.code) at kinds ∙ ap (λ m. drop m kinds) (omega arith) in
     record {
-        within = omega (arith, some, h.within, length-drop at kinds);
-        small = small;
-        suits = h.suits ∙ ap (λ is. items_suit is (drop at kinds)) here ∙ ap (λ b. b && items_suit (drop (n + 1) items) (drop (data_here item.code) (drop at kinds))) suits
-            ∙ ap (items_suit (drop (n + 1) items)) rest;
-        wide = (let w : ℕ = width_over item.code item.width (drop at kinds) in
-                let t : ℕ = text_width (drop (n + 1) items) (drop (data_here item.code) (drop at kinds)) in
-                let a : text_width items kinds ≡ width + (w + t) = h.wide ∙ ap (λ is. width + text_width is (drop at kinds)) here in
-                let b : t ≡ text_width (drop (n + 1) items) (drop (at + data_here item.code) kinds) = ap (text_width (drop (n + 1) items)) rest in
-                omega (arith, a, b));
+      within = omega (arith, some, h.within, length-drop at kinds);
+      small = small;
+      suits = h.suits ∙ ap (λ is. items_suit is (drop at kinds)) here ∙ ap (λ b. b && items_suit (drop (n + 1) items) (drop (data_here item.code) (drop at kinds))) suits
+          ∙ ap (items_suit (drop (n + 1) items)) rest;
+      wide = (let w : ℕ = width_over item.code item.width (drop at kinds) in
+          let t : ℕ = text_width (drop (n + 1) items) (drop (data_here item.code) (drop at kinds)) in
+          let a : text_width items kinds ≡ width + (w + t) = h.wide ∙ ap (λ is. width + text_width is (drop at kinds)) here in
+          let b : t ≡ text_width (drop (n + 1) items) (drop (at + data_here item.code) kinds) = ap (text_width (drop (n + 1) items)) rest in
+          omega (arith, a, b));
     }
 
 pub too_wide : (items : List Item) (kinds : List Kind) (n at width : ℕ) (item : Item) → Further items kinds n at width → n < length items → item ≡ get_or items n item →
@@ -76,7 +76,7 @@ pub too_wide : (items : List Item) (kinds : List Kind) (n at width : ℕ) (item 
 too_wide items kinds n at width item h less e more =
     let here : drop n items ≡ item ∷ drop (n + 1) items = cut items n item less e in
     let a : text_width items kinds ≡ width + (width_over item.code item.width (drop at kinds) + text_width (drop (n + 1) items) (drop (data_here item.code) (drop at kinds))) =
-        h.wide ∙ ap (λ is. width + text_width is (drop at kinds)) here in
+    h.wide ∙ ap (λ is. width + text_width is (drop at kinds)) here in
     sym (ap (λ b. items_suit items kinds && b) (lt-leb (text_width items kinds) 1024 (omega (arith, a, more))) ∙ and_false (items_suit items kinds))
 
 pub not_suited : (items : List Item) (kinds : List Kind) (n at width : ℕ) (item : Item) → Further items kinds n at width → n < length items → item ≡ get_or items n item →
@@ -84,7 +84,7 @@ pub not_suited : (items : List Item) (kinds : List Kind) (n at width : ℕ) (ite
 not_suited items kinds n at width item h less e none =
     let here : drop n items ≡ item ∷ drop (n + 1) items = cut items n item less e in
     let a : items_suit items kinds ≡ false = h.suits ∙ ap (λ is. items_suit is (drop at kinds)) here
-        ∙ ap (λ b. b && items_suit (drop (n + 1) items) (drop (data_here item.code) (drop at kinds))) none in
+    ∙ ap (λ b. b && items_suit (drop (n + 1) items) (drop (data_here item.code) (drop at kinds))) none in
     sym (ap (λ b. b && nat_le (text_width items kinds) 1024) a)
 
 suits_none : (kinds : List Kind) (at : ℕ) → at ≤ length kinds → items_suit [] (drop at kinds) ≡ (at == length kinds)
@@ -150,7 +150,15 @@ refused items cells (Some kinds) more e =
     let long = plain_long cells kinds e in
     let a : nat_le (length kinds) 64 ≡ false = lt-leb (length kinds) 64 (omega (arith, long, more)) in
     sym (ap (λ b. (items_suit items kinds && b) && nat_le (text_width items kinds) 1024) a
-        ∙ ap (λ b. b && nat_le (text_width items kinds) 1024) (and_false (items_suit items kinds)))
+    ∙ ap (λ b. b && nat_le (text_width items kinds) 1024) (and_false (items_suit items kinds)))
 
 pub long_refused : (items : List Item) (cells : List CellKind) → 64 < length cells → false ≡ suits_format items (plain_kinds cells)
 long_refused items cells more = refused items cells (plain_kinds cells) more refl
+
+pub too_many_at : (bounds : List Bounds) (n size wide : ℕ) (d : Bounds) → n < length bounds → elements bounds ≡ size * elements (drop n bounds) →
+    wide ≡ extent (get_or bounds n d) → 65536 < size * wide → false ≡ nat_le (elements bounds) 65536
+too_many_at bounds n size wide d less e is more =
+    let a : drop n bounds ≡ get_or bounds n d ∷ drop (n + 1) bounds = drop_more bounds n d less in
+    let all : elements bounds ≡ size * wide * elements (drop (n + 1) bounds) =
+    e ∙ ap (λ bs. size * elements bs) a ∙ ap (λ w. size * (w * elements (drop (n + 1) bounds))) (sym is) ∙ sym (mul_assoc size wide (elements (drop (n + 1) bounds))) in
+    too_many bounds (drop (n + 1) bounds) (size * wide) all more

@@ -11,7 +11,7 @@ use Rattle.pearl_instructions.specs.declared.object.Object.{Object}
 use Rattle.pearl_instructions.specs.Operands.{Shape, same_shape}
 use Rattle.pearl_instructions.specs.Named.{v1}
 use Rattle.pearl_instructions.specs.Kinds.{shape_after}
-use Rattle.pearl_instructions.specs.Valid.{shape_or, passed_on, shape_before, stated, is_named, goes_on, targets}
+use Rattle.pearl_instructions.specs.Valid.{shape_or, passed_on, shape_before, stated, is_named, is_closed, goes_on, targets}
 use Rattle.pearl_verify.specs.Jumps.{AllNamed, ComesBefore}
 use Rattle.pearl_verify.proofs.Shapes.{and_true, same_shape_refl}
 
@@ -39,7 +39,7 @@ pub before_stated : (o : Object) (r : ℕ) (code : Code) (i : ℕ) (k : Shape) �
 before_stated o r code i k e =
     let unary : stated code.shapes (suc i) ≡ Some k = subst (λ n. stated code.shapes n ≡ Some k) (add-one i) e in
     let told : shape_before o r code (suc i) ≡ k =
-        ap (λ x. shape_or x (if is_named code.instructions (suc i) then [] else passed_on o r code (slice_get code.instructions i) (shape_before o r code i))) unary in
+    ap (λ x. shape_or x (if is_named code.instructions (suc i) then [] else passed_on o r code (slice_get code.instructions i) (shape_before o r code i))) unary in
     subst (λ n. shape_before o r code n ≡ k) (sym (add-one i)) told
 
 free_before : (o : Object) (r : ℕ) (code : Code) (i : ℕ) (b : Bool) → stated code.shapes (i + 1) ≡ None → is_named code.instructions (i + 1) ≡ b →
@@ -48,8 +48,8 @@ free_before o r code i b e named =
     let unary : stated code.shapes (suc i) ≡ None = subst (λ n. stated code.shapes n ≡ None) (add-one i) e in
     let called : is_named code.instructions (suc i) ≡ b = subst (λ n. is_named code.instructions n ≡ b) (add-one i) named in
     let told : shape_before o r code (suc i) ≡ (if b then [] else passed_on o r code (slice_get code.instructions i) (shape_before o r code i)) =
-        ap (λ x. shape_or x (if is_named code.instructions (suc i) then [] else passed_on o r code (slice_get code.instructions i) (shape_before o r code i))) unary
-        ∙ ap (λ b. if b then [] else passed_on o r code (slice_get code.instructions i) (shape_before o r code i)) called in
+    ap (λ x. shape_or x (if is_named code.instructions (suc i) then [] else passed_on o r code (slice_get code.instructions i) (shape_before o r code i))) unary
+    ∙ ap (λ b. if b then [] else passed_on o r code (slice_get code.instructions i) (shape_before o r code i)) called in
     subst (λ n. shape_before o r code n ≡ (if b then [] else passed_on o r code (slice_get code.instructions i) (shape_before o r code i))) (sym (add-one i)) told
 
 pub before_named : (o : Object) (r : ℕ) (code : Code) (i : ℕ) → stated code.shapes (i + 1) ≡ None → is_named code.instructions (i + 1) ≡ true →
@@ -108,11 +108,19 @@ pub targets_named : (o : Object) (code : Code) (i : ℕ) (instr : Instr) → sli
     AllNamed code.instructions (targets instr)
 targets_named o code i instr at e =
     each_named code.instructions (targets instr)
-        (λ t h. any_at (λ instr. list_any (λ u. u == t) (targets instr)) code.instructions i instr at h)
-        (targets_within o code instr e)
+    (λ t h. any_at (λ instr. list_any (λ u. u == t) (targets instr)) code.instructions i instr at h)
+    (targets_within o code instr e)
 
 -- each of them
 pub named_at : (is : List Instr) (ts : List ℕ) (n t : ℕ) → AllNamed is ts → slice_get ts n ≡ Some t → (t < length is) × (is_named is t ≡ true)
 named_at is [] n t all e = cc
 named_at is (u ∷ ts) zero t all e = subst (λ u. (u < length is) × (is_named is u ≡ true)) (same_Some u t e) all.0
 named_at is (u ∷ ts) (suc n) t all e = named_at is ts n t all.1 e
+
+-- the last one
+pub closed_last : (is : List Instr) (n : ℕ) (x : Instr) → suc n ≡ length is → slice_get is n ≡ Some x → is_closed is ≡ not (goes_on x)
+closed_last [] n x h e = cc
+closed_last (a ∷ []) zero x h e = ap (λ i. not (goes_on i)) (same_Some a x e)
+closed_last (a ∷ []) (suc n) x h e = cc
+closed_last (a ∷ b ∷ is) zero x h e = absurd (omega (arith, h))
+closed_last (a ∷ b ∷ is) (suc n) x h e = closed_last (b ∷ is) n x (omega (arith, h)) e

@@ -116,7 +116,7 @@ front_goes_on cells n x y behind less e f is same =
     let a : drop n cells ≡ x ∷ drop (n + 1) cells = drop_more cells n x (omega (arith, less)) ∙ ap (λ z. z ∷ drop (n + 1) cells) (sym e) in
     let b : drop (n + 1) cells ≡ y ∷ drop (n + 1 + 1) cells = drop_more cells (n + 1) y less ∙ ap (λ z. z ∷ drop (n + 1 + 1) cells) (sym f) in
     let c : uniform_front (drop n cells) ≡ suc (uniform_front (y ∷ drop (n + 1 + 1) cells)) =
-        ap uniform_front (a ∙ ap (λ ks. x ∷ ks) b) ∙ front_more x y (drop (n + 1 + 1) cells) same in
+    ap uniform_front (a ∙ ap (λ ks. x ∷ ks) b) ∙ front_more x y (drop (n + 1 + 1) cells) same in
     let d : behind ≡ uniform_front (y ∷ drop (n + 1 + 1) cells) = is ∙ ap uniform_front b in
     omega (arith, c, d)
 
@@ -137,7 +137,7 @@ pub values_go_on : (cells : List CellKind) (n : ℕ) (x : CellKind) (behind : �
 values_go_on cells n x behind less e is none =
     let a : drop n cells ≡ x ∷ drop (n + 1) cells = drop_more cells n x less ∙ ap (λ z. z ∷ drop (n + 1) cells) (sym e) in
     let b : value_front (drop n cells) ≡ suc (value_front (drop (n + 1) cells)) =
-        ap value_front a ∙ ap (λ b. if b then 0 else suc (value_front (drop (n + 1) cells))) none in
+    ap value_front a ∙ ap (λ b. if b then 0 else suc (value_front (drop (n + 1) cells))) none in
     omega (arith, b, is)
 
 pub values_end : (cells : List CellKind) (n : ℕ) (x : CellKind) → n < length cells → x ≡ get_or cells n x → is_reference x ≡ true → 0 ≡ value_front (drop n cells)

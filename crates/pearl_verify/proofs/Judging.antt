@@ -37,13 +37,13 @@ pub judged_first : (o : Object) (r : ℕ) (code : Code) (i : ℕ) (instr : Instr
     judged o r code i instr s ≡ Some rule
 judged_first o r code i instr s rule h =
     keep_first (v1 o code instr) (v2 (asked o r instr) s) (v3 instr s) (v4 o code instr s) (v5 o code instr)
-        (keep (v6 o r code i instr (shape_after o r code instr s)) 6 (last_rules o r code i instr s)) rule h
+    (keep (v6 o r code i instr (shape_after o r code instr s)) 6 (last_rules o r code i instr s)) rule h
 
 pub judged_later : (o : Object) (r : ℕ) (code : Code) (i : ℕ) (instr : Instr) (s : Shape) → first_rules o r code instr s ≡ None →
     (v1 o code instr ≡ true) × (judged o r code i instr s ≡ keep (v6 o r code i instr (shape_after o r code instr s)) 6 (last_rules o r code i instr s))
 judged_later o r code i instr s h =
     keep_later (v1 o code instr) (v2 (asked o r instr) s) (v3 instr s) (v4 o code instr s) (v5 o code instr)
-        (keep (v6 o r code i instr (shape_after o r code instr s)) 6 (last_rules o r code i instr s)) h
+    (keep (v6 o r code i instr (shape_after o r code instr s)) 6 (last_rules o r code i instr s)) h
 
 -- behind the last instruction stand the rules on the whole routine, and behind that nothing
 pub whole_at : (o : Object) (r : ℕ) (code : Code) → judged_at o r code (length code.instructions) (slice_get code.instructions (length code.instructions)) ≡ judged_whole code
@@ -54,17 +54,19 @@ whole_at o r code =
 pub kept_all : (o : Object) (r : ℕ) (code : Code) → ((j : ℕ) → j < length code.instructions → judged_at o r code j (slice_get code.instructions j) ≡ None) →
     judged_whole code ≡ None → (i : ℕ) → judged_at o r code i (slice_get code.instructions i) ≡ None
 kept_all o r code each whole i = elim (cases_order i (length code.instructions)) [
-    inl same ↦ ap (λ i. judged_at o r code i (slice_get code.instructions i)) same ∙ (whole_at o r code ∙ whole)
+  | inl same ↦ ap (λ i. judged_at o r code i (slice_get code.instructions i)) same ∙ (whole_at o r code ∙ whole)
   | inr (inl less) ↦ each i less
   | inr (inr more) ↦ ap (judged_at o r code i) (slice_get_past code.instructions i (omega (arith, more)))
-        ∙ ap (λ b. if b then judged_whole code else None) (ne_eqb i (length code.instructions) (λ e. omega (arith, e, more))) ]
+      ∙ ap (λ b. if b then judged_whole code else None) (ne_eqb i (length code.instructions) (λ e. omega (arith, e, more)))
+]
 
 pub kept_more : (o : Object) (r : ℕ) (code : Code) (i : ℕ) (instr : Instr) → slice_get code.instructions i ≡ Some instr →
     judged o r code i instr (shape_before o r code i) ≡ None → ((j : ℕ) → j < i → judged_at o r code j (slice_get code.instructions j) ≡ None) →
     (j : ℕ) → j < i + 1 → judged_at o r code j (slice_get code.instructions j) ≡ None
 kept_more o r code i instr at none each j less = elim (cases_eq j i) [
-    inl same ↦ ap (λ i. judged_at o r code i (slice_get code.instructions i)) same ∙ (ap (judged_at o r code i) at ∙ none)
-  | inr other ↦ each j (omega (arith, less, other)) ]
+  | inl same ↦ ap (λ i. judged_at o r code i (slice_get code.instructions i)) same ∙ (ap (judged_at o r code i) at ∙ none)
+  | inr other ↦ each j (omega (arith, less, other))
+]
 
 pub broken_at : (o : Object) (r : ℕ) (code : Code) (i rule : ℕ) (instr : Instr) → slice_get code.instructions i ≡ Some instr →
     judged o r code i instr (shape_before o r code i) ≡ Some rule → judged_at o r code i (slice_get code.instructions i) ≡ Some rule
@@ -81,22 +83,27 @@ none_more (x ∷ xs) (suc n) zero e h = absurd (omega (arith, h))
 none_more (x ∷ xs) (suc n) (suc m) e h = none_more xs n m e (omega (arith, h))
 
 pub all_sound : (o : Object) (n : ℕ) → routine_at o n ≡ None → ((s j : ℕ) → s < n → unsound o s j ≡ None) → IsValid o
-all_sound o n e each = record { sound = λ r i. elim (cases_lt r n) [
-    inl less ↦ each r i less
-  | inr more ↦ ap (λ x. unsound_in o r x i) (none_more (routines o) n r e more) ] }
+all_sound o n e each = record {
+  sound = λ r i. elim (cases_lt r n) [
+    | inl less ↦ each r i less
+    | inr more ↦ ap (λ x. unsound_in o r x i) (none_more (routines o) n r e more)
+  ];
+}
 
 pub sound_more : (o : Object) (n : ℕ) → ((s j : ℕ) → s < n → unsound o s j ≡ None) → ((j : ℕ) → unsound o n j ≡ None) → (s j : ℕ) → s < n + 1 → unsound o s j ≡ None
 sound_more o n each here s j less = elim (cases_eq s n) [
-    inl same ↦ ap (λ s. unsound o s j) same ∙ here j
-  | inr other ↦ each s j (omega (arith, less, other)) ]
+  | inl same ↦ ap (λ s. unsound o s j) same ∙ here j
+  | inr other ↦ each s j (omega (arith, less, other))
+]
 
 pub least : (o : Object) (n : ℕ) (fault : VerifyFault) → ((s j : ℕ) → s < n → unsound o s j ≡ None) → BreaksFirst o n fault → IsLeast o fault
 least o n (Unsound r i rule) each h =
     let same : r ≡ n = h.0 in (
       ap (λ r. unsound o r i) same ∙ h.1,
       λ s j before. elim before [
-          inl less ↦ each s j (omega (arith, less, same))
-        | inr here ↦ ap (λ s. unsound o s j) (here.0 ∙ same) ∙ h.2 j here.1 ],
+        | inl less ↦ each s j (omega (arith, less, same))
+        | inr here ↦ ap (λ s. unsound o s j) (here.0 ∙ same) ∙ h.2 j here.1
+      ],
     )
 least o n NoMemory each h = tt
 
@@ -110,3 +117,31 @@ pub later_at : {A B : Type 0} (f : A → B) (xs : List A) (ys : List B) (n : ℕ
 later_at f [] ys n h = refl
 later_at f (x ∷ xs) ys zero h = absurd (omega (arith, h))
 later_at f (x ∷ xs) ys (suc n) h = later_at f xs ys n (omega (arith, h))
+
+-- what is told of an instruction: t is the shape with which it was asked, s the one before the instruction
+pub told_first : (o : Object) (r : ℕ) (code : Code) (i : ℕ) (instr : Instr) (s t : Shape) (rule : ℕ) → t ≡ s → Some rule ≡ first_rules o r code instr t →
+    Some rule ≡ judged o r code i instr s
+told_first o r code i instr s t rule same e =
+    sym (judged_first o r code i instr s rule (ap (first_rules o r code instr) (sym same) ∙ sym e))
+
+later_than : (o : Object) (r : ℕ) (code : Code) (i : ℕ) (instr : Instr) (s t after : Shape) (b : Bool) → t ≡ s → None ≡ first_rules o r code instr t →
+    after ≡ shape_after o r code instr t → b ≡ v6 o r code i instr after → judged o r code i instr s ≡ keep b 6 (last_rules o r code i instr s)
+later_than o r code i instr s t after b same e left flows =
+    (judged_later o r code i instr s (ap (first_rules o r code instr) (sym same) ∙ sym e)).1
+    ∙ ap (λ z. keep (v6 o r code i instr (shape_after o r code instr z)) 6 (last_rules o r code i instr s)) (sym same)
+    ∙ ap (λ z. keep (v6 o r code i instr z) 6 (last_rules o r code i instr s)) (sym left)
+    ∙ ap (λ b. keep b 6 (last_rules o r code i instr s)) (sym flows)
+
+pub told_flow : (o : Object) (r : ℕ) (code : Code) (i : ℕ) (instr : Instr) (s t after : Shape) (b : Bool) → t ≡ s → None ≡ first_rules o r code instr t →
+    after ≡ shape_after o r code instr t → b ≡ v6 o r code i instr after → b ≡ false → Some 6 ≡ judged o r code i instr s
+told_flow o r code i instr s t after b same e left flows stops =
+    sym (later_than o r code i instr s t after b same e left flows ∙ ap (λ b. keep b 6 (last_rules o r code i instr s)) stops)
+
+pub told_last : (o : Object) (r : ℕ) (code : Code) (i : ℕ) (instr : Instr) (s t after : Shape) (b : Bool) (last : Option ℕ) → t ≡ s → None ≡ first_rules o r code instr t →
+    after ≡ shape_after o r code instr t → b ≡ v6 o r code i instr after → b ≡ true → last ≡ last_rules o r code i instr t → last ≡ judged o r code i instr s
+told_last o r code i instr s t after b last same e left flows goes told =
+    told ∙ ap (last_rules o r code i instr) same
+    ∙ sym (later_than o r code i instr s t after b same e left flows ∙ ap (λ b. keep b 6 (last_rules o r code i instr s)) goes)
+
+pub names_kept : (o : Object) (r : ℕ) (code : Code) (instr : Instr) (t : Shape) → None ≡ first_rules o r code instr t → v1 o code instr ≡ true
+names_kept o r code instr t e = (judged_later o r code 0 instr t (sym e)).0

@@ -56,8 +56,9 @@ same_shape_true (x ∷ xs) (y ∷ ys) e =
 
 pub other_lengths : (xs ys : Shape) → (length xs ≡ length ys → ⊥) → same_shape xs ys ≡ false
 other_lengths xs ys h = elim (cases_Bool (same_shape xs ys)) [
-    inl e ↦ absurd (h (ap length (same_shape_true xs ys e)))
-  | inr e ↦ e ]
+  | inl e ↦ absurd (h (ap length (same_shape_true xs ys e)))
+  | inr e ↦ e
+]
 
 reverse_same : {A : Type 0} (xs ys : List A) → reverse xs ≡ reverse ys → xs ≡ ys
 reverse_same xs ys e = sym (reverse-reverse xs) ∙ (ap reverse e ∙ reverse-reverse ys)
@@ -65,12 +66,14 @@ reverse_same xs ys e = sym (reverse-reverse xs) ∙ (ap reverse e ∙ reverse-re
 -- both lists the other way round
 pub same_reversed : (xs ys : Shape) → same_shape xs ys ≡ same_shape (reverse xs) (reverse ys)
 same_reversed xs ys = elim (cases_Bool (same_shape xs ys)) [
-    inl e ↦ e ∙ sym (ap (λ z. same_shape (reverse xs) (reverse z)) (sym (same_shape_true xs ys e)) ∙ same_shape_refl (reverse xs))
+  | inl e ↦ e ∙ sym (ap (λ z. same_shape (reverse xs) (reverse z)) (sym (same_shape_true xs ys e)) ∙ same_shape_refl (reverse xs))
   | inr e ↦ elim (cases_Bool (same_shape (reverse xs) (reverse ys))) [
-        inl h ↦ (let is : xs ≡ ys = reverse_same xs ys (same_shape_true (reverse xs) (reverse ys) h) in
-                 let same : same_shape xs ys ≡ true = ap (same_shape xs) (sym is) ∙ same_shape_refl xs in
-                 absurd (cc))
-      | inr h ↦ e ∙ sym h ] ]
+    | inl h ↦ (let is : xs ≡ ys = reverse_same xs ys (same_shape_true (reverse xs) (reverse ys) h) in
+        let same : same_shape xs ys ≡ true = ap (same_shape xs) (sym is) ∙ same_shape_refl xs in
+        absurd (cc))
+    | inr h ↦ e ∙ sym h
+  ]
+]
 
 parts : {A : Type 0} (m : ℕ) (ys : List A) → reverse ys ≡ reverse (drop m ys) ++ reverse (take m ys)
 parts m ys = ap reverse (sym (take-append-drop m ys)) ∙ reverse-append (take m ys) (drop m ys)
@@ -81,21 +84,23 @@ behind n ys h = length-reverse (drop (length ys - n) ys) ∙ (length-drop (lengt
 -- the first ones, of a list that lies the other way round
 pub top_is : {A : Type 0} (n : ℕ) (ys : List A) → drop (length ys - n) ys ≡ reverse (take n (reverse ys))
 top_is n ys = elim (cases_lt (length ys) n) [
-    inl less ↦ (let none : length ys - n ≡ 0 = omega (arith, less) in
-                let back : length (reverse ys) ≤ n = omega (arith, less, length-reverse ys) in
-                ap (λ m. drop m ys) none ∙ sym (ap reverse (take_all n (reverse ys) back) ∙ reverse-reverse ys))
+  | inl less ↦ (let none : length ys - n ≡ 0 = omega (arith, less) in
+      let back : length (reverse ys) ≤ n = omega (arith, less, length-reverse ys) in
+      ap (λ m. drop m ys) none ∙ sym (ap reverse (take_all n (reverse ys) back) ∙ reverse-reverse ys))
   | inr more ↦ sym (ap (λ zs. reverse (take n zs)) (parts (length ys - n) ys)
-        ∙ (ap reverse (take_at (reverse (drop (length ys - n) ys)) (reverse (take (length ys - n) ys)) n (behind n ys more))
-        ∙ reverse-reverse (drop (length ys - n) ys))) ]
+      ∙ (ap reverse (take_at (reverse (drop (length ys - n) ys)) (reverse (take (length ys - n) ys)) n (behind n ys more))
+      ∙ reverse-reverse (drop (length ys - n) ys)))
+]
 
 -- and without them
 pub rest_is : {A : Type 0} (n : ℕ) (ys : List A) → reverse (take (length ys - n) ys) ≡ drop n (reverse ys)
 rest_is n ys = elim (cases_lt (length ys) n) [
-    inl less ↦ (let none : length ys - n ≡ 0 = omega (arith, less) in
-                let back : length (reverse ys) ≤ n = omega (arith, less, length-reverse ys) in
-                ap (λ m. reverse (take m ys)) none ∙ sym (drop_of_length-le (reverse ys) back))
+  | inl less ↦ (let none : length ys - n ≡ 0 = omega (arith, less) in
+      let back : length (reverse ys) ≤ n = omega (arith, less, length-reverse ys) in
+      ap (λ m. reverse (take m ys)) none ∙ sym (drop_of_length-le (reverse ys) back))
   | inr more ↦ sym (ap (drop n) (parts (length ys - n) ys)
-        ∙ drop_at (reverse (drop (length ys - n) ys)) (reverse (take (length ys - n) ys)) n (behind n ys more)) ]
+      ∙ drop_at (reverse (drop (length ys - n) ys)) (reverse (take (length ys - n) ys)) n (behind n ys more))
+]
 
 pub at_reversed : {A : Type 0} (ys : List A) (n : ℕ) (x : A) → n < length ys → x ≡ get_or ys (length ys - 1 - n) x → Some x ≡ slice_get (reverse ys) n
 at_reversed ys n x less e = sym (slice_get_read (reverse ys) (length ys) n x (sym (length-reverse ys)) less (e ∙ sym (get_or-reverse ys n x less)))

@@ -6,6 +6,7 @@ use Rattle.std.proofs.lemmas.Bool.{cases_eq}
 use Rattle.std.proofs.lemmas.List.{drop_more, get_or-replicate, length-replicate}
 use Rattle.std.proofs.lemmas.List.Folds.{list_any-append}
 use Rattle.std.proofs.lemmas.Grind.{take_at_read}
+use Rattle.std.proofs.Math.Seq.{drop-length}
 use Rattle.std.proofs.lemmas.Option.{same_Some, slice_get-get_or, slice_get_within, get_or_from_slice_get, slice_get_read}
 use Rattle.pearl_instructions.specs.declared.instr.Instr.{Instr}
 use Rattle.pearl_instructions.specs.declared.object.Shape.{Shape as Stated}
@@ -38,10 +39,11 @@ set_other xs n i x y other e =
 
 mark_at : (marks : List Bool) (n i : ℕ) (b : Bool) → slice_get marks i ≡ Some b → slice_get (slice_set marks n true) i ≡ Some (b || (n == i))
 mark_at marks n i b e = elim (cases_eq n i) [
-    inl same ↦ (let here : slice_get (slice_set marks n true) i ≡ Some true =
-                    ap (λ k. slice_get (slice_set marks k true) i) same ∙ set_same marks i true (slice_get_within marks i b e) in
-                here ∙ sym (ap (λ c. Some (b || c)) (eq-eqb n i same) ∙ ap Some (or_true b)))
-  | inr other ↦ set_other marks n i true b (λ s. other (sym s)) e ∙ sym (ap (λ c. Some (b || c)) (ne_eqb n i other) ∙ ap Some (or_false b)) ]
+  | inl same ↦ (let here : slice_get (slice_set marks n true) i ≡ Some true =
+      ap (λ k. slice_get (slice_set marks k true) i) same ∙ set_same marks i true (slice_get_within marks i b e) in
+      here ∙ sym (ap (λ c. Some (b || c)) (eq-eqb n i same) ∙ ap Some (or_true b)))
+  | inr other ↦ set_other marks n i true b (λ s. other (sym s)) e ∙ sym (ap (λ c. Some (b || c)) (ne_eqb n i other) ∙ ap Some (or_false b))
+]
 
 marked_at : (ns : List ℕ) (marks : List Bool) (i : ℕ) (b : Bool) → slice_get marks i ≡ Some b → slice_get (marked ns marks) i ≡ Some (b || list_any (λ t. t == i) ns)
 marked_at [] marks i b e = e ∙ sym (ap Some (or_false b))
@@ -65,7 +67,6 @@ pub named_more : (is : List Instr) (k : ℕ) (x : Instr) (marks : List Bool) →
 named_more is k x marks less e before i within =
     marked_at (targets x) marks i (is_named (take k is) i) (before i within) ∙ ap Some (sym (named_take is k x i less e))
 
-
 pub repeated : {A : Type 0} (n i : ℕ) (x : A) → i < n → slice_get (replicate n x) i ≡ Some x
 repeated n i x less =
     slice_get-get_or (replicate n x) i x (omega (arith, less, length-replicate n x)) ∙ ap Some (get_or-replicate n i x x less)
@@ -79,20 +80,35 @@ pub stated_more : (ss : List Stated) (numbers : List (Option ℕ)) (n : ℕ) (s 
     ((i : ℕ) → i < length numbers → option_map (shape_of ss) (slice_get numbers i) ≡ Some (stated (drop (n + 1) ss) i)) →
     (i : ℕ) → i < length numbers → option_map (shape_of ss) (slice_get (slice_set numbers s.instruction (Some n)) i) ≡ Some (stated (drop n ss) i)
 stated_more ss numbers n s less e before i within = elim (cases_eq s.instruction i) [
-    inl same ↦ (let slot : slice_get (slice_set numbers s.instruction (Some n)) i ≡ Some (Some n) =
-                    ap (λ k. slice_get (slice_set numbers k (Some n)) i) same ∙ set_same numbers i (Some n) within in
-                let at : slice_get ss n ≡ Some s = slice_get_read ss (length ss) n s refl less e in
-                let told : option_map (shape_of ss) (slice_get (slice_set numbers s.instruction (Some n)) i) ≡ Some (Some (reverse s.kinds)) =
-                    ap (option_map (shape_of ss)) slot ∙ ap (λ o. Some (option_map (λ s. reverse s.kinds) o)) at in
-                told ∙ sym (ap Some (stated_step ss n i s less e ∙ ap (λ b. if b then Some (reverse s.kinds) else stated (drop (n + 1) ss) i) (eq-eqb s.instruction i same))))
+  | inl same ↦ (let slot : slice_get (slice_set numbers s.instruction (Some n)) i ≡ Some (Some n) =
+      ap (λ k. slice_get (slice_set numbers k (Some n)) i) same ∙ set_same numbers i (Some n) within in
+      let at : slice_get ss n ≡ Some s = slice_get_read ss (length ss) n s refl less e in
+      let told : option_map (shape_of ss) (slice_get (slice_set numbers s.instruction (Some n)) i) ≡ Some (Some (reverse s.kinds)) =
+      ap (option_map (shape_of ss)) slot ∙ ap (λ o. Some (option_map (λ s. reverse s.kinds) o)) at in
+      told ∙ sym (ap Some (stated_step ss n i s less e ∙ ap (λ b. if b then Some (reverse s.kinds) else stated (drop (n + 1) ss) i) (eq-eqb s.instruction i same))))
   | inr other ↦ (let y : Option ℕ = get_or numbers i None in
-                 let was : slice_get numbers i ≡ Some y = slice_get-get_or numbers i None within in
-                 let slot : slice_get (slice_set numbers s.instruction (Some n)) i ≡ slice_get numbers i =
-                    set_other numbers s.instruction i (Some n) y (λ t. other (sym t)) was ∙ sym was in
-                 ap (option_map (shape_of ss)) slot ∙ before i within
-                 ∙ sym (ap Some (stated_step ss n i s less e ∙ ap (λ b. if b then Some (reverse s.kinds) else stated (drop (n + 1) ss) i) (ne_eqb s.instruction i other)))) ]
+      let was : slice_get numbers i ≡ Some y = slice_get-get_or numbers i None within in
+      let slot : slice_get (slice_set numbers s.instruction (Some n)) i ≡ slice_get numbers i =
+      set_other numbers s.instruction i (Some n) y (λ t. other (sym t)) was ∙ sym was in
+      ap (option_map (shape_of ss)) slot ∙ before i within
+      ∙ sym (ap Some (stated_step ss n i s less e ∙ ap (λ b. if b then Some (reverse s.kinds) else stated (drop (n + 1) ss) i) (ne_eqb s.instruction i other))))
+]
 
 -- what the table tells
 pub stated_at : (ss : List Stated) (numbers : List (Option ℕ)) (i : ℕ) (o : Option ℕ) → slice_get numbers i ≡ Some o →
     option_map (shape_of ss) (slice_get numbers i) ≡ Some (stated ss i) → stated ss i ≡ shape_of ss o
 stated_at ss numbers i o at e = same_Some (stated ss i) (shape_of ss o) (sym e ∙ ap (option_map (shape_of ss)) at)
+
+-- one more of the same
+pub pushed_at : {A : Type 0} (xs : List A) (x : A) (n i : ℕ) → length xs ≡ n → i < n + 1 → ((j : ℕ) → j < n → slice_get xs j ≡ Some x) → slice_get (xs ++ x ∷ []) i ≡ Some x
+pushed_at [] x n zero long less e = refl
+pushed_at [] x n (suc i) long less e = absurd (omega (arith, long, less))
+pushed_at (y ∷ xs) x n zero long less e = e 0 (omega (arith, long))
+pushed_at (y ∷ xs) x n (suc i) long less e =
+    pushed_at xs x (length xs) i refl (omega (arith, long, less)) (λ j h. e (suc j) (omega (arith, long, h)))
+
+-- before any shape is noted
+pub stated_begun : (count : ℕ) (ss : List Stated) (numbers : List (Option ℕ)) → ((i : ℕ) → i < count → slice_get numbers i ≡ Some None) →
+    (i : ℕ) → i < count → option_map (shape_of ss) (slice_get numbers i) ≡ Some (stated (drop (length ss) ss) i)
+stated_begun count ss numbers none i less =
+    ap (option_map (shape_of ss)) (none i less) ∙ sym (ap (λ s. Some (stated s i)) (drop-length ss))

@@ -22,6 +22,11 @@ pub record AreStated (count : ℕ) (shapes : List Stated) (numbers : List (Optio
   pub long : length numbers ≡ count
   pub stated : (i : ℕ) → i < count → option_map (shape_of shapes) (slice_get numbers i) ≡ Some (stated shapes i)
 
+-- none is stated yet
+pub record AreNone (count : ℕ) (numbers : List (Option ℕ)) : Type 0 where
+  pub long : length numbers ≡ count
+  pub none : (i : ℕ) → i < count → slice_get numbers i ≡ Some None
+
 pub record HoldsJumps (code : Code) (table : JumpTable) : Type 0 where
   pub named : AreNamed code.instructions table.named.items
   pub stated : AreStated (length code.instructions) code.shapes table.stated.items

@@ -1,6 +1,6 @@
 // How a routine goes on: shapes where control flows to, jumps, calls and ends.
 
-ghost use Rattle.std.specs.Prelude.{◌≡◌, ◌<◌, ◌+◌, [], true, Some, length, slice_get, OnOk, IsTrue};
+ghost use Rattle.std.specs.Prelude.{◌≡◌, ◌<◌, ◌+◌, ◌^◌, [], true, Some, length, slice_get, OnOk, IsTrue};
 ghost use Rattle.std.specs.List.{list_all};
 ghost use Rattle.pearl_instructions.specs.Operands.{same_shape};
 ghost use Rattle.pearl_instructions.specs.Objects.{is_task, result_of};
@@ -32,7 +32,14 @@ pub(crate) fn goes_on(instr: &Instr) -> bool
 }
 
 /// Whether these are the kinds before an instruction that a jump names.
-fn lands(object: &Object, routine: usize, code: &Code, jumps: &JumpTable, to: u64, kinds: &Kinds) -> bool
+fn lands(
+    object: &Object,
+    routine: usize,
+    code: &Code,
+    jumps: &JumpTable,
+    to: u64,
+    kinds: &Kinds,
+) -> bool
     requires table { HoldsJumps code.now jumps.now }
     requires within { to < length code.now.instructions }
     requires named { is_named code.now.instructions to ≡ true }
@@ -47,7 +54,14 @@ fn lands(object: &Object, routine: usize, code: &Code, jumps: &JumpTable, to: u6
     }
 }
 
-fn all_land(object: &Object, routine: usize, code: &Code, jumps: &JumpTable, list: &[u64], kinds: &Kinds) -> bool
+fn all_land(
+    object: &Object,
+    routine: usize,
+    code: &Code,
+    jumps: &JumpTable,
+    list: &[u64],
+    kinds: &Kinds,
+) -> bool
     requires table { HoldsJumps code.now jumps.now }
     requires named { AllNamed code.now.instructions list.now }
     ensures { result ≡ list_all (λ t. same_shape (shape_before object.now routine code.now t) kinds.now) list.now }
@@ -61,7 +75,14 @@ fn all_land(object: &Object, routine: usize, code: &Code, jumps: &JumpTable, lis
 }
 
 /// Whether these are the kinds before each instruction to which this one jumps.
-fn arrives(object: &Object, routine: usize, code: &Code, jumps: &JumpTable, instr: &Instr, kinds: &Kinds) -> bool
+fn arrives(
+    object: &Object,
+    routine: usize,
+    code: &Code,
+    jumps: &JumpTable,
+    instr: &Instr,
+    kinds: &Kinds,
+) -> bool
     requires table { HoldsJumps code.now jumps.now }
     requires named { AllNamed code.now.instructions (targets instr.now) }
     ensures { result ≡ list_all (λ t. same_shape (shape_before object.now routine code.now t) kinds.now) (targets instr.now) }
@@ -76,7 +97,14 @@ fn arrives(object: &Object, routine: usize, code: &Code, jumps: &JumpTable, inst
 }
 
 /// Whether these are the kinds before the next instruction, to which this one goes on.
-fn follows(object: &Object, routine: usize, code: &Code, jumps: &JumpTable, i: usize, kinds: &Kinds) -> bool
+fn follows(
+    object: &Object,
+    routine: usize,
+    code: &Code,
+    jumps: &JumpTable,
+    i: usize,
+    kinds: &Kinds,
+) -> bool
     requires table { HoldsJumps code.now jumps.now }
     requires within { i + 1 < length code.now.instructions }
     requires after { ComesBefore object.now routine code.now (i + 1) kinds.now }
@@ -95,10 +123,19 @@ fn follows(object: &Object, routine: usize, code: &Code, jumps: &JumpTable, i: u
 }
 
 /// Whether an instruction goes on and jumps with the kinds before where it goes (V6). The kinds are those behind it.
-pub(crate) fn flows(object: &Object, routine: usize, code: &Code, jumps: &JumpTable, i: usize, instr: &Instr, kinds: &Kinds) -> bool
+pub(crate) fn flows(
+    object: &Object,
+    routine: usize,
+    code: &Code,
+    jumps: &JumpTable,
+    i: usize,
+    instr: &Instr,
+    kinds: &Kinds,
+) -> bool
     requires table { HoldsJumps code.now jumps.now }
     requires at { slice_get code.now.instructions i ≡ Some instr.now }
     requires names { v1 object.now code.now instr.now ≡ true }
+    requires next { i + 1 < 2 ^ 64 }
     requires after { kinds.now ≡ shape_after object.now routine code.now instr.now (shape_before object.now routine code.now i) }
     ensures { result ≡ v6 object.now routine code.now i instr.now kinds.now }
 {
@@ -114,7 +151,15 @@ pub(crate) fn flows(object: &Object, routine: usize, code: &Code, jumps: &JumpTa
 }
 
 /// Makes the kinds behind an instruction those before the next one.
-pub(crate) fn advance(object: &Object, routine: usize, code: &Code, jumps: &JumpTable, i: usize, instr: &Instr, kinds: &mut Kinds) -> Result<(), NoMemory>
+pub(crate) fn advance(
+    object: &Object,
+    routine: usize,
+    code: &Code,
+    jumps: &JumpTable,
+    i: usize,
+    instr: &Instr,
+    kinds: &mut Kinds,
+) -> Result<(), NoMemory>
     requires table { HoldsJumps code.now jumps.now }
     requires within { i + 1 < length code.now.instructions }
     requires at { slice_get code.now.instructions i ≡ Some instr.now }

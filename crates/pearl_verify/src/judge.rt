@@ -1,6 +1,6 @@
 // The least rule that fails at an instruction.
 
-ghost use Rattle.std.specs.Prelude.{◌≡◌, ◌++◌, ◌+◌, ◌<◌, true, Some, None, drop, length, map, option_to_list, slice_get, IfOk, OnOk};
+ghost use Rattle.std.specs.Prelude.{◌≡◌, ◌++◌, ◌+◌, ◌<◌, ◌^◌, true, Some, None, drop, length, map, option_to_list, slice_get, IfOk, OnOk};
 ghost use Rattle.pearl_format.specs.Items.{data_count};
 ghost use Rattle.pearl_instructions.specs.Operands.{asked, v2};
 ghost use Rattle.pearl_instructions.specs.Named.{v1};
@@ -25,7 +25,15 @@ use pearl_instructions::object::{Code, Object};
 use std::alloc::AllocError as NoMemory;
 
 // The least of the rules on numbers and kinds that fails.
-fn first_rule(object: &Object, counts: &[usize], routine: usize, code: &Code, runs: &CellRuns, instr: &Instr, kinds: &Kinds) -> Option<u8>
+fn first_rule(
+    object: &Object,
+    counts: &[usize],
+    routine: usize,
+    code: &Code,
+    runs: &CellRuns,
+    instr: &Instr,
+    kinds: &Kinds,
+) -> Option<u8>
     requires counts { counts.now ≡ map data_count object.now.formats }
     requires runs { HoldsRuns code.now.cells runs.now }
     ensures { result ≡ first_rules object.now routine code.now instr.now kinds.now }
@@ -49,7 +57,15 @@ fn first_rule(object: &Object, counts: &[usize], routine: usize, code: &Code, ru
 }
 
 // The least of the rules on jumps, calls, ends, depths and limits that fails.
-fn last_rule(object: &Object, counts: &[usize], routine: usize, code: &Code, i: usize, instr: &Instr, kinds: &Kinds) -> Option<u8>
+fn last_rule(
+    object: &Object,
+    counts: &[usize],
+    routine: usize,
+    code: &Code,
+    i: usize,
+    instr: &Instr,
+    kinds: &Kinds,
+) -> Option<u8>
     requires { counts.now ≡ map data_count object.now.formats }
     ensures { result ≡ last_rules object.now routine code.now i instr.now kinds.now }
 {
@@ -72,7 +88,14 @@ fn last_rule(object: &Object, counts: &[usize], routine: usize, code: &Code, i: 
 }
 
 // Makes the kinds before an instruction those behind it.
-fn carry_out(object: &Object, counts: &[usize], routine: usize, code: &Code, instr: &Instr, kinds: &mut Kinds) -> Result<(), NoMemory>
+fn carry_out(
+    object: &Object,
+    counts: &[usize],
+    routine: usize,
+    code: &Code,
+    instr: &Instr,
+    kinds: &mut Kinds,
+) -> Result<(), NoMemory>
     requires { counts.now ≡ map data_count object.now.formats }
     ensures { OnOk result (kinds.new ≡ shape_after object.now routine code.now instr.now kinds.old) }
 {
@@ -86,11 +109,22 @@ fn carry_out(object: &Object, counts: &[usize], routine: usize, code: &Code, ins
 
 /// The least rule that fails at an instruction, from the kinds before it. Where none fails they become those before the
 /// next instruction.
-pub(crate) fn judge(object: &Object, counts: &[usize], routine: usize, code: &Code, runs: &CellRuns, jumps: &JumpTable, i: usize, instr: &Instr, kinds: &mut Kinds) -> Result<Option<u8>, NoMemory>
+pub(crate) fn judge(
+    object: &Object,
+    counts: &[usize],
+    routine: usize,
+    code: &Code,
+    runs: &CellRuns,
+    jumps: &JumpTable,
+    i: usize,
+    instr: &Instr,
+    kinds: &mut Kinds,
+) -> Result<Option<u8>, NoMemory>
     requires counts { counts.now ≡ map data_count object.now.formats }
     requires runs { HoldsRuns code.now.cells runs.now }
     requires jumps { HoldsJumps code.now jumps.now }
     requires at { slice_get code.now.instructions i ≡ Some instr.now }
+    requires next { i + 1 < 2 ^ 64 }
     requires before { kinds.old ≡ shape_before object.now routine code.now i }
     ensures rule { IfOk result (λ rule. rule ≡ judged object.now routine code.now i instr.now (shape_before object.now routine code.now i)) }
     ensures next { IfOk result (λ rule. rule ≡ None → i + 1 < length code.now.instructions → kinds.new ≡ shape_before object.now routine code.now (i + 1)) }

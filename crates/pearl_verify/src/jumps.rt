@@ -2,7 +2,7 @@
 
 ghost use Rattle.std.specs.Prelude.{◌≡◌, ◌<◌, true, false, Some, None, length, reverse, slice_set, IfOk, MatchOption};
 ghost use Rattle.pearl_instructions.specs.Valid.{is_named, stated, targets};
-ghost use Rattle.pearl_verify.specs.Jumps.{HoldsJumps, marked, AreNamed, AreStated};
+ghost use Rattle.pearl_verify.specs.Jumps.{HoldsJumps, marked, AreNamed, AreStated, AreNone};
 
 use pearl_instructions::instr::Instr;
 use pearl_instructions::object::{Code, Shape};
@@ -64,6 +64,16 @@ fn note(numbers: &mut Vec<Option<usize>>, instruction: u64, number: usize)
     }
 }
 
+fn none_stated(alloc: Global, count: usize) -> Result<Vec<Option<usize>>, NoMemory>
+    ensures { IfOk result (λ numbers. AreNone count numbers.items) }
+{
+    let mut numbers = Vec::new(alloc);
+    'instructions: for _ in 0..count {
+        numbers.push(None)?;
+    }
+    Ok(numbers)
+}
+
 // The first shape for an instruction counts, so they are taken from the last one on.
 fn stated_shapes(
     alloc: Global,
@@ -72,7 +82,7 @@ fn stated_shapes(
 ) -> Result<Vec<Option<usize>>, NoMemory>
     ensures { IfOk result (λ numbers. AreStated count shapes.now numbers.items) }
 {
-    let mut numbers = vec![in alloc; None; count]?;
+    let mut numbers = none_stated(alloc, count)?;
     let mut from = shapes.len();
     'shapes: while from > 0 {
         from -= 1;

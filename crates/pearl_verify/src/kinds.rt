@@ -74,8 +74,7 @@ impl Kinds {
     pub(crate) fn drop_top(&mut self, count: usize)
         ensures { self.new ≡ drop count self.old }
     {
-        self.kinds
-            .truncate(self.kinds.len().saturating_sub(count));
+        self.kinds.truncate(self.kinds.len().saturating_sub(count));
     }
 
     pub(crate) fn clear(&mut self)

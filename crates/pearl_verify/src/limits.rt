@@ -252,7 +252,10 @@ fn cells_suit(object: &Object, code: &Code, counts: &[usize], reading: Reading) 
     requires { counts.now ≡ map data_count object.now.formats }
     ensures { result ≡ cells_suit (items_at object.now reading.format) (read_cells code.now reading.first (items_at object.now reading.format)) }
 {
-    match (items_at(object, reading.format), data_count(object, counts, reading.format)) {
+    match (
+        items_at(object, reading.format),
+        data_count(object, counts, reading.format),
+    ) {
         (Some(items), Some(count)) => {
             suits_format(items, cells_at(code, reading.first, count as u64))
         }

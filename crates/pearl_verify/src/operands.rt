@@ -1,6 +1,6 @@
 // What instructions take off the operands.
 
-ghost use Rattle.std.specs.Prelude.{◌≡◌, ◌++◌, [], ◌∷◌, List, length, drop, map, replicate, slice_get, nat_le};
+ghost use Rattle.std.specs.Prelude.{◌≡◌, ◌≤◌, ◌++◌, [], ◌∷◌, length, drop, map, replicate, slice_get, nat_le};
 ghost use Rattle.pearl_value.specs.declared.kind.Kind.{Kind};
 ghost use Rattle.pearl_format.specs.Items.{data_count};
 ghost use Rattle.pearl_instructions.specs.Objects.{items_at};
@@ -184,12 +184,7 @@ pub(crate) fn are_operands(
 }
 
 /// How many operands the instruction takes.
-pub(crate) fn operand_count(
-    object: &Object,
-    counts: &[usize],
-    routine: usize,
-    instr: &Instr,
-) -> u64
+pub(crate) fn operand_count(object: &Object, counts: &[usize], routine: usize, instr: &Instr) -> u64
     requires { counts.now ≡ map data_count object.now.formats }
     ensures { result ≡ length (asked object.now routine instr.now) }
 {
@@ -198,7 +193,8 @@ pub(crate) fn operand_count(
         Instr::Send(_) => 1,
         Instr::Dyadic(_) => 2,
         Instr::Index(bounds) => bounds.as_slice().len() as u64,
-        Instr::LoadAt { .. } | Instr::ReadAt(_) | Instr::RefSlotAt(_) | Instr::RefCellAt { .. } => 1,
+        Instr::LoadAt { .. } | Instr::ReadAt(_) | Instr::RefSlotAt(_) | Instr::RefCellAt { .. } =>
+            1,
         Instr::StoreAt { .. } | Instr::WriteAt(_) | Instr::WriteRef => 2,
         Instr::ReadRef | Instr::JumpZero(_) | Instr::Case(_) | Instr::NonZero => 1,
         Instr::Call(procedure) => arguments_count(object, *procedure),

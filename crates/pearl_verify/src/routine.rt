@@ -62,7 +62,13 @@ fn judge_whole(code: &Code) -> Option<u8>
 }
 
 /// The first instruction of a routine at which a rule fails, and the least one that does.
-pub(crate) fn judge_routine(alloc: Global, object: &Object, counts: &[usize], routine: usize, code: &Code) -> Result<Option<Broken>, NoMemory>
+pub(crate) fn judge_routine(
+    alloc: Global,
+    object: &Object,
+    counts: &[usize],
+    routine: usize,
+    code: &Code,
+) -> Result<Option<Broken>, NoMemory>
     requires { counts.now ≡ map data_count object.now.formats }
     ensures { IfOk result (λ found. MatchOption found (IsKept object.now routine code.now) (IsBroken object.now routine code.now)) }
 {
@@ -70,7 +76,9 @@ pub(crate) fn judge_routine(alloc: Global, object: &Object, counts: &[usize], ro
     let jumps = JumpTable::new(alloc, code)?;
     let mut kinds = Kinds::none(alloc);
     for (i, instr) in code.instructions.as_slice().iter().enumerate() {
-        if let Some(rule) = judge(object, counts, routine, code, &runs, &jumps, i, instr, &mut kinds)? {
+        if let Some(rule) = judge(
+            object, counts, routine, code, &runs, &jumps, i, instr, &mut kinds,
+        )? {
             return Ok(Some(Broken {
                 instruction: i,
                 rule,

@@ -27,7 +27,10 @@ fn uniform_front(cells: &[CellKind], from: usize, behind: usize) -> usize
     ensures front { result ≡ uniform_front (drop from cells.now) }
     ensures few { result + from ≤ length cells.now }
 {
-    if from + 1 < cells.len() && same_cell(cells[from], cells[from + 1]) {
+    if from + 1 >= cells.len() {
+        return 1;
+    }
+    if same_cell(cells[from], cells[from + 1]) {
         behind + 1
     } else {
         1
