@@ -2,6 +2,7 @@
 use Rattle.std.proofs.Common.{◌≡◌, ℕ, zero, suc, ◌+◌, ◌-◌, ◌<◌, ◌≤◌, List, [], ◌∷◌, ◌++◌, Option, Some, None, length, drop, replicate, slice_get, refl, sym, ap, ◌∙◌, subst, arith, Bool, true, false, add-one}
 use Rattle.std.specs.Prelude.{◌&&◌, nat_le}
 use Rattle.std.proofs.Math.Dec.{leb-zero, leb-suc-suc, leb-suc-zero}
+use Rattle.std.proofs.lemmas.List.{drop-drop}
 use Rattle.std.proofs.lemmas.Option.{same_Some}
 use Rattle.pearl_value.specs.declared.kind.CellKind.{CellKind}
 use Rattle.pearl_instructions.specs.declared.schedule.StartForm.{StartForm}
@@ -9,7 +10,7 @@ use Rattle.pearl_instructions.specs.declared.schedule.StartForm.TheVariants as f
 use Rattle.pearl_instructions.specs.declared.schedule.RepeatForm.{RepeatForm}
 use Rattle.pearl_instructions.specs.declared.schedule.RepeatForm.TheVariants as again
 use Rattle.pearl_instructions.specs.Offers.{start_kinds, repeat_kinds}
-use Rattle.pearl_instructions.specs.Operands.{Shape, Asked, Anything, meets, scheduled, v2}
+use Rattle.pearl_instructions.specs.Operands.{Shape, Asked, Anything, meets, scheduled, priority_asked, v2}
 
 -- the top operands
 pub top_some : (s : Shape) (k : CellKind) → slice_get s 0 ≡ Some k → s ≡ k ∷ drop 1 s
@@ -103,3 +104,48 @@ scheduled_long start again.Once = refl
 scheduled_long start again.All = refl
 scheduled_long start again.Until = refl
 scheduled_long start again.During = refl
+
+-- a loop over so many of one sort
+pub times_more : (want : Asked) (s : Shape) (count below : ℕ) → below < count → v2 (replicate count want) s ≡ v2 (replicate (count - below) want) (drop below s) →
+    true ≡ v2 (want ∷ []) (drop below s) → v2 (replicate count want) s ≡ v2 (replicate (count - (below + 1)) want) (drop (below + 1) s)
+times_more want s count below less e is =
+    e ∙ asked_times want s below (count - below) (count - (below + 1)) (omega (arith, less))
+    ∙ ap (λ b. b && v2 (replicate (count - (below + 1)) want) (drop (below + 1) s)) (sym is)
+
+pub times_none : (want : Asked) (s : Shape) (count below : ℕ) → below < count → v2 (replicate count want) s ≡ v2 (replicate (count - below) want) (drop below s) →
+    false ≡ v2 (want ∷ []) (drop below s) → false ≡ v2 (replicate count want) s
+times_none want s count below less e is =
+    sym (e ∙ asked_times want s below (count - below) (count - (below + 1)) (omega (arith, less))
+    ∙ ap (λ b. b && v2 (replicate (count - (below + 1)) want) (drop (below + 1) s)) (sym is))
+
+pub times_all : (want : Asked) (s : Shape) (count below : ℕ) → count ≤ below → v2 (replicate count want) s ≡ v2 (replicate (count - below) want) (drop below s) →
+    true ≡ v2 (replicate count want) s
+times_all want s count below more e =
+    let none : count - below ≡ 0 = omega (arith, more) in
+    sym (e ∙ ap (λ n. v2 (replicate n want) (drop below s)) none)
+
+-- a plan
+pub asked_plan : (p r t : List Asked) (s : Shape) (m n : ℕ) → m ≡ length p → n ≡ m + length r →
+    v2 (p ++ (r ++ t)) s ≡ (v2 p s && (v2 r (drop m s) && v2 t (drop n s)))
+asked_plan p r t s m n e h =
+    let rest : drop (length r) (drop (length p) s) ≡ drop n s = drop-drop (length r) (length p) s ∙ ap (λ k. drop k s) (omega (arith, e, h)) in
+    asked_append p (r ++ t) s
+    ∙ ap (λ b. v2 p s && b) (asked_append r t (drop (length p) s))
+    ∙ ap (λ x. v2 p s && (v2 r (drop (length p) s) && v2 t x)) rest
+    ∙ ap (λ k. v2 p s && (v2 r (drop k s) && v2 t (drop n s))) (sym e)
+
+pub asked_activation : (priority : Bool) (start : StartForm) (repeat : RepeatForm) (s : Shape) (m n : ℕ) → m ≡ length (priority_asked priority) → n ≡ m + length (repeat_kinds repeat) →
+    v2 (priority_asked priority ++ scheduled (start_kinds start ++ repeat_kinds repeat)) s
+    ≡ (v2 (priority_asked priority) s && (v2 (scheduled (repeat_kinds repeat)) (drop m s) && v2 (scheduled (start_kinds start)) (drop n s)))
+asked_activation priority start repeat s m n e h =
+    ap (λ wants. v2 (priority_asked priority ++ wants) s) (scheduled_both start repeat)
+    ∙ asked_plan (priority_asked priority) (scheduled (repeat_kinds repeat)) (scheduled (start_kinds start)) s m n e (h ∙ ap (λ k. m + k) (sym (scheduled_long start repeat)))
+
+pub and_third : (a b c whole : Bool) → true ≡ a → true ≡ b → whole ≡ (a && (b && c)) → c ≡ whole
+and_third a b c whole e h is = sym (is ∙ ap (λ a. a && (b && c)) (sym e) ∙ ap (λ b. b && c) (sym h))
+
+pub and_second : (a b c whole : Bool) → true ≡ a → false ≡ b → whole ≡ (a && (b && c)) → false ≡ whole
+and_second a b c whole e h is = sym (is ∙ ap (λ a. a && (b && c)) (sym e) ∙ ap (λ b. b && c) (sym h))
+
+pub and_first : (a b whole : Bool) → false ≡ a → whole ≡ (a && b) → false ≡ whole
+and_first a b whole e is = sym (is ∙ ap (λ a. a && b) (sym e))

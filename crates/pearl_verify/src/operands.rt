@@ -121,14 +121,26 @@ fn meets_priority(kinds: &Kinds, priority: bool) -> bool
     !priority || is_fixed_at(kinds, 0)
 }
 
+/// How many values the priority takes.
+fn priority_count(priority: bool) -> usize
+    ensures value { result ≡ length (priority_asked priority) }
+    ensures few { result ≤ 1 }
+{
+    if priority { 1 } else { 0 }
+}
+
 fn meets_activation(kinds: &Kinds, a: Activation) -> bool
     ensures { result ≡ v2 (priority_asked a.priority ++ scheduled (start_kinds a.start ++ repeat_kinds a.repeat)) kinds.now }
 {
-    let priorities = if a.priority { 1 } else { 0 };
-    let values = priorities + repeat_count(a.repeat);
-    meets_priority(kinds, a.priority)
-        && meets_repeat(kinds, priorities, a.repeat)
-        && meets_start(kinds, values, a.start)
+    let above = priority_count(a.priority);
+    let values = above + repeat_count(a.repeat);
+    if !meets_priority(kinds, a.priority) {
+        return false;
+    }
+    if !meets_repeat(kinds, above, a.repeat) {
+        return false;
+    }
+    meets_start(kinds, values, a.start)
 }
 
 fn arguments_count(object: &Object, procedure: u64) -> u64
