@@ -1,5 +1,5 @@
 -- What is asked of the operands, piece by piece, and the top operands of a shape.
-use Rattle.std.proofs.Common.{◌≡◌, ℕ, zero, suc, ◌+◌, ◌-◌, ◌<◌, ◌≤◌, List, [], ◌∷◌, ◌++◌, Option, Some, None, length, drop, replicate, slice_get, refl, sym, ap, ◌∙◌, subst, arith, Bool, true, false, add-one}
+use Rattle.std.proofs.Common.{◌≡◌, ℕ, zero, suc, ◌+◌, ◌-◌, ◌<◌, List, [], ◌∷◌, ◌++◌, Some, None, length, drop, replicate, slice_get, refl, sym, ap, ◌∙◌, subst, arith, Bool, true, false, add-one}
 use Rattle.std.specs.Prelude.{◌&&◌, nat_le}
 use Rattle.std.proofs.Math.Dec.{leb-zero, leb-suc-suc, leb-suc-zero}
 use Rattle.std.proofs.lemmas.List.{drop-drop}
@@ -11,23 +11,6 @@ use Rattle.pearl_instructions.specs.declared.schedule.RepeatForm.{RepeatForm}
 use Rattle.pearl_instructions.specs.declared.schedule.RepeatForm.TheVariants as again
 use Rattle.pearl_instructions.specs.Offers.{start_kinds, repeat_kinds}
 use Rattle.pearl_instructions.specs.Operands.{Shape, Asked, Anything, meets, scheduled, priority_asked, v2}
-
--- the top operands
-pub top_some : (s : Shape) (k : CellKind) → slice_get s 0 ≡ Some k → s ≡ k ∷ drop 1 s
-top_some [] k e = cc
-top_some (x ∷ s) k e = ap (λ x. x ∷ s) (same_Some x k e)
-
-pub top_none : (s : Shape) → slice_get s 0 ≡ None → s ≡ []
-top_none [] e = refl
-top_none (x ∷ s) e = cc
-
-pub second_some : (s : Shape) (k l : CellKind) → slice_get s 0 ≡ Some k → slice_get s 1 ≡ Some l → s ≡ k ∷ l ∷ drop 2 s
-second_some [] k l e h = cc
-second_some (x ∷ s) k l e h = ap (λ x. x ∷ s) (same_Some x k e) ∙ ap (λ s. k ∷ s) (top_some s l h)
-
-pub second_none : (s : Shape) (k : CellKind) → slice_get s 0 ≡ Some k → slice_get s 1 ≡ None → s ≡ k ∷ []
-second_none [] k e h = cc
-second_none (x ∷ s) k e h = ap (λ x. x ∷ s) (same_Some x k e) ∙ ap (λ s. k ∷ s) (top_none s h)
 
 and_more : (b : Bool) → b && true ≡ b
 and_more true = refl
@@ -58,10 +41,6 @@ asked_more want wants s n = subst (λ m. v2 (want ∷ wants) (drop n s) ≡ (v2 
     unary [] (suc n) = refl
     unary (x ∷ s) zero = ap (λ b. b && v2 wants s) (sym (and_more (meets want x)))
     unary (x ∷ s) (suc n) = unary s n
-
-pub asked_below : (want : Asked) (s : Shape) → v2 (Anything ∷ want ∷ []) s ≡ v2 (want ∷ []) (drop 1 s)
-asked_below want [] = refl
-asked_below want (x ∷ s) = refl
 
 pub asked_any : (n : ℕ) (s : Shape) → v2 (replicate n Anything) s ≡ nat_le n (length s)
 asked_any zero s = sym (leb-zero (length s))
@@ -111,18 +90,6 @@ pub times_more : (want : Asked) (s : Shape) (count below : ℕ) → below < coun
 times_more want s count below less e is =
     e ∙ asked_times want s below (count - below) (count - (below + 1)) (omega (arith, less))
     ∙ ap (λ b. b && v2 (replicate (count - (below + 1)) want) (drop (below + 1) s)) (sym is)
-
-pub times_none : (want : Asked) (s : Shape) (count below : ℕ) → below < count → v2 (replicate count want) s ≡ v2 (replicate (count - below) want) (drop below s) →
-    false ≡ v2 (want ∷ []) (drop below s) → false ≡ v2 (replicate count want) s
-times_none want s count below less e is =
-    sym (e ∙ asked_times want s below (count - below) (count - (below + 1)) (omega (arith, less))
-    ∙ ap (λ b. b && v2 (replicate (count - (below + 1)) want) (drop (below + 1) s)) (sym is))
-
-pub times_all : (want : Asked) (s : Shape) (count below : ℕ) → count ≤ below → v2 (replicate count want) s ≡ v2 (replicate (count - below) want) (drop below s) →
-    true ≡ v2 (replicate count want) s
-times_all want s count below more e =
-    let none : count - below ≡ 0 = omega (arith, more) in
-    sym (e ∙ ap (λ n. v2 (replicate n want) (drop below s)) none)
 
 -- a plan
 pub asked_plan : (p r t : List Asked) (s : Shape) (m n : ℕ) → m ≡ length p → n ≡ m + length r →

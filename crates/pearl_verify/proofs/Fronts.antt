@@ -1,11 +1,9 @@
 -- How far the kinds of cells go on: what holds of a range, and how the tables are made.
-use Rattle.std.proofs.Common.{◌≡◌, ℕ, zero, suc, ◌+◌, ◌-◌, ◌<◌, ◌≤◌, List, [], ◌∷◌, Option, Some, None, length, take, drop, get_or, set, slice_get, refl, sym, ap, ◌∙◌, arith, Bool, true, false, inl, inr, length-drop}
+use Rattle.std.proofs.Common.{◌≡◌, ℕ, zero, suc, ◌+◌, ◌-◌, ◌<◌, ◌≤◌, List, [], ◌∷◌, Option, Some, None, length, take, drop, get_or, set, slice_get, refl, sym, ap, ◌∙◌, arith, Bool, true, false, length-drop}
 use Rattle.std.specs.Prelude.{◌&&◌, not, nat_le, min, if◌then◌else◌}
 use Rattle.std.specs.List.{list_all}
 use Rattle.std.proofs.Math.Dec.{leb-zero, leb-suc-suc, leb-suc-zero}
-use Rattle.std.proofs.lemmas.Bool.{cases_Bool}
 use Rattle.std.proofs.lemmas.List.{drop_more, drop-set}
-use Rattle.std.proofs.Math.Seq.{drop-length}
 use Rattle.std.proofs.Math.ListN.{drop_of_length-le}
 use Rattle.std.proofs.lemmas.Option.{same_Some}
 use Rattle.pearl_value.specs.declared.kind.Kind.TheVariants as kind
@@ -14,7 +12,6 @@ use Rattle.pearl_value.specs.declared.kind.CellKind.TheVariants.{Plain}
 use Rattle.pearl_instructions.specs.Operands.{same_cell, is_reference}
 use Rattle.pearl_instructions.specs.Kinds.{is_uniform}
 use Rattle.pearl_verify.specs.Runs.{alike, uniform_front, value_front, from_each, covered, covers}
-use Rattle.pearl_verify.proofs.Shapes.{same_cell_true}
 
 none_needed : (m n front : ℕ) → n ≡ 0 → true ≡ nat_le (min m n) front
 none_needed m n front e = let none : min m n ≡ 0 = omega (arith, e) in sym (ap (λ k. nat_le k front) none ∙ leb-zero front)
@@ -99,48 +96,7 @@ each_more f cells fronts n v less long behind is =
     ∙ ap (λ w. w ∷ from_each f (drop (n + 1) cells)) here
     ∙ sym (ap (from_each f) cut)
 
-pub each_end : (f : List CellKind → ℕ) (cells : List CellKind) (fronts : List ℕ) → length fronts ≡ length cells →
-    drop (length cells) fronts ≡ from_each f (drop (length cells) cells)
-each_end f cells fronts long =
-    ap (λ n. drop n fronts) (sym long) ∙ drop-length fronts ∙ sym (ap (from_each f) (drop-length cells))
-
-pub front_more : (k x : CellKind) (xs : List CellKind) → same_cell k x ≡ true → uniform_front (k ∷ x ∷ xs) ≡ suc (uniform_front (x ∷ xs))
-front_more k x xs e = ap (λ b. suc (if b then suc (alike k xs) else 0)) e ∙ ap (λ z. suc (suc (alike z xs))) (same_cell_true k x e)
-
-pub front_ends : (k x : CellKind) (xs : List CellKind) → same_cell k x ≡ false → uniform_front (k ∷ x ∷ xs) ≡ 1
-front_ends k x xs e = ap (λ b. suc (if b then suc (alike k xs) else 0)) e
-
-pub front_goes_on : (cells : List CellKind) (n : ℕ) (x y : CellKind) (behind : ℕ) → n + 1 < length cells → x ≡ get_or cells n x → y ≡ get_or cells (n + 1) y →
-    behind ≡ uniform_front (drop (n + 1) cells) → same_cell x y ≡ true → behind + 1 ≡ uniform_front (drop n cells)
-front_goes_on cells n x y behind less e f is same =
-    let a : drop n cells ≡ x ∷ drop (n + 1) cells = drop_more cells n x (omega (arith, less)) ∙ ap (λ z. z ∷ drop (n + 1) cells) (sym e) in
-    let b : drop (n + 1) cells ≡ y ∷ drop (n + 1 + 1) cells = drop_more cells (n + 1) y less ∙ ap (λ z. z ∷ drop (n + 1 + 1) cells) (sym f) in
-    let c : uniform_front (drop n cells) ≡ suc (uniform_front (y ∷ drop (n + 1 + 1) cells)) =
-    ap uniform_front (a ∙ ap (λ ks. x ∷ ks) b) ∙ front_more x y (drop (n + 1 + 1) cells) same in
-    let d : behind ≡ uniform_front (y ∷ drop (n + 1 + 1) cells) = is ∙ ap uniform_front b in
-    omega (arith, c, d)
-
-pub front_is_one : (cells : List CellKind) (n : ℕ) (x y : CellKind) → n + 1 < length cells → x ≡ get_or cells n x → y ≡ get_or cells (n + 1) y →
-    same_cell x y ≡ false → 1 ≡ uniform_front (drop n cells)
-front_is_one cells n x y less e f other =
-    let a : drop n cells ≡ x ∷ drop (n + 1) cells = drop_more cells n x (omega (arith, less)) ∙ ap (λ z. z ∷ drop (n + 1) cells) (sym e) in
-    let b : drop (n + 1) cells ≡ y ∷ drop (n + 1 + 1) cells = drop_more cells (n + 1) y less ∙ ap (λ z. z ∷ drop (n + 1 + 1) cells) (sym f) in
-    sym (ap uniform_front (a ∙ ap (λ ks. x ∷ ks) b) ∙ front_ends x y (drop (n + 1 + 1) cells) other)
-
 pub front_of_last : (cells : List CellKind) (n : ℕ) → n < length cells → length cells ≤ n + 1 → 1 ≡ uniform_front (drop n cells)
 front_of_last cells n less last =
     let a : drop n cells ≡ get_or cells n some_kind ∷ drop (n + 1) cells = drop_more cells n some_kind less in
     sym (ap uniform_front (a ∙ ap (λ ks. get_or cells n some_kind ∷ ks) (drop_of_length-le cells last)))
-
-pub values_go_on : (cells : List CellKind) (n : ℕ) (x : CellKind) (behind : ℕ) → n < length cells → x ≡ get_or cells n x →
-    behind ≡ value_front (drop (n + 1) cells) → is_reference x ≡ false → behind + 1 ≡ value_front (drop n cells)
-values_go_on cells n x behind less e is none =
-    let a : drop n cells ≡ x ∷ drop (n + 1) cells = drop_more cells n x less ∙ ap (λ z. z ∷ drop (n + 1) cells) (sym e) in
-    let b : value_front (drop n cells) ≡ suc (value_front (drop (n + 1) cells)) =
-    ap value_front a ∙ ap (λ b. if b then 0 else suc (value_front (drop (n + 1) cells))) none in
-    omega (arith, b, is)
-
-pub values_end : (cells : List CellKind) (n : ℕ) (x : CellKind) → n < length cells → x ≡ get_or cells n x → is_reference x ≡ true → 0 ≡ value_front (drop n cells)
-values_end cells n x less e some =
-    let a : drop n cells ≡ x ∷ drop (n + 1) cells = drop_more cells n x less ∙ ap (λ z. z ∷ drop (n + 1) cells) (sym e) in
-    sym (ap value_front a ∙ ap (λ b. if b then 0 else suc (value_front (drop (n + 1) cells))) some)

@@ -1,19 +1,16 @@
 -- The least rule that fails, from those before V6 and those behind it.
-use Rattle.std.proofs.Common.{◌≡◌, ℕ, zero, suc, ◌+◌, ◌-◌, ◌<◌, ◌≤◌, List, [], ◌∷◌, ◌++◌, Option, Some, None, length, map, slice_get, refl, sym, ap, ◌∙◌, arith, Bool, true, false, inl, inr, eq-eqb, ne_eqb}
+use Rattle.std.proofs.Common.{◌≡◌, ℕ, ◌+◌, ◌<◌, Option, Some, None, length, slice_get, refl, sym, ap, ◌∙◌, arith, Bool, true, false, inl, inr, eq-eqb, ne_eqb}
 use Rattle.std.specs.Prelude.{if◌then◌else◌}
-use Rattle.std.proofs.lemmas.Bool.{cases_eq, cases_lt, cases_order}
-use Rattle.std.proofs.lemmas.Option.{same_Some, slice_get_past}
+use Rattle.std.proofs.lemmas.Bool.{cases_eq, cases_order}
+use Rattle.std.proofs.lemmas.Option.{slice_get_past}
 use Rattle.pearl_instructions.specs.declared.instr.Instr.{Instr}
 use Rattle.pearl_instructions.specs.declared.object.Code.{Code}
 use Rattle.pearl_instructions.specs.declared.object.Object.{Object}
 use Rattle.pearl_instructions.specs.Operands.{Shape, asked, v2}
 use Rattle.pearl_instructions.specs.Named.{v1}
 use Rattle.pearl_instructions.specs.Kinds.{v3, v4, v5, shape_after}
-use Rattle.pearl_instructions.specs.Objects.{routines, routine_at}
-use Rattle.pearl_instructions.specs.Valid.{keep, shape_before, v6, judged, judged_whole, judged_at, unsound_in, unsound, IsValid}
-use Rattle.pearl_verify.specs.declared.verify.VerifyFault.{VerifyFault}
-use Rattle.pearl_verify.specs.declared.verify.VerifyFault.TheVariants.{Unsound, NoMemory}
-use Rattle.pearl_verify.specs.Verdicts.{first_rules, last_rules, BreaksFirst, IsLeast}
+use Rattle.pearl_instructions.specs.Valid.{keep, shape_before, v6, judged, judged_whole, judged_at}
+use Rattle.pearl_verify.specs.Verdicts.{first_rules, last_rules}
 
 keep_first : (a b c d e : Bool) (later : Option ℕ) (rule : ℕ) → keep a 1 (keep b 2 (keep c 3 (keep d 4 (keep e 5 None)))) ≡ Some rule →
     keep a 1 (keep b 2 (keep c 3 (keep d 4 (keep e 5 later)))) ≡ Some rule
@@ -68,56 +65,6 @@ kept_more o r code i instr at none each j less = elim (cases_eq j i) [
   | inr other ↦ each j (omega (arith, less, other))
 ]
 
-pub broken_at : (o : Object) (r : ℕ) (code : Code) (i rule : ℕ) (instr : Instr) → slice_get code.instructions i ≡ Some instr →
-    judged o r code i instr (shape_before o r code i) ≡ Some rule → judged_at o r code i (slice_get code.instructions i) ≡ Some rule
-broken_at o r code i rule instr at e = ap (judged_at o r code i) at ∙ e
-
--- of a routine in an object
-pub unsound_is : (o : Object) (r : ℕ) (code : Code) (i : ℕ) → routine_at o r ≡ Some code → unsound o r i ≡ judged_at o r code i (slice_get code.instructions i)
-unsound_is o r code i e = ap (λ x. unsound_in o r x i) e
-
-none_more : {A : Type 0} (xs : List A) (n m : ℕ) → slice_get xs n ≡ None → n ≤ m → slice_get xs m ≡ None
-none_more [] n m e h = slice_get_past [] m (omega arith)
-none_more (x ∷ xs) zero m e h = cc
-none_more (x ∷ xs) (suc n) zero e h = absurd (omega (arith, h))
-none_more (x ∷ xs) (suc n) (suc m) e h = none_more xs n m e (omega (arith, h))
-
-pub all_sound : (o : Object) (n : ℕ) → routine_at o n ≡ None → ((s j : ℕ) → s < n → unsound o s j ≡ None) → IsValid o
-all_sound o n e each = record {
-  sound = λ r i. elim (cases_lt r n) [
-    | inl less ↦ each r i less
-    | inr more ↦ ap (λ x. unsound_in o r x i) (none_more (routines o) n r e more)
-  ];
-}
-
-pub sound_more : (o : Object) (n : ℕ) → ((s j : ℕ) → s < n → unsound o s j ≡ None) → ((j : ℕ) → unsound o n j ≡ None) → (s j : ℕ) → s < n + 1 → unsound o s j ≡ None
-sound_more o n each here s j less = elim (cases_eq s n) [
-  | inl same ↦ ap (λ s. unsound o s j) same ∙ here j
-  | inr other ↦ each s j (omega (arith, less, other))
-]
-
-pub least : (o : Object) (n : ℕ) (fault : VerifyFault) → ((s j : ℕ) → s < n → unsound o s j ≡ None) → BreaksFirst o n fault → IsLeast o fault
-least o n (Unsound r i rule) each h =
-    let same : r ≡ n = h.0 in (
-      ap (λ r. unsound o r i) same ∙ h.1,
-      λ s j before. elim before [
-        | inl less ↦ each s j (omega (arith, less, same))
-        | inr here ↦ ap (λ s. unsound o s j) (here.0 ∙ same) ∙ h.2 j here.1
-      ],
-    )
-least o n NoMemory each h = tt
-
--- the procedures come first
-pub first_at : {A B : Type 0} (f : A → B) (xs : List A) (ys : List B) (n : ℕ) (x : A) → slice_get xs n ≡ Some x → slice_get (map f xs ++ ys) n ≡ Some (f x)
-first_at f [] ys n x e = cc
-first_at f (y ∷ xs) ys zero x e = ap (λ y. Some (f y)) (same_Some y x e)
-first_at f (y ∷ xs) ys (suc n) x e = first_at f xs ys n x e
-
-pub later_at : {A B : Type 0} (f : A → B) (xs : List A) (ys : List B) (n : ℕ) → length xs ≤ n → slice_get (map f xs ++ ys) n ≡ slice_get ys (n - length xs)
-later_at f [] ys n h = refl
-later_at f (x ∷ xs) ys zero h = absurd (omega (arith, h))
-later_at f (x ∷ xs) ys (suc n) h = later_at f xs ys n (omega (arith, h))
-
 -- what is told of an instruction: t is the shape with which it was asked, s the one before the instruction
 pub told_first : (o : Object) (r : ℕ) (code : Code) (i : ℕ) (instr : Instr) (s t : Shape) (rule : ℕ) → t ≡ s → Some rule ≡ first_rules o r code instr t →
     Some rule ≡ judged o r code i instr s
@@ -142,6 +89,3 @@ pub told_last : (o : Object) (r : ℕ) (code : Code) (i : ℕ) (instr : Instr) (
 told_last o r code i instr s t after b last same e left flows goes told =
     told ∙ ap (last_rules o r code i instr) same
     ∙ sym (later_than o r code i instr s t after b same e left flows ∙ ap (λ b. keep b 6 (last_rules o r code i instr s)) goes)
-
-pub names_kept : (o : Object) (r : ℕ) (code : Code) (instr : Instr) (t : Shape) → None ≡ first_rules o r code instr t → v1 o code instr ≡ true
-names_kept o r code instr t e = (judged_later o r code 0 instr t (sym e)).0

@@ -1,10 +1,9 @@
 -- Comparisons of kinds and of lists of kinds, and lists that lie the other way round.
-use Rattle.std.proofs.Common.{◌≡◌, ℕ, zero, suc, ◌+◌, ◌-◌, ◌<◌, ◌≤◌, List, [], ◌∷◌, ◌++◌, Option, Some, None, length, take, drop, get_or, reverse, slice_get, refl, sym, ap, ◌∙◌, subst, arith, Bool, true, false, inl, inr, eqb-true, eq-eqb, take-append-drop, length-drop}
-use Rattle.std.specs.Prelude.{◌&&◌, ◌||◌, not}
+use Rattle.std.proofs.Common.{◌≡◌, ℕ, ◌-◌, ◌≤◌, List, [], ◌∷◌, ◌++◌, length, take, drop, reverse, refl, sym, ap, ◌∙◌, arith, Bool, true, false, inl, inr, eqb-true, eq-eqb, take-append-drop, length-drop}
+use Rattle.std.specs.Prelude.{◌&&◌}
 use Rattle.std.proofs.lemmas.Bool.{cases_Bool, cases_lt}
-use Rattle.std.proofs.lemmas.List.{reverse-append, reverse-reverse, length-reverse, drop_at, take_at, take_all, get_or-reverse}
+use Rattle.std.proofs.lemmas.List.{reverse-append, reverse-reverse, length-reverse, drop_at, take_at, take_all}
 use Rattle.std.proofs.Math.ListN.{drop_of_length-le}
-use Rattle.std.proofs.lemmas.Option.{slice_get_read, slice_get_past}
 use Rattle.pearl_value.specs.declared.kind.Kind.{Kind}
 use Rattle.pearl_value.specs.declared.kind.Kind.TheVariants as kind
 use Rattle.pearl_value.specs.declared.kind.CellKind.{CellKind}
@@ -101,9 +100,3 @@ rest_is n ys = elim (cases_lt (length ys) n) [
   | inr more ↦ sym (ap (drop n) (parts (length ys - n) ys)
       ∙ drop_at (reverse (drop (length ys - n) ys)) (reverse (take (length ys - n) ys)) n (behind n ys more))
 ]
-
-pub at_reversed : {A : Type 0} (ys : List A) (n : ℕ) (x : A) → n < length ys → x ≡ get_or ys (length ys - 1 - n) x → Some x ≡ slice_get (reverse ys) n
-at_reversed ys n x less e = sym (slice_get_read (reverse ys) (length ys) n x (sym (length-reverse ys)) less (e ∙ sym (get_or-reverse ys n x less)))
-
-pub past_reversed : {A : Type 0} (ys : List A) (n : ℕ) → length ys ≤ n → None ≡ slice_get (reverse ys) n
-past_reversed ys n less = let back : length (reverse ys) ≤ n = omega (arith, less, length-reverse ys) in sym (slice_get_past (reverse ys) n back)

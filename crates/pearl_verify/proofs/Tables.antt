@@ -1,16 +1,15 @@
 -- How the tables of jumps and of stated shapes are made, and what they tell.
-use Rattle.std.proofs.Common.{◌≡◌, ◌≢◌, ℕ, zero, suc, ◌+◌, ◌<◌, ◌≤◌, List, [], ◌∷◌, ◌++◌, Option, Some, None, length, reverse, take, drop, get_or, set, replicate, slice_get, slice_set, get_or-set_same, get_or-set_other, length-set, refl, sym, ap, ◌∙◌, subst, arith, Bool, true, false, eqb, inl, inr, ne_eqb, eq-eqb}
+use Rattle.std.proofs.Common.{◌≡◌, ◌≢◌, ℕ, ◌+◌, ◌<◌, List, [], ◌∷◌, ◌++◌, Option, Some, None, length, reverse, take, drop, get_or, set, slice_get, slice_set, get_or-set_same, get_or-set_other, length-set, refl, sym, ap, ◌∙◌, arith, Bool, true, false, inl, inr, ne_eqb, eq-eqb}
 use Rattle.std.specs.Prelude.{◌||◌, ◌==◌, option_map, if◌then◌else◌}
 use Rattle.std.specs.List.{list_any}
 use Rattle.std.proofs.lemmas.Bool.{cases_eq}
-use Rattle.std.proofs.lemmas.List.{drop_more, get_or-replicate, length-replicate}
+use Rattle.std.proofs.lemmas.List.{drop_more}
 use Rattle.std.proofs.lemmas.List.Folds.{list_any-append}
 use Rattle.std.proofs.lemmas.Grind.{take_at_read}
 use Rattle.std.proofs.Math.Seq.{drop-length}
-use Rattle.std.proofs.lemmas.Option.{same_Some, slice_get-get_or, slice_get_within, get_or_from_slice_get, slice_get_read}
+use Rattle.std.proofs.lemmas.Option.{slice_get-get_or, slice_get_within, get_or_from_slice_get, slice_get_read}
 use Rattle.pearl_instructions.specs.declared.instr.Instr.{Instr}
 use Rattle.pearl_instructions.specs.declared.object.Shape.{Shape as Stated}
-use Rattle.pearl_instructions.specs.Operands.{Shape}
 use Rattle.pearl_instructions.specs.Valid.{is_named, stated, targets}
 use Rattle.pearl_verify.specs.Jumps.{shape_of, marked}
 
@@ -67,10 +66,6 @@ pub named_more : (is : List Instr) (k : ℕ) (x : Instr) (marks : List Bool) →
 named_more is k x marks less e before i within =
     marked_at (targets x) marks i (is_named (take k is) i) (before i within) ∙ ap Some (sym (named_take is k x i less e))
 
-pub repeated : {A : Type 0} (n i : ℕ) (x : A) → i < n → slice_get (replicate n x) i ≡ Some x
-repeated n i x less =
-    slice_get-get_or (replicate n x) i x (omega (arith, less, length-replicate n x)) ∙ ap Some (get_or-replicate n i x x less)
-
 -- the stated shapes from one further shape on
 stated_step : (ss : List Stated) (n i : ℕ) (s : Stated) → n < length ss → s ≡ get_or ss n s →
     stated (drop n ss) i ≡ (if s.instruction == i then Some (reverse s.kinds) else stated (drop (n + 1) ss) i)
@@ -93,19 +88,6 @@ stated_more ss numbers n s less e before i within = elim (cases_eq s.instruction
       ap (option_map (shape_of ss)) slot ∙ before i within
       ∙ sym (ap Some (stated_step ss n i s less e ∙ ap (λ b. if b then Some (reverse s.kinds) else stated (drop (n + 1) ss) i) (ne_eqb s.instruction i other))))
 ]
-
--- what the table tells
-pub stated_at : (ss : List Stated) (numbers : List (Option ℕ)) (i : ℕ) (o : Option ℕ) → slice_get numbers i ≡ Some o →
-    option_map (shape_of ss) (slice_get numbers i) ≡ Some (stated ss i) → stated ss i ≡ shape_of ss o
-stated_at ss numbers i o at e = same_Some (stated ss i) (shape_of ss o) (sym e ∙ ap (option_map (shape_of ss)) at)
-
--- one more of the same
-pub pushed_at : {A : Type 0} (xs : List A) (x : A) (n i : ℕ) → length xs ≡ n → i < n + 1 → ((j : ℕ) → j < n → slice_get xs j ≡ Some x) → slice_get (xs ++ x ∷ []) i ≡ Some x
-pushed_at [] x n zero long less e = refl
-pushed_at [] x n (suc i) long less e = absurd (omega (arith, long, less))
-pushed_at (y ∷ xs) x n zero long less e = e 0 (omega (arith, long))
-pushed_at (y ∷ xs) x n (suc i) long less e =
-    pushed_at xs x (length xs) i refl (omega (arith, long, less)) (λ j h. e (suc j) (omega (arith, long, h)))
 
 -- before any shape is noted
 pub stated_begun : (count : ℕ) (ss : List Stated) (numbers : List (Option ℕ)) → ((i : ℕ) → i < count → slice_get numbers i ≡ Some None) →

@@ -1,5 +1,4 @@
-use Rattle.std.proofs.Common.{ap, ◌∙◌, ◌≤◌, length, arith}
-use Rattle.std.specs.Prelude.{◌==◌}
+use Rattle.std.proofs.Common.{arith}
 use Rattle.pearl_verify.proofs.Fitting.{at_end}
 use Rattle.pearl_verify.proofs.limits.items_fit.Goals as goal
 

@@ -1,5 +1,4 @@
-use Rattle.std.proofs.Common.{◌≡◌, ◌+◌, drop, length, ap, ◌∙◌}
-use Rattle.pearl_instructions.specs.Offers.{repeat_kinds}
+use Rattle.std.proofs.Common.{◌+◌, ap, ◌∙◌}
 use Rattle.pearl_verify.proofs.Asking.{asked_activation, and_first, and_second, and_third}
 use Rattle.pearl_verify.proofs.operands.meets_activation.Goals as goal
 

@@ -1,4 +1,4 @@
-use Rattle.std.proofs.Common.{◌≡◌, List, reverse, sym, ap, ◌∙◌}
+use Rattle.std.proofs.Common.{List, reverse, ap, ◌∙◌}
 use Rattle.pearl_value.specs.declared.kind.CellKind.{CellKind}
 use Rattle.pearl_instructions.specs.Operands.{same_shape}
 use Rattle.pearl_verify.proofs.Shapes.{same_reversed}
