@@ -128,7 +128,7 @@ fn judge_all(alloc: Global, object: &Object, counts: &[usize]) -> Result<(), Ver
 }
 
 /// The same object as a valid one, or the least routine, instruction and rule that fails. What it takes grows with the
-/// object as written: each instruction, cell, item and stated kind is looked at a bounded number of times.
+/// object as written, but that at each jump the kinds of all operands are compared with those where it goes.
 ///
 /// An object with more routines than a 32-bit number counts is answered as want of memory.
 pub fn verify(alloc: Global, object: Object) -> Result<Valid, VerifyFault>

@@ -15,8 +15,11 @@ use std::alloc::{AllocError, Global};
 use std::test::Fail;
 
 const FIXED: CellKind = CellKind::Plain(Kind::Fixed(31));
+
 const SHORT: CellKind = CellKind::Plain(Kind::Fixed(15));
+
 const BIT: CellKind = CellKind::Plain(Kind::Bits(1));
+
 const REFERENCE: CellKind = CellKind::RefTo(Kind::Fixed(31));
 
 fn number(alloc: Global) -> Result<Instr, AllocError> {
@@ -55,7 +58,12 @@ fn shape(alloc: Global, instruction: u64, kinds: &[CellKind]) -> Result<Shape, A
     })
 }
 
-fn items(alloc: Global, code: ItemCode, width: u8, count: usize) -> Result<Listing<Item>, AllocError> {
+fn items(
+    alloc: Global,
+    code: ItemCode,
+    width: u8,
+    count: usize,
+) -> Result<Listing<Item>, AllocError> {
     let mut list = Vec::new(alloc);
     for _ in 0..count {
         list.push(Item { code, width })?;
@@ -117,11 +125,13 @@ fn told(
 ) -> Result<Option<(u32, u64, u8)>, AllocError> {
     match verify(alloc, object(alloc, procedures, code)?) {
         Ok(_) => Ok(None),
-        Err(VerifyFault::Unsound {
-            routine,
-            instruction,
-            rule,
-        }) => Ok(Some((routine, instruction, rule))),
+        Err(
+            VerifyFault::Unsound {
+                routine,
+                instruction,
+                rule,
+            },
+        ) => Ok(Some((routine, instruction, rule))),
         Err(VerifyFault::NoMemory) => Err(AllocError),
     }
 }
@@ -159,17 +169,54 @@ fn a_task_that_ends_is_valid(rt: HostRuntime) -> Result<(), Fail> {
 }
 
 #[test]
+fn a_valid_object_is_given_back(rt: HostRuntime) -> Result<(), Fail> {
+    let alloc = rt.alloc();
+    let end = code(
+        alloc,
+        &[FIXED],
+        1,
+        vec![in alloc; Instr::End]?,
+        Vec::new(alloc),
+    )?;
+    let given = object(alloc, Vec::new(alloc), end)?;
+    let mut cells = 0;
+    if let Ok(valid) = verify(alloc, given) {
+        if let Some(task) = valid.object().tasks.as_slice().first() {
+            cells = task.code.cells.as_slice().len();
+        }
+        assert_eq!(rt; valid.into_object().devices.as_slice().len(), 4);
+    }
+    assert_eq!(rt; cells, 1);
+    Ok(())
+}
+
+#[test]
 fn v1_cells_and_ranges(rt: HostRuntime) -> Result<(), Fail> {
     let alloc = rt.alloc();
     let last = vec![in alloc; Instr::Load(1), Instr::Drop, Instr::End]?;
     assert_eq!(rt; task(alloc, &[FIXED, FIXED], 3, last)?, None);
     let past = vec![in alloc; Instr::Load(2), Instr::Drop, Instr::End]?;
     assert_eq!(rt; task(alloc, &[FIXED, FIXED], 3, past)?, Some((0, 0, V1)));
-    let whole = vec![in alloc; number(alloc)?, Instr::LoadAt { first: 0, count: 2 }, Instr::Drop, Instr::End]?;
+    let whole = vec![in alloc;
+        number(alloc)?,
+        Instr::LoadAt { first: 0, count: 2 },
+        Instr::Drop,
+        Instr::End,
+    ]?;
     assert_eq!(rt; task(alloc, &[FIXED, FIXED], 3, whole)?, None);
-    let longer = vec![in alloc; number(alloc)?, Instr::LoadAt { first: 1, count: 2 }, Instr::Drop, Instr::End]?;
+    let longer = vec![in alloc;
+        number(alloc)?,
+        Instr::LoadAt { first: 1, count: 2 },
+        Instr::Drop,
+        Instr::End,
+    ]?;
     assert_eq!(rt; task(alloc, &[FIXED, FIXED], 3, longer)?, Some((0, 1, V1)));
-    let empty = vec![in alloc; number(alloc)?, Instr::LoadAt { first: 0, count: 0 }, Instr::Drop, Instr::End]?;
+    let empty = vec![in alloc;
+        number(alloc)?,
+        Instr::LoadAt { first: 0, count: 0 },
+        Instr::Drop,
+        Instr::End,
+    ]?;
     assert_eq!(rt; task(alloc, &[FIXED, FIXED], 3, empty)?, Some((0, 1, V1)));
     let far = vec![in alloc;
         number(alloc)?,
@@ -212,13 +259,35 @@ fn v2_operands(rt: HostRuntime) -> Result<(), Fail> {
 #[test]
 fn v3_operators(rt: HostRuntime) -> Result<(), Fail> {
     let alloc = rt.alloc();
-    let sum = vec![in alloc; number(alloc)?, number(alloc)?, Instr::Dyadic(Dyad::Add), Instr::Drop, Instr::End]?;
+    let sum = vec![in alloc;
+        number(alloc)?,
+        number(alloc)?,
+        Instr::Dyadic(Dyad::Add),
+        Instr::Drop,
+        Instr::End,
+    ]?;
     assert_eq!(rt; task(alloc, &[], 2, sum)?, None);
-    let mixed = vec![in alloc; number(alloc)?, bit(alloc)?, Instr::Dyadic(Dyad::Add), Instr::Drop, Instr::End]?;
+    let mixed = vec![in alloc;
+        number(alloc)?,
+        bit(alloc)?,
+        Instr::Dyadic(Dyad::Add),
+        Instr::Drop,
+        Instr::End,
+    ]?;
     assert_eq!(rt; task(alloc, &[], 2, mixed)?, Some((0, 2, V3)));
-    let longer = vec![in alloc; bit(alloc)?, Instr::Conv(Kind::Bits(2)), Instr::Drop, Instr::End]?;
+    let longer = vec![in alloc;
+        bit(alloc)?,
+        Instr::Conv(Kind::Bits(2)),
+        Instr::Drop,
+        Instr::End,
+    ]?;
     assert_eq!(rt; task(alloc, &[], 1, longer)?, None);
-    let other = vec![in alloc; bit(alloc)?, Instr::Conv(Kind::Fixed(2)), Instr::Drop, Instr::End]?;
+    let other = vec![in alloc;
+        bit(alloc)?,
+        Instr::Conv(Kind::Fixed(2)),
+        Instr::Drop,
+        Instr::End,
+    ]?;
     assert_eq!(rt; task(alloc, &[], 1, other)?, Some((0, 1, V3)));
     Ok(())
 }
@@ -230,9 +299,22 @@ fn v4_exact_kinds(rt: HostRuntime) -> Result<(), Fail> {
     assert_eq!(rt; task(alloc, &[FIXED], 2, same)?, None);
     let shorter = vec![in alloc; number(alloc)?, Instr::Store(0), Instr::End]?;
     assert_eq!(rt; task(alloc, &[SHORT], 2, shorter)?, Some((0, 1, V4)));
-    let mixed = vec![in alloc; number(alloc)?, Instr::LoadAt { first: 0, count: 3 }, Instr::Drop, Instr::End]?;
-    assert_eq!(rt; task(alloc, &[FIXED, FIXED, SHORT], 4, mixed)?, Some((0, 1, V4)));
-    let before = vec![in alloc; number(alloc)?, Instr::LoadAt { first: 0, count: 2 }, Instr::Drop, Instr::End]?;
+    let mixed = vec![in alloc;
+        number(alloc)?,
+        Instr::LoadAt { first: 0, count: 3 },
+        Instr::Drop,
+        Instr::End,
+    ]?;
+    assert_eq!(rt;
+        task(alloc, &[FIXED, FIXED, SHORT], 4, mixed)?,
+        Some((0, 1, V4))
+    );
+    let before = vec![in alloc;
+        number(alloc)?,
+        Instr::LoadAt { first: 0, count: 2 },
+        Instr::Drop,
+        Instr::End,
+    ]?;
     assert_eq!(rt; task(alloc, &[FIXED, FIXED, SHORT], 4, before)?, None);
     Ok(())
 }
@@ -284,13 +366,28 @@ fn v7_jumps_back(rt: HostRuntime) -> Result<(), Fail> {
 fn v8_calls(rt: HostRuntime) -> Result<(), Fail> {
     let alloc = rt.alloc();
     let first = procedure(alloc, &[], None, 1, vec![in alloc; Instr::Return]?)?;
-    let second = procedure(alloc, &[], None, 1, vec![in alloc; Instr::Call(0), Instr::Return]?)?;
+    let second = procedure(
+        alloc,
+        &[],
+        None,
+        1,
+        vec![in alloc; Instr::Call(0), Instr::Return]?,
+    )?;
     let end = code(alloc, &[], 0, vec![in alloc; Instr::End]?, Vec::new(alloc))?;
     assert_eq!(rt; told(alloc, vec![in alloc; first, second]?, end)?, None);
-    let first = procedure(alloc, &[], None, 1, vec![in alloc; Instr::Call(1), Instr::Return]?)?;
+    let first = procedure(
+        alloc,
+        &[],
+        None,
+        1,
+        vec![in alloc; Instr::Call(1), Instr::Return]?,
+    )?;
     let second = procedure(alloc, &[], None, 1, vec![in alloc; Instr::Return]?)?;
     let end = code(alloc, &[], 0, vec![in alloc; Instr::End]?, Vec::new(alloc))?;
-    assert_eq!(rt; told(alloc, vec![in alloc; first, second]?, end)?, Some((0, 0, V8)));
+    assert_eq!(rt;
+        told(alloc, vec![in alloc; first, second]?, end)?,
+        Some((0, 0, V8))
+    );
     Ok(())
 }
 
@@ -344,7 +441,10 @@ fn v11_a_call(rt: HostRuntime) -> Result<(), Fail> {
     let callee = procedure(alloc, &[FIXED], None, 2, vec![in alloc; Instr::Return]?)?;
     let call = vec![in alloc; number(alloc)?, Instr::Call(0), Instr::End]?;
     let caller = code(alloc, &[], 1, call, Vec::new(alloc))?;
-    assert_eq!(rt; told(alloc, vec![in alloc; callee]?, caller)?, Some((1, 1, V11)));
+    assert_eq!(rt;
+        told(alloc, vec![in alloc; callee]?, caller)?,
+        Some((1, 1, V11))
+    );
     Ok(())
 }
 
@@ -357,11 +457,31 @@ fn v12_limits(rt: HostRuntime) -> Result<(), Fail> {
     let list = Listing::new(vec![in alloc; 0, 0]?);
     let twice = vec![in alloc; Instr::Request(Box::new(alloc, list)?), Instr::End]?;
     assert_eq!(rt; task(alloc, &[], 0, twice)?, Some((0, 0, V12)));
-    let wide = vec![in alloc; Bounds { low: 1, high: 65536 }]?;
-    let index = vec![in alloc; number(alloc)?, Instr::Index(Box::new(alloc, Listing::new(wide))?), Instr::Drop, Instr::End]?;
+    let wide = vec![in alloc;
+        Bounds {
+            low: 1,
+            high: 65536
+        },
+    ]?;
+    let index = vec![in alloc;
+        number(alloc)?,
+        Instr::Index(Box::new(alloc, Listing::new(wide))?),
+        Instr::Drop,
+        Instr::End,
+    ]?;
     assert_eq!(rt; task(alloc, &[], 1, index)?, None);
-    let wide = vec![in alloc; Bounds { low: 0, high: 65536 }]?;
-    let index = vec![in alloc; number(alloc)?, Instr::Index(Box::new(alloc, Listing::new(wide))?), Instr::Drop, Instr::End]?;
+    let wide = vec![in alloc;
+        Bounds {
+            low: 0,
+            high: 65536
+        },
+    ]?;
+    let index = vec![in alloc;
+        number(alloc)?,
+        Instr::Index(Box::new(alloc, Listing::new(wide))?),
+        Instr::Drop,
+        Instr::End,
+    ]?;
     assert_eq!(rt; task(alloc, &[], 1, index)?, Some((0, 1, V12)));
     Ok(())
 }
@@ -369,13 +489,39 @@ fn v12_limits(rt: HostRuntime) -> Result<(), Fail> {
 #[test]
 fn v12_formats(rt: HostRuntime) -> Result<(), Fail> {
     let alloc = rt.alloc();
-    let fits = vec![in alloc; number(alloc)?, Instr::Put { device: 0, format: 0 }, Instr::End]?;
+    let fits = vec![in alloc;
+        number(alloc)?,
+        Instr::Put {
+            device: 0,
+            format: 0
+        },
+        Instr::End,
+    ]?;
     assert_eq!(rt; task(alloc, &[], 1, fits)?, None);
-    let other = vec![in alloc; bit(alloc)?, Instr::Put { device: 0, format: 0 }, Instr::End]?;
+    let other = vec![in alloc;
+        bit(alloc)?,
+        Instr::Put {
+            device: 0,
+            format: 0
+        },
+        Instr::End,
+    ]?;
     assert_eq!(rt; task(alloc, &[], 1, other)?, Some((0, 1, V12)));
-    let widest = vec![in alloc; Instr::Put { device: 0, format: 2 }, Instr::End]?;
+    let widest = vec![in alloc;
+        Instr::Put {
+            device: 0,
+            format: 2
+        },
+        Instr::End,
+    ]?;
     assert_eq!(rt; task(alloc, &[], 0, widest)?, None);
-    let wider = vec![in alloc; Instr::Put { device: 0, format: 3 }, Instr::End]?;
+    let wider = vec![in alloc;
+        Instr::Put {
+            device: 0,
+            format: 3
+        },
+        Instr::End,
+    ]?;
     assert_eq!(rt; task(alloc, &[], 0, wider)?, Some((0, 0, V12)));
     Ok(())
 }
