@@ -1,0 +1,7 @@
+pub mod Shapes
+pub mod Fronts
+pub mod Tables
+pub mod Flowing
+pub mod Judging
+pub mod Asking
+pub mod Fitting

@@ -1,0 +1,19 @@
+// The validator: which objects have code that can't go wrong.
+#![tactic(auto)]
+
+mod exact;
+mod flow;
+mod judge;
+mod jumps;
+mod kinds;
+mod limits;
+mod named;
+mod operands;
+mod operator;
+mod pushed;
+mod routine;
+pub mod rule;
+mod runs;
+mod same;
+mod table;
+pub mod verify;

@@ -1,0 +1,5 @@
+// Tests of the validator.
+#![tactic(auto)]
+
+#[cfg(test)]
+mod rules;
