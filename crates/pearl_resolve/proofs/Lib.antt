@@ -1,1 +1,6 @@
 pub mod Examples
+pub mod Lookups
+pub mod Loops
+pub mod PlainNodes
+pub mod Reached
+pub mod Sizes

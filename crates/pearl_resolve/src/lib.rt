@@ -1,2 +1,10 @@
-// The program that a source means. What there is of it stands in specs/.
+// The program that a source means.
 #![tactic(auto)]
+
+mod bounds;
+mod counts;
+pub mod expression;
+mod literal;
+mod making;
+pub mod numbered;
+mod walk;
