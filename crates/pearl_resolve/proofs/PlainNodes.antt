@@ -4,7 +4,7 @@ use mathlib.Core.Former.{Count}
 use Rattle.pearl_value.specs.declared.operator.Monad.{Monad}
 use Rattle.pearl_value.specs.declared.operator.Dyad.{Dyad}
 use Rattle.pearl_program.specs.declared.expression.Variable.{Variable, Row_of-Expr, end_of-Expr, more_of-Expr, items-the_row-Expr, items_hidden-the_row-Expr-0}
-use Rattle.pearl_program.specs.declared.expression.Call.{Call, Row_of-Argument, end_of-Argument, more_of-Argument, items-the_row-Argument, items_hidden-the_row-Argument-0}
+use Rattle.pearl_program.specs.declared.expression.Call.{Call, Row_of-Argument, end_of-Argument, more_of-Argument, items-the_row-Argument, items_hidden-the_row-Argument-1}
 use Rattle.pearl_program.specs.declared.expression.Argument.{Argument}
 use Rattle.pearl_program.specs.declared.expression.Argument as argument
 use Rattle.pearl_program.specs.declared.expression.Expr.{Expr}
@@ -48,7 +48,7 @@ pub call_plain : (call : Box Call Global) → plain_expr (expr.Call call) ≡ Of
 call_plain call =
     let row = arguments_of (expr.Call call) in
     ap (λ t. OfCall call.value.procedure t)
-    (arguments_plain row.0 row.1 ∙ ap plain_arguments (items_hidden-the_row-Argument-0 call.value.arguments))
+    (arguments_plain row.0 row.1 ∙ ap plain_arguments (items_hidden-the_row-Argument-1 call.value.arguments))
 
 -- expressions one after the other
 pub exprs_push : (made : List Expr) (e : Expr) (rest : PlainExprs) →

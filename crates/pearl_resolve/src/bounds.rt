@@ -5,6 +5,7 @@ ghost use Rattle.pearl_names.specs.Forms.{pair_of};
 ghost use Rattle.pearl_program.specs.Typing as typing;
 ghost use Rattle.pearl_resolve.specs.Expressions.{bound_of};
 
+use crate::counts::product;
 use pearl_names::sense::Bounds;
 use pearl_program::expression::Bound;
 use std::alloc::AllocError;
@@ -41,12 +42,7 @@ pub(crate) fn elements(bounds: &[Bound]) -> Result<u64, AllocError>
 {
     let mut count: u64 = 1;
     for bound in bounds {
-        match count.checked_mul(extent(*bound)) {
-            Some(more) => {
-                count = more;
-            }
-            None => return Err(AllocError),
-        }
+        count = product(count, extent(*bound))?;
     }
     Ok(count)
 }

@@ -1,6 +1,6 @@
 // How many leaves and cells variables have.
 
-ghost use Rattle.std.specs.Prelude.{◌≡◌, ◌+◌, ℕ, Option, length, IfOk};
+ghost use Rattle.std.specs.Prelude.{◌≡◌, ◌+◌, ◌*◌, ℕ, Option, length, IfOk};
 ghost use Rattle.pearl_names.specs.Counts.{cut};
 ghost use Rattle.pearl_names.specs.Holding.{HoldsForm, HoldsSense};
 ghost use Rattle.pearl_names.specs.Tables as tables;
@@ -28,6 +28,16 @@ pub(crate) fn sum(a: u32, b: u32) -> Result<u32, AllocError>
 {
     match a.checked_add(b) {
         Some(sum) => Ok(sum),
+        None => Err(AllocError),
+    }
+}
+
+/// A product of numbers. Too large a one counts as want of memory.
+pub(crate) fn product(a: u64, b: u64) -> Result<u64, AllocError>
+    ensures { IfOk result (λ product. product ≡ a * b) }
+{
+    match a.checked_mul(b) {
+        Some(product) => Ok(product),
         None => Err(AllocError),
     }
 }

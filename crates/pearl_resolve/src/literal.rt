@@ -1,10 +1,11 @@
 // Literals with their lengths.
 
-ghost use Rattle.std.specs.Prelude.{◌≡◌, ℕ, pos, IfOk};
+ghost use Rattle.std.specs.Prelude.{◌≡◌, pos, IfOk};
 ghost use Rattle.pearl_check_expr.specs.Literals.{fixed_length as length_of};
 ghost use Rattle.pearl_program.specs.PlainExpressions.{cell_of};
 ghost use Rattle.pearl_tree.specs.Durations.{milliseconds_of};
 ghost use Rattle.pearl_tree.specs.ShownLiterals.{OfNumber, shown_literal};
+ghost use Rattle.pearl_value.specs.Conversions as conversions;
 ghost use Rattle.pearl_value.specs.declared.cell.Cell.TheVariants.{Chars, Span};
 ghost use Rattle.pearl_resolve.specs.Expressions as spec;
 
@@ -16,14 +17,17 @@ use pearl_tree::name::Number;
 use pearl_tree::typing::Sort;
 use std::alloc::{AllocError, Global};
 
-fn fixed_length(len: u8, value: i64) -> u8
-    ensures { (n : ℕ) → value ≡ pos n → result ≡ length_of len n }
+fn fits_fixed(len: u8, value: u64) -> bool
+    ensures { result ≡ conversions.fits_fixed len (pos value) }
 {
-    if len < 63 && value >= 1 << len {
-        63
-    } else {
-        len
-    }
+    if len < 64 { value < 1 << len } else { true }
+}
+
+// A number has the default length where its value fits, and else length 63.
+fn fixed_length(len: u8, value: u64) -> u8
+    ensures { result ≡ length_of len value }
+{
+    if fits_fixed(len, value) { len } else { 63 }
 }
 
 fn number_literal(lengths: &Lengths, number: Number) -> Result<Literal, AllocError>
@@ -31,7 +35,7 @@ fn number_literal(lengths: &Lengths, number: Number) -> Result<Literal, AllocErr
 {
     match i64::try_from(number.value) {
         Ok(value) => Ok(Literal::Fixed {
-            len: fixed_length(lengths.at(Sort::Fixed, number.place), value),
+            len: fixed_length(lengths.at(Sort::Fixed, number.place), number.value),
             value,
         }),
         Err(_) => Err(AllocError),

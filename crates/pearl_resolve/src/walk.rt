@@ -1,6 +1,6 @@
 // How far a reference has come.
 
-ghost use Rattle.std.specs.Prelude.{◌≡◌, ◌+◌, ◌*◌, ℕ, ℤ, [], List, Option, Some, map, unwrap_or, IfOk, OnOk};
+ghost use Rattle.std.specs.Prelude.{◌≡◌, ◌+◌, ◌*◌, ℕ, ℤ, [], List, Option, Some, map, drop, unwrap_or, IfOk, OnOk};
 ghost use Rattle.pearl_names.specs.Counts.{cut};
 ghost use Rattle.pearl_names.specs.Forms.{Component, IsComponent, StandsFor, pair_of};
 ghost use Rattle.pearl_names.specs.Holding.{HoldsForm, HoldsSense};
@@ -263,17 +263,21 @@ pub(crate) fn variable_of(walk: Walk) -> Variable
     }
 }
 
-// The bounds of the array that a reference names, without those that have subscripts.
-fn open_bounds(walk: &Walk) -> &[Bound]
-    ensures { (forms : List StructFormOf) (of : spec.Walk) → HoldsWalk forms walk.now of → result.now ≡ spec.open_bounds of }
+fn behind(bounds: &[Bound], given: usize) -> &[Bound]
+    ensures { result.now ≡ drop given bounds.now }
 {
-    let given = walk.subscripts.len();
-    let bounds = walk.bounds.as_slice();
     if given <= bounds.len() {
         &bounds[given..]
     } else {
         &[]
     }
+}
+
+// The bounds of the array that a reference names, without those that have subscripts.
+fn open_bounds(walk: &Walk) -> &[Bound]
+    ensures { (forms : List StructFormOf) (of : spec.Walk) → HoldsWalk forms walk.now of → result.now ≡ spec.open_bounds of }
+{
+    behind(walk.bounds.as_slice(), walk.subscripts.as_slice().len())
 }
 
 fn dimension_of(dimension: Option<Number>) -> u64
