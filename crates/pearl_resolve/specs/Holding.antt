@@ -1,5 +1,5 @@
 -- What stands in memory of what the definitions say: the numbers of names, and how far a reference has come.
-use Rattle.std.specs.Prelude.{◌≡◌, ℕ, Bool, false, List, map, option_map, unwrap_or, slice_get}
+use Rattle.std.specs.Prelude.{◌≡◌, ◌++◌, ℕ, Bool, false, List, map, option_map, unwrap_or, slice_get}
 use Rattle.pearl_tree.specs.ShownExpressions.{ShownPrimary, OfRef, ShownRef}
 use Rattle.pearl_names.specs.declared.sense.Signature.{Signature}
 use Rattle.pearl_names.specs.declared.types.StructForm.{StructForm}
@@ -10,7 +10,10 @@ use Rattle.pearl_program.specs.PlainExpressions.{plain_exprs}
 use Rattle.pearl_resolve.specs.declared.numbered.ScopeNumbers.{ScopeNumbers}
 use Rattle.pearl_resolve.specs.declared.numbered.NumberedTable.{NumberedTable}
 use Rattle.pearl_resolve.specs.declared.walk.Walk.{Walk as HeldWalk}
+use Rattle.pearl_resolve.specs.declared.numbers.At.{At as HeldAt}
+use Rattle.pearl_resolve.specs.declared.module_names.Before.{Before as HeldBefore}
 use Rattle.pearl_resolve.specs.Expressions.{Numbered, Walk}
+use Rattle.pearl_resolve.specs.Numbers.{At, Before}
 
 -- scope by scope
 abbrev pub numbers_held : List ScopeNumbers → List (List ℕ)
@@ -45,3 +48,19 @@ pub record HoldsWalk (forms : List StructForm) (held : HeldWalk) (of : Walk) : T
 -- the same for each numbered table
 abbrev pub Walks : NumberedTable → HeldWalk → (Numbered → Walk) → Type 0
 Walks held walk meant = (of : Numbered) → HoldsNumbered held of → HoldsWalk held.table.forms.items walk (meant of)
+
+abbrev pub at_in : HeldAt → At
+at_in at = record { next = at.next; cell = at.cell; format = at.format }
+
+abbrev pub before_in : HeldBefore → Before
+before_in before = record {
+  leaves = before.leaves;
+  semaphores = before.semaphores;
+  tasks = before.tasks;
+  procedures = before.procedures;
+}
+
+-- how far the text has come behind a part of it, and the numbers that are added for its scopes
+pub record GoesPast (now : At) (old new : List (List ℕ)) (after : At) (numbers : List (List ℕ)) : Type 0 where
+  pub at : now ≡ after
+  pub added : new ≡ old ++ numbers

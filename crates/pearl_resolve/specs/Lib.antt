@@ -12,3 +12,5 @@ pub mod Cells
 pub mod Resolve
 -- what stands in memory of what the definitions say
 pub mod Holding
+-- the place of a device among the others
+pub mod Devices

@@ -6,5 +6,7 @@ mod counts;
 pub mod expression;
 mod literal;
 mod making;
+mod module_names;
 pub mod numbered;
+pub mod numbers;
 mod walk;
