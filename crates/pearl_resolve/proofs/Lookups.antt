@@ -1,5 +1,5 @@
 -- What is found in numbers and senses that are held in memory.
-use Rattle.std.proofs.Common.{◌≡◌, ℕ, List, [], map, Option, Some, None, option_map, unwrap_or, slice_get, refl, sym, ap, ◌∙◌}
+use Rattle.std.proofs.Common.{◌≡◌, ℕ, List, [], Option, Some, None, option_map, unwrap_or, slice_get, refl, sym, ap, ◌∙◌}
 use Rattle.std.proofs.lemmas.Option.{slice_get-map}
 use Rattle.pearl_names.specs.declared.meaning.Found.{Found}
 use Rattle.pearl_names.specs.declared.sense.Sense.{Sense as HeldSense}
@@ -7,7 +7,7 @@ use Rattle.pearl_names.specs.declared.types.StructForm.{StructForm}
 use Rattle.pearl_names.specs.Holding.{HoldsFound, HoldsSense}
 use Rattle.pearl_names.specs.Tables.{Sense, sense_at}
 use Rattle.pearl_resolve.specs.declared.numbered.ScopeNumbers.{ScopeNumbers}
-use Rattle.pearl_resolve.specs.Expressions.{Numbered, Meant, meant_at, number_at}
+use Rattle.pearl_resolve.specs.Expressions.{Numbered, meant_at, number_at}
 use Rattle.pearl_resolve.specs.Holding.{numbers_held}
 
 pub numbers_there : (scopes : List ScopeNumbers) (i : ℕ) (scope : ScopeNumbers) → slice_get scopes i ≡ Some scope →

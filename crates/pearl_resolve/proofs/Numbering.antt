@@ -1,5 +1,5 @@
 -- The numbers of names, one after the other.
-use Rattle.std.proofs.Common.{◌≡◌, ◌||◌, if◌then◌else◌, Box, Global, Option, Some, None, option_map, is_some, ℕ, zero, suc, ◌+◌, ◌<◌, ◌≤◌, List, [], ◌∷◌, ◌++◌, map, length, drop, get_or, refl, sym, ap, subst, ◌∙◌, append_assoc, append-nil, arith}
+use Rattle.std.proofs.Common.{◌≡◌, ◌||◌, if◌then◌else◌, Box, Global, Option, Some, None, option_map, is_some, ℕ, zero, suc, ◌+◌, ◌<◌, List, [], ◌∷◌, ◌++◌, length, drop, get_or, refl, sym, ap, subst, ◌∙◌, append_assoc, append-nil, arith}
 use Rattle.std.specs.List.{sum_by}
 use Rattle.std.proofs.lemmas.List.Sums.{sum_by-cons}
 use Rattle.pearl_names.specs.declared.sense.Sense.{Sense as HeldSense}

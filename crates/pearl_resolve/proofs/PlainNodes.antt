@@ -1,15 +1,13 @@
 -- What nodes of expressions say whose parts lie in boxes and lists.
-use Rattle.std.proofs.Common.{◌≡◌, ℕ, suc, ◌+◌, ◌<◌, ◌≤◌, List, [], ◌∷◌, ◌++◌, length, drop, get_or, Box, Global, refl, sym, ap, ◌∙◌, arith, drop-cons}
+use Rattle.std.proofs.Common.{◌≡◌, ℕ, suc, ◌+◌, ◌<◌, List, [], ◌∷◌, ◌++◌, length, drop, get_or, Box, Global, refl, sym, ap, ◌∙◌, arith, drop-cons}
 use mathlib.Core.Former.{Count}
-use Rattle.pearl_value.specs.declared.operator.Monad.{Monad}
-use Rattle.pearl_value.specs.declared.operator.Dyad.{Dyad}
 use Rattle.pearl_program.specs.declared.expression.Variable.{Variable, Row_of-Expr, end_of-Expr, more_of-Expr, items-the_row-Expr, items_hidden-the_row-Expr-0}
 use Rattle.pearl_program.specs.declared.expression.Call.{Call, Row_of-Argument, end_of-Argument, more_of-Argument, items-the_row-Argument, items_hidden-the_row-Argument-1}
 use Rattle.pearl_program.specs.declared.expression.Argument.{Argument}
 use Rattle.pearl_program.specs.declared.expression.Argument as argument
 use Rattle.pearl_program.specs.declared.expression.Expr.{Expr}
 use Rattle.pearl_program.specs.declared.expression.Expr as expr
-use Rattle.pearl_program.specs.PlainExpressions.{PlainExpr, OfRead, OfCall, OfVariable, PlainExprs, NoExprs, MoreExprs, PlainArgument, OfIdent, PlainArguments, NoArguments, MoreArguments, plain_expr, plain_row, plain_exprs, plain_argument, plain_argument_row, plain_arguments, plain_variable}
+use Rattle.pearl_program.specs.PlainExpressions.{OfRead, OfCall, OfVariable, PlainExprs, NoExprs, MoreExprs, OfIdent, PlainArguments, NoArguments, MoreArguments, plain_expr, plain_row, plain_exprs, plain_argument, plain_argument_row, plain_arguments, plain_variable}
 use Rattle.pearl_resolve.specs.Expressions.{joined_exprs, count}
 
 exprs_plain : (n : _) (row : Row_of-Expr n) → plain_row row ≡ plain_exprs (items-the_row-Expr n row)

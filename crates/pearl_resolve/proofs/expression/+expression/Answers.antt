@@ -1,6 +1,6 @@
-use Rattle.std.proofs.Common.{◌≡◌, [], map, refl, sym, subst, ap, ◌∙◌}
+use Rattle.std.proofs.Common.{◌≡◌, map, sym, ap, ◌∙◌}
 use Rattle.pearl_tree.specs.declared.expression.Ref.{Ref}
-use Rattle.pearl_tree.specs.ShownExpressions.{shown_expr, shown_primary, shown_selector, shown_expr_list, shown_selector_list, shown_ref}
+use Rattle.pearl_tree.specs.ShownExpressions.{shown_expr, shown_primary, shown_selector, shown_expr_list, shown_ref}
 use Rattle.pearl_names.specs.Holding.{parameter_of}
 use Rattle.pearl_check_expr.proofs.Shown.{subscripts_shown, ref_shown, limit_shown}
 use Rattle.pearl_names.proofs.Lists.{all_taken}

@@ -1,4 +1,4 @@
-use Rattle.std.proofs.Common.{◌≡◌, ◌+◌, ◌*◌, [], ◌++◌, take, drop, map}
+use Rattle.std.proofs.Common.{◌≡◌, ◌+◌, ◌*◌, take, drop, map}
 use denote.Param.Weighed.{most}
 use Rattle.pearl_tree.proofs.expression.Expr.TheLaws.{the_size as expr_size}
 use Rattle.pearl_tree.proofs.expression.Primary.TheLaws.{the_size as primary_size}

@@ -1,4 +1,4 @@
-use Rattle.std.proofs.Common.{◌≡◌, ◌+◌, ◌++◌, [], ◌∷◌, map, drop, ap, subst, sym, ◌∙◌}
+use Rattle.std.proofs.Common.{◌≡◌, subst}
 use Rattle.std.proofs.lemmas.List.{drop_all}
 use Rattle.pearl_tree.specs.declared.statement.Begin.{Begin}
 use Rattle.pearl_tree.specs.declared.statement.Case as case_
@@ -9,8 +9,8 @@ use Rattle.pearl_tree.specs.declared.statement.Repeat.{Repeat}
 use Rattle.pearl_tree.specs.ShownStatements.{shown_stmt}
 use Rattle.pearl_names.specs.Listed.{stmts_shown, branches_shown, otherwise_shown}
 use Rattle.pearl_resolve.specs.Holding.{GoesPast, at_in, numbers_held}
-use Rattle.pearl_resolve.specs.Numbers.{loop_cells, after_all, after_branches, after_otherwise, numbers_in_all, numbers_in_branches, numbers_in_otherwise, entered}
-use Rattle.pearl_resolve.proofs.Numbering.{Past, PastBranches, BodyPast, past_more, past_all, branches_more, branches_all, goes_twice, if_past, case_past, repeat_past, begin_past}
+use Rattle.pearl_resolve.specs.Numbers.{loop_cells, after_all, after_branches, after_otherwise, numbers_in_all, numbers_in_branches, numbers_in_otherwise}
+use Rattle.pearl_resolve.proofs.Numbering.{Past, PastBranches, BodyPast, past_more, past_all, branches_more, branches_all, if_past, case_past, repeat_past, begin_past}
 use Rattle.pearl_resolve.proofs.PlainNodes.{one_left}
 use Rattle.pearl_resolve.proofs.numbers.«+statement».Goals as goal
 

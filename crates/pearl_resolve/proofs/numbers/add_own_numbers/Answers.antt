@@ -1,4 +1,4 @@
-use Rattle.std.proofs.Common.{◌≡◌, suc, ◌+◌, ◌≤◌, ◌++◌, [], ◌∷◌, length, drop, sym, ap, subst, ◌∙◌, arith}
+use Rattle.std.proofs.Common.{◌≡◌, suc, ◌+◌, ◌≤◌, ◌++◌, ◌∷◌, length, drop, ap, subst, ◌∙◌, arith}
 use Rattle.std.proofs.lemmas.List.{drop_all}
 use Rattle.pearl_resolve.specs.Numbers.{own_numbers}
 use Rattle.pearl_resolve.proofs.Numbering.{NumberedSo, next_held, held_length, numbered_more, numbered_all}

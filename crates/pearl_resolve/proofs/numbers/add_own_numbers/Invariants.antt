@@ -1,4 +1,4 @@
-use Rattle.std.proofs.Common.{◌≡◌, ◌++◌, List, drop}
+use Rattle.std.proofs.Common.{◌++◌, List, drop}
 use Rattle.pearl_names.specs.Holding.{HoldsAll}
 use Rattle.pearl_names.specs.Tables.{Sense}
 use Rattle.pearl_resolve.specs.Numbers.{own_numbers}

@@ -1,4 +1,4 @@
-use Rattle.std.proofs.Common.{◌≡◌, ◌++◌, [], ◌∷◌, map, drop, sym, ap, subst, ◌∙◌, append-nil}
+use Rattle.std.proofs.Common.{map, sym, subst, ◌∙◌, append-nil}
 use Rattle.std.proofs.lemmas.List.{drop_all}
 use Rattle.pearl_tree.specs.ShownModules.{shown_decl}
 use Rattle.pearl_resolve.specs.Holding.{at_in, numbers_held}
