@@ -1,25 +1,11 @@
 -- What is found in numbers and senses that are held in memory.
-use Rattle.std.proofs.Common.{◌≡◌, ℕ, List, [], Option, Some, None, option_map, unwrap_or, slice_get, refl, sym, ap, ◌∙◌}
-use Rattle.std.proofs.lemmas.Option.{slice_get-map}
+use Rattle.std.proofs.Common.{◌≡◌, List, Option, Some, None, option_map, refl, ap}
 use Rattle.pearl_names.specs.declared.meaning.Found.{Found}
 use Rattle.pearl_names.specs.declared.sense.Sense.{Sense as HeldSense}
 use Rattle.pearl_names.specs.declared.types.StructForm.{StructForm}
 use Rattle.pearl_names.specs.Holding.{HoldsFound, HoldsSense}
 use Rattle.pearl_names.specs.Tables.{Sense, sense_at}
-use Rattle.pearl_resolve.specs.declared.numbered.ScopeNumbers.{ScopeNumbers}
 use Rattle.pearl_resolve.specs.Expressions.{Numbered, meant_at, number_at}
-use Rattle.pearl_resolve.specs.Holding.{numbers_held}
-
-pub numbers_there : (scopes : List ScopeNumbers) (i : ℕ) (scope : ScopeNumbers) → slice_get scopes i ≡ Some scope →
-    scope.numbers.items ≡ unwrap_or (slice_get (numbers_held scopes) i) []
-numbers_there scopes i scope at =
-    sym (ap (λ o. unwrap_or o []) (slice_get-map (λ (scope : ScopeNumbers). scope.numbers.items) scopes i
-    ∙ ap (option_map (λ (scope : ScopeNumbers). scope.numbers.items)) at))
-
-pub no_numbers : (scopes : List ScopeNumbers) (i : ℕ) → slice_get scopes i ≡ None → [] ≡ unwrap_or (slice_get (numbers_held scopes) i) []
-no_numbers scopes i at =
-    sym (ap (λ o. unwrap_or o []) (slice_get-map (λ (scope : ScopeNumbers). scope.numbers.items) scopes i
-    ∙ ap (option_map (λ (scope : ScopeNumbers). scope.numbers.items)) at))
 
 -- what a name means whose sense is held in memory
 pub record MeantSo (forms : List StructForm) (of : Numbered) (found : Found) (sense : HeldSense) : Type 0 where

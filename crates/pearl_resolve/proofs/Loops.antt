@@ -66,7 +66,7 @@ arguments_all of view parameters exprs made i all past before =
     ∙ ap (λ l. joined_arguments (plain_arguments made) (resolve_arguments of view (drop i parameters) (shown_expr_list l))) (sym (drop_all i exprs past))
     ∙ before
 
-pub along_push : (of : Numbered) (view : View) (from : Walk) (xs : List Selector) (x : Selector) →
+along_push : (of : Numbered) (view : View) (from : Walk) (xs : List Selector) (x : Selector) →
     along of view from (shown_selector_list (xs ++ x ∷ [])) ≡ step of view (along of view from (shown_selector_list xs)) (shown_selector x)
 along_push of view from [] x = refl
 along_push of view from (y ∷ xs) x = along_push of view (step of view from (shown_selector y)) xs x

@@ -55,8 +55,3 @@ module _ (devices : List SpecifiedDevice) (procedures : List ℕ) where
       made ++ module_numbers devices procedures before entries left ≡ all → made ≡ all
   no_sense_left made before entries left all none so =
       sym (append-nil made) ∙ sym (ap (λ l. made ++ l) (ap (module_numbers devices procedures before entries) none ∙ no_senses before entries)) ∙ so
-
-  pub no_entry_left : (made : List ℕ) (before : Before) (left : List SortedName) (of : List Sense) (all : List ℕ) → left ≡ [] →
-      made ++ module_numbers devices procedures before left of ≡ all → made ≡ all
-  no_entry_left made before left of all none so =
-      sym (append-nil made) ∙ sym (ap (λ l. made ++ module_numbers devices procedures before l of) none) ∙ so

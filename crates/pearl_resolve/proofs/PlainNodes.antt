@@ -4,10 +4,9 @@ use mathlib.Core.Former.{Count}
 use Rattle.pearl_program.specs.declared.expression.Variable.{Variable, Row_of-Expr, end_of-Expr, more_of-Expr, items-the_row-Expr, items_hidden-the_row-Expr-0}
 use Rattle.pearl_program.specs.declared.expression.Call.{Call, Row_of-Argument, end_of-Argument, more_of-Argument, items-the_row-Argument, items_hidden-the_row-Argument-1}
 use Rattle.pearl_program.specs.declared.expression.Argument.{Argument}
-use Rattle.pearl_program.specs.declared.expression.Argument as argument
 use Rattle.pearl_program.specs.declared.expression.Expr.{Expr}
 use Rattle.pearl_program.specs.declared.expression.Expr as expr
-use Rattle.pearl_program.specs.PlainExpressions.{OfRead, OfCall, OfVariable, PlainExprs, NoExprs, MoreExprs, OfIdent, PlainArguments, NoArguments, MoreArguments, plain_expr, plain_row, plain_exprs, plain_argument, plain_argument_row, plain_arguments, plain_variable}
+use Rattle.pearl_program.specs.PlainExpressions.{OfRead, OfCall, OfVariable, PlainExprs, NoExprs, MoreExprs, PlainArguments, NoArguments, MoreArguments, plain_expr, plain_row, plain_exprs, plain_argument, plain_argument_row, plain_arguments, plain_variable}
 use Rattle.pearl_resolve.specs.Expressions.{joined_exprs, count}
 
 exprs_plain : (n : _) (row : Row_of-Expr n) → plain_row row ≡ plain_exprs (items-the_row-Expr n row)
@@ -27,16 +26,6 @@ read_plain variable =
     let row = subscripts_of (expr.Read variable) in
     ap (λ t. OfRead (OfVariable variable.value.target variable.value.bounds.items t))
     (exprs_plain row.0 row.1 ∙ ap plain_exprs (items_hidden-the_row-Expr-0 variable.value.subscripts))
-
-abbrev subscripts_in : Argument → (n : Count) × Row_of-Expr n
-subscripts_in (argument.Ident' _ _ _ row) = (_, row)
-subscripts_in _ = (_, end_of-Expr)
-
-pub ident_plain : (variable : Variable) → plain_argument (argument.Ident variable) ≡ OfIdent (plain_variable variable)
-ident_plain variable =
-    let row = subscripts_in (argument.Ident variable) in
-    ap (λ t. OfIdent (OfVariable variable.target variable.bounds.items t))
-    (exprs_plain row.0 row.1 ∙ ap plain_exprs (items_hidden-the_row-Expr-0 variable.subscripts))
 
 abbrev arguments_of : Expr → (n : Count) × Row_of-Argument n
 arguments_of (expr.Call' _ _ _ row) = (_, row)

@@ -1,7 +1,7 @@
 -- Where references lead, in memory and in the definitions.
 use Rattle.std.proofs.Common.{◌≡◌, ℕ, Bool, List, [], map, Option, Some, None, option_map, unwrap_or, Result, Ok, Err, refl, subst}
 use Rattle.std.specs.Result.{OnOk}
-use Rattle.std.proofs.lemmas.Option.{none-some, same_Some}
+use Rattle.std.proofs.lemmas.Option.{same_Some}
 use Rattle.pearl_value.specs.declared.kind.Kind.{Kind}
 use Rattle.pearl_value.specs.declared.kind.Kind.TheVariants as kind
 use Rattle.pearl_tree.specs.declared.name.Name.{Name}
@@ -41,27 +41,6 @@ BoundsAre forms number name bounds = (fields : Fields) → StandsFor forms (Stru
 abbrev pub FieldIs : List StructForm → ℕ → Name → Option FieldForm → Type 0
 FieldIs forms number name field = (fields : Fields) → StandsFor forms (Struct number) (OfFields fields) →
     MatchesComponent forms field (component 0 0 fields name.text.items)
-
--- no field has the name
-pub no_bounds : (forms : List StructForm) (number : ℕ) (shape : Shape) (name : Name) → StandsFor forms (Struct number) shape →
-    BoundsAre forms number name None → field_of shape name ≡ None
-unfolding StandsFor
-no_bounds forms number (OfKind of) name h are = absurd h
-no_bounds forms number (OfFields fields) name h are = by (component 0 0 fields name.text.items) (are fields h)
-  where
-    by : (of : Option Component) → None ≡ option_map (λ (of : Component). of.bounds) of → of ≡ None
-    by None e = refl
-    by (Some of) e = absurd (none-some _ e)
-
-pub no_field : (forms : List StructForm) (number : ℕ) (shape : Shape) (name : Name) → StandsFor forms (Struct number) shape →
-    FieldIs forms number name None → field_of shape name ≡ None
-unfolding StandsFor
-no_field forms number (OfKind of) name h is = absurd h
-no_field forms number (OfFields fields) name h is = by (component 0 0 fields name.text.items) (is fields h)
-  where
-    by : (of : Option Component) → MatchesComponent forms None of → of ≡ None
-    by None m = refl
-    by (Some of) m = absurd m
 
 -- a field that has the name
 pub record Found (forms : List StructForm) (field : FieldForm) (bounds : List Bounds) (shape : Shape) (name : Name) : Type 0 where

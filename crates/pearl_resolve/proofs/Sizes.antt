@@ -24,11 +24,11 @@ slots_length : (leaves : List Leaf) → length (slots_of leaves) ≡ slots leave
 slots_length leaves =
     length-flat_map leaf_slots leaves ∙ same_sums (λ leaf. length (leaf_slots leaf)) (λ leaf. elements leaf.bounds) leaf_length leaves
 
-pub slots_counted : (leaves : List Leaf) → (counts leaves).slots ≡ cut (slots leaves)
+slots_counted : (leaves : List Leaf) → (counts leaves).slots ≡ cut (slots leaves)
 unfolding counts
 slots_counted leaves = ap cut (slots_length leaves)
 
-pub leaves_counted : (leaves : List Leaf) → (counts leaves).leaves ≡ cut (length leaves)
+leaves_counted : (leaves : List Leaf) → (counts leaves).leaves ≡ cut (length leaves)
 unfolding counts
 leaves_counted leaves = refl
 
