@@ -10,3 +10,7 @@ pub mod Statements
 pub mod Cells
 -- which program a module means
 pub mod Resolve
+-- what stands in memory of what the definitions say
+pub mod Holding
+-- the place of a device among the others
+pub mod Devices

@@ -1,2 +1,12 @@
-// The program that a source means. What there is of it stands in specs/.
+// The program that a source means.
 #![tactic(auto)]
+
+mod bounds;
+mod counts;
+pub mod expression;
+mod literal;
+mod making;
+mod module_names;
+pub mod numbered;
+pub mod numbers;
+mod walk;
