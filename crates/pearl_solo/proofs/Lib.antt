@@ -1,0 +1,10 @@
+mod Tops
+mod Made
+mod Applied
+mod OperatorRows
+mod CellRows
+mod FlowRows
+mod Filling
+mod CallRows
+mod LoopRows
+mod Begins
