@@ -48,7 +48,7 @@ cells_set c x (f ∷ lower) = refl
 -- a range
 
 filled_by : (cells : List Cell) (c n m : ℕ) (b : Cell) → c < length cells → c < m →
-    take (suc c) (slice_set cells c b) ++ (replicate n b ++ drop m (slice_set cells c b)) ≡ take c cells ++ (replicate (suc n) b ++ drop m cells)
+    take (suc c) (slice_set cells c b) ++ replicate n b ++ drop m (slice_set cells c b) ≡ take c cells ++ replicate (suc n) b ++ drop m cells
 filled_by [] c n m b less more = absurd (omega (arith, less))
 filled_by (x ∷ xs) zero n zero b less more = absurd (omega (arith, more))
 filled_by (x ∷ xs) zero n (suc m) b less more = refl
@@ -70,19 +70,19 @@ pub fills_more : (cells : List Cell) (first count i : ℕ) (kind : Kind) (now : 
     Fills cells first count (i + 1) kind (slice_set now (first + i) (blank_of kind))
 fills_more cells first count i kind now f less fits =
     let b : Cell = blank_of kind in
+    let n : ℕ = count - (i + 1) in
     let a : first + (i + 1) ≡ suc (first + i) = omega arith in
-    let k : count - i ≡ suc (count - (i + 1)) = omega (arith, less) in
-    let m : first + i + (count - i) ≡ first + (i + 1) + (count - (i + 1)) = omega (arith, less) in
+    let k : count - i ≡ suc n = omega (arith, less) in
+    let m : first + i + (count - i) ≡ first + (i + 1) + n = omega (arith, less) in
     let here : first + i < length now = omega (arith, less, fits, f.long) in
     let past : first + i < first + i + (count - i) = omega (arith, less) in
     let next : List Cell = slice_set now (first + i) b in
-    let by = filled_by now (first + i) (count - (i + 1)) (first + i + (count - i)) b here past in
-    let one : take (first + (i + 1)) next ++ (replicate (count - (i + 1)) b ++ drop (first + (i + 1) + (count - (i + 1))) next)
-        ≡ take (suc (first + i)) next ++ (replicate (count - (i + 1)) b ++ drop (first + i + (count - i)) next) =
-        ap (λ n. take n next ++ (replicate (count - (i + 1)) b ++ drop (first + (i + 1) + (count - (i + 1))) next)) a
-        ∙ ap (λ n. take (suc (first + i)) next ++ (replicate (count - (i + 1)) b ++ drop n next)) (sym m) in
-    let two : take (first + i) now ++ (replicate (suc (count - (i + 1))) b ++ drop (first + i + (count - i)) now) ≡ filled now (first + i) (count - i) kind =
-        ap (λ n. take (first + i) now ++ (replicate n b ++ drop (first + i + (count - i)) now)) (sym k) in
+    let by = filled_by now (first + i) n (first + i + (count - i)) b here past in
+    let one : filled next (first + (i + 1)) n kind ≡ take (suc (first + i)) next ++ replicate n b ++ drop (first + i + (count - i)) next =
+        ap (λ j. take j next ++ replicate n b ++ drop (first + (i + 1) + n) next) a
+        ∙ ap (λ j. take (suc (first + i)) next ++ replicate n b ++ drop j next) (sym m) in
+    let two : take (first + i) now ++ replicate (suc n) b ++ drop (first + i + (count - i)) now ≡ filled now (first + i) (count - i) kind =
+        ap (λ j. take (first + i) now ++ replicate j b ++ drop (first + i + (count - i)) now) (sym k) in
     record { long = length-set now (first + i) b ∙ f.long; same = one ∙ (by ∙ (two ∙ f.same)) }
 
 pub fills_all : (cells : List Cell) (first count : ℕ) (kind : Kind) (now : List Cell) → Fills cells first count count kind now → now ≡ filled cells first count kind
@@ -90,7 +90,9 @@ fills_all cells first count kind now f =
     let n : ℕ = first + count in
     let a : count - count ≡ 0 = omega arith in
     let b : n + 0 ≡ n = omega arith in
-    sym (take-append-drop n now) ∙ (ap (λ m. take n now ++ drop m now) (sym b) ∙ (ap (λ k. filled now n k kind) (sym a) ∙ f.same))
+    let none : now ≡ filled now n 0 kind =
+        sym (take-append-drop n now) ∙ (ap (λ m. take n now ++ drop m now) (sym b) ∙ ap (λ xs. xs ++ drop (n + 0) now) (sym (append-nil (take n now)))) in
+    none ∙ (ap (λ k. filled now n k kind) (sym a) ∙ f.same)
 
 -- what is unset of their kinds
 

@@ -8,3 +8,6 @@ mod Filling
 mod CallRows
 mod LoopRows
 mod Begins
+mod OfferRows
+mod AnswerRows
+mod ReferenceRows

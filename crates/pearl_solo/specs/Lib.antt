@@ -2,3 +2,5 @@
 pub mod Steps
 -- which cells of the top frame hold numbers
 pub mod Numbers
+-- the stack with which a task goes on after an answer, and what a reference names
+pub mod Answered

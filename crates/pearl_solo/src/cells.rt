@@ -83,6 +83,14 @@ pub fn offset(x: &Cell, count: u64) -> Option<u64>
     }
 }
 
+// The cell at an offset.
+pub fn element(here: Frame, first: u64, o: u64) -> u64
+    requires { first + o < here.cells }
+    ensures { result ≡ first + o }
+{
+    first + o
+}
+
 // LoadAt.
 pub fn load_at(stack: &mut Loaded, here: Frame, first: u64, count: u64) -> Stepped
     requires here { IsHere here stack.old.frames }
@@ -91,7 +99,8 @@ pub fn load_at(stack: &mut Loaded, here: Frame, first: u64, count: u64) -> Stepp
 {
     match offset(operand(stack, here, 0), count) {
         Some(o) => {
-            let x = copy_of(own_cell(stack, here, first + o));
+            let c = element(here, first, o);
+            let x = copy_of(own_cell(stack, here, c));
             finish(stack, here, 1, Ok(x))
         }
         None => Stepped::Offers(Action::Trap(Trap::Index)),
@@ -105,7 +114,10 @@ pub fn store_at(stack: &mut Loaded, here: Frame, first: u64, count: u64) -> Step
     ensures { Does (on_top (λ f lower. store_at_row first count f lower) stack.old.frames) stack.old stack.new result }
 {
     match offset(operand(stack, here, 1), count) {
-        Some(o) => put_top(stack, here, first + o, 1),
+        Some(o) => {
+            let c = element(here, first, o);
+            put_top(stack, here, c, 1)
+        }
         None => Stepped::Offers(Action::Trap(Trap::Index)),
     }
 }
@@ -162,7 +174,10 @@ pub fn ref_cell_at(stack: &mut Loaded, here: Frame, first: u64, count: u64) -> S
     ensures { Does (on_top (λ f lower. popped_row f.operands (λ n left. within_row count n f lower (λ n. cell_reference (first + n) f lower left))) stack.old.frames) stack.old stack.new result }
 {
     match offset(operand(stack, here, 0), count) {
-        Some(o) => refer(stack, here, first + o, 1),
+        Some(o) => {
+            let c = element(here, first, o);
+            refer(stack, here, c, 1)
+        }
         None => Stepped::Offers(Action::Trap(Trap::Index)),
     }
 }

@@ -1,11 +1,14 @@
 // One task's execution: what each instruction does to a stack in memory.
 #![tactic(auto)]
 
+mod answers;
 mod calls;
 mod cells;
 mod flow;
 pub mod frames;
 mod loops;
+mod offers;
 mod operators;
+mod references;
 pub mod stepped;
 mod top;

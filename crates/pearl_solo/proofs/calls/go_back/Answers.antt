@@ -9,8 +9,8 @@ use Rattle.pearl_solo.proofs.CallRows.{caller_there, frame_some, frame_place, ba
 use Rattle.pearl_solo.proofs.Tops.{pushed_some, without_some}
 use Rattle.pearl_solo.proofs.calls.go_back.Goals as goal
 
-pub overflow_sub-caller : goal.overflow_sub-caller
-overflow_sub-caller c = let two = caller_there c.args.stack.now.frames c.args.result_kind c.args.stack.now.room c.requires.ready in omega (arith, two, c.frames.ensures)
+pub overflow_sub-frames : goal.overflow_sub-frames
+overflow_sub-frames c = let two = caller_there c.args.stack.now.frames c.args.result_kind c.args.stack.now.room c.requires.ready in omega (arith, two, c.frames.ensures)
 
 pub frame-caller-requires : goal.frame-caller-requires
 frame-caller-requires c =
@@ -25,7 +25,7 @@ pop-x-requires c =
 
 pub push-requires-clause-room : goal.push-requires-clause-room
 push-requires-clause-room c =
-    rw (c.leave-in-Some.ensures, c.pop-x.ensures.rest) (back_with_room c.args.stack.now.frames c.args.stack.now.room c.in-Some.field-0
+    rw (c.leave-in-Some.ensures, c.pop-x.ensures.rest) (back_with_room c.args.stack.now.frames c.args.stack.now.room c.in-Some.field-0 c.pop-x.result
     (subst (λ r. Applies (on_top (λ f lower. returns r f lower) c.args.stack.now.frames) c.args.stack.now.room) c.in-Some.is c.requires.ready))
 
 pub returns-in-None : goal.returns-in-None

@@ -15,16 +15,16 @@ pub finish-requires-clause-ready : goal.finish-requires-clause-ready
 finish-requires-clause-ready c =
     let old : Stack = c.args.stack.now in
     let more = frames_more c.args.here old.frames c.requires.here.top in
-    let e : suc (c.frames-place.result - 1) ≡ length old.frames = omega (arith, more, c.frames-place.ensures) in
-    let is = refers_is old.frames c.args.c c.args.taken (c.frames-place.result - 1) old.room c.own_cell.result.now c.requires.ready c.own_cell.ensures e in
+    let e : suc (c.frames.result - 1) ≡ length old.frames = omega (arith, more, c.frames.ensures) in
+    let is = refers_is old.frames c.args.c c.args.taken (c.frames.result - 1) old.room c.own_cell.result.now c.requires.ready c.own_cell.ensures e in
     same_applies _ _ old.room
-    (is ∙ ap (λ of. made_on c.args.taken (Ok (Ref of (place.Cell (c.frames-place.result - 1) c.args.c))) old.frames) (sym c.kind-of.ensures)) c.requires.ready
+    (is ∙ ap (λ of. made_on c.args.taken (Ok (Ref of (place.Cell (c.frames.result - 1) c.args.c))) old.frames) (sym c.kind-of.ensures)) c.requires.ready
 
 pub returns : goal.returns
 returns c =
     let old : Stack = c.args.stack.now in
     let more = frames_more c.args.here old.frames c.requires.here.top in
-    let e : suc (c.frames-place.result - 1) ≡ length old.frames = omega (arith, more, c.frames-place.ensures) in
-    let is = refers_is old.frames c.args.c c.args.taken (c.frames-place.result - 1) old.room c.own_cell.result.now c.requires.ready c.own_cell.ensures e in
+    let e : suc (c.frames.result - 1) ≡ length old.frames = omega (arith, more, c.frames.ensures) in
+    let is = refers_is old.frames c.args.c c.args.taken (c.frames.result - 1) old.room c.own_cell.result.now c.requires.ready c.own_cell.ensures e in
     same_does _ _ old c.finish.new.stack c.finish.result
-    (is ∙ ap (λ of. made_on c.args.taken (Ok (Ref of (place.Cell (c.frames-place.result - 1) c.args.c))) old.frames) (sym c.kind-of.ensures)) c.finish.ensures
+    (is ∙ ap (λ of. made_on c.args.taken (Ok (Ref of (place.Cell (c.frames.result - 1) c.args.c))) old.frames) (sym c.kind-of.ensures)) c.finish.ensures

@@ -9,16 +9,16 @@ use Rattle.pearl_solo.proofs.cells.store_at.Goals as goal
 pub operand-requires-clause-there : goal.operand-requires-clause-there
 operand-requires-clause-there c = two_there c.args.stack.now.frames _ c.args.stack.now.room c.requires.ready
 
-pub overflow_add-first : goal.overflow_add-first
-overflow_add-first c =
+pub element-c-requires : goal.element-c-requires
+element-c-requires c =
     let frames = c.args.stack.now.frames in
     let at = store_at_some frames c.args.first c.args.count c.args.stack.now.room c.in-Some.o c.operand.result.now c.requires.ready c.operand.ensures (sym c.offset.ensures ∙ c.in-Some.is) in
     let less = some_within (top_cells frames) (c.args.first + c.in-Some.o) at.there in
-    omega (arith, less, cells_count c.args.here frames c.requires.here.top, c.ranges.here.cells)
+    omega (arith, less, cells_count c.args.here frames c.requires.here.top)
 
 pub put_top-requires-clause-cell : goal.put_top-requires-clause-cell
 put_top-requires-clause-cell c =
-    (store_at_some c.args.stack.now.frames c.args.first c.args.count c.args.stack.now.room c.in-Some.o c.operand.result.now c.requires.ready c.operand.ensures (sym c.offset.ensures ∙ c.in-Some.is)).there
+    rw c.element-c.ensures (store_at_some c.args.stack.now.frames c.args.first c.args.count c.args.stack.now.room c.in-Some.o c.operand.result.now c.requires.ready c.operand.ensures (sym c.offset.ensures ∙ c.in-Some.is)).there
 
 pub put_top-requires-clause-there : goal.put_top-requires-clause-there
 put_top-requires-clause-there c = two_there c.args.stack.now.frames _ c.args.stack.now.room c.requires.ready
@@ -26,7 +26,7 @@ put_top-requires-clause-there c = two_there c.args.stack.now.frames _ c.args.sta
 pub returns-in-Some : goal.returns-in-Some
 returns-in-Some c =
     let at = store_at_some c.args.stack.now.frames c.args.first c.args.count c.args.stack.now.room c.in-Some.o c.operand.result.now c.requires.ready c.operand.ensures (sym c.offset.ensures ∙ c.in-Some.is) in
-    same_does _ _ c.args.stack.now c.put_top.new.stack c.put_top.result at.is c.put_top.ensures
+    same_does _ _ c.args.stack.now c.put_top.new.stack c.put_top.result (at.is ∙ ap (λ k. stored_on k 1 c.args.stack.now.frames) (sym c.element-c.ensures)) c.put_top.ensures
 
 pub returns-in-None : goal.returns-in-None
 returns-in-None c =

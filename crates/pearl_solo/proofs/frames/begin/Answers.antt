@@ -14,8 +14,8 @@ task_routine-routine-requires-clause-procedures c = c.requires.object.few_proced
 pub task_routine-routine-requires-clause-task : goal.task_routine-routine-requires-clause-task
 task_routine-routine-requires-clause-task c = omega (arith, c.requires.task, c.requires.object.few_tasks)
 
-pub overflow_cast : goal.overflow_cast
-overflow_cast c =
+pub overflow_cast-kinds : goal.overflow_cast-kinds
+overflow_cast-kinds c =
     let at = starts c.args.code.now c.args.task c.task_kinds-kinds.result.now c.tasks_begin_with_a_stack.ensures c.depth_is_kept.ensures c.requires.valid c.requires.object c.task_kinds-kinds.ensures in
     omega (arith, at.few)
 
