@@ -11,3 +11,5 @@ mod Begins
 mod OfferRows
 mod AnswerRows
 mod ReferenceRows
+mod AdvanceRows
+mod SendRows

@@ -30,10 +30,10 @@ fixed_is (Clock time) some = cc
 fixed_is (Span time) some = cc
 fixed_is (Ref kind place) some = cc
 
-fixed_at : (o : Option Cell) (x : Cell) → IsSome (option_and_then number_of o) → o ≡ Some x → (len : ℕ) × (n : ℤ) × (x ≡ Fixed len n)
+pub fixed_at : (o : Option Cell) (x : Cell) → IsSome (option_and_then number_of o) → o ≡ Some x → (len : ℕ) × (n : ℤ) × (x ≡ Fixed len n)
 fixed_at o x some e = fixed_is x (subst (λ o. IsSome (option_and_then number_of o)) e some)
 
-loop_is : (f : Frame) (c l m n : ℕ) (control step limit : ℤ) (go : ℕ → ℤ → ℤ → ℤ → Step) → slice_get f.cells c ≡ Some (Fixed l control) →
+pub loop_is : (f : Frame) (c l m n : ℕ) (control step limit : ℤ) (go : ℕ → ℤ → ℤ → ℤ → Step) → slice_get f.cells c ≡ Some (Fixed l control) →
     slice_get f.cells (c + 1) ≡ Some (Fixed m step) → slice_get f.cells (c + 2) ≡ Some (Fixed n limit) → loop_cells f c go ≡ go l control step limit
 loop_is f c l m n control step limit go d e h = rw (d, e, h) refl
 

@@ -127,8 +127,8 @@ cell_stays : (f g : Frame) (lower : List Frame) (n c : ℕ) → g.cells ≡ f.ce
 cell_stays f g lower n c e = by (eqb n (length lower)) refl
   where
     by : (b : Bool) → eqb n (length lower) ≡ b → cell_at (g ∷ lower) n c ≡ cell_at (f ∷ lower) n c
-    by true t = rw (t, t) (ap (λ xs. slice_get xs c) e)
-    by false t = rw (t, t) refl
+    by true t = rw t (ap (λ xs. slice_get xs c) e)
+    by false t = rw t refl
 
 pub cell_moved : (frames : List Frame) (p n c : ℕ) → cell_at (moved p (popped (popped frames))) n c ≡ cell_at frames n c
 cell_moved [] p n c = refl

@@ -4,3 +4,5 @@ pub mod Steps
 pub mod Numbers
 -- the stack with which a task goes on after an answer, and what a reference names
 pub mod Answered
+-- what Advance and NonZero make of numbers
+pub mod Advances

@@ -1,6 +1,7 @@
 // One task's execution: what each instruction does to a stack in memory.
 #![tactic(auto)]
 
+mod advances;
 mod answers;
 mod calls;
 mod cells;
