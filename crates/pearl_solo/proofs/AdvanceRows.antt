@@ -71,9 +71,9 @@ advances (f ∷ lower) here c i x y is has d e =
     let sum : ℤ = one.1 +ℤ two.1 in
     let next = advanced_is x y one.0 two.0 one.1 two.1 one.2 two.2 in
     let row : advance c i f lower ≡ chosen f lower c i one.0 sum =
-        loop_is f c one.0 two.0 third.0 one.1 two.1 third.1
-        (λ len control step limit. if fits_fixed len (control +ℤ step) then leaves (put f c (Fixed len (control +ℤ step))) lower f.operands else goes i f lower f.operands)
-        (d ∙ ap Some one.2) (e ∙ ap Some two.2) third.2 in
+    loop_is f c one.0 two.0 third.0 one.1 two.1 third.1
+    (λ len control step limit. if fits_fixed len (control +ℤ step) then leaves (put f c (Fixed len (control +ℤ step))) lower f.operands else goes i f lower f.operands)
+    (d ∙ ap Some one.2) (e ∙ ap Some two.2) third.2 in
     record {
       some = λ z h. row ∙ (some_way f lower c i one.0 sum z (fits_fixed one.0 sum) refl (sym next ∙ h)
           ∙ ap (λ h. Silent (moved (h.instruction + 1) (with_top_cell c z (f ∷ lower)))) (sym is));

@@ -62,7 +62,7 @@ starts o t kinds begins keeps_depth v w e =
     let task = some_mapped (λ (t : Task). t.code.cells) (slice_get o.tasks t) kinds e in
     let is : IsTask task.0 = all_given IsTask o.tasks t task.0 w.tasks task.1 in
     let at : routine_at o r ≡ Some task.0.code =
-        behind (λ (p : Procedure). p.code) (λ (t : Task). t.code) o.procedures o.tasks r t refl ∙ (slice_get-map (λ (t : Task). t.code) o.tasks t ∙ ap (option_map (λ (t : Task). t.code)) task.1) in
+    behind (λ (p : Procedure). p.code) (λ (t : Task). t.code) o.procedures o.tasks r t refl ∙ (slice_get-map (λ (t : Task). t.code) o.tasks t ∙ ap (option_map (λ (t : Task). t.code)) task.1) in
     let s : IsStack o (begun o r) = begins o r task.0.code v w (omega arith) at in
     let cells : fresh_cells (routine_at o r) ≡ map flow.fresh kinds = ap fresh_cells at ∙ ap (map flow.fresh) task.2 in
     let long : length (fresh_cells (routine_at o r)) ≡ length kinds = ap length cells ∙ length-map kinds flow.fresh in

@@ -79,10 +79,10 @@ fills_more cells first count i kind now f less fits =
     let next : List Cell = slice_set now (first + i) b in
     let by = filled_by now (first + i) n (first + i + (count - i)) b here past in
     let one : filled next (first + (i + 1)) n kind ≡ take (suc (first + i)) next ++ replicate n b ++ drop (first + i + (count - i)) next =
-        ap (λ j. take j next ++ replicate n b ++ drop (first + (i + 1) + n) next) a
-        ∙ ap (λ j. take (suc (first + i)) next ++ replicate n b ++ drop j next) (sym m) in
+    ap (λ j. take j next ++ replicate n b ++ drop (first + (i + 1) + n) next) a
+    ∙ ap (λ j. take (suc (first + i)) next ++ replicate n b ++ drop j next) (sym m) in
     let two : take (first + i) now ++ replicate (suc n) b ++ drop (first + i + (count - i)) now ≡ filled now (first + i) (count - i) kind =
-        ap (λ j. take (first + i) now ++ replicate j b ++ drop (first + i + (count - i)) now) (sym k) in
+    ap (λ j. take (first + i) now ++ replicate j b ++ drop (first + i + (count - i)) now) (sym k) in
     record { long = length-set now (first + i) b ∙ f.long; same = one ∙ (by ∙ (two ∙ f.same)) }
 
 pub fills_all : (cells : List Cell) (first count : ℕ) (kind : Kind) (now : List Cell) → Fills cells first count count kind now → now ≡ filled cells first count kind
@@ -91,7 +91,7 @@ fills_all cells first count kind now f =
     let a : count - count ≡ 0 = omega arith in
     let b : n + 0 ≡ n = omega arith in
     let none : now ≡ filled now n 0 kind =
-        sym (take-append-drop n now) ∙ (ap (λ m. take n now ++ drop m now) (sym b) ∙ ap (λ xs. xs ++ drop (n + 0) now) (sym (append-nil (take n now)))) in
+    sym (take-append-drop n now) ∙ (ap (λ m. take n now ++ drop m now) (sym b) ∙ ap (λ xs. xs ++ drop (n + 0) now) (sym (append-nil (take n now)))) in
     none ∙ (ap (λ k. filled now n k kind) (sym a) ∙ f.same)
 
 -- what is unset of their kinds

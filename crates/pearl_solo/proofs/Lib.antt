@@ -13,3 +13,4 @@ mod AnswerRows
 mod ReferenceRows
 mod AdvanceRows
 mod SendRows
+mod VariableRows

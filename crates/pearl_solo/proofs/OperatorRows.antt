@@ -92,7 +92,7 @@ convert_by to f lower (y ∷ left) room x a all e =
       subst IsValue same is.value,
       subst (λ x. SuitsKind (kind_of x) to) same (subst (λ from. SuitsKind from to) (sym is.kind) (suits_it some.0 to suits.0)),
       ap (λ o. given o (λ from. needed (suits_kind from to) (makes f lower left (converted y to)))) some.1
-      ∙ (ap (λ b. needed b (makes f lower left (converted y to))) suits.0 ∙ ap (λ x. makes f lower left (converted x to)) same),
+          ∙ (ap (λ b. needed b (makes f lower left (converted y to))) suits.0 ∙ ap (λ x. makes f lower left (converted x to)) same),
     )
 
 pub convert_applies : (to : Kind) (frames : List Frame) (room : ℕ) (x : Cell) → Applies (on_top (λ f lower. convert to f lower) frames) room →
@@ -133,9 +133,9 @@ dyadic_by op f lower (v ∷ u ∷ left) room x y a all e h =
       subst IsValue two is_y.value,
       subst (λ x. IsSome (row2 op (kind_of x) (kind_of y))) one (subst (λ y. IsSome (row2 op (kind_of u) (kind_of y))) two (rw row refl)),
       ap (λ o. given o (λ of_x. given (value_kind v) (λ of_y. given (row2 op of_x of_y) (λ kind. makes f lower left (applied2 op u v))))) of_x.1
-      ∙ (ap (λ o. given o (λ of_y. given (row2 op of_x.0 of_y) (λ kind. makes f lower left (applied2 op u v)))) of_y.1
-      ∙ (ap (λ o. given o (λ kind. makes f lower left (applied2 op u v))) some.1
-      ∙ (ap (λ x. makes f lower left (applied2 op x v)) one ∙ ap (λ y. makes f lower left (applied2 op x y)) two))),
+          ∙ (ap (λ o. given o (λ of_y. given (row2 op of_x.0 of_y) (λ kind. makes f lower left (applied2 op u v)))) of_y.1
+          ∙ (ap (λ o. given o (λ kind. makes f lower left (applied2 op u v))) some.1
+          ∙ (ap (λ x. makes f lower left (applied2 op x v)) one ∙ ap (λ y. makes f lower left (applied2 op x y)) two))),
     )
 
 pub dyadic_applies : (op : Dyad) (frames : List Frame) (room : ℕ) (x y : Cell) → Applies (on_top (λ f lower. dyadic op f lower) frames) room →

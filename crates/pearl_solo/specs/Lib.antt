@@ -6,3 +6,5 @@ pub mod Numbers
 pub mod Answered
 -- what Advance and NonZero make of numbers
 pub mod Advances
+-- a leaf of an object, with the number of its first slot
+pub mod Slots

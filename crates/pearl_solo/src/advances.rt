@@ -1,6 +1,7 @@
 // The step of a loop, and the test that a step isn't 0.
 
-ghost use Rattle.std.specs.Prelude.{◌≡◌, ◌≤◌, ◌^◌, pos};
+ghost use Rattle.std.specs.Prelude.{◌≡◌, ◌≤◌, ◌^◌, ◌+ℤ◌, pos, if◌then◌else◌, Some, None};
+ghost use Rattle.pearl_value.specs.declared.cell.Cell.{Cell};
 ghost use Rattle.std.specs.List.{AllByRecursion};
 ghost use Rattle.pearl_value.specs.Conversions.{fits_fixed};
 ghost use Rattle.pearl_value.specs.WellFormed.{IsValue};
@@ -35,23 +36,37 @@ fn is_in_range(value: i128, len: u8) -> bool
     -end <= value && value <= end - 1
 }
 
+// The number of this length, where it is one.
+fn fixed(len: u8, value: i128) -> Option<Cell>
+    requires { len ≤ 63 }
+    ensures { result ≡ if fits_fixed len value then Some (Cell.Fixed len value) else None }
+{
+    if is_in_range(value, len) {
+        Some(Cell::Fixed {
+            len,
+            value: value as i64,
+        })
+    } else {
+        None
+    }
+}
+
+fn sum(a: i64, b: i64) -> i128
+    ensures { result ≡ a +ℤ b }
+{
+    a as i128 + b as i128
+}
+
 // The control of a loop after its step, where it is still of its kind.
 fn next_control(control: &Cell, step: &Cell) -> Option<Cell>
     requires { IsValue control.now }
     ensures { result ≡ advanced control.now step.now }
 {
     match (control, step) {
-        (Cell::Fixed { len, value: now }, Cell::Fixed { value: by, .. }) => {
-            let sum = *now as i128 + *by as i128;
-            if is_in_range(sum, *len) {
-                Some(Cell::Fixed {
-                    len: *len,
-                    value: sum as i64,
-                })
-            } else {
-                None
-            }
-        }
+        (Cell::Fixed { len, value }, Cell::Fixed { value: by, .. }) => fixed(
+            *len,
+            sum(*value, *by),
+        ),
         _ => None,
     }
 }
@@ -84,13 +99,7 @@ fn null_trap(x: &Cell) -> Option<Trap>
     ensures { result ≡ null_trap_of x.now }
 {
     match x {
-        Cell::Fixed { value, .. } => {
-            if *value == 0 {
-                Some(Trap::Range)
-            } else {
-                None
-            }
-        }
+        Cell::Fixed { value, .. } => { if *value == 0 { Some(Trap::Range) } else { None } }
         _ => None,
     }
 }

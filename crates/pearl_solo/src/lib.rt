@@ -13,3 +13,4 @@ mod operators;
 mod references;
 pub mod stepped;
 mod top;
+mod variables;

@@ -17,9 +17,11 @@ fn is_past(control: &Cell, step: &Cell, limit: &Cell) -> bool
     ensures { result ≡ are_past control.now step.now limit.now }
 {
     match (control, step, limit) {
-        (Cell::Fixed { value: now, .. }, Cell::Fixed { value: by, .. }, Cell::Fixed { value: end, .. }) => {
-            (*end < *now && 0 <= *by) || (*now < *end && *by < 0)
-        }
+        (
+            Cell::Fixed { value: now, .. },
+            Cell::Fixed { value: by, .. },
+            Cell::Fixed { value: end, .. },
+        ) => { (*end < *now && 0 <= *by) || (*now < *end && *by < 0) }
         _ => false,
     }
 }

@@ -36,14 +36,14 @@ pub returns-in-Some : goal.returns-in-Some
 returns-in-Some c =
     let old : Stack = c.args.stack.now in
     let at = advances old.frames c.args.here c.args.first c.args.past c.own_cell-control.result.now c.own_cell-step.result.now c.requires.here.top c.requires.numbers
-        c.own_cell-control.ensures (ap (slice_get (top_cells old.frames)) (sym c.element-second.ensures) ∙ c.own_cell-step.ensures) in
+    c.own_cell-control.ensures (ap (slice_get (top_cells old.frames)) (sym c.element-second.ensures) ∙ c.own_cell-step.ensures) in
     let now : c.go.new.self ≡ record old { frames = moved (c.args.here.instruction + 1) (with_top_cell c.args.first c.in-Some.x old.frames) } =
-        c.go.ensures ∙ ap (λ (s : Stack). record s { frames = moved (c.args.here.instruction + 1) s.frames }) c.set_own_cell.ensures in
+    c.go.ensures ∙ ap (λ (s : Stack). record s { frames = moved (c.args.here.instruction + 1) s.frames }) c.set_own_cell.ensures in
     silent_does _ old c.go.new.self _ (at.some c.in-Some.x (sym c.next_control.ensures ∙ c.in-Some.is)) now
 
 pub returns-in-None : goal.returns-in-None
 returns-in-None c =
     let old : Stack = c.args.stack.now in
     let at = advances old.frames c.args.here c.args.first c.args.past c.own_cell-control.result.now c.own_cell-step.result.now c.requires.here.top c.requires.numbers
-        c.own_cell-control.ensures (ap (slice_get (top_cells old.frames)) (sym c.element-second.ensures) ∙ c.own_cell-step.ensures) in
+    c.own_cell-control.ensures (ap (slice_get (top_cells old.frames)) (sym c.element-second.ensures) ∙ c.own_cell-step.ensures) in
     silent_does _ old c.go-in-None.new.self _ (at.none (sym c.next_control.ensures ∙ c.in-None.is)) c.go-in-None.ensures

@@ -35,9 +35,9 @@ returns-in-None c =
     let two = caller_there old.frames c.args.result_kind old.room c.requires.ready in
     let at : p ≡ place_of (drop 1 old.frames) = frame_place old.frames (c.frames.result - 2) c.frame-caller.result (omega (arith, two, c.frames.ensures)) c.frame-caller.ensures in
     let ready : Applies (on_top (λ f lower. returns None f lower) old.frames) old.room =
-        subst (λ r. Applies (on_top (λ f lower. returns r f lower) old.frames) old.room) c.in-None.is c.requires.ready in
+    subst (λ r. Applies (on_top (λ f lower. returns r f lower) old.frames) old.room) c.in-None.is c.requires.ready in
     let now : c.go.new.self ≡ record old { frames = moved (p + 1) (drop 1 old.frames) } =
-        c.go.ensures ∙ ap (λ (s : Stack). record s { frames = moved (p + 1) s.frames }) c.leave.ensures in
+    c.go.ensures ∙ ap (λ (s : Stack). record s { frames = moved (p + 1) s.frames }) c.leave.ensures in
     silent_does _ old c.go.new.self _
     (ap (λ (r : Option Kind). on_top (λ f lower. returns r f lower) old.frames) c.in-None.is ∙ back_is old.frames old.room p ready at) now
 
@@ -48,11 +48,11 @@ returns-in-Some c =
     let two = caller_there old.frames c.args.result_kind old.room c.requires.ready in
     let at : p ≡ place_of (drop 1 old.frames) = frame_place old.frames (c.frames.result - 2) c.frame-caller.result (omega (arith, two, c.frames.ensures)) c.frame-caller.ensures in
     let ready : Applies (on_top (λ f lower. returns (Some c.in-Some.field-0) f lower) old.frames) old.room =
-        subst (λ r. Applies (on_top (λ f lower. returns r f lower) old.frames) old.room) c.in-Some.is c.requires.ready in
+    subst (λ r. Applies (on_top (λ f lower. returns r f lower) old.frames) old.room) c.in-Some.is c.requires.ready in
     let now : c.go-in-Some.new.self ≡ record old { frames = moved (p + 1) (pushed c.pop-x.result (drop 1 (popped old.frames))) } =
-        c.go-in-Some.ensures ∙ (ap (λ (s : Stack). record s { frames = moved (p + 1) s.frames }) c.push.ensures
-        ∙ (ap (λ (s : Stack). record s { frames = moved (p + 1) (pushed c.pop-x.result s.frames) }) c.leave-in-Some.ensures
-        ∙ ap (λ (s : Stack). record s { frames = moved (p + 1) (pushed c.pop-x.result (drop 1 s.frames)) }) c.pop-x.ensures.rest)) in
+    c.go-in-Some.ensures ∙ (ap (λ (s : Stack). record s { frames = moved (p + 1) s.frames }) c.push.ensures
+    ∙ (ap (λ (s : Stack). record s { frames = moved (p + 1) (pushed c.pop-x.result s.frames) }) c.leave-in-Some.ensures
+    ∙ ap (λ (s : Stack). record s { frames = moved (p + 1) (pushed c.pop-x.result (drop 1 s.frames)) }) c.pop-x.ensures.rest)) in
     silent_does _ old c.go-in-Some.new.self _
     (ap (λ (r : Option Kind). on_top (λ f lower. returns r f lower) old.frames) c.in-Some.is
     ∙ back_with_is old.frames old.room p c.in-Some.field-0 c.pop-x.result ready at c.pop-x.ensures.operand) now

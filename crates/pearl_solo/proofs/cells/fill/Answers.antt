@@ -17,8 +17,10 @@ go-requires c = rw c.fill_cells.ensures (cells_some _ c.args.stack.now.frames (t
 pub returns : goal.returns
 returns c =
     let old : Stack = c.args.stack.now in
-    let now : c.go.new.self ≡ record old { frames = moved (c.args.here.instruction + 1)
-        (with_cells (filled (top_cells old.frames) c.args.first c.args.count c.args.kind) old.frames) } =
-        c.go.ensures ∙ ap (λ (s : Stack). record s { frames = moved (c.args.here.instruction + 1) s.frames }) c.fill_cells.ensures in
+    let now : c.go.new.self ≡ record old {
+      frames = moved (c.args.here.instruction + 1)
+          (with_cells (filled (top_cells old.frames) c.args.first c.args.count c.args.kind) old.frames);
+    } =
+    c.go.ensures ∙ ap (λ (s : Stack). record s { frames = moved (c.args.here.instruction + 1) s.frames }) c.fill_cells.ensures in
     silent_does _ old c.go.new.self _
     (fill_is old.frames c.args.here c.args.first c.args.count c.args.kind old.room c.requires.here.top c.requires.ready).1 now

@@ -19,7 +19,7 @@ loop-i-preserved c =
     let now : Stack = c.loop-i.stack in
     let more = fills_more (top_cells old.frames) c.args.first c.args.count c.loop-i.i c.args.kind (top_cells now.frames) c.loop-i.invariant.fills (omega arith) c.requires.there in
     let is : c.set_own_cell.new.stack ≡ record now { frames = with_top_cell (c.args.first + c.loop-i.i) (blank_of c.args.kind) now.frames } =
-        c.set_own_cell.ensures ∙ ap (λ x. record now { frames = with_top_cell (c.args.first + c.loop-i.i) x now.frames }) c.blank.ensures.value in
+    c.set_own_cell.ensures ∙ ap (λ x. record now { frames = with_top_cell (c.args.first + c.loop-i.i) x now.frames }) c.blank.ensures.value in
     record {
       keeps = keeps_set (c.args.first + c.loop-i.i) (blank_of c.args.kind) old now c.set_own_cell.new.stack c.loop-i.invariant.keeps is;
       fills = subst (Fills (top_cells old.frames) c.args.first c.args.count (c.loop-i.i + 1) c.args.kind)

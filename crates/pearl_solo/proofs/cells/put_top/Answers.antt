@@ -32,8 +32,8 @@ returns c =
     let old : Stack = c.args.stack.now in
     let at = c.args.here.instruction + 1 in
     let now : c.go.new.self ≡ record old { frames = moved at (with_top_cell c.args.c c.pop-x.result (without c.args.below (popped old.frames))) } =
-        c.go.ensures ∙ (ap (λ (s : Stack). record s { frames = moved at s.frames }) c.set_own_cell.ensures
-        ∙ (ap (λ (s : Stack). record s { frames = moved at (with_top_cell c.args.c c.pop-x.result s.frames) }) c.drop_top.ensures
-        ∙ ap (λ (s : Stack). record s { frames = moved at (with_top_cell c.args.c c.pop-x.result (without c.args.below s.frames)) }) c.pop-x.ensures.rest)) in
+    c.go.ensures ∙ (ap (λ (s : Stack). record s { frames = moved at s.frames }) c.set_own_cell.ensures
+    ∙ (ap (λ (s : Stack). record s { frames = moved at (with_top_cell c.args.c c.pop-x.result s.frames) }) c.drop_top.ensures
+    ∙ ap (λ (s : Stack). record s { frames = moved at (with_top_cell c.args.c c.pop-x.result (without c.args.below s.frames)) }) c.pop-x.ensures.rest)) in
     silent_does (stored_on c.args.c c.args.below old.frames) old c.go.new.self _
     (stored_silent old.frames c.args.here c.args.c c.args.below c.pop-x.result c.requires.here.top c.pop-x.ensures.operand c.requires.cell) now

@@ -19,7 +19,7 @@ pub returns : goal.returns
 returns c =
     let old : Stack = c.args.stack.now in
     let now : c.go.new.self ≡ record old { frames = moved c.target_or-to.result (popped old.frames) } =
-        c.go.ensures ∙ ap (λ (s : Stack). record s { frames = moved c.target_or-to.result s.frames }) c.pop.ensures.rest in
+    c.go.ensures ∙ ap (λ (s : Stack). record s { frames = moved c.target_or-to.result s.frames }) c.pop.ensures.rest in
     silent_does _ old c.go.new.self _
     (case_is old.frames c.args.here c.args.targets.now old.room c.operand.result.now c.requires.here.top c.requires.ready c.operand.ensures)
     (now ∙ ap (λ i. record old { frames = moved i (popped old.frames) }) c.target_or-to.ensures)

@@ -44,8 +44,8 @@ returns-clause-frames c =
     let r = length o.procedures + c.args.task in
     let at = starts o c.args.task kinds c.tasks_begin_with_a_stack.ensures c.depth_is_kept.ensures c.requires.valid c.requires.object c.task_kinds-kinds.ensures in
     let entering : c.enter.new.self ≡ record old { frames = entered r 0 (length kinds) [] } =
-        c.enter.ensures ∙ (ap (λ (s : Stack). record s { frames = entered c.task_routine-routine.result 0 (length kinds) s.frames }) c.clear.ensures
-        ∙ ap (λ r. record old { frames = entered r 0 (length kinds) [] }) c.task_routine-routine.ensures) in
+    c.enter.ensures ∙ (ap (λ (s : Stack). record s { frames = entered c.task_routine-routine.result 0 (length kinds) s.frames }) c.clear.ensures
+    ∙ ap (λ r. record old { frames = entered r 0 (length kinds) [] }) c.task_routine-routine.ensures) in
     c.set_fresh.ensures
     ∙ (ap (λ (s : Stack). record s { frames = with_cells (take 0 (top_cells s.frames) ++ map flow.fresh (drop 0 kinds)) s.frames }) entering
     ∙ ap (λ fs. record old { frames = fs }) at.frames)

@@ -25,7 +25,7 @@ loop-i-preserved c =
     let k : CellKind = c.kind_at-kind.result in
     let more = freshens_more (top_cells old.frames) c.args.kinds.now c.args.from c.loop-i.i (top_cells now.frames) k c.loop-i.invariant.fresh c.kind_at-kind.ensures (omega (arith, c.requires.cells)) in
     let is : c.set_own_cell.new.stack ≡ record now { frames = with_top_cell c.loop-i.i (flow.fresh k) now.frames } =
-        c.set_own_cell.ensures ∙ ap (λ x. record now { frames = with_top_cell c.loop-i.i x now.frames }) c.fresh.ensures in
+    c.set_own_cell.ensures ∙ ap (λ x. record now { frames = with_top_cell c.loop-i.i x now.frames }) c.fresh.ensures in
     record {
       keeps = keeps_set c.loop-i.i (flow.fresh k) old now c.set_own_cell.new.stack c.loop-i.invariant.keeps is;
       fresh = subst (Freshens (top_cells old.frames) c.args.kinds.now c.args.from (c.loop-i.i + 1))

@@ -32,7 +32,7 @@ element-third-requires c =
 pub finish-requires-clause-ready : goal.finish-requires-clause-ready
 finish-requires-clause-ready c =
     let bit : Bits 1 (if are_past c.own_cell-control.result.now c.own_cell-step.result.now c.own_cell-limit.result.now then 0 else 1) ≡ c.goes_on-on.result =
-        sym (c.goes_on-on.ensures ∙ ap (λ b. Bits 1 (if b then 0 else 1)) c.is_past.ensures) in
+    sym (c.goes_on-on.ensures ∙ ap (λ b. Bits 1 (if b then 0 else 1)) c.is_past.ensures) in
     same_applies _ _ c.args.stack.now.room
     (within_is c.args.stack.now.frames c.args.first c.own_cell-control.result.now c.own_cell-step.result.now c.own_cell-limit.result.now c.requires.numbers
     c.own_cell-control.ensures (ap (slice_get (top_cells c.args.stack.now.frames)) (sym c.element-second.ensures) ∙ c.own_cell-step.ensures) (ap (slice_get (top_cells c.args.stack.now.frames)) (sym c.element-third.ensures) ∙ c.own_cell-limit.ensures) ∙ ap (λ x. made_on 0 (Ok x) c.args.stack.now.frames) bit) c.requires.ready
@@ -40,7 +40,7 @@ finish-requires-clause-ready c =
 pub returns : goal.returns
 returns c =
     let bit : Bits 1 (if are_past c.own_cell-control.result.now c.own_cell-step.result.now c.own_cell-limit.result.now then 0 else 1) ≡ c.goes_on-on.result =
-        sym (c.goes_on-on.ensures ∙ ap (λ b. Bits 1 (if b then 0 else 1)) c.is_past.ensures) in
+    sym (c.goes_on-on.ensures ∙ ap (λ b. Bits 1 (if b then 0 else 1)) c.is_past.ensures) in
     same_does _ _ c.args.stack.now c.finish.new.stack c.finish.result
     (within_is c.args.stack.now.frames c.args.first c.own_cell-control.result.now c.own_cell-step.result.now c.own_cell-limit.result.now c.requires.numbers
     c.own_cell-control.ensures (ap (slice_get (top_cells c.args.stack.now.frames)) (sym c.element-second.ensures) ∙ c.own_cell-step.ensures) (ap (slice_get (top_cells c.args.stack.now.frames)) (sym c.element-third.ensures) ∙ c.own_cell-limit.ensures) ∙ ap (λ x. made_on 0 (Ok x) c.args.stack.now.frames) bit) c.finish.ensures

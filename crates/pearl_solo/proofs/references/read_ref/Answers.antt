@@ -23,7 +23,7 @@ finish-requires-clause-there c = let there = one_there c.args.stack.now.frames _
 pub finish-requires-clause-ready : goal.finish-requires-clause-ready
 finish-requires-clause-ready c =
     let at = read_cell c.args.stack.now.frames c.args.stack.now.room c.in-Cell.frame c.in-Cell.cell c.operand.result.now c.requires.ready c.operand.ensures
-        (c.referred-place.ensures ∙ ap Some c.in-Cell.is) in
+    (c.referred-place.ensures ∙ ap Some c.in-Cell.is) in
     same_applies _ _ c.args.stack.now.room (at.is c.copy_of-x.result (c.cell.ensures ∙ ap Some (sym c.copy_of-x.ensures))) c.requires.ready
 
 pub returns-in-Slot : goal.returns-in-Slot
@@ -34,5 +34,5 @@ returns-in-Slot c =
 pub returns-in-Cell : goal.returns-in-Cell
 returns-in-Cell c =
     let at = read_cell c.args.stack.now.frames c.args.stack.now.room c.in-Cell.frame c.in-Cell.cell c.operand.result.now c.requires.ready c.operand.ensures
-        (c.referred-place.ensures ∙ ap Some c.in-Cell.is) in
+    (c.referred-place.ensures ∙ ap Some c.in-Cell.is) in
     same_does _ _ c.args.stack.now c.finish.new.stack c.finish.result (at.is c.copy_of-x.result (c.cell.ensures ∙ ap Some (sym c.copy_of-x.ensures))) c.finish.ensures

@@ -34,7 +34,7 @@ pub set_cell-requires : goal.set_cell-requires
 set_cell-requires c =
     let frames = c.args.stack.now.frames in
     let at = write_cell frames c.args.here c.args.stack.now.room c.in-Cell.frame c.in-Cell.cell c.pop-x.result c.operand.result.now c.requires.here.top c.requires.ready
-        c.pop-x.ensures.operand c.operand.ensures (c.referred-place.ensures ∙ ap Some c.in-Cell.is) in
+    c.pop-x.ensures.operand c.operand.ensures (c.referred-place.ensures ∙ ap Some c.in-Cell.is) in
     rw (c.go.ensures, c.pop.ensures.rest, c.pop-x.ensures.rest) (rw (cell_moved frames (c.args.here.instruction + 1) c.in-Cell.frame c.in-Cell.cell) at.there)
 
 pub returns-in-Slot : goal.returns-in-Slot
@@ -47,9 +47,9 @@ returns-in-Cell c =
     let old : Stack = c.args.stack.now in
     let p = c.args.here.instruction + 1 in
     let at = write_cell old.frames c.args.here old.room c.in-Cell.frame c.in-Cell.cell c.pop-x.result c.operand.result.now c.requires.here.top c.requires.ready
-        c.pop-x.ensures.operand c.operand.ensures (c.referred-place.ensures ∙ ap Some c.in-Cell.is) in
+    c.pop-x.ensures.operand c.operand.ensures (c.referred-place.ensures ∙ ap Some c.in-Cell.is) in
     let now : c.set_cell.new.self ≡ record old { frames = with_cell (moved p (popped (popped old.frames))) c.in-Cell.frame c.in-Cell.cell c.pop-x.result } =
-        c.set_cell.ensures ∙ (ap (λ (s : Stack). record s { frames = with_cell s.frames c.in-Cell.frame c.in-Cell.cell c.pop-x.result }) c.go.ensures
-        ∙ (ap (λ (s : Stack). record s { frames = with_cell (moved p s.frames) c.in-Cell.frame c.in-Cell.cell c.pop-x.result }) c.pop.ensures.rest
-        ∙ ap (λ (s : Stack). record s { frames = with_cell (moved p (popped s.frames)) c.in-Cell.frame c.in-Cell.cell c.pop-x.result }) c.pop-x.ensures.rest)) in
+    c.set_cell.ensures ∙ (ap (λ (s : Stack). record s { frames = with_cell s.frames c.in-Cell.frame c.in-Cell.cell c.pop-x.result }) c.go.ensures
+    ∙ (ap (λ (s : Stack). record s { frames = with_cell (moved p s.frames) c.in-Cell.frame c.in-Cell.cell c.pop-x.result }) c.pop.ensures.rest
+    ∙ ap (λ (s : Stack). record s { frames = with_cell (moved p (popped s.frames)) c.in-Cell.frame c.in-Cell.cell c.pop-x.result }) c.pop-x.ensures.rest)) in
     silent_does _ old c.set_cell.new.self _ at.is now

@@ -23,8 +23,8 @@ pub returns-in-Ok : goal.returns-in-Ok
 returns-in-Ok c =
     let old : Stack = c.args.stack.now in
     let now : c.go.new.self ≡ record old { frames = moved (c.args.here.instruction + 1) (pushed c.in-Ok.x (without c.args.taken old.frames)) } =
-        c.go.ensures ∙ (ap (λ (s : Stack). record s { frames = moved (c.args.here.instruction + 1) s.frames }) c.push.ensures
-        ∙ ap (λ (s : Stack). record s { frames = moved (c.args.here.instruction + 1) (pushed c.in-Ok.x s.frames) }) c.drop_top.ensures) in
+    c.go.ensures ∙ (ap (λ (s : Stack). record s { frames = moved (c.args.here.instruction + 1) s.frames }) c.push.ensures
+    ∙ ap (λ (s : Stack). record s { frames = moved (c.args.here.instruction + 1) (pushed c.in-Ok.x s.frames) }) c.drop_top.ensures) in
     silent_does (made_on c.args.taken c.args.made old.frames) old c.go.new.self _
     (ap (λ m. made_on c.args.taken m old.frames) c.in-Ok.is ∙ made_silent old.frames c.args.here c.args.taken c.in-Ok.x c.requires.here.top) now
 

@@ -12,5 +12,5 @@ pub returns : goal.returns
 returns c =
     let old : Stack = c.args.stack.now in
     let now : c.go.new.self ≡ record old { frames = moved (c.args.here.instruction + 1) (without c.args.taken old.frames) } =
-        c.go.ensures ∙ ap (λ (s : Stack). record s { frames = moved (c.args.here.instruction + 1) s.frames }) c.drop_top.ensures in
+    c.go.ensures ∙ ap (λ (s : Stack). record s { frames = moved (c.args.here.instruction + 1) s.frames }) c.drop_top.ensures in
     silent_does (left_on c.args.taken old.frames) old c.go.new.self _ (left_silent old.frames c.args.here c.args.taken c.requires.here.top) now
