@@ -14,3 +14,4 @@ mod ReferenceRows
 mod AdvanceRows
 mod SendRows
 mod VariableRows
+mod SlotRows

@@ -22,10 +22,10 @@ use Rattle.pearl_solo.proofs.CellRows.{within_some, within_none}
 
 -- the leaf is there
 leaf_row : (o : Object) (v : ℕ) (leaf : Leaf) (first : ℕ) (go : Leaf → Step) → IsLeafAt o v leaf first → given (slice_get o.leaves v) go ≡ go leaf
-leaf_row o v leaf first go is = ap (λ l. given l go) is.leaf
+leaf_row o v leaf first go is = ap (λ l. given l go) is.there
 
 slot_is : (o : Object) (v : ℕ) (leaf : Leaf) (first : ℕ) → IsLeafAt o v leaf first → first_slot o.leaves v + 0 ≡ first
-slot_is o v leaf first is = omega (arith, is.first)
+slot_is o v leaf first is = omega (arith, is.number)
 
 pub read_offers : (frames : List Frame) (here : size.Frame) (o : Object) (v : ℕ) (leaf : Leaf) (first : ℕ) → IsSizes here frames → IsLeafAt o v leaf first →
     (go : Answer → List Frame) × (on_top (λ f lower. given (slice_get o.leaves v) (λ leaf. reads o v 0 f lower f.operands)) frames ≡ Offers (action.Read first) go)
@@ -102,7 +102,7 @@ read_at_some (f ∷ lower) o v leaf first room k x is a e h =
     let go : Leaf → Step = λ leaf. step.popped f.operands (λ n left. within leaf.slots n f lower (λ n. reads o v n f lower left)) in
     let row : given (slice_get o.leaves v) go ≡ go leaf = leaf_row o v leaf first go is in
     let by = read_at_by f lower o v leaf room f.operands x (subst (λ r. Applies r room) row a) e k h in
-    record { less = by.0; go = by.1.0; is = row ∙ (by.1.1 ∙ ap (λ s. Offers (action.Read (s + k)) by.1.0) (sym is.first)) }
+    record { less = by.0; go = by.1.0; is = row ∙ (by.1.1 ∙ ap (λ s. Offers (action.Read (s + k)) by.1.0) (sym is.number)) }
 
 pub read_at_none : (frames : List Frame) (o : Object) (v : ℕ) (leaf : Leaf) (first room : ℕ) (x : Cell) → IsLeafAt o v leaf first → Applies (read_at_row o v frames) room →
     slice_get (top_operands frames) 0 ≡ Some x → offset_below leaf.slots x ≡ None → read_at_row o v frames ≡ Offers (action.Trap Index) (λ answer. frames)

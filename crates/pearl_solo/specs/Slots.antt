@@ -6,6 +6,6 @@ use Rattle.pearl_instructions.specs.Objects.{first_slot}
 
 -- leaf v of the object, whose first slot has this number
 pub record IsLeafAt (o : Object) (v : ℕ) (leaf : Leaf) (first : ℕ) : Type 0 where
-  pub leaf : slice_get o.leaves v ≡ Some leaf
-  pub first : first ≡ first_slot o.leaves v
+  pub there : slice_get o.leaves v ≡ Some leaf
+  pub number : first ≡ first_slot o.leaves v
   pub few : first + leaf.slots ≤ 65536

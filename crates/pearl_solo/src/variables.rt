@@ -100,3 +100,52 @@ pub fn read_at(
         None => Stepped::Offers(Action::Trap(Trap::Index)),
     }
 }
+
+// WriteAt: offers the value on top, which is copied since it stays there up to the answer.
+pub fn write_at(
+    object: &Object,
+    stack: &Loaded,
+    here: Frame,
+    v: u64,
+    leaf: &Leaf,
+    first: u32,
+) -> Stepped
+    requires here { IsHere here stack.now.frames }
+    requires leaf { IsLeafAt object.now v leaf.now first }
+    requires ready { Applies (on_top (λ f lower. given_row (slice_get object.now.leaves v) (λ leaf. popped_row f.operands (λ x more. popped_row more (λ n left. within_row leaf.slots n f lower (λ n. writes_row object.now v n x f lower left))))) stack.now.frames) stack.now.room }
+    ensures { Does (on_top (λ f lower. given_row (slice_get object.now.leaves v) (λ leaf. popped_row f.operands (λ x more. popped_row more (λ n left. within_row leaf.slots n f lower (λ n. writes_row object.now v n x f lower left))))) stack.now.frames) stack.now stack.now result }
+{
+    match offset(operand(stack, here, 1), leaf.slots as u64) {
+        Some(o) => {
+            let at = slot(leaf, first, o);
+            let x = copy_of(operand(stack, here, 0));
+            Stepped::Offers(Action::Write(at, x))
+        }
+        None => Stepped::Offers(Action::Trap(Trap::Index)),
+    }
+}
+
+// RefSlotAt.
+pub fn ref_slot_at(
+    object: &Object,
+    stack: &mut Loaded,
+    here: Frame,
+    v: u64,
+    leaf: &Leaf,
+    first: u32,
+) -> Stepped
+    requires here { IsHere here stack.old.frames }
+    requires leaf { IsLeafAt object.now v leaf.now first }
+    requires ready { Applies (on_top (λ f lower. given_row (slice_get object.now.leaves v) (λ leaf. popped_row f.operands (λ n left. within_row leaf.slots n f lower (λ n. slot_reference object.now v leaf n f lower left)))) stack.old.frames) stack.old.room }
+    ensures { Does (on_top (λ f lower. given_row (slice_get object.now.leaves v) (λ leaf. popped_row f.operands (λ n left. within_row leaf.slots n f lower (λ n. slot_reference object.now v leaf n f lower left)))) stack.old.frames) stack.old stack.new result }
+{
+    match offset(operand(stack, here, 0), leaf.slots as u64) {
+        Some(o) => {
+            let of = leaf.kind;
+            let at = slot(leaf, first, o);
+            let place = Place::Slot(at);
+            finish(stack, here, 1, Ok(Cell::Ref { kind: of, place }))
+        }
+        None => Stepped::Offers(Action::Trap(Trap::Index)),
+    }
+}
