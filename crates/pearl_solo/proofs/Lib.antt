@@ -15,3 +15,4 @@ mod AdvanceRows
 mod SendRows
 mod VariableRows
 mod SlotRows
+mod PlanRows

@@ -8,3 +8,5 @@ pub mod Answered
 pub mod Advances
 -- a leaf of an object, with the number of its first slot
 pub mod Slots
+-- when a plan begins, by the value that lies for it
+pub mod Plans
