@@ -16,3 +16,4 @@ mod SendRows
 mod VariableRows
 mod SlotRows
 mod PlanRows
+mod OwnRows

@@ -10,3 +10,5 @@ pub mod Advances
 pub mod Slots
 -- when a plan begins, by the value that lies for it
 pub mod Plans
+-- the routine of the task whose stack this is
+pub mod Owners

@@ -10,6 +10,7 @@ pub mod frames;
 mod loops;
 mod offers;
 mod operators;
+mod own;
 mod plans;
 mod references;
 pub mod stepped;
