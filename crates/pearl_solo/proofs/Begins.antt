@@ -1,11 +1,11 @@
 -- The first frame of a task.
-use Rattle.std.proofs.Common.{◌≡◌, ℕ, zero, suc, ◌+◌, ◌-◌, ◌<◌, ◌≤◌, List, [], ◌∷◌, ◌++◌, Option, Some, None, length, take, drop, map, slice_get, refl, sym, ap, ◌∙◌, subst, arith, Bool, true, false, eq-eqb, leb-true}
+use Rattle.std.proofs.Common.{◌≡◌, ℕ, zero, suc, ◌+◌, ◌≤◌, List, [], ◌∷◌, ◌++◌, Option, Some, None, length, take, drop, map, slice_get, refl, sym, ap, ◌∙◌, subst, arith, Bool, true, false, eq-eqb, leb-true}
 use Rattle.std.specs.Prelude.{◌==◌, nat_lt, nat_le, if◌then◌else◌, option_map}
 use Rattle.std.specs.List.{AllByRecursion, list_all}
 use Rattle.std.proofs.lemmas.List.{length-map}
 use Rattle.std.proofs.lemmas.Option.{same_Some, slice_get-map, slice_get_past}
 use Rattle.pearl_value.specs.declared.kind.CellKind.{CellKind}
-use Rattle.pearl_stack.specs.Frames.{Frame, Stack, used, entered}
+use Rattle.pearl_stack.specs.Frames.{used, entered}
 use Rattle.pearl_instructions.specs.declared.object.Code.{Code}
 use Rattle.pearl_instructions.specs.declared.object.Procedure.{Procedure}
 use Rattle.pearl_instructions.specs.declared.object.Task.{Task}

@@ -1,5 +1,5 @@
 -- The rows of instructions on cells and operands, where they apply.
-use Rattle.std.proofs.Common.{◌≡◌, ℕ, zero, suc, ◌+◌, ◌-◌, ◌<◌, ◌≤◌, List, [], ◌∷◌, Option, Some, None, Ok, Err, length, drop, slice_get, slice_set, refl, sym, ap, ◌∙◌, subst, arith, Bool, true, false, pos, negsuc, ltb-true, leb-true}
+use Rattle.std.proofs.Common.{◌≡◌, ℕ, suc, ◌+◌, ◌<◌, ◌≤◌, List, [], ◌∷◌, Option, Some, None, Ok, length, drop, slice_get, refl, sym, ap, ◌∙◌, subst, arith, Bool, true, false, pos, negsuc, ltb-true, leb-true}
 use Rattle.std.specs.Prelude.{IsSome, nat_lt, nat_le, if◌then◌else◌, ◌==◌, option_and_then}
 use Rattle.std.proofs.lemmas.Option.{same_Some}
 use Rattle.pearl_value.specs.declared.kind.Kind.{Kind}
@@ -10,7 +10,7 @@ use Rattle.pearl_value.specs.declared.trap.Trap.TheVariants.{Index}
 use Rattle.pearl_value.specs.Cells.{kind_of}
 use Rattle.pearl_rules.specs.declared.action.Action.TheVariants as action
 use Rattle.pearl_stack.specs.declared.stack.Frame as size
-use Rattle.pearl_stack.specs.Frames.{Frame, Stack, top_operands, without, moved}
+use Rattle.pearl_stack.specs.Frames.{Frame, top_operands, without, moved}
 use Rattle.pearl_instructions.specs.Steps.{Step, Silent, Offers, given, needed, popped, value_kind, leaves, traps, within}
 use Rattle.pearl_instructions.specs.Cells.{put, filled, fill, load, store, load_at, store_at, cell_reference}
 use Rattle.pearl_solo.specs.Steps.{on_top, Applies, IsSizes, top_cells, with_top_cell, with_cells, made_on, left_on, stored_on, referred_on, offset_below}

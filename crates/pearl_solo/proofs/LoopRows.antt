@@ -1,6 +1,6 @@
 -- The test of a loop.
-use Rattle.std.proofs.Common.{◌≡◌, ℕ, ◌+◌, List, [], ◌∷◌, Option, Some, None, Ok, slice_get, refl, sym, ap, ◌∙◌, subst}
-use Rattle.std.specs.Prelude.{ℤ, Bool, IsSome, if◌then◌else◌, option_and_then}
+use Rattle.std.proofs.Common.{◌≡◌, ℕ, ◌+◌, List, [], ◌∷◌, Option, Some, None, Ok, slice_get, refl, ap, ◌∙◌, subst}
+use Rattle.std.specs.Prelude.{ℤ, IsSome, if◌then◌else◌, option_and_then}
 use Rattle.pearl_value.specs.declared.cell.Cell.{Cell}
 use Rattle.pearl_value.specs.declared.cell.Cell.TheVariants.{Fixed, Bits, Chars, Clock, Span, Ref}
 use Rattle.pearl_stack.specs.Frames.{Frame}

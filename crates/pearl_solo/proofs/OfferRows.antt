@@ -1,10 +1,8 @@
 -- Rows that offer an action.
-use Rattle.std.proofs.Common.{◌≡◌, ◌≢◌, List, [], ◌∷◌, refl}
-use Rattle.pearl_value.specs.declared.cell.Cell.{Cell}
+use Rattle.std.proofs.Common.{◌≢◌, List, [], ◌∷◌, refl}
 use Rattle.pearl_rules.specs.declared.action.Action.{Action}
-use Rattle.pearl_rules.specs.declared.action.Answer.{Answer}
 use Rattle.pearl_stack.specs.Frames.{Frame, Stack}
-use Rattle.pearl_instructions.specs.Steps.{Offers, acts, asks, stops}
+use Rattle.pearl_instructions.specs.Steps.{acts, asks, stops}
 use Rattle.pearl_solo.specs.declared.stepped.Stepped.TheVariants as stepped
 use Rattle.pearl_solo.specs.Steps.{on_top, Does}
 

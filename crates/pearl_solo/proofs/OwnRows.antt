@@ -1,5 +1,5 @@
 -- The lowest frame.
-use Rattle.std.proofs.Common.{◌≡◌, ◌≢◌, ℕ, zero, suc, List, [], ◌∷◌, Some, length, refl, sym, ap, ◌∙◌, arith, eqb, false, ne_eqb}
+use Rattle.std.proofs.Common.{◌≡◌, ◌≢◌, List, [], ◌∷◌, Some, length, refl, sym, ap, ◌∙◌, arith, eqb, false, ne_eqb}
 use Rattle.std.specs.Prelude.{IsSome, option_map}
 use Rattle.std.proofs.lemmas.Option.{same_Some}
 use Rattle.pearl_stack.specs.declared.stack.Frame as size

@@ -1,11 +1,10 @@
 -- The rows of actions at a planned time.
-use Rattle.std.proofs.Common.{◌≡◌, ◌≢◌, ℕ, ◌+◌, ◌<◌, ◌≤◌, List, [], ◌∷◌, Option, Some, None, Ok, Err, length, drop, take, reverse, slice_get, refl, sym, ap, ◌∙◌, subst, arith, Bool, true, false, pos, le-leb}
-use Rattle.std.specs.Prelude.{ℤ, IsSome, int_le, nat_le, if◌then◌else◌, Result}
+use Rattle.std.proofs.Common.{◌≡◌, ℕ, ◌<◌, List, [], ◌∷◌, Option, Some, None, Ok, Err, length, slice_get, refl, sym, ap, ◌∙◌, subst, arith, Bool, true, false, pos, le-leb}
+use Rattle.std.specs.Prelude.{ℤ, IsSome, int_le, nat_le, Result}
 use Rattle.std.proofs.lemmas.Option.{same_Some}
 use Rattle.pearl_value.specs.declared.cell.Cell.{Cell}
 use Rattle.pearl_value.specs.declared.cell.Cell.TheVariants.{Fixed, Bits, Chars, Clock, Span, Ref}
 use Rattle.pearl_value.specs.declared.trap.Trap.{Trap}
-use Rattle.pearl_value.specs.declared.trap.Trap.TheVariants.{Range}
 use Rattle.pearl_rules.specs.declared.action.Action.{Action}
 use Rattle.pearl_rules.specs.declared.action.Action.TheVariants as action
 use Rattle.pearl_rules.specs.declared.action.Answer.{Answer}

@@ -1,6 +1,6 @@
 -- The rows of references, where they apply.
-use Rattle.std.proofs.Common.{◌≡◌, ◌≢◌, ℕ, zero, suc, ◌+◌, ◌<◌, List, [], ◌∷◌, Option, Some, None, Ok, length, drop, slice_get, refl, sym, ap, ◌∙◌, subst, arith, Bool, true, false, cond, eqb}
-use Rattle.std.specs.Prelude.{IsSome, option_and_then}
+use Rattle.std.proofs.Common.{◌≡◌, ℕ, ◌+◌, List, [], ◌∷◌, Option, Some, None, Ok, length, drop, slice_get, refl, sym, ap, ◌∙◌, subst, Bool, true, false, eqb}
+use Rattle.std.specs.Prelude.{IsSome}
 use Rattle.std.proofs.lemmas.Option.{same_Some}
 use Rattle.pearl_value.specs.declared.kind.Kind.{Kind}
 use Rattle.pearl_value.specs.declared.cell.Cell.{Cell}
@@ -16,7 +16,7 @@ use Rattle.pearl_instructions.specs.Steps.{Step, Silent, Offers, given, next, le
 use Rattle.pearl_instructions.specs.Cells.{read_reference, write_reference}
 use Rattle.pearl_solo.specs.Answered.{place_in}
 use Rattle.pearl_solo.specs.Steps.{on_top, Applies, IsSizes, made_on}
-use Rattle.pearl_solo.proofs.Applied.{given_some, popped_some}
+use Rattle.pearl_solo.proofs.Applied.{given_some}
 
 some_of : {A : Type 0} (o : Option A) (x : A) → o ≡ Some x → IsSome o
 some_of None x e = cc

@@ -1,5 +1,5 @@
 -- The rows of the module's variables.
-use Rattle.std.proofs.Common.{◌≡◌, ◌≢◌, ℕ, ◌+◌, ◌<◌, List, [], ◌∷◌, Option, Some, None, Ok, length, slice_get, refl, sym, ap, ◌∙◌, subst, arith}
+use Rattle.std.proofs.Common.{◌≡◌, ℕ, ◌+◌, ◌<◌, List, [], ◌∷◌, Option, Some, None, Ok, length, slice_get, sym, ap, ◌∙◌, subst, arith}
 use Rattle.std.proofs.lemmas.Option.{same_Some}
 use Rattle.pearl_value.specs.declared.cell.Cell.{Cell}
 use Rattle.pearl_value.specs.declared.cell.Cell.TheVariants.{Ref}
@@ -17,7 +17,6 @@ use Rattle.pearl_instructions.specs.Steps.{Step, Offers, given, leaves, asks, ac
 use Rattle.pearl_instructions.specs.Cells.{reads, writes, slot_reference}
 use Rattle.pearl_solo.specs.Slots.{IsLeafAt}
 use Rattle.pearl_solo.specs.Steps.{on_top, Applies, IsSizes, made_on, offset_below}
-use Rattle.pearl_solo.proofs.Applied.{one_there}
 use Rattle.pearl_solo.proofs.CellRows.{within_some, within_none}
 
 -- the leaf is there

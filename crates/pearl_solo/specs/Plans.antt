@@ -1,5 +1,5 @@
 -- When a plan begins, by the value that lies for it.
-use Rattle.std.specs.Prelude.{ℕ, ◌<◌, ◌^◌, ℤ, pos, int_le, if◌then◌else◌, List, [], ◌∷◌, Option, Some, None, Result, Ok, Err, length}
+use Rattle.std.specs.Prelude.{◌<◌, ◌^◌, ℤ, pos, int_le, if◌then◌else◌, List, ◌∷◌, Option, Some, None, Result, Ok, Err, length}
 use Rattle.pearl_value.specs.declared.cell.Cell.{Cell}
 use Rattle.pearl_value.specs.declared.cell.Cell.TheVariants.{Clock, Span}
 use Rattle.pearl_value.specs.declared.trap.Trap.{Trap}

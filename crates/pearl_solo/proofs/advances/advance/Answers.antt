@@ -1,4 +1,4 @@
-use Rattle.std.proofs.Common.{◌≡◌, ◌≢◌, ◌+◌, ◌<◌, Some, slice_get, sym, ap, ◌∙◌, arith}
+use Rattle.std.proofs.Common.{◌≡◌, ◌+◌, slice_get, sym, ap, ◌∙◌, arith}
 use Rattle.pearl_stack.specs.Frames.{Stack, moved}
 use Rattle.pearl_solo.specs.Steps.{top_cells, with_top_cell}
 use Rattle.pearl_solo.proofs.Made.{silent_does}

@@ -1,4 +1,4 @@
-use Rattle.std.proofs.Common.{◌≡◌, sym, ap, ◌∙◌}
+use Rattle.std.proofs.Common.{sym, ◌∙◌}
 use Rattle.pearl_solo.proofs.Made.{same_does, offers_does}
 use Rattle.pearl_solo.proofs.AdvanceRows.{null_traps, other_stays, non_zero_there}
 use Rattle.pearl_solo.proofs.advances.non_zero.Goals as goal

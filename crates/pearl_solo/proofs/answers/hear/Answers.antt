@@ -1,5 +1,5 @@
-use Rattle.std.proofs.Common.{◌≡◌, ◌≢◌, ◌+◌, ◌<◌, sym, ap, ◌∙◌}
-use Rattle.pearl_stack.specs.Frames.{Stack, pushed, moved, without, used}
+use Rattle.std.proofs.Common.{◌+◌, ap, ◌∙◌}
+use Rattle.pearl_stack.specs.Frames.{Stack, pushed, moved, without}
 use Rattle.pearl_solo.specs.Answered.{gone_on_with}
 use Rattle.pearl_solo.proofs.Tops.{top_some, without_some, pushed_some}
 use Rattle.pearl_solo.proofs.AnswerRows.{gone_on_with_is}

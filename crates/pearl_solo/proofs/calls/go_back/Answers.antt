@@ -1,12 +1,11 @@
-use Rattle.std.proofs.Common.{◌≡◌, ◌≢◌, ◌+◌, ◌-◌, ◌<◌, suc, length, drop, sym, ap, ◌∙◌, subst, arith, None, Some}
+use Rattle.std.proofs.Common.{◌≡◌, ◌+◌, ◌-◌, drop, ap, ◌∙◌, subst, arith, None, Some}
 use Rattle.pearl_value.specs.declared.kind.Kind.{Kind}
 use Rattle.std.specs.Prelude.{Option}
-use Rattle.pearl_stack.specs.Frames.{Stack, popped, pushed, moved, used}
+use Rattle.pearl_stack.specs.Frames.{Stack, popped, pushed, moved}
 use Rattle.pearl_instructions.specs.Flow.{returns}
 use Rattle.pearl_solo.specs.Steps.{on_top, Applies, place_of}
 use Rattle.pearl_solo.proofs.Made.{silent_does}
-use Rattle.pearl_solo.proofs.CallRows.{caller_there, frame_some, frame_place, back_is, back_with_is, back_with_room, result_there, under_some, without_same, popped_long}
-use Rattle.pearl_solo.proofs.Tops.{pushed_some, without_some}
+use Rattle.pearl_solo.proofs.CallRows.{caller_there, frame_some, frame_place, back_is, back_with_is, back_with_room, result_there}
 use Rattle.pearl_solo.proofs.calls.go_back.Goals as goal
 
 pub overflow_sub-frames : goal.overflow_sub-frames

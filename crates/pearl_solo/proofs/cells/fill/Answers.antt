@@ -1,4 +1,4 @@
-use Rattle.std.proofs.Common.{◌≡◌, ◌≢◌, ◌+◌, ap, ◌∙◌}
+use Rattle.std.proofs.Common.{◌≡◌, ◌+◌, ap, ◌∙◌}
 use Rattle.pearl_stack.specs.Frames.{Stack, moved}
 use Rattle.pearl_instructions.specs.Cells.{filled}
 use Rattle.pearl_solo.specs.Steps.{top_cells, with_cells}

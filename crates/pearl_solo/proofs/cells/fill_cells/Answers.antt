@@ -1,4 +1,4 @@
-use Rattle.std.proofs.Common.{◌≡◌, ◌+◌, ◌<◌, ◌≤◌, length, sym, ap, ◌∙◌, subst, arith}
+use Rattle.std.proofs.Common.{◌≡◌, ◌+◌, sym, ap, ◌∙◌, subst, arith}
 use Rattle.pearl_value.specs.Blanks.{blank_of}
 use Rattle.pearl_stack.specs.Frames.{Stack}
 use Rattle.pearl_solo.specs.Steps.{top_cells, with_top_cell}

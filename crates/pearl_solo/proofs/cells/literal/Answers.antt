@@ -1,6 +1,5 @@
-use Rattle.std.proofs.Common.{◌≡◌, ◌∷◌, Ok, sym, ap, ◌∙◌}
-use Rattle.pearl_instructions.specs.Steps.{leaves}
-use Rattle.pearl_solo.specs.Steps.{on_top, made_on}
+use Rattle.std.proofs.Common.{Ok, sym, ap, ◌∙◌}
+use Rattle.pearl_solo.specs.Steps.{made_on}
 use Rattle.pearl_solo.proofs.Made.{same_applies, same_does}
 use Rattle.pearl_solo.proofs.CellRows.{literal_is}
 use Rattle.pearl_solo.proofs.cells.literal.Goals as goal

@@ -1,5 +1,4 @@
-use Rattle.std.proofs.Common.{◌≡◌, Ok, Some, slice_get, sym, ap, ◌∙◌}
-use Rattle.pearl_solo.specs.Steps.{on_top, made_on, top_cells}
+use Rattle.std.proofs.Common.{Some, sym, ap, ◌∙◌}
 use Rattle.pearl_solo.proofs.Made.{same_applies, same_does}
 use Rattle.pearl_solo.proofs.CellRows.{load_there, load_is}
 use Rattle.pearl_solo.proofs.cells.load.Goals as goal

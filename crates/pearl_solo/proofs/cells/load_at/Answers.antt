@@ -1,5 +1,5 @@
-use Rattle.std.proofs.Common.{◌≡◌, ◌+◌, Ok, Some, slice_get, sym, ap, ◌∙◌, arith}
-use Rattle.pearl_solo.specs.Steps.{on_top, made_on, top_cells, offset_below}
+use Rattle.std.proofs.Common.{◌+◌, Some, slice_get, sym, ap, ◌∙◌, arith}
+use Rattle.pearl_solo.specs.Steps.{top_cells}
 use Rattle.pearl_solo.proofs.Made.{same_applies, same_does, offers_does}
 use Rattle.pearl_solo.proofs.Applied.{one_there}
 use Rattle.pearl_solo.proofs.Tops.{some_within, cells_count}

@@ -1,7 +1,7 @@
-use Rattle.std.proofs.Common.{◌≡◌, ◌≢◌, ◌+◌, ◌<◌, ◌≤◌, length, sym, ap, ◌∙◌, subst, arith}
+use Rattle.std.proofs.Common.{◌≡◌, ◌+◌, length, sym, ap, ◌∙◌, subst, arith}
 use Rattle.std.specs.Prelude.{IsSome, slice_get}
 use Rattle.pearl_stack.specs.Frames.{Stack, popped, without, moved, top_operands}
-use Rattle.pearl_solo.specs.Steps.{stored_on, top_cells, with_top_cell}
+use Rattle.pearl_solo.specs.Steps.{stored_on, with_top_cell}
 use Rattle.pearl_solo.proofs.Tops.{operands_some, operands_fewer, cells_stay, with_some, without_some, top_some}
 use Rattle.pearl_solo.proofs.Made.{silent_does}
 use Rattle.pearl_solo.proofs.CellRows.{stored_silent}

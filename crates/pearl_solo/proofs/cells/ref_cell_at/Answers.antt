@@ -1,5 +1,5 @@
-use Rattle.std.proofs.Common.{◌≡◌, ◌+◌, Some, slice_get, sym, ap, ◌∙◌, arith}
-use Rattle.pearl_solo.specs.Steps.{on_top, referred_on, top_cells, offset_below}
+use Rattle.std.proofs.Common.{◌+◌, sym, ap, ◌∙◌, arith}
+use Rattle.pearl_solo.specs.Steps.{referred_on, top_cells}
 use Rattle.pearl_solo.proofs.Made.{same_applies, same_does, offers_does}
 use Rattle.pearl_solo.proofs.Applied.{one_there}
 use Rattle.pearl_solo.proofs.Tops.{some_within, cells_count}

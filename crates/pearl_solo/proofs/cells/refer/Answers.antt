@@ -1,8 +1,8 @@
-use Rattle.std.proofs.Common.{◌≡◌, ◌+◌, ◌-◌, Ok, suc, length, sym, ap, ◌∙◌, arith}
+use Rattle.std.proofs.Common.{◌≡◌, ◌-◌, Ok, suc, length, sym, ap, ◌∙◌, arith}
 use Rattle.pearl_value.specs.declared.cell.Cell.TheVariants.{Ref}
 use Rattle.pearl_value.specs.declared.cell.Place.TheVariants as place
 use Rattle.pearl_stack.specs.Frames.{Stack}
-use Rattle.pearl_solo.specs.Steps.{referred_on, made_on}
+use Rattle.pearl_solo.specs.Steps.{made_on}
 use Rattle.pearl_solo.proofs.Tops.{frames_more}
 use Rattle.pearl_solo.proofs.Made.{same_applies, same_does}
 use Rattle.pearl_solo.proofs.CellRows.{refers_there, refers_is}

@@ -1,4 +1,4 @@
-use Rattle.std.proofs.Common.{◌≡◌, ◌≢◌, sym, ap, ◌∙◌}
+use Rattle.std.proofs.Common.{◌≡◌, ap, ◌∙◌}
 use Rattle.pearl_stack.specs.Frames.{Stack, popped, moved}
 use Rattle.pearl_solo.proofs.Tops.{top_some, without_some, operands_some}
 use Rattle.pearl_solo.proofs.Made.{silent_does}

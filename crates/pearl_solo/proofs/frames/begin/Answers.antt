@@ -1,11 +1,10 @@
-use Rattle.std.proofs.Common.{◌≡◌, ◌≢◌, ◌+◌, ◌-◌, ◌<◌, ◌≤◌, [], ◌++◌, length, map, take, drop, sym, ap, ◌∙◌, subst, arith}
+use Rattle.std.proofs.Common.{◌≡◌, ◌+◌, [], ◌++◌, length, map, take, drop, sym, ap, ◌∙◌, subst, arith}
 use Rattle.pearl_stack.specs.Frames.{Stack, entered}
 use Rattle.pearl_instructions.specs.declared.object.Object.{Object}
 use Rattle.pearl_instructions.specs.Flow as flow
-use Rattle.pearl_instructions.specs.Rows.{begun}
 use Rattle.pearl_instructions.specs.Stacks.{IsStack}
 use Rattle.pearl_solo.specs.Steps.{top_cells, with_cells}
-use Rattle.pearl_solo.proofs.Begins.{Starts, starts}
+use Rattle.pearl_solo.proofs.Begins.{starts}
 use Rattle.pearl_solo.proofs.frames.begin.Goals as goal
 
 pub task_routine-routine-requires-clause-procedures : goal.task_routine-routine-requires-clause-procedures

@@ -1,4 +1,4 @@
-use Rattle.std.proofs.Common.{◌≡◌, refl, slice_get}
+use Rattle.std.proofs.Common.{refl, slice_get}
 use Rattle.pearl_solo.proofs.SendRows.{call_offers}
 use Rattle.pearl_solo.proofs.offers.call.Goals as goal
 

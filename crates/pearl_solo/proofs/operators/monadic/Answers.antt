@@ -1,4 +1,4 @@
-use Rattle.std.proofs.Common.{◌≡◌, sym, ap, ◌∙◌, arith}
+use Rattle.std.proofs.Common.{sym, ap, ◌∙◌, arith}
 use Rattle.pearl_solo.specs.Steps.{made_on}
 use Rattle.pearl_solo.proofs.Made.{same_applies, same_does}
 use Rattle.pearl_solo.proofs.OperatorRows.{monadic_there, monadic_applies}

@@ -1,4 +1,4 @@
-use Rattle.std.proofs.Common.{◌≡◌, ◌-◌, ◌≤◌, length, arith}
+use Rattle.std.proofs.Common.{arith}
 use Rattle.pearl_solo.proofs.OwnRows.{lowest_there, lowest_routine}
 use Rattle.pearl_solo.proofs.own.own_task.Goals as goal
 

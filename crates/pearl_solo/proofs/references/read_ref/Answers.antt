@@ -1,6 +1,4 @@
-use Rattle.std.proofs.Common.{◌≡◌, Some, refl, sym, ap, ◌∙◌, arith}
-use Rattle.pearl_value.specs.declared.cell.Place.TheVariants as place
-use Rattle.pearl_solo.specs.Answered.{place_in}
+use Rattle.std.proofs.Common.{Some, refl, sym, ap, ◌∙◌, arith}
 use Rattle.pearl_solo.proofs.Made.{same_applies, same_does}
 use Rattle.pearl_solo.proofs.Applied.{one_there}
 use Rattle.pearl_solo.proofs.ReferenceRows.{read_place, read_slot, read_cell}

@@ -1,9 +1,7 @@
-use Rattle.std.proofs.Common.{◌≡◌, ◌≢◌, ◌+◌, Some, refl, sym, ap, ◌∙◌, arith}
-use Rattle.pearl_value.specs.declared.cell.Place.TheVariants as place
+use Rattle.std.proofs.Common.{◌≡◌, ◌+◌, Some, refl, sym, ap, ◌∙◌, arith}
 use Rattle.pearl_rules.specs.declared.action.Action.TheVariants as action
 use Rattle.pearl_stack.specs.Frames.{Stack, popped, moved, with_cell}
 use Rattle.pearl_instructions.specs.Steps.{Offers}
-use Rattle.pearl_solo.specs.Answered.{place_in}
 use Rattle.pearl_solo.proofs.Made.{silent_does}
 use Rattle.pearl_solo.proofs.Applied.{two_there}
 use Rattle.pearl_solo.proofs.Tops.{top_some, without_some, operands_some, operands_left}

@@ -1,5 +1,5 @@
-use Rattle.std.proofs.Common.{◌≡◌, ◌<◌, ◌≤◌, length, refl, sym, ap, ◌∙◌, subst, arith}
-use Rattle.pearl_stack.specs.Frames.{Stack, popped, without, top_operands}
+use Rattle.std.proofs.Common.{sym, ap, ◌∙◌, arith}
+use Rattle.pearl_stack.specs.Frames.{Stack, popped}
 use Rattle.pearl_solo.proofs.Tops.{without_more, without_none, operands_left}
 use Rattle.pearl_solo.proofs.top.drop_top.Goals as goal
 

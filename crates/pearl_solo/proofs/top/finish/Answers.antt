@@ -1,6 +1,6 @@
-use Rattle.std.proofs.Common.{◌≡◌, ◌≢◌, ◌+◌, Ok, Err, refl, sym, ap, ◌∙◌, subst}
+use Rattle.std.proofs.Common.{◌≡◌, ◌+◌, refl, ap, ◌∙◌, subst}
 use Rattle.pearl_stack.specs.Frames.{Stack, pushed, moved, without}
-use Rattle.pearl_solo.specs.Steps.{Applies, Does, made_on}
+use Rattle.pearl_solo.specs.Steps.{Applies, made_on}
 use Rattle.pearl_solo.proofs.Tops.{top_some, without_some, pushed_some}
 use Rattle.pearl_solo.proofs.Made.{silent_does, made_room, made_silent, made_traps}
 use Rattle.pearl_solo.proofs.top.finish.Goals as goal

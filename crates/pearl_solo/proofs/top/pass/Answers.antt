@@ -1,6 +1,6 @@
-use Rattle.std.proofs.Common.{◌≡◌, ◌≢◌, ◌+◌, refl, sym, ap, ◌∙◌, subst}
+use Rattle.std.proofs.Common.{◌≡◌, ◌+◌, ap, ◌∙◌}
 use Rattle.pearl_stack.specs.Frames.{Stack, moved, without}
-use Rattle.pearl_solo.specs.Steps.{Does, left_on}
+use Rattle.pearl_solo.specs.Steps.{left_on}
 use Rattle.pearl_solo.proofs.Tops.{top_some, without_some}
 use Rattle.pearl_solo.proofs.Made.{silent_does, left_silent}
 use Rattle.pearl_solo.proofs.top.pass.Goals as goal
