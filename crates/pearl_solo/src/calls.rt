@@ -13,8 +13,8 @@ use pearl_instructions::object::Procedure;
 use pearl_stack::stack::Loaded;
 use pearl_value::kind::Kind;
 
-// The stack after the answer to a Call: a frame of the procedure, whose first cells are the arguments. Those beyond them
-// are unset of their kinds.
+// The stack after the answer to a Call: a frame of the procedure, whose first cells are the arguments. Those
+// beyond them are unset of their kinds.
 pub fn enter(stack: &mut Loaded, p: u32, callee: &Procedure)
     requires kinds { AllByRecursion IsCellKind callee.now.code.cells }
     requires there { callee.now.params ≤ length (top_operands stack.old.frames) }

@@ -13,8 +13,8 @@ use pearl_rules::action::Action;
 use pearl_stack::stack::{Frame, Loaded};
 use pearl_value::cell::copy_of;
 
-// Offers an action after whose answer the next instruction comes: Turn, Request, Release, Suspend, Terminate, Prevent,
-// SuspendOwn, PreventOwn, Enable, Disable and Trigger.
+// Offers an action after whose answer the next instruction comes: Turn, Request, Release, Suspend, Terminate,
+// Prevent, SuspendOwn, PreventOwn, Enable, Disable and Trigger.
 pub fn acts(stack: &Loaded, action: Action) -> Stepped
     requires { stack.now.frames ≢ [] }
     ensures { Does (on_top (λ f lower. acts_row action f lower f.operands) stack.now.frames) stack.now stack.now result }

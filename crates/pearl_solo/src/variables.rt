@@ -1,5 +1,5 @@
-// Variables of the module. The caller hands in a leaf's first slot, since adding up the leaves before it would take as long
-// as there are leaves.
+// Variables of the module. The caller hands in a leaf's first slot, since adding up the leaves before it
+// would take as long as there are leaves.
 
 ghost use Rattle.std.specs.Prelude.{◌≡◌, ◌+◌, ◌<◌, ◌≤◌, slice_get};
 ghost use Rattle.pearl_instructions.specs.Cells.{reads as reads_row, writes as writes_row, slot_reference};
