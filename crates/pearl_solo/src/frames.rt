@@ -1,0 +1,88 @@
+// A task's first frame, and what is unset of the kinds of cells.
+
+ghost use Rattle.std.specs.Prelude.{◌≡◌, ◌≢◌, ◌+◌, ◌<◌, ◌≤◌, ◌^◌, [], ◌++◌, Some, length, map, take, drop, option_map, slice_get};
+ghost use Rattle.std.specs.List.{AllByRecursion};
+ghost use Rattle.pearl_instructions.specs.Flow.{fresh as fresh_of};
+ghost use Rattle.pearl_instructions.specs.Lawful.{IsCellKind, IsObject};
+ghost use Rattle.pearl_instructions.specs.Rows.{begun};
+ghost use Rattle.pearl_instructions.specs.Stacks.{IsStack, room};
+ghost use Rattle.pearl_instructions.specs.Valid.{IsValid};
+ghost use Rattle.pearl_solo.specs.Steps.{top_cells, with_cells};
+
+use crate::top::set_own_cell;
+use pearl_instructions::laws;
+use pearl_instructions::object::Object;
+use pearl_stack::stack::Loaded;
+use pearl_value::cell::Cell;
+use pearl_value::conversion::blank;
+use pearl_value::kind::CellKind;
+
+// What is unset of the kind.
+fn fresh(kind: CellKind) -> Cell
+    requires { IsCellKind kind }
+    ensures { result ≡ fresh_of kind }
+{
+    match kind {
+        CellKind::Plain(of) => blank(of),
+        CellKind::RefTo(of) => blank(of),
+    }
+}
+
+// The kind at a number.
+fn kind_at(kinds: &[CellKind], i: usize) -> CellKind
+    requires { i < length kinds.now }
+    ensures { slice_get kinds.now i ≡ Some result }
+{
+    kinds[i]
+}
+
+// Puts what is unset of their kinds into the cells of the top frame, from cell `from` on.
+pub(crate) fn set_fresh(stack: &mut Loaded, kinds: &[CellKind], from: u32)
+    requires kinds { AllByRecursion IsCellKind kinds.now }
+    requires cells { length (top_cells stack.old.frames) ≡ length kinds.now }
+    requires few { length kinds.now < 2 ^ 32 }
+    requires from { from ≤ length kinds.now }
+    requires some { stack.old.frames ≢ [] }
+    ensures { stack.new ≡ record stack.old { frames = with_cells (take from (top_cells stack.old.frames) ++ map fresh_of (drop from kinds.now)) stack.old.frames } }
+{
+    for i in from as usize..kinds.len() {
+        let kind = kind_at(kinds, i);
+        set_own_cell(stack, i as u32, fresh(kind));
+    }
+}
+
+// The kinds of a task's cells.
+fn task_kinds(code: &Object, task: u32) -> &[CellKind]
+    requires { task < length code.now.tasks }
+    ensures { option_map (λ t. t.code.cells) (slice_get code.now.tasks task) ≡ Some result.now }
+{
+    code.tasks.as_slice()[task as usize].code.cells.as_slice()
+}
+
+// The number of a task's routine.
+fn task_routine(code: &Object, task: u32) -> u32
+    requires procedures { length code.now.procedures ≤ 200 }
+    requires task { task < 200 }
+    ensures { result ≡ length code.now.procedures + task }
+{
+    code.procedures.as_slice().len() as u32 + task
+}
+
+/// Leaves the one frame of a task's routine at its first instruction, with unset cells.
+pub fn begin(code: &Object, task: u32, stack: &mut Loaded)
+    requires valid { IsValid code.now }
+    requires object { IsObject code.now }
+    requires task { task < length code.now.tasks }
+    requires room { room code.now (begun code.now (length code.now.procedures + task)) ≤ stack.old.room }
+    requires most { length code.now.procedures + 1 ≤ stack.old.most }
+    ensures frames { stack.new ≡ record stack.old { frames = begun code.now (length code.now.procedures + task) } }
+    ensures stack { IsStack code.now stack.new.frames }
+{
+    laws::tasks_begin_with_a_stack();
+    laws::depth_is_kept();
+    let kinds = task_kinds(code, task);
+    let routine = task_routine(code, task);
+    stack.clear();
+    stack.enter(routine, 0, kinds.len() as u32);
+    set_fresh(stack, kinds, 0);
+}

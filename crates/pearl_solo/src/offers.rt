@@ -1,0 +1,57 @@
+// Actions that are offered, and change nothing.
+
+ghost use Rattle.std.specs.Prelude.{◌≡◌, ◌≢◌, [], slice_get};
+ghost use Rattle.pearl_rules.specs.declared.action.Action.{Action};
+ghost use Rattle.pearl_instructions.specs.Flow.{call as call_row};
+ghost use Rattle.pearl_instructions.specs.Steps.{acts as acts_row, asks as asks_row, stops as stops_row, popped as popped_row};
+ghost use Rattle.pearl_solo.specs.Steps.{on_top, Does, Applies, IsHere};
+
+use crate::stepped::Stepped;
+use crate::top::operand;
+use pearl_instructions::object::Object;
+use pearl_rules::action::Action;
+use pearl_stack::stack::{Frame, Loaded};
+use pearl_value::cell::copy_of;
+
+// Offers an action after whose answer the next instruction comes: Turn, Request, Release, Suspend, Terminate,
+// Prevent, SuspendOwn, PreventOwn, Enable, Disable and Trigger.
+pub fn acts(stack: &Loaded, action: Action) -> Stepped
+    requires { stack.now.frames ≢ [] }
+    ensures { Does (on_top (λ f lower. acts_row action f lower f.operands) stack.now.frames) stack.now stack.now result }
+{
+    Stepped::Offers(action)
+}
+
+// Offers an action whose answer is pushed: Now, Try and Take.
+pub fn asks(stack: &Loaded, action: Action) -> Stepped
+    requires { stack.now.frames ≢ [] }
+    ensures { Does (on_top (λ f lower. asks_row action f lower f.operands) stack.now.frames) stack.now stack.now result }
+{
+    Stepped::Offers(action)
+}
+
+// Offers an action with which the task ends: End, Trap and TerminateOwn.
+pub fn stops(stack: &Loaded, action: Action) -> Stepped
+    requires { stack.now.frames ≢ [] }
+    ensures { Does (on_top (λ f lower. stops_row action f lower) stack.now.frames) stack.now stack.now result }
+{
+    Stepped::Offers(action)
+}
+
+// Send: offers the value on top, which is copied since it stays there up to the answer.
+pub fn send(stack: &Loaded, here: Frame, device: u32) -> Stepped
+    requires here { IsHere here stack.now.frames }
+    requires ready { Applies (on_top (λ f lower. popped_row f.operands (λ x left. acts_row (Action.Send device x) f lower left)) stack.now.frames) stack.now.room }
+    ensures { Does (on_top (λ f lower. popped_row f.operands (λ x left. acts_row (Action.Send device x) f lower left)) stack.now.frames) stack.now stack.now result }
+{
+    let x = copy_of(operand(stack, here, 0));
+    Stepped::Offers(Action::Send(device, x))
+}
+
+// Call.
+pub fn call(object: &Object, stack: &Loaded, p: u64) -> Stepped
+    requires ready { Applies (on_top (λ f lower. call_row p (slice_get object.now.procedures p) f lower) stack.now.frames) stack.now.room }
+    ensures { Does (on_top (λ f lower. call_row p (slice_get object.now.procedures p) f lower) stack.now.frames) stack.now stack.now result }
+{
+    Stepped::Offers(Action::Enter)
+}
