@@ -21,7 +21,7 @@ use Rattle.pearl_instructions.specs.Valid.{judged_at, judged_whole, unsound_in, 
 use Rattle.pearl_instructions.proofs.Tests.{and_true}
 use Rattle.pearl_instructions.proofs.Examples.{fixed, code, boxed, item}
 
-abbrev number : ℕ → Instr
+abbrev pub number : ℕ → Instr
 number n = Const (boxed (Fixed 31 (pos n)))
 
 abbrev adding : Code
@@ -75,7 +75,7 @@ behind o r i code at less =
     ap (λ c. unsound_in o r c i) at ∙ (ap (judged_at o r code i) (past code.instructions i less) ∙ ap (λ b. if b then judged_whole code else None) other)
 
 -- so nothing fails anywhere in it
-nowhere : (o : Object) (r : ℕ) (code : Code) → routine_at o r ≡ Some code → is_clean o r (suc (length code.instructions)) ≡ true → (i : ℕ) → unsound o r i ≡ None
+pub nowhere : (o : Object) (r : ℕ) (code : Code) → routine_at o r ≡ Some code → is_clean o r (suc (length code.instructions)) ≡ true → (i : ℕ) → unsound o r i ≡ None
 nowhere o r code at clean i = by (nat_lt i (suc (length code.instructions))) refl
   where
     by : (b : Bool) → nat_lt i (suc (length code.instructions)) ≡ b → unsound o r i ≡ None
@@ -91,7 +91,7 @@ an_object_is_valid = record { sound = sound }
     sound (suc (suc r)) i = refl
 
 -- literals of FIXED(31)
-small : (n : ℕ) → n < 2 ^ 31 → IsValue (Fixed 31 (pos n))
+pub small : (n : ℕ) → n < 2 ^ 31 → IsValue (Fixed 31 (pos n))
 small n less = ((omega arith, omega arith), record { low = grind (arith, ints); high = grind (arith, ints, less) })
 
 it_is_lawful : IsObject whole

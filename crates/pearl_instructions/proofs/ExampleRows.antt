@@ -30,16 +30,16 @@ use Rattle.pearl_instructions.specs.Rows.{row, after, begun}
 use Rattle.pearl_instructions.specs.Stacks.{Answers}
 use Rattle.pearl_instructions.proofs.Examples.{fixed, code, task, sound, boxed, bounds, item}
 
-abbrev number : ℕ → Cell
+abbrev pub number : ℕ → Cell
 number n = Fixed 31 (pos n)
 
-abbrev offered : Step → Option Action
+abbrev pub offered : Step → Option Action
 offered (Silent frames) = None
 offered (Offers action go) = Some action
 offered Missing = None
 
 -- the one frame of a task that has no procedures below it
-abbrev frame : ℕ → List Cell → List Cell → List Frame
+abbrev pub frame : ℕ → List Cell → List Cell → List Frame
 frame place cells operands = record { routine = 0; place = place; cells = cells; operands = operands } ∷ []
 
 begins_unset : begun sound 0 ≡ frame 0 (number 0 ∷ []) []
@@ -55,7 +55,7 @@ stores : row sound (frame 3 (number 1 ∷ []) (number 2 ∷ [])) ≡ Silent (fra
 stores = refl
 
 -- a task that has just this instruction
-abbrev only : Instr → Object
+abbrev pub only : Instr → Object
 only instr = task (code [] 9 (instr ∷ []) [])
 
 -- a loop of the control 127, the step 1 and the limit 127 of FIXED(7): the sum leaves the kind, so the loop is left

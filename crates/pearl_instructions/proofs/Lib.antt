@@ -15,7 +15,11 @@ mod SoundGet
 mod SoundIndex
 mod Sound
 mod Begun
+mod Moved
+mod Owned
 mod Examples
 mod ExampleRows
 mod ExampleObject
+mod ExampleTasks
+mod ExampleDevices
 mod Silence

@@ -164,7 +164,7 @@ urgent_there (pos n) e =
 urgent_there (negsuc n) e = cc
 
 -- the lowest frame of a stack is a task's
-lowest_there : (o : Object) (f : Frame) (lower : List Frame) (code : Code) → routine_at o f.routine ≡ Some code → Below o f.routine lower →
+pub lowest_there : (o : Object) (f : Frame) (lower : List Frame) (code : Code) → routine_at o f.routine ≡ Some code → Below o f.routine lower →
     (length o.procedures ≤ lowest f lower) × (lowest f lower < length o.procedures + length o.tasks)
 lowest_there o f [] code e b =
     let within = slice_get_within (routines o) f.routine code e in

@@ -24,6 +24,8 @@ pub mod Valid
 pub mod Stacks
 -- which actions a task may offer
 pub mod Actions
+-- whose task a stack is, and how a row moves its frames
+pub mod Owned
 -- what is asked of each object, before any rule of the validator
 pub mod Lawful
 -- what holds of every valid object
