@@ -6,6 +6,7 @@ use Rattle.std.proofs.Math.Nat.{mul-add, mul_assoc}
 use Rattle.std.proofs.lemmas.List.{length-append, length-map, length-replicate, append_assoc}
 use Rattle.std.proofs.lemmas.List.Sums.{sum_by-append}
 use Rattle.std.proofs.lemmas.Option.{none-some}
+use Rattle.std.proofs.lemmas.Slice.Eq.{bytes_eq-Decides}
 use Rattle.pearl_names.specs.Shapes.{Shape, OfKind, OfFields, Fields, NoField, MoreField}
 use Rattle.pearl_names.specs.Layout.{Leaf, leaves_of, leaves_of_fields, elements}
 use Rattle.pearl_names.specs.Forms.{Component, component, leaf_count, slot_count}
@@ -51,22 +52,20 @@ slots_same path bounds own shape =
     ap (λ n. elements bounds * (elements own * n)) (sym (ap length (slots_of_shape [] [] shape)))
 
 -- the same behind so many leaves and slots
-record LiesBehind (path : List (List ℕ)) (bounds : List (ℤ × ℤ)) (leaves slot : ℕ) (fields : Fields) (field : Component) : Type 0 where
-  pub name : List ℕ
+record LiesBehind (path : List (List ℕ)) (bounds : List (ℤ × ℤ)) (leaves slot : ℕ) (fields : Fields) (name : List ℕ) (field : Component) : Type 0 where
   pub before : List Leaf
   pub after : List Leaf
   pub is : leaves_of_fields path bounds fields ≡ before ++ (leaves_of (path ++ name ∷ []) (bounds ++ field.bounds) field.shape ++ after)
   pub leaf : field.leaf ≡ leaves + length before
   pub slots : elements bounds * field.slot ≡ elements bounds * slot + slots before
 
-further : (path : List (List ℕ)) (bounds own : List (ℤ × ℤ)) (leaves slot : ℕ) (name : List ℕ) (shape : Shape) (rest : Fields) (field : Component) →
-    LiesBehind path bounds (leaves + leaf_count shape) (slot + slot_count own shape) rest field →
-    LiesBehind path bounds leaves slot (MoreField name own shape rest) field
-further path bounds own leaves slot name shape rest field lies =
+further : (path : List (List ℕ)) (bounds own : List (ℤ × ℤ)) (leaves slot : ℕ) (name : List ℕ) (shape : Shape) (rest : Fields) (text : List ℕ) (field : Component) →
+    LiesBehind path bounds (leaves + leaf_count shape) (slot + slot_count own shape) rest text field →
+    LiesBehind path bounds leaves slot (MoreField name own shape rest) text field
+further path bounds own leaves slot name shape rest text field lies =
     let first = leaves_of (path ++ name ∷ []) (bounds ++ own) shape in
-    let part = leaves_of (path ++ lies.name ∷ []) (bounds ++ field.bounds) field.shape in
+    let part = leaves_of (path ++ text ∷ []) (bounds ++ field.bounds) field.shape in
     record {
-      name = lies.name;
       before = first ++ lies.before;
       after = lies.after;
       is = ap (λ more. first ++ more) lies.is ∙ sym (append_assoc first lies.before (part ++ lies.after));
@@ -78,33 +77,34 @@ further path bounds own leaves slot name shape rest field lies =
     }
 
 lies_behind : (path : List (List ℕ)) (bounds : List (ℤ × ℤ)) (leaves slot : ℕ) (fields : Fields) (text : List ℕ) (field : Component) →
-    component leaves slot fields text ≡ Some field → LiesBehind path bounds leaves slot fields field
+    component leaves slot fields text ≡ Some field → LiesBehind path bounds leaves slot fields text field
 lies_behind path bounds leaves slot NoField text field is = absurd (none-some field is)
 lies_behind path bounds leaves slot (MoreField name own shape rest) text field is =
-    by (bytes_eq text name) is (λ found. further path bounds own leaves slot name shape rest field
+    by (bytes_eq text name) refl is (λ found. further path bounds own leaves slot name shape rest text field
     (lies_behind path bounds (leaves + leaf_count shape) (slot + slot_count own shape) rest text field found))
   where
-    by : (same : Bool) → (if same then Some (record { bounds = own; shape = shape; leaf = leaves; slot = slot }) else
+    by : (same : Bool) → bytes_eq text name ≡ same → (if same then Some (record { bounds = own; shape = shape; leaf = leaves; slot = slot }) else
         component (leaves + leaf_count shape) (slot + slot_count own shape) rest text) ≡ Some field →
         (component (leaves + leaf_count shape) (slot + slot_count own shape) rest text ≡ Some field →
-        LiesBehind path bounds leaves slot (MoreField name own shape rest) field) →
-        LiesBehind path bounds leaves slot (MoreField name own shape rest) field
-    by true is more = subst (λ found. LiesBehind path bounds leaves slot (MoreField name own shape rest) found) (some_one is) (record {
-      name = name;
-      before = [];
-      after = leaves_of_fields path bounds rest;
-      is = refl;
-      leaf = omega arith;
-      slots = omega arith;
-    })
-    by false is more = more is
+        LiesBehind path bounds leaves slot (MoreField name own shape rest) text field) →
+        LiesBehind path bounds leaves slot (MoreField name own shape rest) text field
+    by true same is more =
+        subst (λ sought. LiesBehind path bounds leaves slot (MoreField name own shape rest) sought field)
+        (sym ((bytes_eq-Decides text name).0 same))
+        (subst (λ found. LiesBehind path bounds leaves slot (MoreField name own shape rest) name found) (some_one is) (record {
+          before = [];
+          after = leaves_of_fields path bounds rest;
+          is = refl;
+          leaf = omega arith;
+          slots = omega arith;
+        }))
+    by false same is more = more is
 
 pub components_lie : (path : List (List ℕ)) (bounds : List (ℤ × ℤ)) (fields : Fields) (text : List ℕ) (field : Component) →
-    component 0 0 fields text ≡ Some field → LiesIn path bounds fields field
+    component 0 0 fields text ≡ Some field → LiesIn path bounds fields text field
 components_lie path bounds fields text field is =
     let lies = lies_behind path bounds 0 0 fields text field is in
     record {
-      name = lies.name;
       before = lies.before;
       behind = lies.after;
       is = lies.is;

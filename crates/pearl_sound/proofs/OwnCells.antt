@@ -64,7 +64,7 @@ not_before control from (first ∷ rest) zero number sense there own is =
 not_before control from (first ∷ rest) (suc i) number sense there own is =
     let more = not_before control (from + cells_of_sense first) rest i number sense there own is in omega (arith, more)
 
-pub own_cells_lie : (control from : ℕ) (senses : List Sense) (i number : ℕ) (sense : Sense) → slice_get senses i ≡ Some sense →
+own_cells_lie : (control from : ℕ) (senses : List Sense) (i number : ℕ) (sense : Sense) → slice_get senses i ≡ Some sense →
     IsNoControl sense → slice_get (own_numbers control from senses) i ≡ Some number → LiesAt senses from number sense
 own_cells_lie control from [] i number sense there own is = absurd (none-some sense there)
 own_cells_lie control from (first ∷ rest) zero number sense there own is =
@@ -109,3 +109,12 @@ not_beyond control from (first ∷ rest) (suc i) number sense there own is =
     let more = not_beyond control (from + cells_of_sense first) rest i number sense there own is in
     let sum = sum_by-cons cells_of_sense first rest in
     omega (arith, more, sum)
+
+pub own_cells_there : (control from : ℕ) (senses : List Sense) (i number : ℕ) (sense : Sense) → slice_get senses i ≡ Some sense →
+    IsNoControl sense → slice_get (own_numbers control from senses) i ≡ Some number →
+    (from ≤ number) × (number + cells_of_sense sense ≤ from + sum_by cells_of_sense senses) × LiesAt senses from number sense
+own_cells_there control from senses i number sense there own is = (
+  not_before control from senses i number sense there own is,
+  not_beyond control from senses i number sense there own is,
+  own_cells_lie control from senses i number sense there own is,
+)

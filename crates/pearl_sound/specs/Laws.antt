@@ -83,12 +83,13 @@ abbrev pub IsNoControl : Sense → Type 0
 IsNoControl (Control kind) = ⊥
 IsNoControl sense = Unit {0}
 
--- of the cells of a scope, which begin with this number, those of a name lie from its number on; a control variable's lie
--- before them
+-- of the cells of a scope, which begin with this number, those of a name lie from its number on, all of them among these;
+-- a control variable's lie before them
 abbrev pub NamesHaveTheirCells : Type 0
 NamesHaveTheirCells = (control from : ℕ) (senses : List Sense) (i number : ℕ) (sense : Sense) →
     slice_get senses i ≡ Some sense → IsNoControl sense → slice_get (own_numbers control from senses) i ≡ Some number →
-    take (cells_of_sense sense) (drop (number - from) (flat_map sense_cells senses)) ≡ sense_cells sense
+    (from ≤ number) × (number + cells_of_sense sense ≤ from + sum_by cells_of_sense senses) ×
+    (take (cells_of_sense sense) (drop (number - from) (flat_map sense_cells senses)) ≡ sense_cells sense)
 
 -- the cells of two names of a scope are others, those of the later name behind those of the earlier
 abbrev pub NamesShareNoCells : Type 0
@@ -98,26 +99,34 @@ NamesShareNoCells = (control from : ℕ) (senses : List Sense) (i j first second
     (from ≤ first) × (first + cells_of_sense one ≤ second)
 
 -- two names of the module with these numbers, the second declared behind the first, don't name the same: leaves,
--- semaphores, tasks, and of the numbers that procedures are given those at two places
-abbrev pub AreApart : (numbers : List ℕ) → Sense → Sense → (first second : ℕ) → Type 0
-AreApart numbers (Variable form inv) (Variable other also) first second = first + length (leaves_in form) ≤ second
-AreApart numbers Semaphore Semaphore first second = first < second
-AreApart numbers Task Task first second = first < second
-AreApart numbers (Procedure parameters result) (Procedure others other) first second =
-    (p : ℕ) × (q : ℕ) × (p < q) × (first ≡ unwrap_or (slice_get numbers p) 0) × (second ≡ unwrap_or (slice_get numbers q) 0)
-AreApart numbers one two first second = Unit {0}
+-- semaphores, tasks, and of the numbers that procedures are given those at their two places, before which p and q
+-- procedures are declared
+abbrev pub AreApart : (numbers : List ℕ) (p q : ℕ) → Sense → Sense → (first second : ℕ) → Type 0
+AreApart numbers p q (Variable form inv) (Variable other also) first second = first + length (leaves_in form) ≤ second
+AreApart numbers p q Semaphore Semaphore first second = first < second
+AreApart numbers p q Task Task first second = first < second
+AreApart numbers p q (Procedure parameters result) (Procedure others other) first second =
+    (p < q) × (first ≡ unwrap_or (slice_get numbers p) 0) × (second ≡ unwrap_or (slice_get numbers q) 0)
+AreApart numbers p q one two first second = Unit {0}
+
+abbrev pub procedure_count : Sense → ℕ
+procedure_count (Procedure parameters result) = 1
+procedure_count sense = 0
+
+-- how many procedures are declared before the name at this place
+abbrev pub procedures_before : Before → List Sense → ℕ → ℕ
+procedures_before before senses i = before.procedures + sum_by procedure_count (take i senses)
 
 abbrev pub NamesNameOthers : Type 0
 NamesNameOthers = (devices : List SpecifiedDevice) (numbers : List ℕ) (before : Before) (entries : List SortedName) (senses : List Sense)
     (i j first second : ℕ) (one two : Sense) → i < j →
     slice_get senses i ≡ Some one → slice_get (module_numbers devices numbers before entries senses) i ≡ Some first →
     slice_get senses j ≡ Some two → slice_get (module_numbers devices numbers before entries senses) j ≡ Some second →
-    AreApart numbers one two first second
+    AreApart numbers (procedures_before before senses i) (procedures_before before senses j) one two first second
 
--- where a variable with these fields lies, its component's leaves lie behind so many of the variable's as the component
--- says, and their slots behind so many, for each element of the variable
-pub record LiesIn (path : List (List ℕ)) (bounds : List (ℤ × ℤ)) (fields : Fields) (field : Component) : Type 0 where
-  pub name : List ℕ
+-- where a variable with these fields lies, the leaves of its component of this name lie behind so many of the variable's
+-- as the component says, and their slots behind so many, for each element of the variable
+pub record LiesIn (path : List (List ℕ)) (bounds : List (ℤ × ℤ)) (fields : Fields) (name : List ℕ) (field : Component) : Type 0 where
   pub before : List Leaf
   pub behind : List Leaf
   pub is : leaves_of_fields path bounds fields ≡ before ++ (leaves_of (path ++ name ∷ []) (bounds ++ field.bounds) field.shape ++ behind)
@@ -126,7 +135,7 @@ pub record LiesIn (path : List (List ℕ)) (bounds : List (ℤ × ℤ)) (fields 
 
 abbrev pub ComponentsLieInTheirVariables : Type 0
 ComponentsLieInTheirVariables = (path : List (List ℕ)) (bounds : List (ℤ × ℤ)) (fields : Fields) (text : List ℕ) (field : Component) →
-    component 0 0 fields text ≡ Some field → LiesIn path bounds fields field
+    component 0 0 fields text ≡ Some field → LiesIn path bounds fields text field
 
 -- the hidden cells of a routine are all different, and stand behind those of the names that it declares for itself, which
 -- its parameters are among
