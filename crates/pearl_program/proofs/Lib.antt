@@ -3,3 +3,4 @@ pub mod FirstValues
 pub mod WholeProgram
 pub mod NotHidden
 mod Unsound
+mod UnsoundStatements

@@ -12,7 +12,7 @@ use Rattle.pearl_program.specs.PlainExpressions.{PlainExpr, OfLiteral, OfRead, O
 use Rattle.pearl_program.specs.PlainPrograms.{PlainLeaf}
 use Rattle.pearl_program.specs.Typing.{Signature, Around, elements, AreCells, IsLeafOf, IsParam, IsControl, HasKind, IsVariable}
 
-some_one : {X : Type 0} {x y : X} → Some x ≡ Some y → x ≡ y
+pub some_one : {X : Type 0} {x y : X} → Some x ≡ Some y → x ≡ y
 some_one {x = x} same = ap (λ o. unwrap_or o x) same
 
 -- each list of bounds has an element

@@ -15,7 +15,7 @@ use Rattle.pearl_program.proofs.WholeProgram.{short, number, alone, counter, aro
 
 -- in the loop of the whole program, whose control variable, step and limit have the cells 1 to 3, behind which the value
 -- that comes in and where it goes have 4 and 5
-abbrev around_body : Around
+abbrev pub around_body : Around
 around_body = within around_task (Some counter)
 
 impossible : (cell other : ℕ) → cell ≡ other → (other < cell) ⊎ (cell + 1 ≤ other) → ⊥

@@ -77,7 +77,7 @@ program = record {
   tasks = task ∷ [];
 }
 
-value_is : (n : ℕ) → n < 2 ^ 31 → IsValueOf short (cell.Fixed 31 (pos n))
+pub value_is : (n : ℕ) → n < 2 ^ 31 → IsValueOf short (cell.Fixed 31 (pos n))
 value_is n small =
     record { is_value = ((omega arith, omega arith), record { low = omega (arith, ints); high = omega (arith, ints, small) }); same_kind = refl }
 
@@ -85,7 +85,7 @@ small : (0 < 31) × (31 ≤ 63)
 small = (omega arith, omega arith)
 
 -- n lies in no hidden cell
-free : AreOpen (1 ∷ 2 ∷ 3 ∷ 4 ∷ 5 ∷ []) 0 1
+pub free : AreOpen (1 ∷ 2 ∷ 3 ∷ 4 ∷ 5 ∷ []) 0 1
 free = (inr (omega arith), (inr (omega arith), (inr (omega arith), (inr (omega arith), (inr (omega arith), tt)))))
 
 abbrev pub around_task : Around
@@ -106,7 +106,7 @@ nothing_distinct : IsDistinct nat_eq []
 unfolding IsDistinct
 nothing_distinct = tt
 
-abbrev around_procedure : Around
+abbrev pub around_procedure : Around
 around_procedure = around_of program procedure.routine (Some None)
 
 procedure_sound : IsProcedure program procedure
