@@ -22,4 +22,5 @@ mod ExampleRows
 mod ExampleObject
 mod ExampleTasks
 mod ExampleDevices
+mod ExampleRest
 mod Silence
