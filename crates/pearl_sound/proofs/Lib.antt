@@ -12,4 +12,5 @@ pub mod HiddenRising
 pub mod OwnOpen
 mod Leading
 mod WholeModule
+mod LeadingBodies
 mod TwoOfEach

@@ -76,10 +76,10 @@ task = OfTask (name "t") (PrioFirst None true) (record {
   place = 0;
 }) 0
 
-abbrev whole : ShownTree
+abbrev pub whole : ShownTree
 whole = source (declared ++ procedure ∷ task ∷ [])
 
-abbrev terminal : SpecifiedDevice
+abbrev pub terminal : SpecifiedDevice
 terminal = record { text = record { items = codes "tty" }; place = 0; number = 1; role = Terminal InOut }
 
 whole_is : resolve (table_of whole) (terminal ∷ []) (0 ∷ []) whole ≡ program
