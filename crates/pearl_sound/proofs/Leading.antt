@@ -1,7 +1,7 @@
 -- Where each thing that a name means is there, names lead to what is there.
 use Rattle.std.specs.Prelude.{◌≡◌, ℕ, ◌<◌, Bool, true, false, List, [], ◌∷◌, ℤ, Option, Some, None, option_map, unwrap_or, slice_get}
 use Rattle.std.specs.Option.{option_and_then}
-use Rattle.std.proofs.Common.{refl, ap, sym, subst, true≢false}
+use Rattle.std.proofs.Common.{ap, sym, subst, true≢false}
 use Rattle.std.proofs.lemmas.Option.{none-some}
 use Rattle.pearl_value.specs.declared.kind.Kind.{Kind}
 use Rattle.pearl_tree.specs.declared.name.Name.{Name}
