@@ -119,5 +119,12 @@ mutual
       (branches_clear around rest are.1)
 
 pub not_hidden : (p : PlainProg) (count : ℕ) (returns : Option (Option Kind)) (routine : PlainRoutine) →
-    IsRoutine p count returns routine → Clear (hidden_in_all routine.body) (written_in_all routine.body)
-not_hidden p count returns routine is = all_clear (around_of p routine returns) routine.body is.body
+    IsRoutine p count returns routine → Clear (hidden_in_all routine.body) (written_in_all routine.body) ×
+    ((controls : List ℕ) (in_loop : Bool) (variable : PlainVariable) (kind : Kind) →
+    IsVariable (record (around_of p routine returns) { controls = controls; in_loop = in_loop }) variable kind →
+    Clear (hidden_in_all routine.body) (own_cells variable))
+not_hidden p count returns routine is = (
+  all_clear (around_of p routine returns) routine.body is.body,
+  λ controls in_loop variable kind is.
+      variable_clear (record (around_of p routine returns) { controls = controls; in_loop = in_loop }) variable kind is,
+)

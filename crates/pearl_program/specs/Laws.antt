@@ -1,5 +1,5 @@
 -- What holds of the kinds of expressions, of first values, and of hidden cells.
-use Rattle.std.specs.Prelude.{◌≡◌, ℕ, nat_eq, false, List, [], ◌++◌, length, Option}
+use Rattle.std.specs.Prelude.{◌≡◌, ℕ, nat_eq, Bool, false, List, [], ◌++◌, length, Option}
 use Rattle.std.specs.List.{All, AllByRecursion, flat_map, list_any}
 use Rattle.pearl_value.specs.declared.kind.Kind.{Kind}
 use Rattle.pearl_value.specs.WellFormed.{IsValueOf}
@@ -10,7 +10,7 @@ use Rattle.pearl_program.specs.PlainPrograms.{PlainRoutine, PlainProg}
 use Rattle.pearl_program.specs.Typing.{Around, elements, HasKind, IsVariable}
 use Rattle.pearl_program.specs.HiddenCells.{run, hidden_in_all}
 use Rattle.pearl_program.specs.SoundStatements.{AreFirst}
-use Rattle.pearl_program.specs.Sound.{IsRoutine}
+use Rattle.pearl_program.specs.Sound.{around_of, IsRoutine}
 use Rattle.pearl_program.specs.FirstCells.{first_cells}
 
 -- an expression has one kind at most, and so has a variable
@@ -56,8 +56,12 @@ abbrev mutual
   written_in_branches NoBranches = []
   written_in_branches (MoreBranches statements rest) = written_in_all statements ++ written_in_branches rest
 
--- no variable that a routine's statements write or hand over lies in a hidden cell of the routine
+-- no variable that a routine's statements write or hand over lies in a hidden cell of the routine, nor does any other one
+-- that is a variable there, whatever loops are around
 abbrev pub VariablesAreNotHidden : Type 0
 VariablesAreNotHidden = (p : PlainProg) (count : ℕ) (returns : Option (Option Kind)) (routine : PlainRoutine) →
     IsRoutine p count returns routine →
-    AllByRecursion (λ cell. list_any (nat_eq cell) (hidden_in_all routine.body) ≡ false) (written_in_all routine.body)
+    AllByRecursion (λ cell. list_any (nat_eq cell) (hidden_in_all routine.body) ≡ false) (written_in_all routine.body) ×
+    ((controls : List ℕ) (in_loop : Bool) (variable : PlainVariable) (kind : Kind) →
+    IsVariable (record (around_of p routine returns) { controls = controls; in_loop = in_loop }) variable kind →
+    AllByRecursion (λ cell. list_any (nat_eq cell) (hidden_in_all routine.body) ≡ false) (own_cells variable))

@@ -10,6 +10,10 @@ pub mod Apart
 pub mod Components
 pub mod HiddenRising
 pub mod OwnOpen
+pub mod Devices
 mod Leading
 mod WholeModule
+mod LeadingBodies
+mod LeadingLoops
+mod CellKinds
 mod TwoOfEach

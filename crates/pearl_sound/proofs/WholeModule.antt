@@ -25,25 +25,25 @@ use Rattle.pearl_program.proofs.WholeProgram.{program, program_sound}
 use Rattle.pearl_resolve.specs.Resolve.{resolve}
 use Rattle.pearl_resolve.proofs.Examples.{source, variable, item, fixed}
 
-abbrev name : String → Name
+abbrev pub name : String → Name
 name text = record { text = record { items = codes text }; place = 0 }
 
-abbrev number : ℕ → Number
+abbrev pub number : ℕ → Number
 number value = record { value = value; place = 0 }
 
 abbrev upto : ℕ → Bound
 upto value = record { first = record { minus = false; number = number value; place = 0 }; second = None; place = 0 }
 
-abbrev literal : ℕ → ShownExpr
+abbrev pub literal : ℕ → ShownExpr
 literal value = OfOperand [] (OfLiteral (OfNumber (number value))) 0
 
-abbrev read : String → ShownSelectors → ShownExpr
+abbrev pub read : String → ShownSelectors → ShownExpr
 read text selectors = OfOperand [] (OfRef (name text) selectors 0) 0
 
 abbrev at : ShownExpr → ShownSelectors
 at subscript = MoreSelectors (OfSubscripts (MoreExprs subscript NoExprs) 0) NoSelectors
 
-abbrev to : String → ShownSelectors → ShownRef
+abbrev pub to : String → ShownSelectors → ShownRef
 to text selectors = record { name = name text; selectors = selectors; place = 0 }
 
 -- SPC tty DATION INOUT ALPHIC; DCL a(3) FIXED INIT(1);
@@ -76,10 +76,10 @@ task = OfTask (name "t") (PrioFirst None true) (record {
   place = 0;
 }) 0
 
-abbrev whole : ShownTree
+abbrev pub whole : ShownTree
 whole = source (declared ++ procedure ∷ task ∷ [])
 
-abbrev terminal : SpecifiedDevice
+abbrev pub terminal : SpecifiedDevice
 terminal = record { text = record { items = codes "tty" }; place = 0; number = 1; role = Terminal InOut }
 
 whole_is : resolve (table_of whole) (terminal ∷ []) (0 ∷ []) whole ≡ program

@@ -1,6 +1,7 @@
 -- What holds of scopes, cells, hidden cells and formats, of names and components, and of what expressions and targets become.
-use Rattle.std.specs.Prelude.{◌≡◌, ℕ, ℤ, ◌+◌, ◌-◌, ◌*◌, ◌≤◌, ◌<◌, nat_eq, false, true, List, [], ◌∷◌, ◌++◌, length, take, drop, Some, unwrap_or, slice_get}
-use Rattle.std.specs.List.{AllByRecursion, IsDistinct, flat_map, sum_by}
+use Rattle.std.specs.Prelude.{◌≡◌, ℕ, ℤ, ◌+◌, ◌-◌, ◌*◌, ◌≤◌, ◌<◌, nat_eq, Bool, false, true, IsTrue, List, [], ◌∷◌, ◌++◌, length, take, drop, Some, unwrap_or, slice_get}
+use Rattle.std.specs.List.{AllByRecursion, IsDistinct, flat_map, list_any, sum_by}
+use Rattle.std.specs.Str.{bytes_eq}
 use Rattle.pearl_value.specs.declared.kind.Kind.{Kind}
 use Rattle.pearl_value.specs.declared.kind.CellKind.{CellKind}
 use Rattle.pearl_format.specs.declared.item.Item.{Item}
@@ -19,7 +20,7 @@ use Rattle.pearl_names.specs.declared.scope.View.{View}
 use Rattle.pearl_check_expr.specs.Judged.{judged, judged_variable, called}
 use Rattle.pearl_check_expr.specs.Senses.{Callee, callee_of}
 use Rattle.pearl_names.specs.declared.scope.SortedName.{SortedName}
-use Rattle.pearl_names.specs.Tables.{Sense, Variable, Control, Semaphore, Task, Procedure, sense_from}
+use Rattle.pearl_names.specs.Tables.{Sense, Variable, Control, Semaphore, Interrupt, AlphicDation, BasicDation, Task, Procedure, sense_from}
 use Rattle.pearl_tree.specs.declared.name.Name.{Name}
 use Rattle.pearl_tree.specs.Names.{name_text}
 use Rattle.pearl_program.specs.HiddenCells.{hidden_in_all}
@@ -123,6 +124,24 @@ NamesNameOthers = (devices : List SpecifiedDevice) (numbers : List ℕ) (before 
     slice_get senses i ≡ Some one → slice_get (module_numbers devices numbers before entries senses) i ≡ Some first →
     slice_get senses j ≡ Some two → slice_get (module_numbers devices numbers before entries senses) j ≡ Some second →
     AreApart numbers (procedures_before before senses i) (procedures_before before senses j) one two first second
+
+abbrev pub IsOfDevice : Sense → Type 0
+IsOfDevice Interrupt = Unit {0}
+IsOfDevice (AlphicDation direction) = Unit {0}
+IsOfDevice (BasicDation direction kind) = Unit {0}
+IsOfDevice sense = ⊥
+
+abbrev pub has_text : List ℕ → SpecifiedDevice → Bool
+has_text text device = bytes_eq text device.text.items
+
+-- the number of an interrupt's or a dation's name is that of a device which is specified under it, where one is
+abbrev pub NamesHaveTheirDevices : Type 0
+NamesHaveTheirDevices = (devices : List SpecifiedDevice) (numbers : List ℕ) (before : Before) (entries : List SortedName) (senses : List Sense)
+    (i number : ℕ) (entry : SortedName) (sense : Sense) →
+    slice_get entries i ≡ Some entry → slice_get senses i ≡ Some sense → IsOfDevice sense →
+    slice_get (module_numbers devices numbers before entries senses) i ≡ Some number →
+    IsTrue (list_any (has_text (name_text entry.name)) devices) →
+    (device : SpecifiedDevice) × (slice_get devices number ≡ Some device) × (device.text.items ≡ name_text entry.name)
 
 -- where a variable with these fields lies, the leaves of its component of this name lie behind so many of the variable's
 -- as the component says, and their slots behind so many, for each element of the variable

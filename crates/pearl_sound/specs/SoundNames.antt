@@ -8,23 +8,29 @@ use Rattle.pearl_value.specs.declared.kind.CellKind.{CellKind}
 use Rattle.pearl_value.specs.declared.kind.CellKind.TheVariants.{RefTo}
 use Rattle.pearl_value.specs.WellFormed.{IsValueOf}
 use Rattle.pearl_tree.specs.declared.name.Name.{Name}
+use Rattle.pearl_tree.specs.declared.declaration.Direction.{Direction}
+use Rattle.pearl_tree.specs.declared.declaration.Direction.TheVariants.{In, Out, InOut}
 use Rattle.pearl_tree.specs.Names.{name_text}
 use Rattle.pearl_tree.specs.ShownLiterals.{ShownLiteral}
 use Rattle.pearl_tree.specs.ShownExpressions.{ShownExpr, OfOperand, OfDyadic, ShownPrimary, OfLiteral, OfRef, OfGroup, OfNow, OfTry, OfLimit, ShownSelectors, NoSelectors, MoreSelectors, ShownSelector, OfSubscripts, OfComponent, ShownExprs, NoExprs, MoreExprs}
 use Rattle.pearl_names.specs.declared.length.DefaultLength.{DefaultLength}
 use Rattle.pearl_names.specs.declared.scope.View.{View}
 use Rattle.pearl_names.specs.Shapes.{Shape, OfKind, OfFields}
-use Rattle.pearl_names.specs.Tables.{Parameter, Sense, Control, Procedure, Semaphore, sense_from}
+use Rattle.pearl_names.specs.Tables.{Parameter, Sense, Control, Procedure, Semaphore, Interrupt, AlphicDation, BasicDation, Task, sense_from}
 use Rattle.pearl_check_expr.specs.Literals.{literal_kind}
 use Rattle.pearl_check_expr.specs.Standings.{Open, variable_start}
 use Rattle.pearl_program.specs.declared.expression.Target.{Target}
 use Rattle.pearl_program.specs.declared.expression.Target.TheVariants.{Leaf, Own, Param}
 use Rattle.pearl_program.specs.declared.expression.Bound.{Bound}
+use Rattle.pearl_program.specs.declared.table.Device.{Device}
+use Rattle.pearl_program.specs.declared.table.Device.TheVariants.{Terminal}
 use Rattle.pearl_program.specs.PlainExpressions.{OfVariable}
 use Rattle.pearl_program.specs.PlainExpressions as plain
 use Rattle.pearl_program.specs.Typing.{Signature, Around, elements, IsBound, AreOwn, IsLeafOf, IsControl}
+use Rattle.pearl_program.specs.SoundStatements.{IsTaskNumber, IsInterrupt, IsInput, IsOutput}
 use Rattle.pearl_resolve.specs.Expressions.{Numbered, meant, number_of, literal_cell, Walk, walk_from, to_field, field_of}
 use Rattle.pearl_resolve.specs.Cells.{param_cell}
+use Rattle.pearl_resolve.specs.Resolve.{direction_of}
 
 -- a literal that has a kind is a value of it
 abbrev pub IsLiteral : List DefaultLength → ShownLiteral → Type 0
@@ -101,6 +107,17 @@ pub record IsCallee (around : Around) (number : ℕ) (parameters : List Paramete
   pub params : signature.params ≡ param_cells parameters
   pub gives : (kind : Kind) → option_and_then (λ known. known) result ≡ Some kind → signature.result ≡ Some kind
 
+-- a terminal whose texts go this way
+abbrev pub IsTerminal : Direction → Option Device → Type 0
+IsTerminal direction (Some (Terminal number to)) = to ≡ direction_of direction
+IsTerminal direction device = ⊥
+
+-- an input or an output of this kind; none is both
+abbrev pub IsChannel : Direction → Kind → Option Device → Type 0
+IsChannel In kind device = IsInput device kind
+IsChannel Out kind device = IsOutput device kind
+IsChannel InOut kind device = ⊥
+
 -- each name that is seen from here leads to what is there; which procedures may be called isn't asked here
 pub record LeadNames (numbered : Numbered) (view : View) (around : Around) : Type 0 where
   pub variables : (name : Name) (dimensions : ℕ) (shape : Shape) →
@@ -111,3 +128,13 @@ pub record LeadNames (numbered : Numbered) (view : View) (around : Around) : Typ
   pub procedures : (name : Name) (parameters : List Parameter) (result : Option (Option Kind)) →
       sense_from numbered.table view (name_text name) ≡ Some (Procedure parameters result) →
       IsCallee around (number_of numbered view name) parameters result
+  pub tasks : (name : Name) → sense_from numbered.table view (name_text name) ≡ Some Task →
+      IsTaskNumber around (number_of numbered view name)
+  pub interrupts : (name : Name) → sense_from numbered.table view (name_text name) ≡ Some Interrupt →
+      IsInterrupt around (number_of numbered view name)
+  pub terminals : (name : Name) (direction : Direction) →
+      sense_from numbered.table view (name_text name) ≡ Some (AlphicDation direction) →
+      IsTerminal direction (slice_get around.devices (number_of numbered view name))
+  pub channels : (name : Name) (direction : Direction) (kind : Kind) →
+      sense_from numbered.table view (name_text name) ≡ Some (BasicDation direction (Some kind)) →
+      IsChannel direction kind (slice_get around.devices (number_of numbered view name))

@@ -1,6 +1,6 @@
 // What holds of scopes, cells, hidden cells and formats, of names and components, and of what expressions and targets become.
 
-ghost use Rattle.pearl_sound.specs.Laws.{CallsAreSound, ComponentsLieInTheirVariables, ExpressionsAreSound, HiddenCellsAreApart, LiteralsAreValues, NamesHaveTheirCells, NamesNameOthers, NamesShareNoCells, OwnNamesAreNotHidden, RoutinesHaveCells, StatementsGoPast, TargetsHaveTheirKind};
+ghost use Rattle.pearl_sound.specs.Laws.{CallsAreSound, ComponentsLieInTheirVariables, ExpressionsAreSound, HiddenCellsAreApart, LiteralsAreValues, NamesHaveTheirCells, NamesHaveTheirDevices, NamesNameOthers, NamesShareNoCells, OwnNamesAreNotHidden, RoutinesHaveCells, StatementsGoPast, TargetsHaveTheirKind};
 
 /// Behind some statements the counters stand at what comes behind the scopes, cells and formats of these.
 pub fn statements_go_past()
@@ -46,6 +46,11 @@ pub fn names_share_no_cells()
 /// Two names of the module don't name the same leaf, semaphore or task, nor the same place among the procedures' numbers.
 pub fn names_name_others()
     ensures { NamesNameOthers }
+{}
+
+/// The number of an interrupt's or a dation's name is that of a device which is specified under it, where one is.
+pub fn names_have_their_devices()
+    ensures { NamesHaveTheirDevices }
 {}
 
 /// A component's leaves and slots lie among those of its variable where its place in the structure says.
