@@ -67,7 +67,7 @@ fn note(numbers: &mut Vec<Option<usize>>, instruction: u64, number: usize)
 fn none_stated(alloc: Global, count: usize) -> Result<Vec<Option<usize>>, NoMemory>
     ensures { IfOk result (λ numbers. AreNone count numbers.items) }
 {
-    let mut numbers = Vec::new(alloc);
+    let mut numbers = Vec::with_capacity(alloc, count)?;
     'instructions: for _ in 0..count {
         numbers.push(None)?;
     }

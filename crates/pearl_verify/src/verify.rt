@@ -14,17 +14,20 @@ use pearl_instructions::object::{Code, Object};
 use pearl_value::listing::Listing;
 use std::alloc::{AllocError as NoMemory, Global};
 use std::marker::Model;
+use thiserror::Error;
 
 /// Why there is no valid object.
-#[derive(Clone, Copy, PartialEq, Eq, Debug)]
+#[derive(Clone, Copy, PartialEq, Eq, Debug, Error)]
 pub enum VerifyFault {
     /// The least routine, instruction and rule that fails. Routines are numbered with the procedures first; a rule on a
     /// whole routine is told behind its last instruction.
+    #[error("Unsound")]
     Unsound {
         routine: u32,
         instruction: u64,
         rule: u8,
     },
+    #[error("NoMemory")]
     NoMemory,
 }
 
@@ -127,8 +130,12 @@ fn judge_all(alloc: Global, object: &Object, counts: &[usize]) -> Result<(), Ver
     Ok(())
 }
 
-/// The same object as a valid one, or the least routine, instruction and rule that fails. What it takes grows with the
-/// object as written, but that at each jump the kinds of all operands are compared with those where it goes.
+/// The same object as a valid one, or the least routine, instruction and rule that fails.
+///
+/// What it takes grows with the object as written, but for two products. For each target of a jump the kinds of all
+/// operands are compared with those stated there: a routine may take the product of its targets and its longest stated
+/// shape, whatever depth it states. In a valid one a shape has at most 4,096 kinds. And each PUT and GET looks through its
+/// format, up to 1,025 items that take no value and 65 that take one.
 ///
 /// An object with more routines than a 32-bit number counts is answered as want of memory.
 pub fn verify(alloc: Global, object: Object) -> Result<Valid, VerifyFault>
