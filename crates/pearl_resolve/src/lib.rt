@@ -9,4 +9,5 @@ mod making;
 mod module_names;
 pub mod numbered;
 pub mod numbers;
+pub mod schedule;
 mod walk;
