@@ -10,4 +10,5 @@ mod module_names;
 pub mod numbered;
 pub mod numbers;
 pub mod schedule;
+pub mod simple;
 mod walk;
