@@ -6,3 +6,4 @@ pub mod Numbering
 pub mod PlainNodes
 pub mod Reached
 pub mod Sizes
+pub mod StatementParts

@@ -9,4 +9,6 @@ mod making;
 mod module_names;
 pub mod numbered;
 pub mod numbers;
+pub mod schedule;
+pub mod simple;
 mod walk;
