@@ -1,0 +1,8 @@
+-- how a scope's variables lie in leaves and cells, and what their INIT puts into them
+pub mod Laying
+-- what a semaphore has at first
+pub mod Presets
+-- which device of the program a specified one is
+pub mod Devices
+-- which formats a module has: one for each PUT and GET, in the order of the text
+pub mod Formats
