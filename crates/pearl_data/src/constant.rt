@@ -91,13 +91,20 @@ fn boxed(alloc: Global, text: ArrayVec<u8, 255>) -> Result<Literal, AllocError>
     Ok(Literal::Chars(text))
 }
 
+fn blanks(alloc: Global, room: u8) -> Result<Literal, AllocError>
+    ensures { IfOk result (λ made. cell_of made ≡ blank_of (kinds.Chars room)) }
+{
+    let made = boxed(alloc, filled(&ArrayVec::new(), room))?;
+    Ok(made)
+}
+
 // A text with blanks on the right. One that is longer than there is room for is blanks.
 fn chars_in(alloc: Global, room: u8, text: &ArrayVec<u8, 255>) -> Result<Literal, AllocError>
     ensures { IfOk result (λ made. cell_of made ≡
         (if nat_le (length text.now.items) room then Chars (record { items = filled_to room text.now.items }) else blank_of (kinds.Chars room))) }
 {
     if text.len() > usize::from(room) {
-        let made = boxed(alloc, filled(&ArrayVec::new(), room))?;
+        let made = blanks(alloc, room)?;
         return Ok(made);
     }
     let made = boxed(alloc, filled(text, room))?;
@@ -144,13 +151,6 @@ fn bits_constant(room: u8, constant: &Const) -> Result<Literal, AllocError>
             value: 0,
         }),
     }
-}
-
-fn blanks(alloc: Global, room: u8) -> Result<Literal, AllocError>
-    ensures { IfOk result (λ made. cell_of made ≡ blank_of (kinds.Chars room)) }
-{
-    let made = boxed(alloc, filled(&ArrayVec::new(), room))?;
-    Ok(made)
 }
 
 fn chars_constant(alloc: Global, room: u8, constant: &Const) -> Result<Literal, AllocError>
@@ -223,7 +223,11 @@ fn span_constant(constant: &Const) -> Result<Literal, AllocError>
 
 /// A constant as a value of a kind. One that doesn't fit is what is unset of the kind, and a value beyond all kinds counts
 /// as want of memory.
-pub fn constant_in(alloc: Global, kind: Kind, constant: &Const) -> Result<Literal, AllocError>
+pub(crate) fn constant_in(
+    alloc: Global,
+    kind: Kind,
+    constant: &Const,
+) -> Result<Literal, AllocError>
     ensures { IfOk result (λ made. cell_of made ≡ spec.constant_in kind (shown_const constant.now)) }
 {
     match kind {

@@ -9,7 +9,7 @@ use pearl_names::sense::Bounds;
 use std::alloc::AllocError;
 
 /// A count that is not cut off. Too large a one counts as want of memory.
-pub(crate) fn whole(count: u32) -> Result<u32, AllocError>
+pub fn whole(count: u32) -> Result<u32, AllocError>
     ensures { IfOk result (λ found. (n : ℕ) → count ≡ cut n → found ≡ n) }
 {
     if count < 1 << 31 {
@@ -20,7 +20,7 @@ pub(crate) fn whole(count: u32) -> Result<u32, AllocError>
 }
 
 /// A sum of counts. Too large a one counts as want of memory.
-pub(crate) fn sum(a: u32, b: u32) -> Result<u32, AllocError>
+pub fn sum(a: u32, b: u32) -> Result<u32, AllocError>
     ensures { IfOk result (λ sum. sum ≡ a + b) }
 {
     match a.checked_add(b) {
@@ -30,7 +30,7 @@ pub(crate) fn sum(a: u32, b: u32) -> Result<u32, AllocError>
 }
 
 /// A product of counts. Too large a one counts as want of memory.
-pub(crate) fn product(a: u32, b: u32) -> Result<u32, AllocError>
+pub fn product(a: u32, b: u32) -> Result<u32, AllocError>
     ensures { IfOk result (λ product. product ≡ a * b) }
 {
     match a.checked_mul(b) {

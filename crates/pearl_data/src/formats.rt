@@ -126,14 +126,8 @@ fn add_stmt(alloc: Global, stmt: &Stmt, into: &mut Vec<Listing<Item>>) -> Result
             add_stmts(alloc, &part.body.statements, into)?;
             Ok(())
         }
-        Stmt::Put(part) => {
-            add_format(alloc, part.formats.as_slice(), into)?;
-            Ok(())
-        }
-        Stmt::Get(part) => {
-            add_format(alloc, part.formats.as_slice(), into)?;
-            Ok(())
-        }
+        Stmt::Put(part) => add_format(alloc, part.formats.as_slice(), into),
+        Stmt::Get(part) => add_format(alloc, part.formats.as_slice(), into),
         Stmt::Empty { .. } => Ok(()),
         Stmt::Assign(_) => Ok(()),
         Stmt::Call(_) => Ok(()),

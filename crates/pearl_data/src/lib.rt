@@ -2,7 +2,7 @@
 #![tactic(auto)]
 
 mod constant;
-mod counts;
+pub mod counts;
 pub mod devices;
 pub mod formats;
 pub mod leaves;
