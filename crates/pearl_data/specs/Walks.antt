@@ -27,7 +27,7 @@ pub record HasLeft (forms : List StructForm) (frame : Frame) (path : List (List 
   pub counted : frame.count ≡ elements bounds
   pub is : leaves ≡ leaves_of_fields path bounds (drop_fields frame.next fields)
 
--- the name of a variable's STRUCT is the beginning of a text
+-- a text begins with the name that these names lead to, which has so many bytes
 pub record Begins (base : List ℕ) (bytes : ℕ) (path : List (List ℕ)) (text : List ℕ) : Type 0 where
   pub behind : List ℕ
   pub is : text ≡ path_name base path ++ behind

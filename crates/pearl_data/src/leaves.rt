@@ -19,7 +19,7 @@ use pearl_tree::literal::Const;
 use pearl_value::listing::Listing;
 use std::alloc::{AllocError, Global};
 
-/// More leaves than a variable may have.
+// More leaves than a variable may have.
 const TOO_MANY: u32 = 65_537;
 
 fn leaf_of(
