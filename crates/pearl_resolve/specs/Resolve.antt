@@ -4,42 +4,25 @@ use Rattle.std.specs.Prelude.{ℕ, zero, suc, ◌+◌, nat_eq, Bool, true, List,
 use Rattle.std.specs.List.{flat_map, sum_by, position}
 use Rattle.std.specs.Option.{option_and_then}
 use Rattle.pearl_value.specs.declared.kind.Kind.{Kind}
-use Rattle.pearl_value.specs.declared.kind.Kind.TheVariants as kind
-use Rattle.pearl_format.specs.declared.item.Item.{Item}
-use Rattle.pearl_format.specs.declared.item.ItemCode.{ItemCode}
-use Rattle.pearl_format.specs.declared.item.ItemCode.TheVariants as code
 use Rattle.pearl_tree.specs.declared.name.Name.{Name}
-use Rattle.pearl_tree.specs.declared.name.Number.{Number}
-use Rattle.pearl_tree.specs.declared.format.FreeCode.{FreeCode}
-use Rattle.pearl_tree.specs.declared.format.FreeCode.TheVariants as free
-use Rattle.pearl_tree.specs.declared.format.WideCode.{WideCode}
-use Rattle.pearl_tree.specs.declared.format.WideCode.TheVariants as wide
-use Rattle.pearl_tree.specs.declared.format.Fmt.{Fmt}
-use Rattle.pearl_tree.specs.declared.format.Fmt.TheVariants.{Free, Wide}
 use Rattle.pearl_tree.specs.declared.declaration.Prio.{Prio}
-use Rattle.pearl_tree.specs.declared.declaration.Direction.{Direction as Written}
-use Rattle.pearl_tree.specs.declared.declaration.Direction.TheVariants as written
 use Rattle.pearl_tree.specs.declared.typing.Basic.{Basic}
 use Rattle.pearl_tree.specs.declared.tree.TaskHead.{TaskHead}
 use Rattle.pearl_tree.specs.declared.tree.TaskHead.TheVariants.{PrioFirst, MainFirst}
 use Rattle.pearl_tree.specs.Names.{name_text, names_of}
 use Rattle.pearl_tree.specs.ShownLiterals.{ShownConst}
 use Rattle.pearl_tree.specs.ShownDeclarations.{ShownDeclared, OfItem, OfSema, ShownParam}
-use Rattle.pearl_tree.specs.ShownStatements.{ShownStmt, OfIf, OfCase, OfRepeat, OfBegin, OfPut, OfGet, ShownStmts, NoStmts, MoreStmts, ShownBranches, NoBranches, MoreBranches, ShownOtherwise, NoOtherwise, OfOtherwise}
 use Rattle.pearl_tree.specs.ShownModules.{ShownBody, ShownDecl, OfDeclare, OfTask, OfProc, ShownTree}
 use Rattle.pearl_names.specs.declared.length.DefaultLength.{DefaultLength}
 use Rattle.pearl_names.specs.declared.scope.View.TheVariants.{Within}
 use Rattle.pearl_names.specs.Lengths.{kind_of_basic}
 use Rattle.pearl_names.specs.Scopes.{as_stmts}
 use Rattle.pearl_names.specs.Tables.{Table}
-use Rattle.pearl_system.specs.declared.device.Role.{Role}
-use Rattle.pearl_system.specs.declared.device.Role.TheVariants as role
 use Rattle.pearl_system.specs.declared.device.SpecifiedDevice.{SpecifiedDevice}
-use Rattle.pearl_program.specs.declared.table.Direction.{Direction}
-use Rattle.pearl_program.specs.declared.table.Direction.TheVariants.{In, Out, InOut}
-use Rattle.pearl_program.specs.declared.table.Device.{Device}
-use Rattle.pearl_program.specs.declared.table.Device.TheVariants as device
 use Rattle.pearl_program.specs.PlainPrograms.{PlainLeaf, PlainRoutine, PlainProcedure, PlainTask, PlainProg}
+pub use Rattle.pearl_data.specs.Presets.{presets, declared_presets, decl_presets}
+pub use Rattle.pearl_data.specs.Devices.{direction_of, kind_or_short, device_of}
+pub use Rattle.pearl_data.specs.Formats.{free_code, wide_code, width_of, item_of, formats_in, formats_in_all, formats_in_branches, formats_in_otherwise, decl_formats}
 use Rattle.pearl_resolve.specs.Laying.{leaves_of_sense, left_behind, filled_leaves}
 use Rattle.pearl_resolve.specs.Numbers.{At, in_body, after_decl, first, numbers_of}
 use Rattle.pearl_resolve.specs.Expressions.{Numbered, Meant, meant}
@@ -64,89 +47,6 @@ declared_leaves numbered (OfSema sema) = []
 abbrev pub decl_leaves : Numbered → ShownDecl → List PlainLeaf
 decl_leaves numbered (OfDeclare declared place) = flat_map (declared_leaves numbered) declared
 decl_leaves numbered decl = []
-
--- semaphores: a name without a number in PRESET has 0
-abbrev pub presets : List Name → List Number → List ℕ
-presets [] numbers = []
-presets (name ∷ names) [] = 0 ∷ presets names []
-presets (name ∷ names) (number ∷ numbers) = number.value ∷ presets names numbers
-
-abbrev pub declared_presets : ShownDeclared → List ℕ
-declared_presets (OfItem item) = []
-declared_presets (OfSema sema) = presets (names_of sema.names) sema.preset
-
-abbrev pub decl_presets : ShownDecl → List ℕ
-decl_presets (OfDeclare declared place) = flat_map declared_presets declared
-decl_presets decl = []
-
--- devices
-abbrev pub direction_of : Written → Direction
-direction_of written.In = In
-direction_of written.Out = Out
-direction_of written.InOut = InOut
-
-abbrev pub kind_or_short : Option Kind → Kind
-kind_or_short known = unwrap_or known (kind.Fixed 31)
-
-abbrev pub device_of : List DefaultLength → SpecifiedDevice → Device
-device_of lengths specified = of specified.role
-  where
-    of : Role → Device
-    of role.Interrupt = device.Interrupt specified.number
-    of (role.Terminal direction) = device.Terminal specified.number (direction_of direction)
-    of (role.Input basic) = device.Input specified.number (kind_or_short (kind_of_basic lengths basic))
-    of (role.Output basic) = device.Output specified.number (kind_or_short (kind_of_basic lengths basic))
-
--- formats: one for each PUT and GET, in the order of the text
-abbrev pub free_code : FreeCode → ItemCode
-free_code free.A = code.A
-free_code free.B = code.B1
-free_code free.B1 = code.B1
-free_code free.B2 = code.B2
-free_code free.B3 = code.B3
-free_code free.B4 = code.B4
-free_code free.X = code.X
-free_code free.Skip = code.Skip
-
-abbrev pub wide_code : WideCode → ItemCode
-wide_code wide.F = code.F
-wide_code wide.T = code.T
-wide_code wide.D = code.D
-
-abbrev pub width_of : Option Number → ℕ
-width_of None = 0
-width_of (Some number) = number.value
-
-abbrev pub item_of : Fmt → Item
-item_of (Free word width place) = record { code = free_code word; width = width_of width }
-item_of (Wide word width place) = record { code = wide_code word; width = width.value }
-
-abbrev mutual
-  pub formats_in : ShownStmt → List (List Item)
-  formats_in (OfIf condition statements otherwise place) = formats_in_all statements ++ formats_in_otherwise otherwise
-  formats_in (OfCase selector alternatives otherwise place) = formats_in_branches alternatives ++ formats_in_otherwise otherwise
-  formats_in (OfRepeat control begin step end condition declarations statements body_place place) = formats_in_all statements
-  formats_in (OfBegin declarations statements body_place place) = formats_in_all statements
-  formats_in (OfPut values dation formats place) = map item_of formats ∷ []
-  formats_in (OfGet targets dation formats place) = map item_of formats ∷ []
-  formats_in statement = []
-
-  pub formats_in_all : ShownStmts → List (List Item)
-  formats_in_all NoStmts = []
-  formats_in_all (MoreStmts statement rest) = formats_in statement ++ formats_in_all rest
-
-  pub formats_in_branches : ShownBranches → List (List Item)
-  formats_in_branches NoBranches = []
-  formats_in_branches (MoreBranches statements place rest) = formats_in_all statements ++ formats_in_branches rest
-
-  pub formats_in_otherwise : ShownOtherwise → List (List Item)
-  formats_in_otherwise NoOtherwise = []
-  formats_in_otherwise (OfOtherwise statements place) = formats_in_all statements
-
-abbrev pub decl_formats : ShownDecl → List (List Item)
-decl_formats (OfTask name head body place) = formats_in_all (as_stmts body.statements)
-decl_formats (OfProc name params returns body place) = formats_in_all (as_stmts body.statements)
-decl_formats decl = []
 
 -- routines
 abbrev pub resolve_routine : Numbered → At → ShownBody → PlainRoutine
