@@ -1,5 +1,5 @@
 -- The row of ACTIVATE, by the values that lie for it.
-use Rattle.std.proofs.Common.{◌≡◌, ℕ, ◌≤◌, ℤ, pos, List, [], ◌∷◌, Option, Some, None, Ok, Err, length, reverse, take, drop, refl, sym, ap, ◌∙◌, subst, arith, Bool, true, false, leb-true}
+use Rattle.std.proofs.Common.{◌≡◌, ℕ, ◌≤◌, ℤ, pos, List, [], ◌∷◌, Option, Some, None, Ok, Err, length, reverse, take, drop, refl, sym, ap, ◌∙◌, subst, Bool, true, false, leb-true}
 use Rattle.std.specs.Prelude.{◌&&◌, nat_le, int_le, unsigned_abs, if◌then◌else◌, IsSome, Result}
 use Rattle.std.proofs.lemmas.Option.{same_Some}
 use Rattle.pearl_value.specs.declared.cell.Cell.{Cell}
@@ -19,7 +19,7 @@ use Rattle.pearl_instructions.specs.declared.schedule.RepeatForm.TheVariants as 
 use Rattle.pearl_instructions.specs.declared.schedule.StartForm.{StartForm}
 use Rattle.pearl_instructions.specs.declared.schedule.StartForm.TheVariants as form
 use Rattle.pearl_instructions.specs.Offers.{start_kinds, repeat_kinds, activation_count, started, repeated, with_priority, activate}
-use Rattle.pearl_instructions.specs.Steps.{Step, Offers, needed, traps, acts}
+use Rattle.pearl_instructions.specs.Steps.{Step, needed, traps, acts}
 use Rattle.pearl_solo.specs.declared.stepped.Stepped.{Stepped}
 use Rattle.pearl_solo.specs.declared.stepped.Stepped.TheVariants as stepped
 use Rattle.pearl_solo.specs.Plans.{begins_with, if_lasting, repeats_with, urgent_with, then_told, activation_of}

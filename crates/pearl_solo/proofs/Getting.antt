@@ -1,5 +1,5 @@
 -- The operands and cells that are read in a row.
-use Rattle.std.proofs.Common.{◌≡◌, ℕ, zero, suc, ◌+◌, ◌-◌, ◌<◌, ◌≤◌, List, [], ◌∷◌, ◌++◌, Option, Some, None, length, reverse, take, drop, slice_get, refl, sym, ap, ◌∙◌, subst, arith, Bool, true, false, leb-true}
+use Rattle.std.proofs.Common.{◌≡◌, ℕ, zero, suc, ◌+◌, ◌<◌, ◌≤◌, List, [], ◌∷◌, ◌++◌, Option, Some, None, length, reverse, take, drop, slice_get, refl, sym, ap, ◌∙◌, subst, arith, Bool, true, false, leb-true}
 use Rattle.std.specs.Prelude.{nat_le, if◌then◌else◌, option_map, option_and_then, IsSome}
 use Rattle.std.proofs.lemmas.List.{reverse-append}
 use Rattle.std.proofs.lemmas.Option.{same_Some}

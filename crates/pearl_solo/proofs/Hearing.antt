@@ -32,11 +32,11 @@ use Rattle.pearl_instructions.specs.Offers.{as_start, start_or_free, start_kinds
 use Rattle.pearl_instructions.specs.Rows.{act, own_task, after}
 use Rattle.pearl_instructions.specs.Flow.{loop_cells, returned, returns, jump_zero, branch, target_of, goes_or_on}
 use Rattle.pearl_instructions.specs.Cells.{load, store, cell_reference, read_reference, write_reference}
-use Rattle.pearl_instructions.specs.Steps.{Step, Silent, Offers, Missing, given, needed, popped, taken, value_kind, traps, makes, within, heard, next}
+use Rattle.pearl_instructions.specs.Steps.{Step, Silent, Missing, given, needed, popped, taken, value_kind, traps, makes, within, heard, next}
 use Rattle.pearl_solo.specs.Answered.{CanHear, taken_of, count_or_none}
 
 -- this is so after each answer that suits
-abbrev Heard : Object → ℕ → (Answer → List Frame → Type 0) → Step → Type 0
+abbrev pub Heard : Object → ℕ → (Answer → List Frame → Type 0) → Step → Type 0
 Heard o own P step = (answer : Answer) → CanHear o own step answer → P answer (after step answer)
 
 module _ (o : Object) (own : ℕ) (P : Answer → List Frame → Type 0) where
@@ -176,7 +176,7 @@ module _ (o : Object) (own : ℕ) (P : Answer → List Frame → Type 0) (f : Fr
 
 -- an action after whose answer n operands are off
 
-abbrev GoesOn : ℕ → Frame → List Frame → Answer → List Frame → Type 0
+abbrev pub GoesOn : ℕ → Frame → List Frame → Answer → List Frame → Type 0
 GoesOn n f lower answer frames = (frames ≡ next f (drop n f.operands) ∷ lower) × (n ≤ length f.operands)
 
 off : (n : ℕ) (f : Frame) (lower : List Frame) (left : List Cell) → (left ≡ drop n f.operands) × (n ≤ length f.operands) → (answer : Answer) → GoesOn n f lower answer (next f left ∷ lower)
@@ -269,7 +269,7 @@ module _ (o : Object) (f : Frame) (lower : List Frame) where
 
 -- an action whose answer takes the place of n operands
 
-abbrev TakesUp : ℕ → Frame → List Frame → Answer → List Frame → Type 0
+abbrev pub TakesUp : ℕ → Frame → List Frame → Answer → List Frame → Type 0
 TakesUp n f lower answer frames = (frames ≡ next f (heard answer ∷ drop n f.operands) ∷ lower) × (n ≤ length f.operands)
 
 up : (n : ℕ) (f : Frame) (lower : List Frame) (left : List Cell) → (left ≡ drop n f.operands) × (n ≤ length f.operands) → (answer : Answer) →

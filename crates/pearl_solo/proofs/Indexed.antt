@@ -1,5 +1,5 @@
 -- The offset of an element of an array.
-use Rattle.std.proofs.Common.{◌≡◌, ℕ, zero, suc, ◌+◌, ◌*◌, ◌<◌, ◌≤◌, ℤ, pos, negsuc, ◌+ℤ◌, ◌-ℤ◌, ◌*ℤ◌, List, [], ◌∷◌, Option, Some, None, length, reverse, take, drop, refl, sym, ap, ◌∙◌, subst, arith, Bool, true, false, leb-true}
+use Rattle.std.proofs.Common.{◌≡◌, ℕ, suc, ◌+◌, ◌*◌, ◌<◌, ◌≤◌, ℤ, pos, negsuc, ◌+ℤ◌, ◌-ℤ◌, ◌*ℤ◌, List, [], ◌∷◌, Option, Some, None, length, reverse, take, drop, refl, sym, ap, ◌∙◌, subst, arith, Bool, true, false, leb-true}
 use Rattle.std.specs.Prelude.{◌&&◌, nat_le, int_le, unsigned_abs, if◌then◌else◌, option_map, option_and_then, IsSome}
 use Rattle.std.specs.List.{list_all}
 use Rattle.std.proofs.lemmas.Int.{ints}
@@ -8,7 +8,7 @@ use native.Mathlib.Nat.{mul_assoc, mul-le-mul}
 use Rattle.pearl_value.specs.declared.cell.Cell.{Cell}
 use Rattle.pearl_stack.specs.Frames.{Frame, top_operands}
 use Rattle.pearl_instructions.specs.declared.instr.Bounds.{Bounds}
-use Rattle.pearl_instructions.specs.Steps.{given, needed, taken, makes}
+use Rattle.pearl_instructions.specs.Steps.{given, needed, makes}
 use Rattle.pearl_instructions.specs.Operators.{number_of, numbers_of, offset_of, index, index_of}
 use Rattle.pearl_instructions.specs.Valid.{extent, elements, is_array}
 use Rattle.pearl_solo.specs.Indices.{distance_of, distance_at, offset_among}

@@ -27,3 +27,4 @@ mod Getting
 mod Hearing
 mod Small
 mod Settling
+mod Answering

@@ -1,12 +1,11 @@
 -- Values that suit a format.
-use Rattle.std.proofs.Common.{◌≡◌, ℕ, zero, suc, ◌+◌, ◌<◌, ◌≤◌, ◌^◌, List, [], ◌∷◌, ◌++◌, Option, Some, None, length, map, reverse, take, drop, slice_get, refl, sym, ap, ◌∙◌, subst, arith, Bool, true, false, leb-true}
-use Rattle.std.specs.Prelude.{◌&&◌, nat_le, option_map, option_and_then, is_some, IsSome, IfSome, All}
+use Rattle.std.proofs.Common.{◌≡◌, ℕ, zero, suc, ◌+◌, ◌≤◌, List, [], ◌∷◌, Option, Some, None, length, map, reverse, take, drop, refl, sym, ap, ◌∙◌, subst, arith, Bool, true, false, leb-true}
+use Rattle.std.specs.Prelude.{◌&&◌, nat_le, option_map, option_and_then}
 use Rattle.std.specs.List.{AllByRecursion, AllZip}
 use Rattle.std.proofs.lemmas.List.Elements.{All-from_recursion}
 use Rattle.std.proofs.lemmas.Option.{same_Some}
 use Rattle.pearl_value.specs.declared.kind.Kind.{Kind}
 use Rattle.pearl_value.specs.declared.kind.Kind.TheVariants as kind
-use Rattle.pearl_value.specs.declared.kind.CellKind.{CellKind}
 use Rattle.pearl_value.specs.declared.kind.CellKind.TheVariants.{Plain, RefTo}
 use Rattle.pearl_value.specs.declared.cell.Cell.{Cell}
 use Rattle.pearl_value.specs.declared.cell.Cell.TheVariants.{Fixed, Bits, Chars, Clock, Span, Ref}
@@ -22,15 +21,14 @@ use Rattle.pearl_rules.specs.declared.action.Answer.{Answer}
 use Rattle.pearl_format.specs.Texts.{text_of}
 use Rattle.pearl_stack.specs.Frames.{Frame, top_operands}
 use Rattle.pearl_instructions.specs.declared.object.Object.{Object}
-use Rattle.pearl_instructions.specs.Kinds.{plain_kind}
 use Rattle.pearl_instructions.specs.Objects.{items_at}
 use Rattle.pearl_instructions.specs.Offers.{takes_kind, item_suits, items_suit, value_kinds, put_text, put_values}
 use Rattle.pearl_instructions.specs.Operands.{Shape}
 use Rattle.pearl_instructions.specs.Stacks.{Suits as SuitsCell}
-use Rattle.pearl_instructions.specs.Steps.{Step, Offers, given, needed, taken, value_kind}
+use Rattle.pearl_instructions.specs.Steps.{Offers, given, needed, taken, value_kind}
 use Rattle.pearl_instructions.specs.Valid.{plain_kinds, suits_format, values_suit}
-use Rattle.pearl_solo.specs.Steps.{on_top, Applies, IsFormed}
-use Rattle.pearl_solo.specs.Texts.{HasText, MakesText}
+use Rattle.pearl_solo.specs.Steps.{on_top, Applies}
+use Rattle.pearl_solo.specs.Texts.{MakesText}
 use Rattle.pearl_solo.proofs.Applied.{given_some, needed_true}
 use Rattle.pearl_solo.proofs.Stands.{all_of}
 use mathlib.Core.List.{reverse_aux}

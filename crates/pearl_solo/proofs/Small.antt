@@ -1,6 +1,6 @@
 -- Numbers that an instruction names are small, and what it stands on besides.
-use Rattle.std.proofs.Common.{◌≡◌, ℕ, zero, suc, ◌+◌, ◌<◌, ◌≤◌, ◌^◌, List, [], ◌∷◌, Option, Some, None, length, take, reverse, slice_get, refl, sym, ap, ◌∙◌, subst, arith, Bool, true, false, ltb-true, leb-true, Box, Global}
-use Rattle.std.specs.Prelude.{◌&&◌, nat_lt, nat_le, is_some, option_and_then, IfSome}
+use Rattle.std.proofs.Common.{◌≡◌, ℕ, ◌<◌, ◌≤◌, ◌^◌, List, [], ◌∷◌, Option, Some, None, length, slice_get, refl, sym, ap, ◌∙◌, subst, arith, Bool, true, false, ltb-true, leb-true, Box, Global}
+use Rattle.std.specs.Prelude.{◌&&◌, nat_lt, nat_le, is_some, IfSome}
 use Rattle.std.specs.List.{AllByRecursion, list_all}
 use Rattle.std.proofs.lemmas.Option.{same_Some, slice_get_within}
 use Rattle.pearl_format.specs.Items.{data_count}
@@ -13,12 +13,12 @@ use Rattle.pearl_instructions.specs.declared.instr.Instr.TheVariants.{Put, Get}
 use Rattle.pearl_instructions.specs.declared.instr.Reading.{Reading}
 use Rattle.pearl_instructions.specs.declared.object.Object.{Object}
 use Rattle.pearl_instructions.specs.Lawful.{IsObject}
-use Rattle.pearl_instructions.specs.Named.{v1, get_cells, read_cells, gives_texts, has_read_cells, takes_texts}
+use Rattle.pearl_instructions.specs.Named.{v1, read_cells, gives_texts, has_read_cells, takes_texts}
 use Rattle.pearl_instructions.specs.Objects.{items_at}
 use Rattle.pearl_instructions.specs.Offers.{put_values}
 use Rattle.pearl_instructions.specs.Rows.{lowest}
 use Rattle.pearl_instructions.specs.Stacks.{Below, IsStack, routines_of}
-use Rattle.pearl_instructions.specs.Valid.{v12, plain_kinds, suits_format, values_suit, cells_suit}
+use Rattle.pearl_instructions.specs.Valid.{v12, plain_kinds, cells_suit}
 use Rattle.pearl_solo.specs.Owners.{lowest_of}
 use Rattle.pearl_solo.specs.Standing.{act_on, StandsAt}
 use Rattle.pearl_solo.specs.Steps.{on_top, Applies}

@@ -4,7 +4,6 @@ use Rattle.pearl_stack.specs.declared.stack.Frame as size
 use Rattle.pearl_stack.specs.Frames.{Stack}
 use Rattle.pearl_instructions.specs.declared.instr.Instr.{Instr}
 use Rattle.pearl_instructions.specs.declared.object.Object.{Object}
-use Rattle.pearl_instructions.specs.Lawful.{IsInstr}
 use Rattle.pearl_solo.specs.declared.stepped.Stepped.{Stepped}
 use Rattle.pearl_solo.specs.Steps.{Does, Applies}
 use Rattle.pearl_solo.specs.Standing.{act_on, StandsAt}

@@ -1,5 +1,5 @@
 -- A stack of a valid object stands at an instruction, and what a step leaves is again such a stack.
-use Rattle.std.proofs.Common.{◌≡◌, ℕ, zero, suc, ◌+◌, ◌-◌, ◌<◌, ◌≤◌, ◌^◌, List, [], ◌∷◌, ◌++◌, Option, Some, None, length, map, slice_get, refl, sym, ap, ◌∙◌, subst, arith, Bool, true, false, eqb, eq-eqb}
+use Rattle.std.proofs.Common.{◌≡◌, ℕ, zero, suc, ◌+◌, ◌<◌, ◌≤◌, ◌^◌, List, [], ◌∷◌, ◌++◌, Option, Some, None, length, map, slice_get, refl, sym, ap, ◌∙◌, subst, arith, Bool, true, false, eqb, eq-eqb}
 use Rattle.std.specs.Prelude.{IsSome, option_map, option_and_then}
 use Rattle.std.specs.List.{AllByRecursion, AllZip}
 use Rattle.std.proofs.lemmas.Option.{same_Some}
@@ -7,31 +7,25 @@ use Rattle.pearl_value.specs.declared.kind.CellKind.{CellKind}
 use Rattle.pearl_value.specs.declared.kind.CellKind.TheVariants.{Plain, RefTo}
 use Rattle.pearl_value.specs.declared.cell.Cell.{Cell}
 use Rattle.pearl_value.specs.declared.cell.Cell.TheVariants.{Fixed, Bits, Chars, Clock, Span, Ref}
-use Rattle.pearl_rules.specs.declared.action.Action.{Action}
-use Rattle.pearl_rules.specs.declared.action.Answer.{Answer}
 use Rattle.pearl_stack.specs.declared.stack.Frame as size
-use Rattle.pearl_stack.specs.Frames.{Frame, Stack, frame_at, sizes, used, top_operands}
+use Rattle.pearl_stack.specs.Frames.{Frame, Stack, frame_at, sizes, used}
 use Rattle.pearl_instructions.specs.declared.instr.Instr.{Instr}
 use Rattle.pearl_instructions.specs.declared.object.Code.{Code}
-use Rattle.pearl_instructions.specs.declared.object.Procedure.{Procedure}
-use Rattle.pearl_instructions.specs.declared.object.Task.{Task}
 use Rattle.pearl_instructions.specs.declared.object.Object.{Object}
-use Rattle.pearl_instructions.specs.Actions.{IsOffered}
 use Rattle.pearl_instructions.specs.Objects.{routines, routine_at}
 use Rattle.pearl_instructions.specs.Kinds.{v3, v4, v5, shape_after}
-use Rattle.pearl_instructions.specs.Lawful.{IsInstr, IsCode, IsProcedure, IsTask, IsObject}
-use Rattle.pearl_instructions.specs.Laws.{Leads, HasTask, KeepsTask, KeepsDepth, OffersWhatIsThere}
+use Rattle.pearl_instructions.specs.Lawful.{IsInstr, IsProcedure, IsTask, IsObject}
 use Rattle.pearl_instructions.specs.Named.{v1}
 use Rattle.pearl_instructions.specs.Operands.{Shape, asked, v2}
 use Rattle.pearl_instructions.specs.Owned.{IsOfTask, Moves, Afterwards}
 use Rattle.pearl_instructions.specs.Rows.{row, act, instr_at}
-use Rattle.pearl_instructions.specs.Stacks.{routines_of, Suits, IsTop, IsStack, Answers, Goes, task_of, depth_or_none, room}
+use Rattle.pearl_instructions.specs.Stacks.{routines_of, Suits, IsStack, Goes, task_of, depth_or_none, room}
 use Rattle.pearl_instructions.specs.Steps.{Step, Silent, Offers, Missing, given}
 use Rattle.pearl_instructions.specs.Valid.{shape_before, keep, judged, judged_at, unsound_in, v6, v7, v8, v10, v11, v12, IsValid}
 use Rattle.pearl_solo.specs.declared.stepped.Stepped.{Stepped}
 use Rattle.pearl_solo.specs.declared.stepped.Stepped.TheVariants as stepped
 use Rattle.pearl_solo.specs.Known.{Known}
-use Rattle.pearl_solo.specs.Steps.{Does, Applies, IsFormed, IsSizes, IsHere, top_cells}
+use Rattle.pearl_solo.specs.Steps.{Does, Applies, IsFormed, IsSizes, IsHere}
 use Rattle.pearl_solo.specs.Standing.{act_on, instr_of, StandsAt}
 
 -- the row is that of the instruction

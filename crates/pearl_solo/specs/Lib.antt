@@ -20,3 +20,5 @@ pub mod Indices
 pub mod Texts
 -- silent rows, one after the other, up to the row that offers an action
 pub mod Settling
+-- what the answer to an instruction's action stands on
+pub mod Hearing

@@ -21,7 +21,7 @@ use pearl_value::conversion::kind;
 use pearl_value::kind::Kind;
 
 // The items of a format.
-fn items_at(code: &Valid, format: u64) -> &[Item]
+pub fn items_at(code: &Valid, format: u64) -> &[Item]
     requires { IsSome (items_of code.now format) }
     ensures { items_of code.now format ≡ Some result.now }
 {
@@ -40,7 +40,7 @@ fn data_here(code: ItemCode) -> u32
 }
 
 // How many of the items take a value.
-fn data_count(items: &[Item]) -> u32
+pub fn data_count(items: &[Item]) -> u32
     requires { count_of items.now ≤ 64 }
     ensures { result ≡ count_of items.now }
 {

@@ -2,7 +2,7 @@
 #![tactic(auto)]
 
 mod advances;
-mod answers;
+pub mod answers;
 mod calls;
 mod cells;
 mod devices;

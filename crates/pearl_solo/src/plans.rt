@@ -64,7 +64,7 @@ fn start(stack: &Loaded, here: Frame, form: StartForm) -> Result<Start, Trap>
 }
 
 // A task goes on once.
-fn as_start(form: OnceForm) -> StartForm
+pub fn as_start(form: OnceForm) -> StartForm
     ensures { result ≡ as_start_of form }
 {
     match form {
@@ -100,7 +100,7 @@ fn continue_task(stack: &Loaded, here: Frame, task: u32, form: StartForm) -> Ste
     }
 }
 
-fn start_or_free(form: Option<OnceForm>) -> StartForm
+pub fn start_or_free(form: Option<OnceForm>) -> StartForm
     ensures { result ≡ start_or_free_of form }
 {
     match form {
@@ -214,7 +214,7 @@ fn urgency(given: bool, values: &[Cell]) -> Result<Option<u8>, Trap>
 }
 
 // How many values a start takes, and a repetition.
-fn start_count(form: StartForm) -> u32
+pub fn start_count(form: StartForm) -> u32
     ensures { result ≡ length (start_kinds form) }
 {
     match form {

@@ -1,4 +1,4 @@
-use Rattle.std.proofs.Common.{◌≡◌, List, Some, take, reverse, refl, sym, ap, ◌∙◌}
+use Rattle.std.proofs.Common.{◌≡◌, List, take, reverse, refl, sym, ap, ◌∙◌}
 use Rattle.pearl_value.specs.declared.cell.Cell.{Cell}
 use Rattle.pearl_format.specs.Items.{data_count}
 use Rattle.pearl_format.specs.Texts.{text_of}

@@ -1,7 +1,7 @@
-use Rattle.std.proofs.Common.{refl, ◌∙◌, arith}
+use Rattle.std.proofs.Common.{refl, ◌∙◌}
 use Rattle.pearl_instructions.specs.Objects.{routines}
 use Rattle.pearl_instructions.specs.Stacks.{all_rows}
-use Rattle.pearl_solo.proofs.Settling.{falls, run_begins, run_goes, run_ends}
+use Rattle.pearl_solo.proofs.Settling.{falls, run_begins, run_goes}
 use Rattle.pearl_solo.proofs.settle.settle.Goals as goal
 
 pub loop-action-init : goal.loop-action-init

@@ -1,4 +1,4 @@
-use Rattle.std.proofs.Common.{◌≡◌, ◌++◌, ◌-◌, ◌≤◌, length, take, reverse}
+use Rattle.std.proofs.Common.{◌≡◌, ◌++◌, ◌-◌, length, take, reverse}
 use Rattle.pearl_stack.specs.Frames.{top_operands}
 use Rattle.pearl_solo.proofs.top.top_values.Given as goal
 
