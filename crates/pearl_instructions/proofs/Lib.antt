@@ -24,3 +24,4 @@ mod ExampleTasks
 mod ExampleDevices
 mod ExampleRest
 mod Silence
+mod SlotTable

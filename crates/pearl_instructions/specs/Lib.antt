@@ -28,5 +28,7 @@ pub mod Actions
 pub mod Owned
 -- what is asked of each object, before any rule of the validator
 pub mod Lawful
+-- where the slots of an object's leaves begin
+pub mod Slots
 -- what holds of every valid object
 pub mod Laws

@@ -1,7 +1,8 @@
-// Instructions and objects of the whole language, and what each instruction does.
+// Instructions and objects of the whole language, what each instruction does, and valid objects.
 #![tactic(auto)]
 
 pub mod instr;
 pub mod laws;
 pub mod object;
 pub mod schedule;
+pub mod valid;

@@ -1,5 +1,5 @@
--- A leaf of an object, with the number of its first slot.
-use Rattle.std.specs.Prelude.{◌≡◌, ℕ, ◌+◌, ◌≤◌, Some, slice_get}
+-- Where the slots of an object's leaves begin.
+use Rattle.std.specs.Prelude.{◌≡◌, ℕ, ◌+◌, ◌≤◌, List, [], ◌∷◌, Some, slice_get}
 use Rattle.pearl_instructions.specs.declared.object.Leaf.{Leaf}
 use Rattle.pearl_instructions.specs.declared.object.Object.{Object}
 use Rattle.pearl_instructions.specs.Objects.{first_slot}
@@ -9,3 +9,8 @@ pub record IsLeafAt (o : Object) (v : ℕ) (leaf : Leaf) (first : ℕ) : Type 0 
   pub there : slice_get o.leaves v ≡ Some leaf
   pub number : first ≡ first_slot o.leaves v
   pub few : first + leaf.slots ≤ 65536
+
+-- the numbers of the leaves' first slots, that of the first leaf being given
+abbrev pub first_slots : ℕ → List Leaf → List ℕ
+first_slots first [] = []
+first_slots first (leaf ∷ leaves) = first ∷ first_slots (first + leaf.slots) leaves
