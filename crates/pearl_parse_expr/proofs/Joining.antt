@@ -48,7 +48,7 @@ module _ {X : Type 0} (spells : List Token → Spelling X) (is_local : IsLocal s
   each_after tokens from [] to h = omega (arith, h)
   each_after tokens from (x ∷ xs) to h = omega (arith, after tokens from x h.0 h.1, each_after tokens h.0 xs to h.2)
 
-  each_is_local : IsLocal (λ tokens. SpellsEach (spells tokens))
+  pub each_is_local : IsLocal (λ tokens. SpellsEach (spells tokens))
   each_is_local tokens others k alike from [] to h near = h
   each_is_local tokens others k alike from (x ∷ xs) to h near =
       (h.0, is_local tokens others k alike from x h.0 h.1 (omega (arith, each_after tokens h.0 xs to h.2)), each_is_local tokens others k alike h.0 xs to h.2 near)
@@ -64,11 +64,11 @@ module _ {X : Type 0} (spells : List Token → Spelling X) (is_local : IsLocal s
       let inside = after tokens (from + 1) x h.0 h.2 in
       (h.0, local.what tokens others k alike from (omega arith) ∙ h.1, is_local tokens others k alike (from + 1) x h.0 h.2 (omega arith), more_is_local tokens others k alike h.0 xs to h.3 near)
 
-  list_after : (tokens : List Token) (from : ℕ) (xs : List X) (to : ℕ) → SpellsList tokens (spells tokens) from xs to → from + length xs ≤ to
+  pub list_after : (tokens : List Token) (from : ℕ) (xs : List X) (to : ℕ) → SpellsList tokens (spells tokens) from xs to → from + length xs ≤ to
   list_after tokens from [] to h = absurd h
   list_after tokens from (x ∷ xs) to h = omega (arith, after tokens from x h.0 h.1, more_after tokens h.0 xs to h.2)
 
-  list_is_local : IsLocal (λ tokens. SpellsList tokens (spells tokens))
+  pub list_is_local : IsLocal (λ tokens. SpellsList tokens (spells tokens))
   list_is_local tokens others k alike from [] to h near = h
   list_is_local tokens others k alike from (x ∷ xs) to h near =
       (h.0, is_local tokens others k alike from x h.0 h.1 (omega (arith, more_after tokens h.0 xs to h.2)), more_is_local tokens others k alike h.0 xs to h.2 near)
@@ -162,7 +162,7 @@ name_of tokens k h =
     (record { text = n.0.text; place = at.0 }, (n.1, at.1))
 
 -- the reference that a name and selectors make
-named : (tokens : List Token) (depth from : ℕ) (xs : List Selector) (to : ℕ) → SpellsNamed tokens depth from xs to → length xs < 2 ^ 63 →
+pub named : (tokens : List Token) (depth from : ℕ) (xs : List Selector) (to : ℕ) → SpellsNamed tokens depth from xs to → length xs < 2 ^ 63 →
     (r : Ref) × SpellsRef tokens depth from r to
 named tokens depth from xs to h few =
     let n = name_of tokens from h.0 in

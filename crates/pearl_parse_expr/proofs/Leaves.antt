@@ -1,6 +1,5 @@
 -- Names, TRY, components and durations that go on as far as a stop.
 use Rattle.std.proofs.Common.{ℕ, ◌+◌, ◌≤◌, List, [], ◌∷◌, length, Option, Some, refl, ap, ◌∙◌, arith}
-use Rattle.std.specs.Option.{option_map}
 use Rattle.pearl_tree.specs.declared.name.Number.{Number}
 use Rattle.pearl_tree.specs.declared.literal.Secs.{Secs}
 use Rattle.pearl_tree.specs.declared.literal.Secs.TheVariants as secs
@@ -16,9 +15,9 @@ use Rattle.pearl_tables.specs.declared.symbol.TheConstants as s
 use Rattle.pearl_tables.specs.declared.word_code.TheConstants as w
 use Rattle.pearl_parse_expr.specs.Stops.{SpellsNamed, is_name}
 use Rattle.pearl_parse_expr.specs.Least.{Reaches}
-use Rattle.pearl_parse_expr.proofs.Ids.{x_name, x_token, x_stands, x_lawful}
+use Rattle.pearl_parse_expr.proofs.Ids.{x_name, x_token, x_lawful}
 use Rattle.pearl_parse_expr.proofs.Local as local
-use Rattle.pearl_parse_expr.proofs.Reaching.{begun, begun_second, completed, reaches_as, one_lawful, none_lawful, placed, token_of, stands, stands_at}
+use Rattle.pearl_parse_expr.proofs.Reaching.{begun, completed, reaches_as, one_lawful, none_lawful, placed, token_of, what_stands, place_stands}
 use Rattle.pearl_parse_expr.proofs.Trees.{boxed}
 
 -- "." with no name behind it
@@ -30,7 +29,7 @@ component_reaches tokens depth from period within =
     (λ alike. (
       local.place tokens (begun tokens (from + 1) (x_token ∷ [])) (from + 1) alike from (omega arith) ∙ at.1,
       local.what tokens (begun tokens (from + 1) (x_token ∷ [])) (from + 1) alike from (omega arith) ∙ period,
-      x_stands tokens (from + 1) [] within,
+      (what_stands tokens (from + 1) (x_token ∷ []) within 0 (from + 1) (omega arith), place_stands tokens (from + 1) (x_token ∷ []) within 0 (from + 1) (omega arith)),
       omega arith,
     ))
 
@@ -43,7 +42,7 @@ availability_reaches tokens depth from word within =
     (λ alike. (
       local.place tokens (begun tokens (from + 1) (x_token ∷ [])) (from + 1) alike from (omega arith) ∙ at.1,
       local.what tokens (begun tokens (from + 1) (x_token ∷ [])) (from + 1) alike from (omega arith) ∙ word,
-      x_stands tokens (from + 1) [] within,
+      (what_stands tokens (from + 1) (x_token ∷ []) within 0 (from + 1) (omega arith), place_stands tokens (from + 1) (x_token ∷ []) within 0 (from + 1) (omega arith)),
       omega arith,
     ))
 
@@ -51,37 +50,32 @@ availability_reaches tokens depth from word within =
 pub primary_begins : (tokens : List Token) (depth from : ℕ) → from ≤ length tokens → Reaches (λ tokens. SpellsPrimary tokens depth) tokens from from
 primary_begins tokens depth from within =
     completed (λ tokens. SpellsPrimary tokens depth) tokens from from (token_of (what.Word w.NOW) ∷ []) (primary.Now 0) within (omega arith) (one_lawful (token_of (what.Word w.NOW)) [] (omega arith) none_lawful)
-    (λ alike. (stands_at tokens from [] (what.Word w.NOW) within, stands tokens from [] (what.Word w.NOW) within, refl))
+    (λ alike. (place_stands tokens from (token_of (what.Word w.NOW) ∷ []) within 0 from (omega arith), what_stands tokens from (token_of (what.Word w.NOW) ∷ []) within 0 from (omega arith), refl))
 
 pub selector_begins : (tokens : List Token) (depth from : ℕ) → from ≤ length tokens → Reaches (λ tokens. SpellsSelector tokens depth) tokens from from
 selector_begins tokens depth from within =
-    let second = begun_second tokens from (token_of (what.Symbol s.PERIOD)) x_token [] within in
-    completed (λ tokens. SpellsSelector tokens depth) tokens from from (token_of (what.Symbol s.PERIOD) ∷ x_token ∷ []) (selector.Component x_name 0) within (omega arith) (one_lawful (token_of (what.Symbol s.PERIOD)) (x_token ∷ []) (omega arith) x_lawful)
-    (λ alike. (
-      stands_at tokens from (x_token ∷ []) (what.Symbol s.PERIOD) within,
-      stands tokens from (x_token ∷ []) (what.Symbol s.PERIOD) within,
-      (ap (option_map (λ token. token.what)) second, ap (option_map (λ token. token.place)) second),
-      refl,
-    ))
+    let period = token_of (what.Symbol s.PERIOD) in
+    let what_is = what_stands tokens from (period ∷ x_token ∷ []) within in
+    let place_is = place_stands tokens from (period ∷ x_token ∷ []) within in
+    completed (λ tokens. SpellsSelector tokens depth) tokens from from (period ∷ x_token ∷ []) (selector.Component x_name 0) within (omega arith) (one_lawful period (x_token ∷ []) (omega arith) x_lawful)
+    (λ alike. (place_is 0 from (omega arith), what_is 0 from (omega arith), (what_is 1 (from + 1) refl, place_is 1 (from + 1) refl), refl))
 
 pub named_begins : (tokens : List Token) (depth from : ℕ) → from ≤ length tokens → Reaches (λ tokens. SpellsNamed tokens depth) tokens from from
 named_begins tokens depth from within =
     completed (λ tokens. SpellsNamed tokens depth) tokens from from (x_token ∷ []) [] within (omega arith) x_lawful
-    (λ alike. (ap is_name (x_stands tokens from [] within).0, refl))
+    (λ alike. (ap is_name (what_stands tokens from (x_token ∷ []) within 0 from (omega arith)), refl))
 
 -- ---- durations
 
 pub seconds_begin : (tokens : List Token) (from : ℕ) → from ≤ length tokens → Reaches SpellsSeconds tokens from from
 seconds_begin tokens from within =
     let one = token_of (what.Number 1) in
-    let second = begun_second tokens from one (token_of (what.Word w.SEC)) [] within in
-    completed SpellsSeconds tokens from from (one ∷ token_of (what.Word w.SEC) ∷ []) (secs.Number (record { value = 1; place = 0 })) within (omega arith) (one_lawful one (token_of (what.Word w.SEC) ∷ []) (omega arith) (one_lawful (token_of (what.Word w.SEC)) [] (omega arith) none_lawful))
-    (λ alike. (
-      from + 1,
-      ((stands tokens from (token_of (what.Word w.SEC) ∷ []) (what.Number 1) within, stands_at tokens from (token_of (what.Word w.SEC) ∷ []) (what.Number 1) within), refl),
-      ap (option_map (λ token. token.what)) second,
-      omega arith,
-    ))
+    let unit = token_of (what.Word w.SEC) in
+    let what_is = what_stands tokens from (one ∷ unit ∷ []) within in
+    let place_is = place_stands tokens from (one ∷ unit ∷ []) within in
+    completed SpellsSeconds tokens from from (one ∷ unit ∷ []) (secs.Number (record { value = 1; place = 0 })) within (omega arith)
+    (one_lawful one (unit ∷ []) (omega arith) (one_lawful unit [] (omega arith) none_lawful))
+    (λ alike. (from + 1, ((what_is 0 from (omega arith), place_is 0 from (omega arith)), refl), what_is 1 (from + 1) refl, omega arith))
 
 -- a number or decimal with no SEC behind it
 pub seconds_reach : (tokens : List Token) (from : ℕ) (part : Secs) → SpellsSecs tokens from part (from + 1) → from + 1 ≤ length tokens → Reaches SpellsSeconds tokens from (from + 1)
@@ -90,7 +84,7 @@ seconds_reach tokens from part h within =
     (λ alike. (
       from + 1,
       local.secs_local tokens (begun tokens (from + 1) (token_of (what.Word w.SEC) ∷ [])) (from + 1) alike from part (from + 1) h (omega arith),
-      stands tokens (from + 1) [] (what.Word w.SEC) within,
+      what_stands tokens (from + 1) (token_of (what.Word w.SEC) ∷ []) within 0 (from + 1) (omega arith),
       refl,
     ))
 

@@ -4,7 +4,7 @@ use Rattle.std.specs.Option.{option_map}
 use Rattle.pearl_tree.specs.Tokens.{IsLawfulWhat}
 use Rattle.pearl_tree.specs.declared.token.What.{What}
 use Rattle.pearl_tree.specs.declared.token.Token.{Token}
-use Rattle.pearl_tree.specs.Standing.{Spelling, what_at, IsAt}
+use Rattle.pearl_tree.specs.Standing.{Spelling, what_at, place_at, IsAt}
 use Rattle.pearl_parse_expr.specs.declared.reading.Halt.{Halt}
 use Rattle.pearl_parse_expr.specs.declared.reading.Halt.TheVariants.{Refused, NoMemory}
 use Rattle.pearl_parse_expr.specs.Stops.{IsHalted}
@@ -28,17 +28,28 @@ begun_length tokens zero more within = omega arith
 begun_length [] (suc n) more within = absurd (omega arith)
 begun_length (x ∷ xs) (suc n) more within = omega (arith, begun_length xs n more (omega arith))
 
-pub begun_first : (tokens : List Token) (n : ℕ) (t : Token) (more : List Token) → n ≤ length tokens → slice_get (begun tokens n (t ∷ more)) n ≡ Some t
-begun_first tokens zero t more within = refl
-begun_first [] (suc n) t more within = absurd (omega arith)
-begun_first (x ∷ xs) (suc n) t more within = begun_first xs n t more (omega arith)
+-- behind them the others stand
+begun_at : (tokens : List Token) (n i : ℕ) (more : List Token) → n ≤ length tokens → slice_get (begun tokens n more) (n + i) ≡ slice_get more i
+begun_at tokens zero i more within = let same : 0 + i ≡ i = omega arith in ap (slice_get more) same
+begun_at [] (suc n) i more within = absurd (omega arith)
+begun_at (x ∷ xs) (suc n) i more within =
+    let next : suc n + i ≡ suc (n + i) = omega arith in
+    ap (slice_get (x ∷ begun xs n more)) next ∙ begun_at xs n i more (omega arith)
 
-pub begun_second : (tokens : List Token) (n : ℕ) (t u : Token) (more : List Token) → n ≤ length tokens → slice_get (begun tokens n (t ∷ u ∷ more)) (n + 1) ≡ Some u
-begun_second tokens zero t u more within = refl
-begun_second [] (suc n) t u more within = absurd (omega arith)
-begun_second (x ∷ xs) (suc n) t u more within =
-    let next : suc n + 1 ≡ suc (n + 1) = omega arith in
-    ap (slice_get (x ∷ begun xs n (t ∷ u ∷ more))) next ∙ begun_second xs n t u more (omega arith)
+begun_last : (tokens : List Token) (n : ℕ) (last : Token) → n ≤ length tokens → slice_get (begun tokens n (last ∷ [])) n ≡ Some last
+begun_last tokens n last within =
+    let same : n ≡ n + 0 = omega arith in
+    ap (slice_get (begun tokens n (last ∷ []))) same ∙ begun_at tokens n 0 (last ∷ []) within
+
+module _ (tokens : List Token) (n : ℕ) (more : List Token) (within : n ≤ length tokens) where
+  stands : (i k : ℕ) → k ≡ n + i → slice_get (begun tokens n more) k ≡ slice_get more i
+  stands i k is = ap (slice_get (begun tokens n more)) is ∙ begun_at tokens n i more within
+
+  pub what_stands : (i k : ℕ) → k ≡ n + i → what_at (begun tokens n more) k ≡ what_at more i
+  what_stands i k is = ap (option_map (λ token. token.what)) (stands i k is)
+
+  pub place_stands : (i k : ℕ) → k ≡ n + i → place_at (begun tokens n more) k ≡ place_at more i
+  place_stands i k is = ap (option_map (λ token. token.place)) (stands i k is)
 
 -- ---- lawful tokens
 
@@ -183,7 +194,7 @@ module _ {X Y : Type 0} (spells : List Token → Spelling X) (whole : List Token
       let short : length others + 8 * from ≤ 9 * stop + 16 = omega (arith, r.short) in
       let kept : AlikeBefore r.others others m = begun_alike r.others m (last ∷ []) same in
       let alike : AlikeBefore tokens others stop = λ j below. r.alike j below ∙ kept j (omega (arith, r.long)) in
-      let made = makes others alike short m size (begun_first r.others m last [] same) r.part (local r.others others m kept at r.part m r.spelled (omega arith)) in
+      let made = makes others alike short m size (begun_last r.others m last same) r.part (local r.others others m kept at r.part m r.spelled (omega arith)) in
       record {
         others = others;
         alike = alike;
@@ -212,9 +223,3 @@ placed_within (x ∷ xs) (suc k) within = placed_within xs k (omega arith)
 
 abbrev pub token_of : What → Token
 token_of what = record { place = 0; what = what }
-
-pub stands : (tokens : List Token) (n : ℕ) (more : List Token) (token : What) → n ≤ length tokens → what_at (begun tokens n (token_of token ∷ more)) n ≡ Some token
-stands tokens n more token within = ap (option_map (λ token. token.what)) (begun_first tokens n (token_of token) more within)
-
-pub stands_at : (tokens : List Token) (n : ℕ) (more : List Token) (token : What) → n ≤ length tokens → IsAt (begun tokens n (token_of token ∷ more)) n 0
-stands_at tokens n more token within = ap (option_map (λ token. token.place)) (begun_first tokens n (token_of token) more within)

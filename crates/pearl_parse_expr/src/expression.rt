@@ -384,11 +384,11 @@ pub fn expression_at_depth(
                 count += 1;
             }
             Err(halt) => match halt {
-                Halt::Refused(at) => {
+                Halt::Refused(missing) => {
                     return Ok(Reading {
                         part,
                         end,
-                        stop: stop.max(at),
+                        stop: stop.max(missing),
                     });
                 }
                 Halt::NoMemory => return Err(Halt::NoMemory),

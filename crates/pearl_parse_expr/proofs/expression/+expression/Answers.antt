@@ -167,12 +167,12 @@ expression_at_depth-returns-clause-least t c = goes (λ tokens. grammar.SpellsEx
 
 pub expression_at_depth-returns-in-Refused-clause-least : goal.expression_at_depth-returns-in-Refused-clause-least
 expression_at_depth-returns-in-Refused-clause-least t c =
-    let stuck = stuck_of (λ tokens. spec.SpellsSigned tokens c.args.depth) c.args.tokens.now (c.each.end + 1) c.in-Refused.at c.in-Err-operand.halt c.in-Refused.is c.in-Err-operand.ensures.refused in
-    let reach = reached_halt (λ tokens. spec.SpellsSigned tokens c.args.depth) c.args.tokens.now (c.each.end + 1) c.in-Refused.at c.in-Err-operand.halt c.in-Refused.is c.in-Err-operand.ensures.least in
-    let near : c.each.end < c.in-Refused.at = omega (arith, stuck.1) in
+    let stuck = stuck_of (λ tokens. spec.SpellsSigned tokens c.args.depth) c.args.tokens.now (c.each.end + 1) c.in-Refused.missing c.in-Err-operand.halt c.in-Refused.is c.in-Err-operand.ensures.refused in
+    let reach = reached_halt (λ tokens. spec.SpellsSigned tokens c.args.depth) c.args.tokens.now (c.each.end + 1) c.in-Refused.missing c.in-Err-operand.halt c.in-Refused.is c.in-Err-operand.ensures.least in
+    let near : c.each.end < c.in-Refused.missing = omega (arith, stuck.1) in
     goes (λ tokens. grammar.SpellsExpr tokens c.args.depth) c.args.tokens.now c.args.from c.each.end c.max.result
-    (reaches_max (λ tokens. grammar.SpellsExpr tokens c.args.depth) c.args.tokens.now c.args.from c.each.stop c.in-Refused.at c.max.result c.max.ensures c.each.invariant.reach
-    (chain_goes_further c.args.tokens.now c.args.depth c.args.from c.each.end c.in-Refused.at c.each.part c.in-Some.dyadic c.each.invariant.spells (omega (arith, c.each.invariant.count, c.each-test.true))
+    (reaches_max (λ tokens. grammar.SpellsExpr tokens c.args.depth) c.args.tokens.now c.args.from c.each.stop c.in-Refused.missing c.max.result c.max.ensures c.each.invariant.reach
+    (chain_goes_further c.args.tokens.now c.args.depth c.args.from c.each.end c.in-Refused.missing c.each.part c.in-Some.dyadic c.each.invariant.spells (omega (arith, c.each.invariant.count, c.each-test.true))
     c.in-Some.ensures.some c.in-Some.ensures.place (omega (arith, c.each.invariant.ahead)) near reach))
 
 pub expression_at_depth-returns-in-None-clause-longest : goal.expression_at_depth-returns-in-None-clause-longest
@@ -204,10 +204,10 @@ expression_at_depth-each-preserved t c =
 
 pub expression_at_depth-returns-in-Refused-clause-longest : goal.expression_at_depth-returns-in-Refused-clause-longest
 expression_at_depth-returns-in-Refused-clause-longest t c =
-    let stuck = stuck_of (λ tokens. spec.SpellsSigned tokens c.args.depth) c.args.tokens.now (c.each.end + 1) c.in-Refused.at c.in-Err-operand.halt c.in-Refused.is c.in-Err-operand.ensures.refused in
+    let stuck = stuck_of (λ tokens. spec.SpellsSigned tokens c.args.depth) c.args.tokens.now (c.each.end + 1) c.in-Refused.missing c.in-Err-operand.halt c.in-Refused.is c.in-Err-operand.ensures.refused in
     let below : c.each.stop ≤ c.max.result = omega (arith, c.max.ensures) in
-    let reach : c.in-Refused.at ≤ c.max.result = omega (arith, c.max.ensures) in
-    chain_is_stuck c.args.tokens.now c.args.depth c.args.from c.each.end c.each.stop c.in-Refused.at c.max.result c.each.count c.each.invariant.goes below reach stuck.0
+    let reach : c.in-Refused.missing ≤ c.max.result = omega (arith, c.max.ensures) in
+    chain_is_stuck c.args.tokens.now c.args.depth c.args.from c.each.end c.each.stop c.in-Refused.missing c.max.result c.each.count c.each.invariant.goes below reach stuck.0
 
 pub expression_at_depth-returns-clause-longest : goal.expression_at_depth-returns-clause-longest
 expression_at_depth-returns-clause-longest t c =
