@@ -82,7 +82,7 @@ subscripts_are_local depth = list_is_local (λ tokens. SpellsExpr tokens depth) 
 subscripts_after : (tokens : List Token) (depth from : ℕ) (xs : List Expr) (to : ℕ) → SpellsSubscriptsList tokens depth from xs to → from + length xs ≤ to
 subscripts_after tokens depth = list_after (λ tokens. SpellsExpr tokens depth) (expr_is_local depth) (λ tokens from x to h. terms_after tokens depth from x to h.0) tokens
 
-selectors_after : (tokens : List Token) (depth from : ℕ) (xs : List Selector) (to : ℕ) → SpellsSelectorsList tokens depth from xs to → from + length xs ≤ to
+pub selectors_after : (tokens : List Token) (depth from : ℕ) (xs : List Selector) (to : ℕ) → SpellsSelectorsList tokens depth from xs to → from + length xs ≤ to
 selectors_after tokens depth = each_after (λ tokens. SpellsSelector tokens depth) (selector_is_local depth) (λ tokens from x to h. selector_after tokens depth from x to h) tokens
 
 -- ---- loops
