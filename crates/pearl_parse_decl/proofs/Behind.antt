@@ -1,12 +1,15 @@
 -- Why a part is not read, where one within it is not, behind others that were read.
-use Rattle.std.proofs.Common.{◌≡◌, ℕ, ◌≤◌, ◌||◌, true, sym, max, Bool, List, Option, Some, None, ◌⊎◌, inl, inr, length, subst, arith}
+use Rattle.std.proofs.Common.{◌≡◌, ℕ, ◌<◌, ◌≤◌, ◌||◌, true, sym, ap, ◌∙◌, max, Result, Ok, Err, IfOk, IfErr, Bool, List, Option, Some, None, ◌⊎◌, inl, inr, length, subst, arith}
 use Rattle.pearl_tree.specs.declared.token.Token.{Token}
 use Rattle.pearl_tree.specs.declared.token.What.{What}
 use Rattle.pearl_tree.specs.Standing.{Spelling, SpellsMaybe, what_at}
 use Rattle.pearl_tree.specs.Stops.{BeginAlike}
 use Rattle.pearl_parse_expr.specs.declared.reading.Halt.{Halt}
 use Rattle.pearl_parse_expr.specs.declared.reading.Halt.TheVariants.{Refused, NoMemory}
-use Rattle.pearl_parse_expr.specs.Stops.{IsLongest, Stuck, EndsEarly, IsHalted}
+use Rattle.pearl_parse_expr.specs.Stops.{IsLongest, IsOnly, IsAhead, Stuck, EndsEarly, IsHalted}
+use Rattle.pearl_parse_expr.specs.Least.{Reaches, GoesToHalt, IsLeast}
+use Rattle.pearl_parse_expr.specs.declared.reading.Reading.{Reading}
+use Rattle.pearl_parse_expr.proofs.Reaching.{goes_as, halts_as}
 use Rattle.pearl_parse_decl.specs.Readings.{behind, IsPast}
 use Rattle.pearl_parse_expr.proofs.Parts.{shorter, or_first, or_second}
 
@@ -68,3 +71,31 @@ maybe_is_none {X} spells extends tokens from stop stuck = λ others agree x to h
         (to ≡ from) ⊎ EndsEarly extends others from to
     by others none None to h = inl h
     by others none (Some x) to h = absurd (none x to h)
+
+-- a part that may be missing, where it is there
+pub maybe_is_longest : {X : Type 0} (spells : List Token → Spelling X) (extends : Option What → Bool) (tokens : List Token) (from end stop : ℕ) →
+    from < end → end ≤ stop → extends (what_at tokens from) ≡ true → IsOnly spells tokens from end stop → IsLongest (λ tokens. SpellsMaybe (spells tokens)) extends tokens from end stop
+maybe_is_longest {X} spells extends tokens from end stop ahead near opens only = λ others agree x to h. by others agree x to h
+  where
+    by : (others : List Token) → BeginAlike tokens others stop → (x : Option X) (to : ℕ) → SpellsMaybe (spells others) from x to → (to ≡ end) ⊎ EndsEarly extends others end to
+    by others agree None to h = inr (omega (arith, h), subst (λ k. extends (what_at others k) ≡ true) (sym h) (ap extends (sym (agree from (omega arith))) ∙ opens))
+    by others agree (Some x) to h = inl (only others agree x to h)
+
+-- ---- how far some part goes on
+
+-- a part within another one, behind parts that were stopped before it
+pub halts_behind : {X Y : Type 0} (spells : List Token → Spelling X) (whole : List Token → Spelling Y) (tokens : List Token) (from at stop : ℕ) (halt : Halt) → stop ≤ at →
+    ((k : ℕ) → at ≤ k → k ≤ length tokens → Reaches spells tokens at k → Reaches whole tokens from k) →
+    IsHalted spells tokens at halt → GoesToHalt spells tokens at halt → GoesToHalt whole tokens from (behind halt stop)
+halts_behind spells whole tokens from at stop NoMemory before step h r = tt
+halts_behind spells whole tokens from at stop (Refused k) before step h r =
+    let same : k ≡ max k stop = omega (arith, h.1) in
+    subst (λ k. Reaches whole tokens from k) same (step k h.1 h.2 r)
+
+-- a part that is told as another one is
+pub least_as : {X Y Z : Type 0} (spells : List Token → Spelling X) (whole : List Token → Spelling Y) (tokens : List Token) (from : ℕ) (result : Result (Reading Z) Halt) →
+    ((stop : ℕ) → stop ≤ length tokens → Reaches spells tokens from stop → Reaches whole tokens from stop) →
+    IfOk result (λ reading. IsAhead tokens from reading.end reading.stop) → IfErr result (λ halt. IsHalted spells tokens from halt) →
+    IsLeast spells tokens from result → IsLeast whole tokens from result
+least_as spells whole tokens from (Ok reading) step ahead none h = goes_as spells whole tokens from from reading.end reading.stop (step reading.stop ahead.2) h
+least_as spells whole tokens from (Err halt) step ahead none h = halts_as spells whole tokens from from halt (λ stop near within r. step stop within r) none h

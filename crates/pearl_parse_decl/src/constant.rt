@@ -4,6 +4,7 @@ ghost use Rattle.std.specs.Prelude.{◌≡◌, ◌+◌, ◌≤◌, List, Some, N
 ghost use Rattle.pearl_tree.specs.Standing.{SpellsMaybe};
 ghost use Rattle.pearl_tree.specs.Expressions as grammar;
 ghost use Rattle.pearl_parse_expr.specs.Stops as stops;
+ghost use Rattle.pearl_parse_expr.specs.Least.{IsLeast};
 ghost use Rattle.pearl_parse_decl.specs.Readings as spec;
 
 use crate::list::{Readable, behind};
@@ -21,6 +22,7 @@ fn sign(tokens: &[Token], from: usize) -> Reading<Option<Sign>>
     ensures spells { SpellsMaybe (grammar.SpellsSign tokens.now) from result.part result.end }
     ensures longest { stops.IsLongest (λ tokens. SpellsMaybe (grammar.SpellsSign tokens)) spec.is_sign tokens.now from result.end result.stop }
     ensures ahead { spec.IsWithin tokens.now from result.end result.stop }
+    ensures once { result.stop ≡ result.end }
 {
     if is_symbol(tokens, from, PLUS) {
         return Reading {
@@ -50,6 +52,7 @@ pub fn constant(alloc: Global, tokens: &[Token], from: usize) -> Result<Reading<
     ensures longest { IfOk result (λ reading. stops.IsLongest grammar.SpellsConst stops.extends_operand tokens.now from reading.end reading.stop) }
     ensures ahead { IfOk result (λ reading. stops.IsAhead tokens.now from reading.end reading.stop) }
     ensures refused { IfErr result (λ halt. stops.IsHalted grammar.SpellsConst tokens.now from halt) }
+    ensures least { IsLeast grammar.SpellsConst tokens.now from result }
 {
     let sign = sign(tokens, from);
     match literal(alloc, tokens, sign.end) {

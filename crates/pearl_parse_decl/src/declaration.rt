@@ -6,6 +6,7 @@ ghost use Rattle.pearl_tree.specs.Modules as modules;
 ghost use Rattle.pearl_tables.specs.declared.word_code.TheConstants as w;
 ghost use Rattle.pearl_parse_expr.specs.declared.reading.Halt.{Halt};
 ghost use Rattle.pearl_parse_expr.specs.Stops as stops;
+ghost use Rattle.pearl_parse_expr.specs.Least.{IsLeast};
 
 use crate::list::list;
 use crate::name::bracketed_number;
@@ -29,6 +30,7 @@ pub fn length_of(tokens: &[Token], from: usize) -> Result<Reading<Decl>, Halt>
     ensures ahead { IfOk result (λ reading. stops.IsAhead tokens.now from reading.end reading.stop) }
     ensures refused { IfErr result (λ halt. stops.IsHalted modules.SpellsDecl tokens.now from halt) }
     ensures memory { IfErr result (λ halt. halt ≢ Halt.NoMemory) }
+    ensures least { IsLeast modules.SpellsDecl tokens.now from result }
 {
     let sort = match sort_at(tokens, from + 1) {
         Some(sort) => sort,

@@ -4,6 +4,7 @@ ghost use Rattle.std.specs.Prelude.{◌≤◌, length, IfOk, IfErr, refl};
 ghost use Rattle.pearl_tree.specs.Expressions.{SpellsWhole, SpellsOwnRef};
 ghost use Rattle.pearl_tree.specs.declared.limit.TheConstants as limit;
 ghost use Rattle.pearl_parse_expr.specs.Stops as stops;
+ghost use Rattle.pearl_parse_expr.specs.Least.{IsLeast};
 
 use crate::list::Readable;
 use pearl_parse_expr::expression::{expression_at_depth, reference};
@@ -20,6 +21,7 @@ pub fn expression(alloc: Global, tokens: &[Token], from: usize) -> Result<Readin
     ensures longest { IfOk result (λ reading. stops.IsLongest SpellsWhole stops.extends_expression tokens.now from reading.end reading.stop) }
     ensures ahead { IfOk result (λ reading. stops.IsAhead tokens.now from reading.end reading.stop) }
     ensures refused { IfErr result (λ halt. stops.IsHalted SpellsWhole tokens.now from halt) }
+    ensures least { IsLeast SpellsWhole tokens.now from result }
 {
     expression_at_depth(alloc, tokens, from, BRACKETS_MAX)
 }
@@ -33,6 +35,8 @@ pub fn own_reference(alloc: Global, tokens: &[Token], from: usize) -> Result<Rea
     ensures ahead { IfOk result (λ reading. stops.IsAhead tokens.now from reading.end reading.stop) }
     ensures refused { IfErr result (λ halt. stops.IsHalted SpellsOwnRef tokens.now from halt) }
     ensures unnamed { IfErr result (λ halt. stops.IsHalted (λ tokens. stops.SpellsNamed tokens limit.OWN_BRACKETS_MAX) tokens.now from halt) }
+    ensures least { IsLeast SpellsOwnRef tokens.now from result }
+    ensures least_named { IsLeast (λ tokens. stops.SpellsNamed tokens limit.OWN_BRACKETS_MAX) tokens.now from result }
 {
     reference(alloc, tokens, from, OWN_BRACKETS_MAX)
 }

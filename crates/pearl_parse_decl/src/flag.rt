@@ -15,6 +15,7 @@ pub fn flag(tokens: &[Token], from: usize, word: u8) -> Reading<bool>
     ensures spells { SpellsFlag tokens.now word from result.part result.end }
     ensures longest { stops.IsLongest (λ tokens. SpellsFlag tokens word) (stops.is_word word) tokens.now from result.end result.stop }
     ensures ahead { spec.IsWithin tokens.now from result.end result.stop }
+    ensures once { result.stop ≡ result.end }
 {
     if is_word(tokens, from, word) {
         Reading {

@@ -7,6 +7,7 @@ ghost use Rattle.pearl_tree.specs.declared.format.FreeCode.{FreeCode};
 ghost use Rattle.pearl_tree.specs.declared.format.WideCode.{WideCode};
 ghost use Rattle.pearl_parse_expr.specs.declared.reading.Halt.{Halt};
 ghost use Rattle.pearl_parse_expr.specs.Stops as stops;
+ghost use Rattle.pearl_parse_expr.specs.Least.{IsLeast};
 ghost use Rattle.pearl_parse_decl.specs.Readings as spec;
 
 use crate::list::Readable;
@@ -82,6 +83,7 @@ pub fn fmt(tokens: &[Token], from: usize) -> Result<Reading<Fmt>, Halt>
     ensures ahead { IfOk result (λ reading. stops.IsAhead tokens.now from reading.end reading.stop) }
     ensures refused { IfErr result (λ halt. stops.IsHalted grammar.SpellsFmt tokens.now from halt) }
     ensures memory { IfErr result (λ halt. halt ≢ Halt.NoMemory) }
+    ensures least { IsLeast grammar.SpellsFmt tokens.now from result }
 {
     if let Some(code) = free_at(tokens, from) {
         let width = maybe_number(tokens, from + 1);

@@ -6,6 +6,7 @@ ghost use Rattle.pearl_tree.specs.Declarations as grammar;
 ghost use Rattle.pearl_tree.specs.Modules as modules;
 ghost use Rattle.pearl_tables.specs.declared.word_code.TheConstants as w;
 ghost use Rattle.pearl_parse_expr.specs.Stops as stops;
+ghost use Rattle.pearl_parse_expr.specs.Least.{Reaches, GoesTo};
 ghost use Rattle.pearl_parse_decl.specs.Readings as spec;
 
 use crate::flag::flag;
@@ -72,6 +73,7 @@ fn prio(tokens: &[Token], from: usize) -> Result<Prio, usize>
     ensures within { IfOk result (λ _. from + 2 ≤ length tokens.now) }
     ensures refused { IfErr result (λ stop. stops.Stuck grammar.SpellsPrio tokens.now from stop) }
     ensures held { IfErr result (λ stop. (from ≤ stop) × (stop ≤ length tokens.now)) }
+    ensures begun { IfErr result (λ stop. Reaches grammar.SpellsPrio tokens.now from stop) }
 {
     if !is_word(tokens, from, PRIO) {
         return Err(from);
@@ -91,6 +93,7 @@ pub fn task_head(tokens: &[Token], from: usize) -> Reading<TaskHead>
     ensures spells { modules.SpellsTaskHead tokens.now from result.part result.end }
     ensures longest { stops.IsLongest modules.SpellsTaskHead spec.extends_head tokens.now from result.end result.stop }
     ensures ahead { spec.IsWithin tokens.now from result.end result.stop }
+    ensures least { GoesTo modules.SpellsTaskHead tokens.now from result.end result.stop }
 {
     if is_word(tokens, from, MAIN) {
         return match prio(tokens, from + 1) {
@@ -141,6 +144,8 @@ fn returned(tokens: &[Token], from: usize) -> Result<Reading<Basic>, usize>
     ensures word { IfOk result (λ _. HasWord tokens.now from w.RETURNS) }
     ensures refused { IfErr result (λ stop. stops.Stuck modules.SpellsReturns tokens.now from stop) }
     ensures held { IfErr result (λ stop. (from ≤ stop) × (stop ≤ length tokens.now)) }
+    ensures least { IfOk result (λ reading. GoesTo modules.SpellsReturns tokens.now from reading.end reading.stop) }
+    ensures begun { IfErr result (λ stop. Reaches modules.SpellsReturns tokens.now from stop) }
 {
     if !is_word(tokens, from, RETURNS) {
         return Err(from);
@@ -168,6 +173,7 @@ pub fn returns(tokens: &[Token], from: usize) -> Reading<Option<Basic>>
     ensures spells { SpellsMaybe (modules.SpellsReturns tokens.now) from result.part result.end }
     ensures longest { stops.IsLongest (λ tokens. SpellsMaybe (modules.SpellsReturns tokens)) (stops.is_word w.RETURNS) tokens.now from result.end result.stop }
     ensures ahead { spec.IsWithin tokens.now from result.end result.stop }
+    ensures least { GoesTo (λ tokens. SpellsMaybe (modules.SpellsReturns tokens)) tokens.now from result.end result.stop }
 {
     match returned(tokens, from) {
         Ok(basic) => Reading {

@@ -5,6 +5,7 @@ ghost use Rattle.pearl_tree.specs.Standing.{what_at, HasSymbol, SpellsName, Spel
 ghost use Rattle.pearl_tree.specs.Types as grammar;
 ghost use Rattle.pearl_parse_expr.specs.declared.reading.Halt.{Halt};
 ghost use Rattle.pearl_parse_expr.specs.Stops as stops;
+ghost use Rattle.pearl_parse_expr.specs.Least.{Reaches, GoesTo, IsLeast};
 ghost use Rattle.pearl_parse_decl.specs.Readings as spec;
 
 use crate::list::{Readable, bracketed};
@@ -24,6 +25,7 @@ pub fn name(tokens: &[Token], from: usize) -> Result<Reading<Name>, Halt>
     ensures ahead { IfOk result (λ reading. stops.IsAhead tokens.now from reading.end reading.stop) }
     ensures refused { IfErr result (λ halt. stops.IsHalted SpellsName tokens.now from halt) }
     ensures memory { IfErr result (λ halt. halt ≢ Halt.NoMemory) }
+    ensures least { IsLeast SpellsName tokens.now from result }
 {
     match name_at(tokens, from) {
         Some(part) => Ok(Reading {
@@ -43,6 +45,7 @@ pub fn number(tokens: &[Token], from: usize) -> Result<Reading<Number>, Halt>
     ensures ahead { IfOk result (λ reading. stops.IsAhead tokens.now from reading.end reading.stop) }
     ensures refused { IfErr result (λ halt. stops.IsHalted SpellsNumber tokens.now from halt) }
     ensures memory { IfErr result (λ halt. halt ≢ Halt.NoMemory) }
+    ensures least { IsLeast SpellsNumber tokens.now from result }
 {
     match number_at(tokens, from) {
         Some(part) => Ok(Reading {
@@ -89,6 +92,7 @@ pub fn bracketed_number(tokens: &[Token], from: usize) -> Result<Number, usize>
     ensures within { IfOk result (λ _. from + 3 ≤ length tokens.now) }
     ensures refused { IfErr result (λ stop. stops.Stuck SpellsBracketedNumber tokens.now from stop) }
     ensures held { IfErr result (λ stop. (from ≤ stop) × (stop ≤ length tokens.now)) }
+    ensures begun { IfErr result (λ stop. Reaches SpellsBracketedNumber tokens.now from stop) }
 {
     if !is_symbol(tokens, from, LEFT_ROUND) {
         return Err(from);
@@ -111,6 +115,7 @@ pub fn maybe_number(tokens: &[Token], from: usize) -> Reading<Option<Number>>
     ensures spells { SpellsMaybe (SpellsBracketedNumber tokens.now) from result.part result.end }
     ensures longest { stops.IsLongest (λ tokens. SpellsMaybe (SpellsBracketedNumber tokens)) spec.by_bracket tokens.now from result.end result.stop }
     ensures ahead { spec.IsWithin tokens.now from result.end result.stop }
+    ensures least { GoesTo (λ tokens. SpellsMaybe (SpellsBracketedNumber tokens)) tokens.now from result.end result.stop }
 {
     match bracketed_number(tokens, from) {
         Ok(number) => Reading {

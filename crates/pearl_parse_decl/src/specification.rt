@@ -8,6 +8,7 @@ ghost use Rattle.pearl_tree.specs.declared.declaration.Direction.{Direction};
 ghost use Rattle.pearl_tables.specs.declared.word_code.TheConstants as w;
 ghost use Rattle.pearl_parse_expr.specs.declared.reading.Halt.{Halt};
 ghost use Rattle.pearl_parse_expr.specs.Stops as stops;
+ghost use Rattle.pearl_parse_expr.specs.Least.{IsLeast};
 ghost use Rattle.pearl_parse_decl.specs.Readings as spec;
 
 use crate::list::{Readable, behind};
@@ -47,6 +48,7 @@ fn class(tokens: &[Token], from: usize) -> Result<Reading<Class>, Halt>
     ensures ahead { IfOk result (λ reading. stops.IsAhead tokens.now from reading.end reading.stop) }
     ensures refused { IfErr result (λ halt. stops.IsHalted grammar.SpellsClass tokens.now from halt) }
     ensures memory { IfErr result (λ halt. halt ≢ Halt.NoMemory) }
+    ensures least { IsLeast grammar.SpellsClass tokens.now from result }
 {
     if is_word(tokens, from, ALPHIC) {
         return Ok(Reading {

@@ -9,6 +9,7 @@ ghost use Rattle.pearl_tables.specs.declared.symbol.TheConstants as s;
 ghost use Rattle.pearl_tables.specs.declared.word_code.TheConstants as w;
 ghost use Rattle.pearl_parse_expr.specs.declared.reading.Halt.{Halt};
 ghost use Rattle.pearl_parse_expr.specs.Stops as stops;
+ghost use Rattle.pearl_parse_expr.specs.Least.{Reaches, GoesTo, IsLeast};
 ghost use Rattle.pearl_parse_decl.specs.Readings as spec;
 
 use crate::list::{Readable, behind, maybe_bracketed};
@@ -31,6 +32,8 @@ pub fn int(tokens: &[Token], from: usize) -> Result<Reading<Int>, usize>
     ensures ahead { IfOk result (λ reading. stops.IsAhead tokens.now from reading.end reading.stop) }
     ensures refused { IfErr result (λ stop. stops.Stuck grammar.SpellsInt tokens.now from stop) }
     ensures held { IfErr result (λ stop. (from ≤ stop) × (stop ≤ length tokens.now)) }
+    ensures once { IfOk result (λ reading. reading.stop ≡ reading.end) }
+    ensures begun { IfErr result (λ stop. Reaches grammar.SpellsInt tokens.now from stop) }
 {
     if let Some(number) = number_at(tokens, from) {
         return Ok(Reading {
@@ -66,6 +69,7 @@ fn upper(tokens: &[Token], from: usize) -> Reading<Option<Int>>
     ensures spells { SpellsMaybe (grammar.SpellsUpper tokens.now) from result.part result.end }
     ensures longest { stops.IsLongest (λ tokens. SpellsMaybe (grammar.SpellsUpper tokens)) spec.by_colon tokens.now from result.end result.stop }
     ensures ahead { spec.IsWithin tokens.now from result.end result.stop }
+    ensures least { GoesTo (λ tokens. SpellsMaybe (grammar.SpellsUpper tokens)) tokens.now from result.end result.stop }
 {
     if !is_symbol(tokens, from, COLON) {
         return Reading {
@@ -96,6 +100,7 @@ pub fn bound(tokens: &[Token], from: usize) -> Result<Reading<Bound>, Halt>
     ensures ahead { IfOk result (λ reading. stops.IsAhead tokens.now from reading.end reading.stop) }
     ensures refused { IfErr result (λ halt. stops.IsHalted grammar.SpellsBound tokens.now from halt) }
     ensures memory { IfErr result (λ halt. halt ≢ Halt.NoMemory) }
+    ensures least { IsLeast grammar.SpellsBound tokens.now from result }
 {
     let first = match int(tokens, from) {
         Ok(first) => first,
@@ -171,6 +176,7 @@ pub fn basic(tokens: &[Token], from: usize) -> Result<Reading<Basic>, Halt>
     ensures ahead { IfOk result (λ reading. stops.IsAhead tokens.now from reading.end reading.stop) }
     ensures refused { IfErr result (λ halt. stops.IsHalted grammar.SpellsBasic tokens.now from halt) }
     ensures held { IfErr result (λ halt. halt ≡ Halt.Refused from) }
+    ensures least { IsLeast grammar.SpellsBasic tokens.now from result }
 {
     if let Some(sort) = sort_at(tokens, from) {
         let number = maybe_number(tokens, from + 1);

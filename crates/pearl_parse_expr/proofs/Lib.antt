@@ -7,3 +7,9 @@ pub mod Halts
 pub mod Limits
 pub mod Closings
 pub mod PastEnd
+pub mod Local
+pub mod Reaching
+pub mod Ids
+pub mod Trees
+pub mod Leaves
+pub mod Joining

@@ -13,7 +13,7 @@ use Rattle.pearl_tree.specs.Standing.{what_at}
 use Rattle.pearl_tree.specs.Expressions.{SpellsSecs, SpellsSeconds, SpellsDuration, SpellsLiteral}
 use Rattle.pearl_tables.specs.declared.word_code.TheConstants as w
 use Rattle.pearl_tree.specs.Stops.{BeginAlike}
-use Rattle.pearl_parse_expr.specs.Stops.{Stuck, EndsEarly, is_counted, is_number, is_secs, extends_operand, SpellsMaybeSeconds}
+use Rattle.pearl_parse_expr.specs.Stops.{IsLongest, Stuck, EndsEarly, is_counted, is_number, is_secs, extends_operand, SpellsMaybeSeconds}
 
 -- a number with the word that it has not
 number_then_word : (word : ℕ) (tokens others : List Token) (from stop value : ℕ) → BeginAlike tokens others stop → from ≤ stop →
@@ -92,3 +92,32 @@ module _ (tokens : List Token) (from end : ℕ) (far : from + 4 ≤ end)
       absurd (omega (arith, same_word (what_at tokens (from + 1)) w.HRS w.MIN hours_word h.2))
   after_minutes (Seconds seconds place) to h =
       absurd (omega (arith, seconds_clash tokens from w.HRS seconds to h.1 hours_word))
+
+-- a duration begins with a number or a decimal, and what stands behind that lengthens it
+seconds_unit : (tokens : List Token) (from : ℕ) (part : Secs) (to : ℕ) → SpellsSeconds tokens from part to → (is_secs (what_at tokens from) ≡ true) × (extends_operand (what_at tokens (from + 1)) ≡ true)
+seconds_unit tokens from (secs.Number x) to h = (ap is_secs h.1.0.0, ap extends_operand (subst (λ k. what_at tokens k ≡ Some (what.Word w.SEC)) (secs_end tokens from (secs.Number x) h.0 h.1) h.2))
+seconds_unit tokens from (secs.Decimal a b p) to h = (ap is_secs h.1.0, ap extends_operand (subst (λ k. what_at tokens k ≡ Some (what.Word w.SEC)) (secs_end tokens from (secs.Decimal a b p) h.0 h.1) h.2))
+
+unit : (tokens : List Token) (from : ℕ) (part : Duration) (to : ℕ) → SpellsDuration tokens from part to → (is_secs (what_at tokens from) ≡ true) × (extends_operand (what_at tokens (from + 1)) ≡ true)
+unit tokens from (Hours hours minutes seconds place) to h = (ap is_secs h.2.0, ap extends_operand h.3)
+unit tokens from (Minutes minutes seconds place) to h = (ap is_secs h.1.0, ap extends_operand h.2)
+unit tokens from (Seconds seconds place) to h = seconds_unit tokens from seconds to h.1
+
+-- a literal that begins where a duration was read
+pub literal_longest : (tokens : List Token) (from end stop : ℕ) (part : Duration) → SpellsDuration tokens from part end → from + 2 ≤ end → end ≤ stop →
+    IsLongest SpellsDuration extends_operand tokens from end stop →
+    IsLongest SpellsLiteral extends_operand tokens from end stop
+literal_longest tokens from end stop part spelled far near longest others agree x to h = by x h
+  where
+    early : to ≡ from + 1 → EndsEarly extends_operand others end to
+    early e = (omega (arith, e), subst (λ k. extends_operand (what_at others k) ≡ true) (sym e) (ap extends_operand (sym (agree (from + 1) (omega arith))) ∙ (unit tokens from part end spelled).1))
+
+    head : is_secs (what_at others from) ≡ true
+    head = ap is_secs (sym (agree from (omega arith))) ∙ (unit tokens from part end spelled).0
+
+    by : (x : Literal) → SpellsLiteral others from x to → (to ≡ end) ⊎ EndsEarly extends_operand others end to
+    by (literal.Number number) h = inr (early h.1)
+    by (literal.Bits len value place) h = absurd (true≢false (sym head ∙ ap is_secs h.0))
+    by (literal.Text text place) h = absurd (true≢false (sym head ∙ ap is_secs h.0))
+    by (literal.Clock milliseconds place) h = absurd (true≢false (sym head ∙ ap is_secs h.0))
+    by (literal.Duration duration) h = longest others agree duration.value to h

@@ -1,5 +1,5 @@
 -- What tokens that begin alike have in common: which token goes on with a part, and with which none goes on.
-use Rattle.std.specs.Prelude.{if◌then◌else◌, ◌≡◌, ℕ, ◌+◌, ◌<◌, ◌≤◌, ◌⊎◌, ◌==◌, ◌||◌, ◌&&◌, ◌-◌, ◌^◌, unwrap_or, Bool, true, false, List, length, Option, Some, None}
+use Rattle.std.specs.Prelude.{if◌then◌else◌, ◌≡◌, ℕ, ◌+◌, slice_get, ◌<◌, ◌≤◌, ◌⊎◌, ◌==◌, ◌||◌, ◌&&◌, ◌-◌, ◌^◌, unwrap_or, Bool, true, false, List, length, Option, Some, None}
 use Rattle.pearl_value.specs.declared.operator.Monad.{Monad}
 use Rattle.pearl_value.specs.declared.operator.Monad.TheVariants as monad
 use Rattle.pearl_tree.specs.declared.token.What.{What}
@@ -19,6 +19,7 @@ use Rattle.pearl_parse_expr.specs.declared.reading.Halt.{Halt}
 use Rattle.pearl_parse_expr.specs.declared.reading.Halt.TheVariants.{Refused, NoMemory}
 use Rattle.pearl_tree.specs.Following.{lengthens_operand, lengthens_expr}
 use Rattle.pearl_tree.specs.Stops.{BeginAlike}
+use Rattle.pearl_parse_expr.specs.Least.{LawfulFrom}
 use Rattle.pearl_tables.specs.declared.symbol.TheConstants as s
 use Rattle.pearl_tables.specs.declared.word_code.TheConstants as w
 
@@ -159,12 +160,20 @@ abbrev pub NoneGoesOn : List Token → ℕ → ℕ → Type 0
 NoneGoesOn tokens from k =
     (expr : Expr) (to : ℕ) (others : List Token) → BeginAlike tokens others k → SpellsWhole others from expr to → to ≤ k
 
--- the place of a token with which, up to and with it, no expression goes on from `from`
+-- some expression goes on as far as number k with the tokens from `from` up to it, and lawful ones from there on
+abbrev pub SomeGoesOn : List Token → ℕ → ℕ → Type 0
+SomeGoesOn tokens from k =
+    (expr : Expr) × (to : ℕ) × (others : List Token) ×
+    ((j : ℕ) → from ≤ j → j < k → slice_get tokens j ≡ slice_get others j) × SpellsWhole others from expr to × (k ≤ to) ×
+    LawfulFrom others k
+
+-- the place of the first token with which, up to and with it, no expression goes on from `from`
 pub record IsStop (tokens : List Token) (from place : ℕ) : Type 0 where
   pub token : ℕ
   pub stands : place ≡ stop_place tokens token
   pub on : from ≤ token
   pub none : NoneGoesOn tokens from token
+  pub some : SomeGoesOn tokens from token
 
 -- what is told where no expression begins
 abbrev pub IsRefused : List Token → ℕ → ParseFault → Type 0

@@ -12,6 +12,7 @@ ghost use Rattle.pearl_tables.specs.declared.word_code.TheConstants as w;
 ghost use Rattle.pearl_tables.specs.declared.symbol.TheConstants as s;
 ghost use Rattle.pearl_parse_expr.specs.declared.reading.Halt.{Halt};
 ghost use Rattle.pearl_parse_expr.specs.Stops as spec;
+ghost use Rattle.pearl_parse_expr.specs.Least.{IsLeast};
 
 use crate::fault::ParseFault;
 use crate::grouping::with_operand;
@@ -43,6 +44,7 @@ fn subscripts(
     ensures spells { IfOk result (λ reading. spec.SpellsSubscriptsList tokens.now depth from reading.part.items reading.end) }
     ensures longest { IfOk result (λ reading. spec.IsLongest (λ tokens. spec.SpellsSubscriptsList tokens depth) spec.extends_list tokens.now from reading.end reading.stop) }
     ensures ahead { IfOk result (λ reading. spec.IsAhead tokens.now from reading.end reading.stop) }
+    ensures least { IsLeast (λ tokens. spec.SpellsSubscriptsList tokens depth) tokens.now from result }
     ensures refused { IfErr result (λ halt. spec.IsHalted (λ tokens. spec.SpellsSubscriptsList tokens depth) tokens.now from halt) }
 {
     let first = expression_at_depth(alloc, tokens, from, depth)?;
@@ -89,6 +91,7 @@ fn bracketed(
     ensures spells { IfOk result (λ reading. grammar.SpellsSelector tokens.now depth from reading.part reading.end) }
     ensures longest { IfOk result (λ reading. spec.IsOnly (λ tokens. grammar.SpellsSelector tokens depth) tokens.now from reading.end reading.stop) }
     ensures ahead { IfOk result (λ reading. spec.IsAhead tokens.now from reading.end reading.stop) }
+    ensures least { IsLeast (λ tokens. grammar.SpellsSelector tokens depth) tokens.now from result }
     ensures refused { IfErr result (λ halt. spec.IsHalted (λ tokens. grammar.SpellsSelector tokens depth) tokens.now from halt) }
 {
     let inner = match subscripts(alloc, tokens, from + 1, depth - 1) {
@@ -119,6 +122,7 @@ fn selector(
     ensures spells { IfOk result (λ reading. grammar.SpellsSelector tokens.now depth from reading.part reading.end) }
     ensures longest { IfOk result (λ reading. spec.IsOnly (λ tokens. grammar.SpellsSelector tokens depth) tokens.now from reading.end reading.stop) }
     ensures ahead { IfOk result (λ reading. spec.IsAhead tokens.now from reading.end reading.stop) }
+    ensures least { IsLeast (λ tokens. grammar.SpellsSelector tokens depth) tokens.now from result }
     ensures refused { IfErr result (λ halt. spec.IsHalted (λ tokens. grammar.SpellsSelector tokens depth) tokens.now from halt) }
 {
     if is_symbol(tokens, from, PERIOD) {
@@ -141,6 +145,7 @@ fn selectors(
     ensures spells { IfOk result (λ reading. spec.SpellsSelectorsList tokens.now depth from reading.part.items reading.end) }
     ensures longest { IfOk result (λ reading. spec.IsLongest (λ tokens. spec.SpellsSelectorsList tokens depth) spec.extends_operand tokens.now from reading.end reading.stop) }
     ensures ahead { IfOk result (λ reading. (from ≤ reading.end) × (reading.end ≤ reading.stop) × (reading.stop ≤ length tokens.now)) }
+    ensures least { IsLeast (λ tokens. spec.SpellsSelectorsList tokens depth) tokens.now from result }
     ensures fault { IfErr result (λ halt. halt ≡ Halt.NoMemory) }
 {
     let mut list = Vec::new(alloc);
@@ -179,6 +184,7 @@ pub fn reference(
     ensures spells { IfOk result (λ reading. grammar.SpellsRef tokens.now depth from reading.part reading.end) }
     ensures longest { IfOk result (λ reading. spec.IsLongest (λ tokens. spec.SpellsNamed tokens depth) spec.extends_operand tokens.now from reading.end reading.stop) }
     ensures ahead { IfOk result (λ reading. spec.IsAhead tokens.now from reading.end reading.stop) }
+    ensures least { IsLeast (λ tokens. spec.SpellsNamed tokens depth) tokens.now from result }
     ensures refused { IfErr result (λ halt. spec.IsHalted (λ tokens. spec.SpellsNamed tokens depth) tokens.now from halt) }
 {
     match name_at(tokens, from) {
@@ -206,6 +212,7 @@ fn group(alloc: Global, tokens: &[Token], from: usize, depth: u8) -> Result<Read
     ensures spells { IfOk result (λ reading. grammar.SpellsPrimary tokens.now depth from reading.part reading.end) }
     ensures longest { IfOk result (λ reading. spec.IsLongest (λ tokens. grammar.SpellsPrimary tokens depth) spec.extends_operand tokens.now from reading.end reading.stop) }
     ensures ahead { IfOk result (λ reading. spec.IsAhead tokens.now from reading.end reading.stop) }
+    ensures least { IsLeast (λ tokens. grammar.SpellsPrimary tokens depth) tokens.now from result }
     ensures refused { IfErr result (λ halt. spec.IsHalted (λ tokens. grammar.SpellsPrimary tokens depth) tokens.now from halt) }
 {
     if depth == 0 {
@@ -243,6 +250,7 @@ fn limit(
     ensures spells { IfOk result (λ reading. grammar.SpellsPrimary tokens.now depth from reading.part reading.end) }
     ensures longest { IfOk result (λ reading. spec.IsLongest (λ tokens. grammar.SpellsPrimary tokens depth) spec.extends_operand tokens.now from reading.end reading.stop) }
     ensures ahead { IfOk result (λ reading. spec.IsAhead tokens.now from reading.end reading.stop) }
+    ensures least { IsLeast (λ tokens. grammar.SpellsPrimary tokens depth) tokens.now from result }
     ensures refused { IfErr result (λ halt. spec.IsHalted (λ tokens. grammar.SpellsPrimary tokens depth) tokens.now from halt) }
 {
     match reference(alloc, tokens, head.word + 1, depth) {
@@ -277,6 +285,7 @@ fn primary(
     ensures spells { IfOk result (λ reading. grammar.SpellsPrimary tokens.now depth from reading.part reading.end) }
     ensures longest { IfOk result (λ reading. spec.IsLongest (λ tokens. grammar.SpellsPrimary tokens depth) spec.extends_operand tokens.now from reading.end reading.stop) }
     ensures ahead { IfOk result (λ reading. spec.IsAhead tokens.now from reading.end reading.stop) }
+    ensures least { IsLeast (λ tokens. grammar.SpellsPrimary tokens depth) tokens.now from result }
     ensures refused { IfErr result (λ halt. spec.IsHalted (λ tokens. grammar.SpellsPrimary tokens depth) tokens.now from halt) }
 {
     if is_symbol(tokens, from, LEFT_ROUND) {
@@ -321,6 +330,7 @@ fn operand(
     ensures spells { IfOk result (λ reading. grammar.SpellsTerms tokens.now depth from (tree.Operand reading.part) reading.end) }
     ensures longest { IfOk result (λ reading. spec.IsLongest (λ tokens. spec.SpellsSigned tokens depth) spec.extends_operand tokens.now from reading.end reading.stop) }
     ensures ahead { IfOk result (λ reading. spec.IsAhead tokens.now from reading.end reading.stop) }
+    ensures least { IsLeast (λ tokens. spec.SpellsSigned tokens depth) tokens.now from result }
     ensures refused { IfErr result (λ halt. spec.IsHalted (λ tokens. spec.SpellsSigned tokens depth) tokens.now from halt) }
 {
     let monadics = monadics(alloc, tokens, from)?;
@@ -350,6 +360,7 @@ pub fn expression_at_depth(
     ensures spells { IfOk result (λ reading. grammar.SpellsExpr tokens.now depth from reading.part reading.end) }
     ensures longest { IfOk result (λ reading. spec.IsLongest (λ tokens. grammar.SpellsExpr tokens depth) spec.extends_expression tokens.now from reading.end reading.stop) }
     ensures ahead { IfOk result (λ reading. spec.IsAhead tokens.now from reading.end reading.stop) }
+    ensures least { IsLeast (λ tokens. grammar.SpellsExpr tokens depth) tokens.now from result }
     ensures refused { IfErr result (λ halt. spec.IsHalted (λ tokens. grammar.SpellsExpr tokens depth) tokens.now from halt) }
 {
     let first = match operand(alloc, tokens, from, depth) {
@@ -373,11 +384,11 @@ pub fn expression_at_depth(
                 count += 1;
             }
             Err(halt) => match halt {
-                Halt::Refused(at) => {
+                Halt::Refused(missing) => {
                     return Ok(Reading {
                         part,
                         end,
-                        stop: stop.max(at),
+                        stop: stop.max(missing),
                     });
                 }
                 Halt::NoMemory => return Err(Halt::NoMemory),
@@ -396,8 +407,8 @@ fn stop_place(tokens: &[Token], stop: usize) -> u32
     }
 }
 
-/// The longest expression that begins at a token, the number of the token after it, and a stop: the place of a token
-/// past which no expression goes that begins there.
+/// The longest expression that begins at a token, the number of the token after it, and a stop: the place of the first
+/// token past which no expression goes that begins there.
 pub fn expression(
     alloc: Global,
     tokens: &[Token],

@@ -9,6 +9,7 @@ ghost use Rattle.pearl_tables.specs.declared.word_code.TheConstants as w;
 ghost use Rattle.pearl_tables.specs.declared.symbol.TheConstants as s;
 ghost use Rattle.pearl_parse_expr.specs.declared.reading.Halt.{Halt};
 ghost use Rattle.pearl_parse_expr.specs.Stops as spec;
+ghost use Rattle.pearl_parse_expr.specs.Least.{Reaches, IsLeast};
 
 use crate::literal::literal;
 use crate::operator::{monadic_at, side_at};
@@ -82,6 +83,7 @@ pub fn component(tokens: &[Token], from: usize) -> Result<Reading<Selector>, Hal
     ensures spells { IfOk result (λ reading. (depth : ℕ) → grammar.SpellsSelector tokens.now depth from reading.part reading.end) }
     ensures longest { IfOk result (λ reading. (depth : ℕ) → spec.IsOnly (λ tokens. grammar.SpellsSelector tokens depth) tokens.now from reading.end reading.stop) }
     ensures ahead { IfOk result (λ reading. spec.IsAhead tokens.now from reading.end reading.stop) }
+    ensures least { (depth : ℕ) → IsLeast (λ tokens. grammar.SpellsSelector tokens depth) tokens.now from result }
     ensures refused { IfErr result (λ halt. (depth : ℕ) → spec.IsHalted (λ tokens. grammar.SpellsSelector tokens depth) tokens.now from halt) }
     ensures memory { IfErr result (λ halt. halt ≢ Halt.NoMemory) }
 {
@@ -105,6 +107,7 @@ pub fn availability(tokens: &[Token], from: usize) -> Result<Reading<Primary>, H
     ensures spells { IfOk result (λ reading. (depth : ℕ) → grammar.SpellsPrimary tokens.now depth from reading.part reading.end) }
     ensures longest { IfOk result (λ reading. (depth : ℕ) → spec.IsLongest (λ tokens. grammar.SpellsPrimary tokens depth) spec.extends_operand tokens.now from reading.end reading.stop) }
     ensures ahead { IfOk result (λ reading. spec.IsAhead tokens.now from reading.end reading.stop) }
+    ensures least { (depth : ℕ) → IsLeast (λ tokens. grammar.SpellsPrimary tokens depth) tokens.now from result }
     ensures refused { IfErr result (λ halt. (depth : ℕ) → spec.IsHalted (λ tokens. grammar.SpellsPrimary tokens depth) tokens.now from halt) }
     ensures memory { IfErr result (λ halt. halt ≢ Halt.NoMemory) }
 {
@@ -136,6 +139,7 @@ pub fn literal_primary(
     ensures spells { IfOk result (λ reading. (depth : ℕ) → grammar.SpellsPrimary tokens.now depth from reading.part reading.end) }
     ensures longest { IfOk result (λ reading. (depth : ℕ) → spec.IsLongest (λ tokens. grammar.SpellsPrimary tokens depth) spec.extends_operand tokens.now from reading.end reading.stop) }
     ensures ahead { IfOk result (λ reading. spec.IsAhead tokens.now from reading.end reading.stop) }
+    ensures least { (depth : ℕ) → IsLeast (λ tokens. grammar.SpellsPrimary tokens depth) tokens.now from result }
     ensures refused { IfErr result (λ halt. (depth : ℕ) → spec.IsHalted (λ tokens. grammar.SpellsPrimary tokens depth) tokens.now from halt) }
 {
     match literal(alloc, tokens, from) {
@@ -162,6 +166,7 @@ pub fn without_array(
     ensures spells { IfOk result (λ reading. (depth : ℕ) → grammar.SpellsPrimary tokens.now depth from reading.part reading.end) }
     ensures longest { IfOk result (λ reading. (depth : ℕ) → spec.Stuck (λ tokens. spec.SpellsNamed tokens depth) tokens.now (head.word + 1) stop → spec.IsLongest (λ tokens. grammar.SpellsPrimary tokens depth) spec.extends_operand tokens.now from reading.end reading.stop) }
     ensures ahead { IfOk result (λ reading. spec.IsAhead tokens.now from reading.end reading.stop) }
+    ensures least { (depth : ℕ) → Reaches (λ tokens. spec.SpellsNamed tokens depth) tokens.now (head.word + 1) stop → IsLeast (λ tokens. grammar.SpellsPrimary tokens depth) tokens.now from result }
     ensures refused { IfErr result (λ halt. (depth : ℕ) → spec.Stuck (λ tokens. spec.SpellsNamed tokens depth) tokens.now (head.word + 1) stop → spec.IsHalted (λ tokens. grammar.SpellsPrimary tokens depth) tokens.now from halt) }
     ensures memory { IfErr result (λ halt. halt ≢ Halt.NoMemory) }
 {

@@ -6,6 +6,7 @@ ghost use Rattle.pearl_tree.specs.Expressions.{SpellsSecs, SpellsSeconds, Spells
 ghost use Rattle.pearl_tables.specs.declared.word_code.TheConstants as w;
 ghost use Rattle.pearl_tree.specs.declared.literal.Duration.{Duration};
 ghost use Rattle.pearl_parse_expr.specs.declared.reading.Halt.{Halt};
+ghost use Rattle.pearl_parse_expr.specs.Least.{Reaches, GoesTo, IsLeast};
 ghost use Rattle.pearl_parse_expr.specs.Stops.{IsLongest, Stuck, IsAhead, IsHalted, extends_operand, is_plain, is_secs, is_counted, SpellsMaybeSeconds};
 
 use crate::reading::{Halt, Reading, boxed};
@@ -78,6 +79,8 @@ fn seconds_at(tokens: &[Token], at: usize) -> Reading<Option<Secs>>
     ensures spells { SpellsMaybeSeconds tokens.now at result.part result.end }
     ensures longest { IsLongest SpellsMaybeSeconds extends_operand tokens.now at result.end result.stop }
     ensures ahead { (at ≤ result.end) × (result.end ≤ result.stop) × (result.stop ≤ length tokens.now) }
+    ensures least { GoesTo SpellsSeconds tokens.now at result.end result.stop }
+    ensures begun { result.part ≡ None → Reaches SpellsSeconds tokens.now at result.stop }
     ensures stuck { result.part ≡ None → Stuck SpellsSeconds tokens.now at result.stop }
     ensures near { result.part ≡ None → result.stop ≤ at + 1 }
     ensures far { is_secs (what_at tokens.now at) ≡ true → at + 1 ≤ result.stop }
@@ -153,6 +156,7 @@ fn from_hours(tokens: &[Token], from: usize, hours: Number) -> Reading<Duration>
     ensures spells { SpellsDuration tokens.now from result.part result.end }
     ensures longest { IsLongest SpellsDuration extends_operand tokens.now from result.end result.stop }
     ensures ahead { IsAhead tokens.now from result.end result.stop }
+    ensures least { GoesTo SpellsDuration tokens.now from result.end result.stop }
 {
     match counted_at(tokens, from + 2, MIN) {
         Some(minutes) => hours_of(hours, Some(minutes), seconds_at(tokens, from + 4)),
@@ -167,6 +171,7 @@ fn from_minutes(tokens: &[Token], from: usize, minutes: Number) -> Reading<Durat
     ensures spells { SpellsDuration tokens.now from result.part result.end }
     ensures longest { IsLongest SpellsDuration extends_operand tokens.now from result.end result.stop }
     ensures ahead { IsAhead tokens.now from result.end result.stop }
+    ensures least { GoesTo SpellsDuration tokens.now from result.end result.stop }
 {
     let seconds = seconds_at(tokens, from + 2);
     Reading {
@@ -187,6 +192,8 @@ fn from_seconds(tokens: &[Token], from: usize) -> Result<Reading<Duration>, usiz
     ensures spells { IfOk result (λ reading. SpellsDuration tokens.now from reading.part reading.end) }
     ensures longest { IfOk result (λ reading. IsLongest SpellsDuration extends_operand tokens.now from reading.end reading.stop) }
     ensures ahead { IfOk result (λ reading. IsAhead tokens.now from reading.end reading.stop) }
+    ensures least { IfOk result (λ reading. GoesTo SpellsDuration tokens.now from reading.end reading.stop) }
+    ensures begun { IfErr result (λ stop. Reaches SpellsDuration tokens.now from stop) }
     ensures refused { IfErr result (λ stop. Stuck SpellsDuration tokens.now from stop) }
     ensures held { IfErr result (λ stop. (from ≤ stop) × (stop ≤ from + 1) × (stop ≤ length tokens.now)) }
 {
@@ -209,6 +216,8 @@ fn duration(tokens: &[Token], from: usize) -> Result<Reading<Duration>, usize>
     ensures spells { IfOk result (λ reading. SpellsDuration tokens.now from reading.part reading.end) }
     ensures longest { IfOk result (λ reading. IsLongest SpellsDuration extends_operand tokens.now from reading.end reading.stop) }
     ensures ahead { IfOk result (λ reading. IsAhead tokens.now from reading.end reading.stop) }
+    ensures least { IfOk result (λ reading. GoesTo SpellsDuration tokens.now from reading.end reading.stop) }
+    ensures begun { IfErr result (λ stop. Reaches SpellsDuration tokens.now from stop) }
     ensures refused { IfErr result (λ stop. Stuck SpellsDuration tokens.now from stop) }
     ensures held { IfErr result (λ stop. (from ≤ stop) × (stop ≤ from + 1) × (stop ≤ length tokens.now)) }
 {
@@ -227,6 +236,7 @@ pub fn literal(alloc: Global, tokens: &[Token], from: usize) -> Result<Reading<L
     ensures spells { IfOk result (λ reading. SpellsLiteral tokens.now from reading.part reading.end) }
     ensures longest { IfOk result (λ reading. IsLongest SpellsLiteral extends_operand tokens.now from reading.end reading.stop) }
     ensures ahead { IfOk result (λ reading. IsAhead tokens.now from reading.end reading.stop) }
+    ensures least { IsLeast SpellsLiteral tokens.now from result }
     ensures refused { IfErr result (λ halt. IsHalted SpellsLiteral tokens.now from halt) }
     ensures none { IfErr result (λ halt. halt ≢ Halt.NoMemory → is_plain (what_at tokens.now from) ≡ false) }
 {

@@ -1,6 +1,7 @@
 use Rattle.std.proofs.Common.{◌+◌, refl, sym, ap, ◌∙◌, arith}
 use Rattle.pearl_parse_expr.proofs.Primaries.{clash}
 use Rattle.pearl_parse_decl.specs.Readings.{is_device_word}
+use Rattle.pearl_parse_decl.proofs.Leaves.{bracketed_number_is}
 use Rattle.pearl_parse_decl.proofs.Specifications.{device_head}
 use Rattle.pearl_parse_decl.proofs.specification.device.Goals as goal
 
@@ -10,4 +11,12 @@ returns-in-None-device_word-clause-refused c = (
       (ap is_device_word (sym (agree (c.args.from + 2) (omega arith))) ∙ c.in-None-device_word.ensures.none refl),
   omega arith,
   omega (arith, c.if-not-is_symbol.ensures.within refl),
+)
+
+pub returns-in-Err-clause-refused : goal.returns-in-Err-clause-refused
+returns-in-Err-clause-refused c = (
+  λ others agree x to h. c.in-Err.ensures.refused others agree x.number (c.args.from + 3 + 3)
+      (bracketed_number_is others (c.args.from + 3) (c.args.from + 4) (c.args.from + 5) x.number (omega arith) (omega arith) h.4 h.5 h.6),
+  omega (arith, c.in-Err.ensures.held),
+  c.in-Err.ensures.held.1,
 )

@@ -1,4 +1,4 @@
-use Rattle.std.proofs.Common.{◌≡◌, ℕ, ◌+◌, ◌-◌, ◌<◌, ◌≤◌, length, inl, refl, sym, ap, subst, ◌∙◌, arith, rules, [], ◌∷◌, ◌++◌}
+use Rattle.std.proofs.Common.{Err, ◌≡◌, ℕ, ◌+◌, ◌-◌, ◌<◌, ◌≤◌, length, inl, refl, sym, ap, subst, ◌∙◌, arith, rules, [], ◌∷◌, ◌++◌}
 use Rattle.pearl_tree.specs.Expressions as grammar
 use Rattle.pearl_tables.specs.declared.symbol.TheConstants as s
 use Rattle.pearl_tree.proofs.ExpressionLists.{spells_ref, spells_limit, spells_subscripts}
@@ -10,6 +10,10 @@ use Rattle.pearl_parse_expr.proofs.Chains.{chain_begins, chain_goes_on, chain_en
 use Rattle.pearl_parse_expr.proofs.Halts.{halted, ok_map, err_map, stuck_of}
 use Rattle.pearl_parse_expr.proofs.Limits.{same_monadics, with_array}
 use Rattle.pearl_parse_expr.proofs.Closings.{group_is_longest, group_is_open, list_is_only, list_is_open}
+use Rattle.pearl_parse_expr.specs.Least.{Reaches, IsLeast}
+use Rattle.pearl_parse_expr.proofs.Reaching.{goes, goes_max, goes_as, halts_as, reached_halt, reaches_max}
+use Rattle.pearl_parse_expr.proofs.Leaves.{primary_begins, selector_begins, named_begins}
+use Rattle.pearl_parse_expr.proofs.Joining.{expr_reach, selector_reach, subscripts_reach, signed_reach, subscripts_first, subscripts_goes_on, selectors_go_on, selectors_begin, group_reaches, bracketed_reaches, ref_reaches, limit_reaches, operand_reaches, chain_reaches, chain_goes_further}
 use Rattle.pearl_parse_expr.proofs.expression.+expression.Goals as goal
 use Rattle.pearl_parse_expr.proofs.expression.+expression.Goals.{selector-else-depth-gt0-via-then-depth-gt0+else-is_symbol-2, selector-else-depth-gt0-via-else-depth-gt0}
 
@@ -22,6 +26,12 @@ bracketed-returns-in-Err-clause-refused t c =
     (read.0, read.1, read.2))
     c.in-Err.ensures.refused
 
+pub bracketed-returns-in-Err-clause-least : goal.bracketed-returns-in-Err-clause-least
+bracketed-returns-in-Err-clause-least t c =
+    halts_as (λ tokens. spec.SpellsSubscriptsList tokens (c.args.depth - 1)) (λ tokens. grammar.SpellsSelector tokens c.args.depth) c.args.tokens.now c.args.from (c.args.from + 1) c.in-Err.halt
+    (λ stop near within r. bracketed_reaches c.args.tokens.now c.args.depth c.args.from stop (search rules) c.requires.deep c.requires.bracket (omega arith) within r)
+    c.in-Err.ensures.refused c.in-Err.ensures.least
+
 pub bracketed-returns-then-not-is_symbol-clause-refused : goal.bracketed-returns-then-not-is_symbol-clause-refused
 bracketed-returns-then-not-is_symbol-clause-refused t c =
     let inner = c.in-Ok.inner in
@@ -31,6 +41,21 @@ bracketed-returns-then-not-is_symbol-clause-refused t c =
       near,
       omega (arith, c.in-Ok.ensures.ahead),
     )
+
+pub bracketed-returns-then-not-is_symbol-clause-least : goal.bracketed-returns-then-not-is_symbol-clause-least
+bracketed-returns-then-not-is_symbol-clause-least t c =
+    let inner = c.in-Ok.inner in
+    let read = c.in-Ok.ensures in
+    bracketed_reaches c.args.tokens.now c.args.depth c.args.from inner.stop (search rules) c.requires.deep c.requires.bracket (omega (arith, read.ahead)) (omega (arith, read.ahead))
+    (subscripts_reach c.args.tokens.now (c.args.depth - 1) (c.args.from + 1) inner.end inner.stop read.ahead inner.part.items read.spells read.least)
+
+pub bracketed-returns-clause-least : goal.bracketed-returns-clause-least
+bracketed-returns-clause-least t c =
+    let inner = c.in-Ok.inner in
+    let read = c.in-Ok.ensures in
+    goes_max (λ tokens. grammar.SpellsSelector tokens c.args.depth) c.args.tokens.now c.args.from inner.stop (inner.end + 1) c.max.result c.max.ensures
+    (bracketed_reaches c.args.tokens.now c.args.depth c.args.from inner.stop (search rules) c.requires.deep c.requires.bracket (omega (arith, read.ahead)) (omega (arith, read.ahead))
+    (subscripts_reach c.args.tokens.now (c.args.depth - 1) (c.args.from + 1) inner.end inner.stop read.ahead inner.part.items read.spells read.least))
 
 pub bracketed-returns-clause-spells : goal.bracketed-returns-clause-spells
 bracketed-returns-clause-spells t c =
@@ -62,6 +87,9 @@ group-returns-then-depth-eq0-clause-refused t c = (
   c.requires.within,
 )
 
+pub group-returns-then-depth-eq0-clause-least : goal.group-returns-then-depth-eq0-clause-least
+group-returns-then-depth-eq0-clause-least t c = primary_begins c.args.tokens.now c.args.depth c.args.from c.requires.within
+
 pub group-expression_at_depth-requires : goal.group-expression_at_depth-requires
 group-expression_at_depth-requires t c =
     let deep : 0 < c.args.depth = omega (arith, c.if-depth-eq0.false) in
@@ -76,6 +104,12 @@ group-returns-in-Err-clause-refused t c =
     (read.0, read.1, read.2))
     c.in-Err.ensures.refused
 
+pub group-returns-in-Err-clause-least : goal.group-returns-in-Err-clause-least
+group-returns-in-Err-clause-least t c =
+    halts_as (λ tokens. grammar.SpellsExpr tokens (c.args.depth - 1)) (λ tokens. grammar.SpellsPrimary tokens c.args.depth) c.args.tokens.now c.args.from (c.args.from + 1) c.in-Err.halt
+    (λ stop near within r. group_reaches c.args.tokens.now c.args.depth c.args.from stop (search rules) (omega (arith, c.if-depth-eq0.false)) c.requires.bracket (omega arith) within r)
+    c.in-Err.ensures.refused c.in-Err.ensures.least
+
 pub group-returns-then-not-is_symbol-clause-refused : goal.group-returns-then-not-is_symbol-clause-refused
 group-returns-then-not-is_symbol-clause-refused t c =
     let inner = c.in-Ok.inner in
@@ -86,6 +120,21 @@ group-returns-then-not-is_symbol-clause-refused t c =
       omega (arith, c.in-Ok.ensures.ahead),
     )
 
+pub group-returns-then-not-is_symbol-clause-least : goal.group-returns-then-not-is_symbol-clause-least
+group-returns-then-not-is_symbol-clause-least t c =
+    let inner = c.in-Ok.inner in
+    let read = c.in-Ok.ensures in
+    group_reaches c.args.tokens.now c.args.depth c.args.from inner.stop (search rules) (omega (arith, c.if-depth-eq0.false)) c.requires.bracket (omega (arith, read.ahead)) (omega (arith, read.ahead))
+    (expr_reach c.args.tokens.now (c.args.depth - 1) (c.args.from + 1) inner.end inner.stop read.ahead inner.part read.spells read.least)
+
+pub group-returns-clause-least : goal.group-returns-clause-least
+group-returns-clause-least t c =
+    let inner = c.in-Ok.inner in
+    let read = c.in-Ok.ensures in
+    goes_max (λ tokens. grammar.SpellsPrimary tokens c.args.depth) c.args.tokens.now c.args.from inner.stop (inner.end + 1) c.max.result c.max.ensures
+    (group_reaches c.args.tokens.now c.args.depth c.args.from inner.stop (search rules) (omega (arith, c.if-depth-eq0.false)) c.requires.bracket (omega (arith, read.ahead)) (omega (arith, read.ahead))
+    (expr_reach c.args.tokens.now (c.args.depth - 1) (c.args.from + 1) inner.end inner.stop read.ahead inner.part read.spells read.least))
+
 pub group-returns-clause-longest : goal.group-returns-clause-longest
 group-returns-clause-longest t c = λ others agree x to h.
     let inner = c.in-Ok.inner in
@@ -94,6 +143,11 @@ group-returns-clause-longest t c = λ others agree x to h.
 pub expression_at_depth-returns-in-Err-clause-refused : goal.expression_at_depth-returns-in-Err-clause-refused
 expression_at_depth-returns-in-Err-clause-refused t c = no_chain_halted c.args.tokens.now c.args.depth c.args.from c.in-Err.halt c.in-Err.ensures.refused
 
+pub expression_at_depth-returns-in-Err-clause-least : goal.expression_at_depth-returns-in-Err-clause-least
+expression_at_depth-returns-in-Err-clause-least t c =
+    halts_as (λ tokens. spec.SpellsSigned tokens c.args.depth) (λ tokens. grammar.SpellsExpr tokens c.args.depth) c.args.tokens.now c.args.from c.args.from c.in-Err.halt
+    (λ stop near within r. chain_reaches c.args.tokens.now c.args.depth c.args.from stop r) c.in-Err.ensures.refused c.in-Err.ensures.least
+
 pub expression_at_depth-each-init : goal.expression_at_depth-each-init
 expression_at_depth-each-init t c = record {
   spells = c.in-Ok.ensures.spells;
@@ -101,7 +155,25 @@ expression_at_depth-each-init t c = record {
   goes = chain_begins c.args.tokens.now c.args.depth c.args.from c.in-Ok.first.end c.in-Ok.first.stop c.in-Ok.ensures.longest;
   ahead = c.in-Ok.ensures.ahead;
   few = omega arith;
+  reach = chain_reaches c.args.tokens.now c.args.depth c.args.from c.in-Ok.first.stop
+      (signed_reach c.args.tokens.now c.args.depth c.args.from c.in-Ok.first.end c.in-Ok.first.stop c.in-Ok.ensures.ahead c.in-Ok.first.part c.in-Ok.ensures.spells c.in-Ok.ensures.least);
 }
+
+pub expression_at_depth-returns-in-None-clause-least : goal.expression_at_depth-returns-in-None-clause-least
+expression_at_depth-returns-in-None-clause-least t c = goes (λ tokens. grammar.SpellsExpr tokens c.args.depth) c.args.tokens.now c.args.from c.each.end c.each.stop c.each.invariant.reach
+
+pub expression_at_depth-returns-clause-least : goal.expression_at_depth-returns-clause-least
+expression_at_depth-returns-clause-least t c = goes (λ tokens. grammar.SpellsExpr tokens c.args.depth) c.args.tokens.now c.args.from c.each.end c.each.stop c.each.invariant.reach
+
+pub expression_at_depth-returns-in-Refused-clause-least : goal.expression_at_depth-returns-in-Refused-clause-least
+expression_at_depth-returns-in-Refused-clause-least t c =
+    let stuck = stuck_of (λ tokens. spec.SpellsSigned tokens c.args.depth) c.args.tokens.now (c.each.end + 1) c.in-Refused.missing c.in-Err-operand.halt c.in-Refused.is c.in-Err-operand.ensures.refused in
+    let reach = reached_halt (λ tokens. spec.SpellsSigned tokens c.args.depth) c.args.tokens.now (c.each.end + 1) c.in-Refused.missing c.in-Err-operand.halt c.in-Refused.is c.in-Err-operand.ensures.least in
+    let near : c.each.end < c.in-Refused.missing = omega (arith, stuck.1) in
+    goes (λ tokens. grammar.SpellsExpr tokens c.args.depth) c.args.tokens.now c.args.from c.each.end c.max.result
+    (reaches_max (λ tokens. grammar.SpellsExpr tokens c.args.depth) c.args.tokens.now c.args.from c.each.stop c.in-Refused.missing c.max.result c.max.ensures c.each.invariant.reach
+    (chain_goes_further c.args.tokens.now c.args.depth c.args.from c.each.end c.in-Refused.missing c.each.part c.in-Some.dyadic c.each.invariant.spells (omega (arith, c.each.invariant.count, c.each-test.true))
+    c.in-Some.ensures.some c.in-Some.ensures.place (omega (arith, c.each.invariant.ahead)) near reach))
 
 pub expression_at_depth-returns-in-None-clause-longest : goal.expression_at_depth-returns-in-None-clause-longest
 expression_at_depth-returns-in-None-clause-longest t c =
@@ -124,14 +196,18 @@ expression_at_depth-each-preserved t c =
           c.each.invariant.goes near ahead below reach c.in-Some.ensures.some read.longest;
       ahead = (omega (arith, c.each.invariant.ahead, read.ahead), omega (arith, read.ahead), omega (arith, c.each.invariant.ahead, read.ahead, c.max-stop.ensures));
       few = omega (arith, c.each-test.true);
+      reach = reaches_max (λ tokens. grammar.SpellsExpr tokens c.args.depth) c.args.tokens.now c.args.from c.each.stop next.stop c.max-stop.result c.max-stop.ensures c.each.invariant.reach
+          (chain_goes_further c.args.tokens.now c.args.depth c.args.from c.each.end next.stop c.each.part c.in-Some.dyadic c.each.invariant.spells (omega (arith, c.each.invariant.count, c.each-test.true))
+          c.in-Some.ensures.some c.in-Some.ensures.place (omega (arith, c.each.invariant.ahead)) (omega (arith, read.ahead))
+          (signed_reach c.args.tokens.now c.args.depth (c.each.end + 1) next.end next.stop read.ahead next.part read.spells read.least));
     }
 
 pub expression_at_depth-returns-in-Refused-clause-longest : goal.expression_at_depth-returns-in-Refused-clause-longest
 expression_at_depth-returns-in-Refused-clause-longest t c =
-    let stuck = stuck_of (λ tokens. spec.SpellsSigned tokens c.args.depth) c.args.tokens.now (c.each.end + 1) c.in-Refused.at c.in-Err-operand.halt c.in-Refused.is c.in-Err-operand.ensures.refused in
+    let stuck = stuck_of (λ tokens. spec.SpellsSigned tokens c.args.depth) c.args.tokens.now (c.each.end + 1) c.in-Refused.missing c.in-Err-operand.halt c.in-Refused.is c.in-Err-operand.ensures.refused in
     let below : c.each.stop ≤ c.max.result = omega (arith, c.max.ensures) in
-    let reach : c.in-Refused.at ≤ c.max.result = omega (arith, c.max.ensures) in
-    chain_is_stuck c.args.tokens.now c.args.depth c.args.from c.each.end c.each.stop c.in-Refused.at c.max.result c.each.count c.each.invariant.goes below reach stuck.0
+    let reach : c.in-Refused.missing ≤ c.max.result = omega (arith, c.max.ensures) in
+    chain_is_stuck c.args.tokens.now c.args.depth c.args.from c.each.end c.each.stop c.in-Refused.missing c.max.result c.each.count c.each.invariant.goes below reach stuck.0
 
 pub expression_at_depth-returns-clause-longest : goal.expression_at_depth-returns-clause-longest
 expression_at_depth-returns-clause-longest t c =
@@ -159,6 +235,18 @@ limit-returns-in_ok-array-in-Ok-clause-longest t c = λ others agree x to h.
 limit_stuck : (t : ℕ) (c : goal.limit-After-without_array t) → spec.Stuck (λ tokens. spec.SpellsNamed tokens c.args.depth) c.args.tokens.now (c.args.head.word + 1) c.in-Refused.stop
 limit_stuck t c = (stuck_of (λ tokens. spec.SpellsNamed tokens c.args.depth) c.args.tokens.now (c.args.head.word + 1) c.in-Refused.stop c.in-Err.halt c.in-Refused.is c.in-Err.ensures.refused).0
 
+pub limit-returns-in_ok-array-in-Ok-clause-least : goal.limit-returns-in_ok-array-in-Ok-clause-least
+limit-returns-in_ok-array-in-Ok-clause-least t c =
+    let head = c.args.head in
+    let read = c.in-Ok.ensures in
+    goes_as (λ tokens. spec.SpellsNamed tokens c.args.depth) (λ tokens. grammar.SpellsPrimary tokens c.args.depth) c.args.tokens.now c.args.from (head.word + 1) c.in-Ok.read.end c.in-Ok.read.stop
+    (λ r. limit_reaches c.args.tokens.now c.args.depth c.args.from head.word c.in-Ok.read.stop head.dimension head.side c.requires.dimension c.requires.word (omega (arith, read.ahead))
+    (search rules) (omega (arith, read.ahead)) r) read.least
+
+pub limit-returns-in-Refused-clause-least : goal.limit-returns-in-Refused-clause-least
+limit-returns-in-Refused-clause-least t c = c.without_array.ensures.least c.args.depth
+    (reached_halt (λ tokens. spec.SpellsNamed tokens c.args.depth) c.args.tokens.now (c.args.head.word + 1) c.in-Refused.stop c.in-Err.halt c.in-Refused.is c.in-Err.ensures.least)
+
 pub limit-returns-in-Refused-clause-spells : goal.limit-returns-in-Refused-clause-spells
 limit-returns-in-Refused-clause-spells t c = ok_map _ _ c.without_array.result (λ reading h. h c.args.depth) c.without_array.ensures.spells
 
@@ -178,6 +266,24 @@ operand-returns-in-Err-clause-refused t c =
     (x, to, same_monadics c.args.tokens.now others c.args.depth c.args.from stop list.items agree near c.in_ok-monadics.ensures.each c.in_ok-monadics.ensures.all x to h))
     (subst (λ k. spec.IsHalted (λ tokens. grammar.SpellsPrimary tokens c.args.depth) c.args.tokens.now (c.args.from + k) c.in-Err.halt) size c.in-Err.ensures.refused)
 
+pub operand-returns-in-Err-clause-least : goal.operand-returns-in-Err-clause-least
+operand-returns-in-Err-clause-least t c =
+    let list = c.in_ok-monadics.monadics in
+    let size : c.len.result ≡ length list.items = omega (arith, c.len.ensures, list.ok.0) in
+    halts_as (λ tokens. grammar.SpellsPrimary tokens c.args.depth) (λ tokens. spec.SpellsSigned tokens c.args.depth) c.args.tokens.now c.args.from (c.args.from + c.len.result) c.in-Err.halt
+    (λ stop near within r. operand_reaches c.args.tokens.now c.args.depth c.args.from (c.args.from + length list.items) stop list.items c.in_ok-monadics.ensures.each c.in_ok-monadics.ensures.few (omega arith) (omega (arith, size, near))
+    (subst (λ k. Reaches (λ tokens. grammar.SpellsPrimary tokens c.args.depth) c.args.tokens.now (c.args.from + k) stop) size r))
+    c.in-Err.ensures.refused c.in-Err.ensures.least
+
+pub operand-returns-in-Ok-clause-least : goal.operand-returns-in-Ok-clause-least
+operand-returns-in-Ok-clause-least t c =
+    let list = c.in_ok-monadics.monadics in
+    let size : c.len.result ≡ length list.items = omega (arith, c.len.ensures, list.ok.0) in
+    let near : c.args.from + length list.items ≤ c.in-Ok.primary.stop = omega (arith, size, c.in-Ok.ensures.ahead) in
+    goes_as (λ tokens. grammar.SpellsPrimary tokens c.args.depth) (λ tokens. spec.SpellsSigned tokens c.args.depth) c.args.tokens.now c.args.from (c.args.from + c.len.result) c.in-Ok.primary.end c.in-Ok.primary.stop
+    (λ r. operand_reaches c.args.tokens.now c.args.depth c.args.from (c.args.from + length list.items) c.in-Ok.primary.stop list.items c.in_ok-monadics.ensures.each c.in_ok-monadics.ensures.few (omega arith) near
+    (subst (λ k. Reaches (λ tokens. grammar.SpellsPrimary tokens c.args.depth) c.args.tokens.now (c.args.from + k) c.in-Ok.primary.stop) size r)) c.in-Ok.ensures.least
+
 pub operand-returns-in-Ok-clause-longest : goal.operand-returns-in-Ok-clause-longest
 operand-returns-in-Ok-clause-longest t c = λ others agree x to h.
     let list = c.in_ok-monadics.monadics in
@@ -194,6 +300,22 @@ primary-returns-in-Err-clause-refused t c =
     let read = only_named others c.args.depth c.args.from (ap spec.is_name (sym (agree c.args.from near)) ∙ sym c.if-is_name.ensures) x to h in
     (read.0, to, read.1))
     c.in-Err.ensures.refused
+
+pub primary-returns-in-Err-clause-least : goal.primary-returns-in-Err-clause-least
+primary-returns-in-Err-clause-least t c =
+    halts_as (λ tokens. spec.SpellsNamed tokens c.args.depth) (λ tokens. grammar.SpellsPrimary tokens c.args.depth) c.args.tokens.now c.args.from c.args.from c.in-Err.halt
+    (λ stop near within r. ref_reaches c.args.tokens.now c.args.depth c.args.from stop (search rules) within r) c.in-Err.ensures.refused c.in-Err.ensures.least
+
+pub primary-returns-in-Ok-clause-least : goal.primary-returns-in-Ok-clause-least
+primary-returns-in-Ok-clause-least t c =
+    goes_as (λ tokens. spec.SpellsNamed tokens c.args.depth) (λ tokens. grammar.SpellsPrimary tokens c.args.depth) c.args.tokens.now c.args.from c.args.from c.in-Ok.reference.end c.in-Ok.reference.stop
+    (λ r. ref_reaches c.args.tokens.now c.args.depth c.args.from c.in-Ok.reference.stop (search rules) (omega (arith, c.in-Ok.ensures.ahead)) r) c.in-Ok.ensures.least
+
+pub primary-returns-then-is_word-2-clause-least : goal.primary-returns-then-is_word-2-clause-least
+primary-returns-then-is_word-2-clause-least t c = c.availability.ensures.least c.args.depth
+
+pub primary-returns-in-None-clause-least : goal.primary-returns-in-None-clause-least
+primary-returns-in-None-clause-least t c = c.literal_primary.ensures.least c.args.depth
 
 pub primary-returns-in-Ok-clause-spells : goal.primary-returns-in-Ok-clause-spells
 primary-returns-in-Ok-clause-spells t c =
@@ -218,6 +340,15 @@ primary-returns-in-None-clause-refused t c = err_map _ _ c.literal_primary.resul
 pub selector-returns-then-is_symbol-clause-refused : goal.selector-returns-then-is_symbol-clause-refused
 selector-returns-then-is_symbol-clause-refused t c = err_map _ _ c.component.result (λ halt h. h c.args.depth) c.component.ensures.refused
 
+pub selector-returns-then-is_symbol-clause-least : goal.selector-returns-then-is_symbol-clause-least
+selector-returns-then-is_symbol-clause-least t c = c.component.ensures.least c.args.depth
+
+pub selector-returns-clause-least : goal.selector-returns-clause-least
+selector-returns-clause-least t c = selector_begins c.args.tokens.now c.args.depth c.args.from c.requires
+
+pub reference-returns-in-None-clause-least : goal.reference-returns-in-None-clause-least
+reference-returns-in-None-clause-least t c = named_begins c.args.tokens.now c.args.depth c.args.from c.requires
+
 pub selector-returns-clause-refused : goal.selector-returns-clause-refused
 selector-returns-clause-refused t c = (
   λ others agree x to h. no_selector others c.args.depth c.args.from
@@ -226,6 +357,14 @@ selector-returns-clause-refused t c = (
   omega arith,
   c.requires,
 )
+
+pub selectors-each-init : goal.selectors-each-init
+selectors-each-init t c = record {
+  spells = search rules;
+  goes = search rules;
+  ahead = (omega arith, omega arith, c.requires);
+  reach = selectors_begin c.args.tokens.now c.args.depth c.args.from c.requires;
+}
 
 pub selectors-each-preserved : goal.selectors-each-preserved
 selectors-each-preserved t c =
@@ -243,7 +382,18 @@ selectors-each-preserved t c =
       goes = selectors_next tokens depth c.args.from c.each.end c.each.stop next.end next.stop c.max-stop.result c.each.invariant.goes near ahead below reach
           (selector_extends tokens depth c.each.end next.part next.end read.spells) read.longest;
       ahead = (omega (arith, c.each.invariant.ahead, read.ahead), omega (arith, read.ahead), omega (arith, c.each.invariant.ahead, read.ahead, c.max-stop.ensures));
+      reach = reaches_max (λ tokens. spec.SpellsSelectorsList tokens depth) tokens c.args.from c.each.stop next.stop c.max-stop.result c.max-stop.ensures c.each.invariant.reach
+          (selectors_go_on tokens depth c.args.from c.each.end next.stop c.each.list.items c.each.invariant.spells (omega (arith, c.each.invariant.ahead)) (omega (arith, read.ahead))
+          (selector_reach tokens depth c.each.end next.end next.stop read.ahead next.part read.spells read.least));
     }
+
+pub selectors-returns-in-Refused-clause-least : goal.selectors-returns-in-Refused-clause-least
+selectors-returns-in-Refused-clause-least t c =
+    let stuck = stuck_of (λ tokens. grammar.SpellsSelector tokens c.args.depth) c.args.tokens.now c.each.end c.in-Refused.at c.in-Err.halt c.in-Refused.is c.in-Err.ensures.refused in
+    let reach = reached_halt (λ tokens. grammar.SpellsSelector tokens c.args.depth) c.args.tokens.now c.each.end c.in-Refused.at c.in-Err.halt c.in-Refused.is c.in-Err.ensures.least in
+    goes (λ tokens. spec.SpellsSelectorsList tokens c.args.depth) c.args.tokens.now c.args.from c.each.end c.max.result
+    (reaches_max (λ tokens. spec.SpellsSelectorsList tokens c.args.depth) c.args.tokens.now c.args.from c.each.stop c.in-Refused.at c.max.result c.max.ensures c.each.invariant.reach
+    (selectors_go_on c.args.tokens.now c.args.depth c.args.from c.each.end c.in-Refused.at c.each.list.items c.each.invariant.spells (omega (arith, c.each.invariant.ahead)) stuck.1 reach))
 
 pub selectors-returns-in-Refused-clause-longest : goal.selectors-returns-in-Refused-clause-longest
 selectors-returns-in-Refused-clause-longest t c =
@@ -261,6 +411,8 @@ subscripts-each-init t c =
           (first.end, c.in_ok-first.ensures.spells, refl);
       goes = subscripts_begin c.args.tokens.now c.args.depth c.args.from first.end first.stop c.in_ok-first.ensures.longest;
       ahead = c.in_ok-first.ensures.ahead;
+      reach = subscripts_first c.args.tokens.now c.args.depth c.args.from first.stop
+          (expr_reach c.args.tokens.now c.args.depth c.args.from first.end first.stop c.in_ok-first.ensures.ahead first.part c.in_ok-first.ensures.spells c.in_ok-first.ensures.least);
     }
 
 pub subscripts-each-preserved : goal.subscripts-each-preserved
@@ -279,7 +431,29 @@ subscripts-each-preserved t c =
           (list_one_more tokens (grammar.SpellsExpr tokens depth) c.each.list.items c.args.from c.each.end next.end next.part c.each.invariant.spells comma read.spells);
       goes = subscripts_next tokens depth c.args.from c.each.end c.each.stop next.end next.stop c.max-stop.result c.each.invariant.goes near ahead below reach comma read.longest;
       ahead = (omega (arith, c.each.invariant.ahead, read.ahead), omega (arith, read.ahead), omega (arith, c.each.invariant.ahead, read.ahead, c.max-stop.ensures));
+      reach = reaches_max (λ tokens. spec.SpellsSubscriptsList tokens depth) tokens c.args.from c.each.stop next.stop c.max-stop.result c.max-stop.ensures c.each.invariant.reach
+          (subscripts_goes_on tokens depth c.args.from c.each.end next.stop c.each.list.items c.each.invariant.spells comma (omega (arith, c.each.invariant.ahead)) (omega (arith, read.ahead))
+          (expr_reach tokens depth (c.each.end + 1) next.end next.stop read.ahead next.part read.spells read.least));
     }
+
+pub subscripts-returns-in_err-first-clause-least : goal.subscripts-returns-in_err-first-clause-least
+subscripts-returns-in_err-first-clause-least t c =
+    let same : c.from_residual.result ≡ Err c.in_err-first.field-0.0 = search rules in
+    subst (λ r. IsLeast (λ tokens. spec.SpellsSubscriptsList tokens c.args.depth) c.args.tokens.now c.args.from r) (sym same)
+    (halts_as (λ tokens. grammar.SpellsExpr tokens c.args.depth) (λ tokens. spec.SpellsSubscriptsList tokens c.args.depth) c.args.tokens.now c.args.from c.args.from c.in_err-first.field-0.0
+    (λ stop near within r. subscripts_first c.args.tokens.now c.args.depth c.args.from stop r) c.in_err-first.ensures.refused c.in_err-first.ensures.least)
+
+pub subscripts-returns-in-Refused-clause-least : goal.subscripts-returns-in-Refused-clause-least
+subscripts-returns-in-Refused-clause-least t c =
+    let stuck = stuck_of (λ tokens. grammar.SpellsExpr tokens c.args.depth) c.args.tokens.now (c.each.end + 1) c.in-Refused.at c.in-Err.halt c.in-Refused.is c.in-Err.ensures.refused in
+    let reach = reached_halt (λ tokens. grammar.SpellsExpr tokens c.args.depth) c.args.tokens.now (c.each.end + 1) c.in-Refused.at c.in-Err.halt c.in-Refused.is c.in-Err.ensures.least in
+    let near : c.each.end < c.in-Refused.at = omega (arith, stuck.1) in
+    goes (λ tokens. spec.SpellsSubscriptsList tokens c.args.depth) c.args.tokens.now c.args.from c.each.end c.max.result
+    (reaches_max (λ tokens. spec.SpellsSubscriptsList tokens c.args.depth) c.args.tokens.now c.args.from c.each.stop c.in-Refused.at c.max.result c.max.ensures c.each.invariant.reach
+    (subscripts_goes_on c.args.tokens.now c.args.depth c.args.from c.each.end c.in-Refused.at c.each.list.items c.each.invariant.spells (c.each-test.ensures.stands refl) (omega (arith, c.each.invariant.ahead)) near reach))
+
+pub subscripts-returns-clause-least : goal.subscripts-returns-clause-least
+subscripts-returns-clause-least t c = goes (λ tokens. spec.SpellsSubscriptsList tokens c.args.depth) c.args.tokens.now c.args.from c.each.end c.each.stop c.each.invariant.reach
 
 pub subscripts-returns-in-Refused-clause-longest : goal.subscripts-returns-in-Refused-clause-longest
 subscripts-returns-in-Refused-clause-longest t c =

@@ -1,6 +1,7 @@
 use Rattle.std.proofs.Common.{◌≡◌, ◌+◌, ◌-◌, ◌*◌, ◌≤◌, length}
-use Rattle.pearl_tree.specs.Expressions.{SpellsTerms, dyad_count}
+use Rattle.pearl_tree.specs.Expressions.{SpellsTerms, SpellsExpr, dyad_count}
 use Rattle.pearl_parse_expr.specs.Stops.{IsAhead, SpellsSelectorsList, SpellsSubscriptsList}
+use Rattle.pearl_parse_expr.specs.Least.{Reaches}
 use Rattle.pearl_parse_expr.proofs.Parts.{SelectorsGo, SubscriptsGo}
 use Rattle.pearl_parse_expr.proofs.Chains.{ChainGoes}
 use Rattle.pearl_parse_expr.proofs.expression.+expression.Given as goal
@@ -42,6 +43,7 @@ invariant-expression_at_depth-each l = record {
   goes : ChainGoes l.tokens l.depth l.from l.end l.stop l.count;
   ahead : IsAhead l.tokens l.from l.end l.stop;
   few : l.count ≤ 100;
+  reach : Reaches (λ tokens. SpellsExpr tokens l.depth) l.tokens l.from l.stop;
 }
 
 abbrev pub decreases-expression_at_depth-each : goal.decreases-expression_at_depth-each
@@ -52,6 +54,7 @@ invariant-selectors-each l = record {
   spells : SpellsSelectorsList l.tokens l.depth l.from l.list.items l.end;
   goes : SelectorsGo l.tokens l.depth l.from l.end l.stop;
   ahead : (l.from ≤ l.end) × (l.end ≤ l.stop) × (l.stop ≤ length l.tokens);
+  reach : Reaches (λ tokens. SpellsSelectorsList tokens l.depth) l.tokens l.from l.stop;
 }
 
 abbrev pub decreases-selectors-each : goal.decreases-selectors-each
@@ -62,6 +65,7 @@ invariant-subscripts-each l = record {
   spells : SpellsSubscriptsList l.tokens l.depth l.from l.list.items l.end;
   goes : SubscriptsGo l.tokens l.depth l.from l.end l.stop;
   ahead : IsAhead l.tokens l.from l.end l.stop;
+  reach : Reaches (λ tokens. SpellsSubscriptsList tokens l.depth) l.tokens l.from l.stop;
 }
 
 abbrev pub decreases-subscripts-each : goal.decreases-subscripts-each

@@ -1,5 +1,7 @@
 use Rattle.std.proofs.Common.{◌≤◌, length, sym, ◌∙◌, arith}
 use Rattle.pearl_parse_expr.proofs.PastEnd.{no_token, no_place, no_expression}
+use Rattle.pearl_parse_expr.specs.Stops as spec
+use Rattle.pearl_parse_expr.proofs.Joining.{goes_on, goes_on_past, expr_reach, ends_within}
 use Rattle.pearl_parse_expr.proofs.expression.expression.Goals as goal
 
 pub returns-then-from-tokens-clause-refused : goal.returns-then-from-tokens-clause-refused
@@ -13,5 +15,20 @@ returns-then-from-tokens-clause-refused c =
         stands = sym (no_place tokens from past);
         on = omega arith;
         none = λ expr to others agree h. absurd (no_expression others 32 from (sym (agree from (omega arith)) ∙ no_token tokens from past) expr to h);
+        some = goes_on_past tokens from;
       },
     )
+
+pub returns-in-Ok-clause-stop : goal.returns-in-Ok-clause-stop
+returns-in-Ok-clause-stop c =
+    let reading = c.in-Ok.reading in
+    let read = c.in-Ok.ensures in
+    let near : reading.end ≤ reading.stop = omega (arith, read.ahead) in
+    record {
+      token = reading.stop;
+      stands = c.stop_place.ensures;
+      on = omega (arith, read.ahead);
+      none = λ expr to others agree h. ends_within spec.extends_expression others reading.end reading.stop to near (read.longest others agree expr to h);
+      some = goes_on c.args.tokens.now c.args.from reading.stop
+          (expr_reach c.args.tokens.now 32 c.args.from reading.end reading.stop read.ahead reading.part read.spells read.least);
+    }

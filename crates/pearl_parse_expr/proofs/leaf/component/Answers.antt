@@ -2,6 +2,7 @@ use Rattle.std.proofs.Common.{◌+◌, refl, sym, arith, ap, ◌∙◌}
 use Rattle.pearl_tables.specs.declared.symbol.TheConstants as s
 use Rattle.pearl_parse_expr.specs.Stops.{is_name}
 use Rattle.pearl_parse_expr.proofs.Primaries.{clash, symbol_within, only_component}
+use Rattle.pearl_parse_expr.proofs.Leaves.{component_reaches}
 use Rattle.pearl_parse_expr.proofs.leaf.component.Goals as goal
 
 pub returns-in-Some-clause-longest : goal.returns-in-Some-clause-longest
@@ -16,3 +17,7 @@ returns-in-None-clause-refused c = λ depth. (
   omega arith,
   omega (arith, symbol_within c.args.tokens.now c.args.from s.PERIOD c.requires.period),
 )
+
+pub returns-in-None-clause-least : goal.returns-in-None-clause-least
+returns-in-None-clause-least c = λ depth.
+    component_reaches c.args.tokens.now depth c.args.from c.requires.period (omega (arith, symbol_within c.args.tokens.now c.args.from s.PERIOD c.requires.period))

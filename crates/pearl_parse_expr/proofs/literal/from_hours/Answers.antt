@@ -1,10 +1,13 @@
-use Rattle.std.proofs.Common.{◌≡◌, ◌+◌, ◌≤◌, Some, true, ap, subst, sym, ◌∙◌, arith}
+use Rattle.std.proofs.Common.{◌≡◌, ◌+◌, ◌≤◌, Some, None, refl, true, ap, subst, sym, ◌∙◌, arith}
 use Rattle.pearl_tree.specs.declared.token.What.TheVariants as what
 use Rattle.pearl_tables.specs.declared.word_code.TheConstants as w
 use Rattle.pearl_tree.specs.Standing.{what_at}
 use Rattle.pearl_tree.specs.Stops.{BeginAlike}
 use Rattle.pearl_parse_expr.specs.Stops.{is_number}
 use Rattle.pearl_parse_expr.proofs.Literals.{after_minutes}
+use Rattle.pearl_tree.specs.Expressions.{SpellsSeconds, SpellsDuration}
+use Rattle.pearl_parse_expr.proofs.Reaching.{goes_as}
+use Rattle.pearl_parse_expr.proofs.Leaves.{from_hours_reaches}
 use Rattle.pearl_parse_expr.proofs.literal.from_hours.Goals as goal
 
 pub returns-in-Some-clause-longest : goal.returns-in-Some-clause-longest
@@ -22,3 +25,26 @@ returns-in-Some-clause-longest c = λ others agree x to h.
     rw c.hours_of.ensures.end
     (after_minutes others from seconds.result.end ends hours_word number minutes_word
     (λ x to h. seconds.ensures.longest others agreed x to h) x to h)
+
+pub returns-in-Some-clause-least : goal.returns-in-Some-clause-least
+returns-in-Some-clause-least c =
+    let tokens = c.args.tokens.now in
+    let from = c.args.from in
+    let seconds = c.seconds_at in
+    let far : from + 4 ≤ seconds.result.stop = omega (arith, seconds.ensures.ahead) in
+    rw (c.hours_of.ensures.end, c.hours_of.ensures.stop)
+    (goes_as SpellsSeconds SpellsDuration tokens from (from + 4) seconds.result.end seconds.result.stop
+    (λ r. from_hours_reaches tokens from (from + 4) seconds.result.stop c.args.hours (Some c.in-Some.minutes) c.requires.number c.requires.word
+    (c.in-Some.ensures.some.0, c.in-Some.ensures.some.1, omega arith) (omega arith) far r)
+    seconds.ensures.least)
+
+pub returns-in-None-clause-least : goal.returns-in-None-clause-least
+returns-in-None-clause-least c =
+    let tokens = c.args.tokens.now in
+    let from = c.args.from in
+    let seconds = c.seconds_at-in-None in
+    let far : from + 2 ≤ seconds.result.stop = omega (arith, seconds.ensures.ahead) in
+    rw (c.hours_of-in-None.ensures.end, c.hours_of-in-None.ensures.stop)
+    (goes_as SpellsSeconds SpellsDuration tokens from (from + 2) seconds.result.end seconds.result.stop
+    (λ r. from_hours_reaches tokens from (from + 2) seconds.result.stop c.args.hours None c.requires.number c.requires.word refl (omega arith) far r)
+    seconds.ensures.least)

@@ -1,0 +1,13 @@
+use Rattle.std.proofs.Common.{rules}
+use Rattle.pearl_tree.specs.Expressions.{SpellsOwnRef}
+use Rattle.pearl_tree.specs.declared.limit.TheConstants as limit
+use Rattle.pearl_parse_expr.specs.Stops.{SpellsNamed}
+use Rattle.pearl_parse_decl.proofs.Behind.{least_as}
+use Rattle.pearl_parse_decl.proofs.Leaves.{own_ref_reaches}
+use Rattle.pearl_parse_decl.proofs.expression.own_reference.Goals as goal
+
+pub returns-clause-least : goal.returns-clause-least
+returns-clause-least c =
+    least_as (λ tokens. SpellsNamed tokens limit.OWN_BRACKETS_MAX) SpellsOwnRef c.args.tokens.now c.args.from c.reference.result
+    (λ stop within r. own_ref_reaches c.args.tokens.now c.args.from stop (search rules) within r)
+    c.reference.ensures.ahead c.reference.ensures.refused c.reference.ensures.least
