@@ -1,10 +1,11 @@
 -- Where an expression or a statement stands: in a routine of a program, whose procedures do something when they are called.
-use Rattle.std.specs.Prelude.{ℕ, List, [], take, Option, Some, None, option_map, option_and_then, slice_get}
+use Rattle.std.specs.Prelude.{ℕ, List, take, Option, Some, None, option_map, option_and_then, slice_get}
 use Rattle.pearl_value.specs.declared.kind.Kind.{Kind}
 use Rattle.pearl_value.specs.declared.kind.CellKind.{CellKind}
 use Rattle.pearl_value.specs.declared.kind.CellKind.TheVariants.{Plain, RefTo}
 use Rattle.pearl_value.specs.declared.cell.Cell.{Cell}
 use Rattle.pearl_format.specs.declared.item.Item.{Item}
+use Rattle.pearl_rules.specs.Tables.{items_or_none}
 use Rattle.pearl_program.specs.declared.table.Device.{Device}
 use Rattle.pearl_program.specs.declared.table.Device.TheVariants.{Output}
 use Rattle.pearl_program.specs.declared.expression.Target.TheVariants.{Leaf, Own, Param}
@@ -49,10 +50,6 @@ abbrev pub sent_kind : Setting → ℕ → Option Kind
 sent_kind setting device = output_kind (slice_get setting.program.devices device)
 
 -- the items of a format
-abbrev pub items_or_none : Option (List Item) → List Item
-items_or_none None = []
-items_or_none (Some items) = items
-
 abbrev pub items_of : Setting → ℕ → List Item
 items_of setting format = items_or_none (slice_get setting.program.formats format)
 

@@ -1,0 +1,6 @@
+pub mod Examples
+mod ExampleValues
+mod ExampleLoops
+mod ExampleCalls
+mod ExampleTasks
+mod ExampleDevices
