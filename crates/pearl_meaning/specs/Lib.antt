@@ -26,3 +26,7 @@ pub mod Transfers
 pub mod Execution
 -- what a call does, and what a task does next after the answers that it had
 pub mod Programs
+-- which answers suit an action, and which answers a task can have since its start
+pub mod Hearing
+-- the tables from which a program's run starts, and how it runs over a journal's entries
+pub mod ProgramRuns

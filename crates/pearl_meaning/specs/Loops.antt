@@ -25,7 +25,7 @@ abbrev pub holds : Cell → Bool
 holds (Bits len value) = not (value == 0)
 holds x = false
 
--- THE COUNTER
+-- THE COUNTER: the control variable, the step and the limit are own variables, in the counter's cell and the two behind it
 
 module _ (setting : Setting) where
   -- FROM, BY or TO, which is 1 where it isn't written, converted to the kind of the control variable
@@ -94,8 +94,8 @@ after_turn Normal on = on
 after_turn Exit on = gives Normal
 after_turn (Return result) on = gives (Return result)
 
--- at most so many turns: the action Turn, whether the loop goes on, its statements, and BY. Each turn uses an answer, so as many
--- turns as there are answers are enough
+-- A turn: the action Turn, whether the loop goes on, its statements, and BY. At most so many turns are begun; each uses an answer,
+-- so as many as there are answers are enough.
 abbrev pub turns : ℕ → (more : Does Bool) (statements : Does Flow) (advance : Does Bool) → Does Flow
 turns zero more statements advance = stop action.Turn
 turns (suc n) more statements advance =

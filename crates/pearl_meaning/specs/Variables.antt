@@ -36,7 +36,7 @@ abbrev pub offset_of : Option ℕ → Does Cell
 offset_of None = fails Index
 offset_of (Some before) = gives (Fixed 31 (pos before))
 
--- of so many elements the one that lies so far behind the first
+-- of so many elements the one that lies so far behind the first; where there is none, Index is trapped
 abbrev pub within : ℕ → Cell → (ℕ → Does Cell) → Does Cell
 within count (Fixed len (pos offset)) go = if nat_lt offset count then go offset else fails Index
 within count x go = fails Index
