@@ -1,4 +1,8 @@
 pub mod Examples
+pub mod Uses
+pub mod Turning
+pub mod ExpressionsUse
+pub mod StatementsUse
 mod ExampleValues
 mod ExampleLoops
 mod ExampleCalls

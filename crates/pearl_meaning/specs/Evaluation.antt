@@ -6,7 +6,7 @@ use Rattle.pearl_value.specs.declared.trap.Trap.TheVariants.{Range}
 use Rattle.pearl_rules.specs.declared.action.Action.{Action}
 use Rattle.pearl_rules.specs.declared.action.Answer.{Answer}
 use Rattle.pearl_rules.specs.Slots.{heard_value}
-use Rattle.pearl_meaning.specs.Frames.{Store, cell_at, with_cell_at, top, with_cell, with_cells}
+use Rattle.pearl_meaning.specs.Frames.{Store, cell_at, with_cell_at, top, below, with_cell, with_cells}
 
 pub data Outcome (X : Type 0) : Type 0 where
   Value : (x : X) (store : Store) (rest : List Answer) → Outcome X
@@ -60,6 +60,10 @@ given (Some x) go = go x
 
 abbrev pub own_task : Does ℕ
 own_task store rest = Value store.task store rest
+
+-- the number of the frame of the routine at work
+abbrev pub own_frame : Does ℕ
+own_frame store rest = Value (below store.frames) store rest
 
 -- what a cell of the routine at work holds
 abbrev pub own_cell : ℕ → Does Cell

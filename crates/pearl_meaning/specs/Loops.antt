@@ -94,14 +94,18 @@ after_turn Normal on = on
 after_turn Exit on = gives Normal
 after_turn (Return result) on = gives (Return result)
 
--- A turn: the action Turn, whether the loop goes on, its statements, and BY. At most so many turns are begun; each uses an answer,
--- so as many as there are answers are enough.
-abbrev pub turns : ℕ → (more : Does Bool) (statements : Does Flow) (advance : Does Bool) → Does Flow
-turns zero more statements advance = stop action.Turn
-turns (suc n) more statements advance =
+-- a turn, and what comes behind it where the loop goes on: the action Turn, whether the loop goes on, its statements, and BY
+abbrev pub turn : (more : Does Bool) (statements : Does Flow) (advance : Does Bool) (again : Does Flow) → Does Flow
+turn more statements advance again =
     next (ask action.Turn) (bind more (λ going.
-    if going then bind statements (λ flow. after_turn flow (bind advance (λ on. if on then turns n more statements advance else gives Normal)))
+    if going then bind statements (λ flow. after_turn flow (bind advance (λ on. if on then again else gives Normal)))
     else gives Normal))
 
+-- at most so many turns are begun
+abbrev pub turns : ℕ → (more : Does Bool) (statements : Does Flow) (advance : Does Bool) → Does Flow
+turns zero more statements advance = stop action.Turn
+turns (suc n) more statements advance = turn more statements advance (turns n more statements advance)
+
+-- each turn uses an answer, so as many as there are answers are enough
 abbrev pub repeats : (more : Does Bool) (statements : Does Flow) (advance : Does Bool) → Does Flow
 repeats more statements advance store rest = turns (length rest) more statements advance store rest

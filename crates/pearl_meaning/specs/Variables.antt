@@ -12,8 +12,7 @@ use Rattle.pearl_program.specs.declared.expression.Target.TheVariants.{Leaf, Own
 use Rattle.pearl_program.specs.declared.expression.Bound.{Bound}
 use Rattle.pearl_program.specs.PlainPrograms.{PlainLeaf}
 use Rattle.pearl_program.specs.Typing.{elements}
-use Rattle.pearl_meaning.specs.Frames.{below}
-use Rattle.pearl_meaning.specs.Evaluation.{Value, Does, gives, fails, bind, next, ask, ask_value, given, own_cell, cell_of_frame, put_cell_of_frame}
+use Rattle.pearl_meaning.specs.Evaluation.{Does, gives, fails, bind, next, ask, ask_value, given, own_frame, own_cell, cell_of_frame, put_cell_of_frame}
 use Rattle.pearl_meaning.specs.Setting.{Setting}
 
 -- the number of a FIXED
@@ -49,7 +48,7 @@ first_slot (leaf ∷ leaves) (suc number) = leaf.values.count + first_slot leave
 
 -- a reference to a cell of the routine at work
 abbrev pub own_reference : ℕ → Does Cell
-own_reference cell = bind (own_cell cell) (λ x store rest. Value (Ref (kind_of x) (place.Cell (below store.frames) cell)) store rest)
+own_reference cell = bind (own_cell cell) (λ x. bind own_frame (λ frame. gives (Ref (kind_of x) (place.Cell frame cell))))
 
 -- a reference to the element of a variable that lies so far behind the first one; a parameter with IDENT is one itself
 abbrev pub reference : Setting → Target → List Bound → Cell → Does Cell
