@@ -1,6 +1,9 @@
 pub mod Examples
 pub mod Uses
 pub mod Turning
+pub mod Alike
+pub mod ExpressionsAlike
+pub mod StatementsAlike
 pub mod ExpressionsUse
 pub mod StatementsUse
 mod ExampleValues
