@@ -4,6 +4,7 @@ pub mod Turning
 pub mod Alike
 pub mod ExpressionsAlike
 pub mod StatementsAlike
+pub mod CallsAlike
 pub mod ExpressionsUse
 pub mod StatementsUse
 mod ExampleValues

@@ -1,16 +1,19 @@
--- What holds of loops: a loop is a turn and then the same loop again, since no statement gives back more answers than there were.
-use Rattle.std.specs.Prelude.{◌≡◌, ℕ, ◌≤◌, List, length, Option}
+-- What holds of loops and calls: a loop is a turn and then the same loop again, since no statement gives back more answers than there
+-- were, and a call is what its procedure's statements do, in which calls mean the same.
+use Rattle.std.specs.Prelude.{◌≡◌, ℕ, ◌<◌, ◌≤◌, List, length, Option, Some, slice_get}
 use Rattle.pearl_value.specs.declared.kind.Kind.{Kind}
+use Rattle.pearl_value.specs.declared.cell.Cell.{Cell}
 use Rattle.pearl_rules.specs.declared.action.Answer.{Answer}
 use Rattle.pearl_program.specs.PlainExpressions.{PlainExpr}
 use Rattle.pearl_program.specs.PlainStatements.{PlainCounter, PlainStmts}
-use Rattle.pearl_program.specs.PlainPrograms.{PlainRoutine, PlainProg}
+use Rattle.pearl_program.specs.PlainPrograms.{PlainRoutine, PlainProcedure, PlainProg}
+use Rattle.pearl_program.specs.Sound.{CallSmaller}
 use Rattle.pearl_meaning.specs.Frames.{Store}
 use Rattle.pearl_meaning.specs.Evaluation.{Outcome, Value, Needs, Fails, Does}
 use Rattle.pearl_meaning.specs.Setting.{Setting}
 use Rattle.pearl_meaning.specs.Loops.{Flow, goes_on, advances, turn, repeats}
 use Rattle.pearl_meaning.specs.Execution.{exec_all}
-use Rattle.pearl_meaning.specs.Programs.{setting_of, call_within}
+use Rattle.pearl_meaning.specs.Programs.{setting_of, runs, call_within}
 
 -- no more answers are left than there were
 abbrev pub LeavesNoMore : {X : Type 0} → List Answer → Outcome X → Type 0
@@ -45,3 +48,10 @@ LoopsTurn = (p : PlainProg) (depth : ℕ) (result : Option Kind) (routine : Plai
     let setting = standing p depth result routine in
     loop setting counter condition statements store rest
     ≡ turn_of setting counter condition statements (loop setting counter condition statements) store rest
+
+-- a call is what its procedure's statements do, in which calls mean the same: how many calls may stand within one another doesn't
+-- matter, as long as it is more than the procedure's number
+abbrev pub CallsRun : Type 0
+CallsRun = (p : PlainProg) → CallSmaller 0 p.procedures → (number depth : ℕ) (procedure : PlainProcedure) →
+    slice_get p.procedures number ≡ Some procedure → number < depth → (arguments : List Cell) (store : Store) (rest : List Answer) →
+    call_within p depth number arguments store rest ≡ runs p (call_within p depth) procedure arguments store rest

@@ -30,5 +30,5 @@ pub mod Programs
 pub mod Hearing
 -- the tables from which a program's run starts, and how it runs over a journal's entries
 pub mod ProgramRuns
--- what holds of loops: a loop is a turn and then the same loop again
+-- what holds of loops and calls
 pub mod Laws
