@@ -12,3 +12,4 @@ mod ExampleLoops
 mod ExampleCalls
 mod ExampleTasks
 mod ExampleDevices
+mod ExamplePlant

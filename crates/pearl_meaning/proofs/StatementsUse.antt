@@ -17,7 +17,7 @@ use Rattle.pearl_meaning.specs.Variables.{number_of, elements_before}
 use Rattle.pearl_meaning.specs.Values.{eval}
 use Rattle.pearl_meaning.specs.Loops.{Flow, Normal, Exit, Return, holds, counted, limited, begins, is_within, counts_on, stepped, advance_to, advances, asks_while, goes_on, after_turn, turn, turns, repeats}
 use Rattle.pearl_meaning.specs.Schedules.{acts, start_of, once_of, with_end, repeat_of, priority_of, moment, lapse, acts_if, is_start, is_repeat, is_priority, activates}
-use Rattle.pearl_meaning.specs.Transfers.{puts_text, assigns, takes, offset, keep_offsets, kept_reference, write_targets, kinds_of, gets}
+use Rattle.pearl_meaning.specs.Transfers.{puts_text, delivers, assigns, takes, offset, keep_offsets, kept_reference, write_targets, kinds_of, gets}
 use Rattle.pearl_meaning.specs.Execution.{on_flow, acts_on, terminates, returns, alternative, chosen, exec, exec_all, exec_nth}
 use Rattle.pearl_meaning.specs.Programs.{result_at_end, result_of, call_within}
 use Rattle.pearl_meaning.specs.Laws.{UsesUp, StatementsUseUp, standing, LoopsTurn}
@@ -156,15 +156,14 @@ module _ (setting : Setting) (calls_use : CallsUse setting) where
       bind_uses (start_uses start) (λ when. bind_uses (repeat_uses period) (λ how. bind_uses (priority_uses priority) (λ urgent.
       acts_if_uses (is_start when && is_repeat how && is_priority urgent) (action.Activate task when how (option_map unsigned_abs urgent)))))
 
+  delivers_uses : (target : PlainVariable) (to x : Cell) → UsesUp (delivers setting target to x)
+  delivers_uses target to x = bind_uses (convert_uses (variable_kind setting target) x) (λ y. next_uses (write_uses to y) gives_uses)
+
   assigns_uses : (target : PlainVariable) (e : PlainExpr) → UsesUp (assigns setting target e)
-  assigns_uses target e =
-      bind_uses (taken_uses setting calls_use target) (λ to. bind_uses (value_of e) (λ x. bind_uses (convert_uses (variable_kind setting target) x) (λ y.
-      next_uses (write_uses to y) gives_uses)))
+  assigns_uses target e = bind_uses (taken_uses setting calls_use target) (λ to. bind_uses (value_of e) (λ x. delivers_uses target to x))
 
   takes_uses : (target : PlainVariable) (device : ℕ) → UsesUp (takes setting target device)
-  takes_uses target device =
-      bind_uses (taken_uses setting calls_use target) (λ to. bind_uses value_uses (λ x. bind_uses (convert_uses (variable_kind setting target) x) (λ y.
-      next_uses (write_uses to y) gives_uses)))
+  takes_uses target device = bind_uses (taken_uses setting calls_use target) (λ to. bind_uses value_uses (λ x. delivers_uses target to x))
 
   target_uses : (target : PlainVariable) → UsesUp (offset setting target)
   target_uses (OfVariable target bounds subscripts) =

@@ -69,7 +69,7 @@ own_frame store rest = Value (below store.frames) store rest
 abbrev pub own_cell : ℕ → Does Cell
 own_cell cell store rest = given (slice_get (top store.frames) cell) gives store rest
 
--- it gets this value
+-- that cell gets this value
 abbrev pub put_cell : ℕ → Cell → Does (Unit {0})
 put_cell cell x store rest = Value tt (record store { frames = with_cell store.frames cell x }) rest
 

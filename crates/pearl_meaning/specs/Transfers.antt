@@ -28,11 +28,13 @@ heard_values (One x) = []
 heard_values (Many xs) = xs.items
 
 module _ (setting : Setting) where
-  -- the target is taken, then the value is evaluated and converted, and then it is written
+  -- a value is converted to the target's kind and written where the reference leads
+  abbrev pub delivers : PlainVariable → (to x : Cell) → Does Flow
+  delivers target to x = bind (convert (variable_kind setting target) x) (λ y. next (write_reference to y) (gives Normal))
+
+  -- the target is taken, then the value is evaluated, and then it is written
   abbrev pub assigns : PlainVariable → PlainExpr → Does Flow
-  assigns target e =
-      bind (taken setting target) (λ to. bind (eval setting e) (λ x. bind (convert (variable_kind setting target) x) (λ y.
-      next (write_reference to y) (gives Normal))))
+  assigns target e = bind (taken setting target) (λ to. bind (eval setting e) (λ x. delivers target to x))
 
   -- all values, from left to right, and then their text
   abbrev pub puts : PlainExprs → (device format : ℕ) → Does Flow
@@ -41,10 +43,9 @@ module _ (setting : Setting) where
   abbrev pub sends : PlainExpr → ℕ → Does Flow
   sends e device = bind (eval setting e) (λ x. bind (convert (sent_kind setting device) x) (λ y. acts (action.Send device y)))
 
+  -- the target is taken, then the action is done, and then the value is written
   abbrev pub takes : PlainVariable → ℕ → Does Flow
-  takes target device =
-      bind (taken setting target) (λ to. bind (ask_value (action.Take device)) (λ x. bind (convert (variable_kind setting target) x) (λ y.
-      next (write_reference to y) (gives Normal))))
+  takes target device = bind (taken setting target) (λ to. bind (ask_value (action.Take device)) (λ x. delivers target to x))
 
   -- how far a target's element lies behind the first one: its subscripts are evaluated and checked
   abbrev pub offset : PlainVariable → Does Cell
