@@ -1,2 +1,4 @@
-// What a program means: the source's task rules. All of it stands in specs/.
+// What a program means: the source's task rules. The definitions stand in specs/.
 #![tactic(auto)]
+
+pub mod laws;
