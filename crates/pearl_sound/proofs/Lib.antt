@@ -11,6 +11,9 @@ pub mod Components
 pub mod HiddenRising
 pub mod OwnOpen
 pub mod Devices
+pub mod Dividing
+pub mod Stretched
+pub mod RoutineNames
 mod Leading
 mod WholeModule
 mod LeadingBodies

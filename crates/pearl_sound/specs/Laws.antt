@@ -27,10 +27,11 @@ use Rattle.pearl_program.specs.HiddenCells.{hidden_in_all}
 use Rattle.pearl_program.specs.SoundStatements.{IsCall}
 use Rattle.pearl_program.specs.Typing.{Around, AreOpen, HasKind, IsVariable}
 use Rattle.pearl_system.specs.declared.device.SpecifiedDevice.{SpecifiedDevice}
-use Rattle.pearl_resolve.specs.Numbers.{At, Before, senses_at, routine_start, scope_numbers, module_numbers, own_numbers, after_all, after_body, numbers_in_all}
+use Rattle.pearl_resolve.specs.Numbers.{At, Before, senses_at, routine_start, scope_numbers, module_numbers, own_numbers, after_all, after_body, numbers_in_all, body_numbers}
 use Rattle.pearl_resolve.specs.Laying.{leaves_in, slots, cells_of_sense}
 use Rattle.pearl_resolve.specs.Expressions.{Numbered, number_of, resolve_expr, resolve_arguments, resolve_variable, target_kind}
 use Rattle.pearl_sound.specs.SoundNames.{IsLiteral, HasLiterals, HaveLiterals, SelectorsHaveLiterals, is_control, LeadNames}
+use Rattle.pearl_sound.specs.Stretches.{Stretch, routine_stretches, IsDivided}
 use Rattle.pearl_resolve.specs.Cells.{sense_cells, cells_in_all, routine_cells}
 use Rattle.pearl_resolve.specs.Resolve.{formats_in_all, resolve_routine}
 
@@ -170,3 +171,36 @@ OwnNamesAreNotHidden = (numbered : Numbered) (at : At) (body : ShownBody) (i num
     slice_get (senses_at numbered.table at.next) i ≡ Some sense → IsNoControl sense →
     slice_get (scope_numbers numbered.table 0 (routine_start at)) i ≡ Some number →
     AreOpen (hidden_in_all (resolve_routine numbered at body).body) number (cells_of_sense sense)
+
+-- the cells, the hidden cells and the numbers of a routine are those of its stretches, which stand one behind the other
+abbrev pub RoutinesAreDivided : Type 0
+RoutinesAreDivided = (numbered : Numbered) (at : At) (body : ShownBody) →
+    IsDivided numbered.table (routine_start at) (after_body numbered.table at body) (routine_stretches numbered at body)
+    (routine_cells numbered at body) (hidden_in_all (resolve_routine numbered at body).body) (body_numbers numbered.table at body)
+
+-- in a routine's cells those of a loop, of a GET and of a scope lie from the first of their stretch on
+abbrev pub StretchesHaveTheirCells : Type 0
+StretchesHaveTheirCells = (numbered : Numbered) (at : At) (body : ShownBody) (i : ℕ) (stretch : Stretch) →
+    slice_get (routine_stretches numbered at body) i ≡ Some stretch →
+    take (length stretch.cells) (drop stretch.first (routine_cells numbered at body)) ≡ stretch.cells
+
+-- a name of a routine's scope, the k-th that begins in it, has this number and stands for this; it is no control variable
+pub record IsNameIn (numbered : Numbered) (at : At) (body : ShownBody) (k number : ℕ) (sense : Sense) : Type 0 where
+  pub row : List ℕ
+  pub index : ℕ
+  pub scope : slice_get (body_numbers numbered.table at body) k ≡ Some row
+  pub there : slice_get row index ≡ Some number
+  pub means : slice_get (senses_at numbered.table (at.next + k)) index ≡ Some sense
+  pub own : IsNoControl sense
+
+-- from the number of a name of any scope on the routine's cells have just its kinds, and none of them is hidden
+abbrev pub InnerNamesHaveTheirCells : Type 0
+InnerNamesHaveTheirCells = (numbered : Numbered) (at : At) (body : ShownBody) (k number : ℕ) (sense : Sense) →
+    IsNameIn numbered at body k number sense →
+    (take (cells_of_sense sense) (drop number (routine_cells numbered at body)) ≡ sense_cells sense) ×
+    AreOpen (hidden_in_all (resolve_routine numbered at body).body) number (cells_of_sense sense)
+
+-- names of different scopes of a routine share no cells
+abbrev pub ScopesShareNoCells : Type 0
+ScopesShareNoCells = (numbered : Numbered) (at : At) (body : ShownBody) (k l first second : ℕ) (one two : Sense) → k < l →
+    IsNameIn numbered at body k first one → IsNameIn numbered at body l second two → first + cells_of_sense one ≤ second
