@@ -14,6 +14,7 @@ pub mod Devices
 pub mod Dividing
 pub mod Stretched
 pub mod RoutineNames
+pub mod SoundForms
 mod Leading
 mod WholeModule
 mod LeadingBodies

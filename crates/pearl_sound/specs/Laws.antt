@@ -10,7 +10,7 @@ use Rattle.pearl_tree.specs.ShownStatements.{ShownStmts}
 use Rattle.pearl_tree.specs.declared.literal.Literal.{Literal}
 use Rattle.pearl_tree.specs.Lawful.{IsLawfulLiteral}
 use Rattle.pearl_tree.specs.ShownLiterals.{shown_literal}
-use Rattle.pearl_tree.specs.ShownModules.{ShownBody, ShownDecl}
+use Rattle.pearl_tree.specs.ShownModules.{ShownBody, ShownDecl, ShownTree}
 use Rattle.pearl_names.specs.Lengths.{lengths_set}
 use Rattle.pearl_names.specs.Shapes.{Fields}
 use Rattle.pearl_names.specs.Layout.{Leaf, leaves_of, leaves_of_fields, elements}
@@ -20,7 +20,7 @@ use Rattle.pearl_names.specs.declared.scope.View.{View}
 use Rattle.pearl_check_expr.specs.Judged.{judged, judged_variable, called}
 use Rattle.pearl_check_expr.specs.Senses.{Callee, callee_of}
 use Rattle.pearl_names.specs.declared.scope.SortedName.{SortedName}
-use Rattle.pearl_names.specs.Tables.{Sense, Variable, Control, Semaphore, Interrupt, AlphicDation, BasicDation, Task, Procedure, sense_from}
+use Rattle.pearl_names.specs.Tables.{Sense, Variable, Control, Semaphore, Interrupt, AlphicDation, BasicDation, Task, Procedure, sense_from, table_of}
 use Rattle.pearl_tree.specs.declared.name.Name.{Name}
 use Rattle.pearl_tree.specs.Names.{name_text}
 use Rattle.pearl_program.specs.HiddenCells.{hidden_in_all}
@@ -31,6 +31,7 @@ use Rattle.pearl_resolve.specs.Numbers.{At, Before, senses_at, routine_start, sc
 use Rattle.pearl_resolve.specs.Laying.{leaves_in, slots, cells_of_sense}
 use Rattle.pearl_resolve.specs.Expressions.{Numbered, number_of, resolve_expr, resolve_arguments, resolve_variable, target_kind}
 use Rattle.pearl_sound.specs.SoundNames.{IsLiteral, HasLiterals, HaveLiterals, SelectorsHaveLiterals, is_control, LeadNames}
+use Rattle.pearl_sound.specs.SoundForms.{IsSoundSense}
 use Rattle.pearl_sound.specs.Stretches.{Stretch, routine_stretches, IsDivided}
 use Rattle.pearl_resolve.specs.Cells.{sense_cells, cells_in_all, routine_cells}
 use Rattle.pearl_resolve.specs.Resolve.{formats_in_all, resolve_routine}
@@ -204,3 +205,7 @@ InnerNamesHaveTheirCells = (numbered : Numbered) (at : At) (body : ShownBody) (k
 abbrev pub ScopesShareNoCells : Type 0
 ScopesShareNoCells = (numbered : Numbered) (at : At) (body : ShownBody) (k l first second : ℕ) (one two : Sense) → k < l →
     IsNameIn numbered at body k first one → IsNameIn numbered at body l second two → first + cells_of_sense one ≤ second
+
+-- where a variable has a form, all its bounds are in their ranges, and it has leaves of few dimensions and elements
+abbrev pub VariablesHaveSoundForms : Type 0
+VariablesHaveSoundForms = (tree : ShownTree) (scope : ℕ) → AllByRecursion IsSoundSense (senses_at (table_of tree) scope)
