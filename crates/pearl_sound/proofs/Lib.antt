@@ -15,6 +15,9 @@ pub mod Dividing
 pub mod Stretched
 pub mod RoutineNames
 pub mod SoundForms
+pub mod Reaching
+pub mod ModuleEntries
+pub mod ModuleLeaves
 mod Leading
 mod WholeModule
 mod LeadingBodies

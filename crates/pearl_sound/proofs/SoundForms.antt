@@ -118,7 +118,7 @@ mutual
       parts_there (names_of names) (sound_bounds bounds) (shape_of here part) (fields_of here rest) (bounds_there bounds)
       (shape_there here all part) (fields_there here all rest)
 
-all_append : {X : Type 0} (P : X → Type 0) (xs ys : List X) → AllByRecursion P xs → AllByRecursion P ys → AllByRecursion P (xs ++ ys)
+pub all_append : {X : Type 0} (P : X → Type 0) (xs ys : List X) → AllByRecursion P xs → AllByRecursion P ys → AllByRecursion P (xs ++ ys)
 all_append P [] ys one two = two
 all_append P (x ∷ xs) ys one two = (one.0, all_append P xs ys one.1 two)
 
