@@ -18,6 +18,7 @@ pub mod SoundForms
 pub mod Reaching
 pub mod ModuleEntries
 pub mod ModuleLeaves
+pub mod ModuleCounts
 mod Leading
 mod WholeModule
 mod LeadingBodies

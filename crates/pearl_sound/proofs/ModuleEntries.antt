@@ -69,7 +69,7 @@ finds_itself before entry after none =
     (not_before rule.S1 [] names entry.name (map (λ (entry : SortedName). entry.name) after)
     (ap (repeats rule.S1 []) (sym (map-append (λ (entry : SortedName). entry.name) before (entry ∷ after))) ∙ none))
 
-length_sorted : (entries : List Entry) → length (sorted_names entries) ≡ length entries
+pub length_sorted : (entries : List Entry) → length (sorted_names entries) ≡ length entries
 unfolding sorted_names
 length_sorted [] = refl
 length_sorted (entry ∷ rest) = ap suc (length_sorted rest)
@@ -87,7 +87,7 @@ pub get_at : {X : Type 0} (before : List X) (x : X) (after : List X) → slice_g
 get_at [] x after = refl
 get_at (first ∷ before) x after = get_at before x after
 
-senses_append : (known : Known) (scope : ℕ) (one two : List Entry) →
+pub senses_append : (known : Known) (scope : ℕ) (one two : List Entry) →
     senses_of known scope (one ++ two) ≡ senses_of known scope one ++ senses_of known scope two
 senses_append known scope one two = map-append (λ (entry : Entry). sense_of known scope entry.meaning) one two
 

@@ -140,7 +140,7 @@ module _ (tree : ShownTree) (numbers : List (List ℕ)) (once : repeated (sorted
   pub all_filled : AreFilled known entries (flat_map (decl_leaves numbered) tree.declarations)
   all_filled = decls_filled 0 tree.declarations [] [] (sym (append-nil entries))
 
-filled_length : (name : List ℕ) (constants : List ShownConst) (leaves : List Leaf) → length (filled_leaves name constants leaves) ≡ length leaves
+pub filled_length : (name : List ℕ) (constants : List ShownConst) (leaves : List Leaf) → length (filled_leaves name constants leaves) ≡ length leaves
 filled_length name constants [] = refl
 filled_length name constants (leaf ∷ rest) =
     let more = filled_length name (left_behind (elements leaf.bounds) constants) rest in omega (arith, more)

@@ -1,5 +1,5 @@
 -- What holds of scopes, cells, hidden cells and formats, of names and components, and of what expressions and targets become.
-use Rattle.std.specs.Prelude.{◌≡◌, ℕ, ℤ, ◌+◌, ◌-◌, ◌*◌, ◌≤◌, ◌<◌, nat_eq, Bool, false, true, IsTrue, List, [], ◌∷◌, ◌++◌, length, take, drop, Some, unwrap_or, slice_get}
+use Rattle.std.specs.Prelude.{◌≡◌, ℕ, ℤ, ◌+◌, ◌-◌, ◌*◌, ◌≤◌, ◌<◌, nat_eq, Bool, false, true, IsTrue, List, [], ◌∷◌, ◌++◌, length, take, drop, Option, Some, unwrap_or, slice_get}
 use Rattle.std.specs.List.{AllByRecursion, IsDistinct, flat_map, list_any, sum_by}
 use Rattle.std.specs.Str.{bytes_eq}
 use Rattle.pearl_value.specs.declared.kind.Kind.{Kind}
@@ -9,7 +9,7 @@ use Rattle.pearl_tree.specs.ShownExpressions.{ShownExpr, ShownExprs, ShownRef}
 use Rattle.pearl_tree.specs.ShownStatements.{ShownStmts}
 use Rattle.pearl_tree.specs.declared.literal.Literal.{Literal}
 use Rattle.pearl_tree.specs.Lawful.{IsLawfulLiteral}
-use Rattle.pearl_tree.specs.ShownLiterals.{shown_literal}
+use Rattle.pearl_tree.specs.ShownLiterals.{ShownConst, shown_literal}
 use Rattle.pearl_tree.specs.ShownModules.{ShownBody, ShownDecl, ShownTree}
 use Rattle.pearl_names.specs.Lengths.{lengths_set}
 use Rattle.pearl_names.specs.Shapes.{Fields}
@@ -20,7 +20,7 @@ use Rattle.pearl_names.specs.declared.scope.View.{View}
 use Rattle.pearl_check_expr.specs.Judged.{judged, judged_variable, called}
 use Rattle.pearl_check_expr.specs.Senses.{Callee, callee_of}
 use Rattle.pearl_names.specs.declared.scope.SortedName.{SortedName}
-use Rattle.pearl_names.specs.Tables.{Sense, Variable, Control, Semaphore, Interrupt, AlphicDation, BasicDation, Task, Procedure, sense_from, table_of}
+use Rattle.pearl_names.specs.Tables.{Form, Sense, Variable, Control, Semaphore, Interrupt, AlphicDation, BasicDation, Task, Procedure, sense_from, table_of}
 use Rattle.pearl_tree.specs.declared.name.Name.{Name}
 use Rattle.pearl_tree.specs.Names.{name_text}
 use Rattle.pearl_program.specs.HiddenCells.{hidden_in_all}
@@ -28,13 +28,14 @@ use Rattle.pearl_program.specs.SoundStatements.{IsCall}
 use Rattle.pearl_program.specs.Typing.{Around, AreOpen, HasKind, IsVariable}
 use Rattle.pearl_system.specs.declared.device.SpecifiedDevice.{SpecifiedDevice}
 use Rattle.pearl_resolve.specs.Numbers.{At, Before, senses_at, routine_start, scope_numbers, module_numbers, own_numbers, after_all, after_body, numbers_in_all, body_numbers}
-use Rattle.pearl_resolve.specs.Laying.{leaves_in, slots, cells_of_sense}
+use Rattle.pearl_resolve.specs.Laying.{leaves_in, filled_leaves, slots, cells_of_sense}
 use Rattle.pearl_resolve.specs.Expressions.{Numbered, number_of, resolve_expr, resolve_arguments, resolve_variable, target_kind}
 use Rattle.pearl_sound.specs.SoundNames.{IsLiteral, HasLiterals, HaveLiterals, SelectorsHaveLiterals, is_control, LeadNames}
+use Rattle.pearl_sound.specs.ModuleNames.{IsModuleName, HasNamesOnce}
 use Rattle.pearl_sound.specs.SoundForms.{IsSoundSense}
 use Rattle.pearl_sound.specs.Stretches.{Stretch, routine_stretches, IsDivided}
 use Rattle.pearl_resolve.specs.Cells.{sense_cells, cells_in_all, routine_cells}
-use Rattle.pearl_resolve.specs.Resolve.{formats_in_all, resolve_routine}
+use Rattle.pearl_resolve.specs.Resolve.{formats_in_all, resolve_routine, resolve}
 
 -- from here to there the text has these scopes, each with the numbers of its names, these cells and these formats
 pub record GoesPast (from to : At) (scopes : ℕ) (numbers : List (List ℕ)) (cells : List CellKind) (formats : List (List Item)) : Type 0 where
@@ -209,3 +210,19 @@ ScopesShareNoCells = (numbered : Numbered) (at : At) (body : ShownBody) (k l fir
 -- where a variable has a form, all its bounds are in their ranges, and it has leaves of few dimensions and elements
 abbrev pub VariablesHaveSoundForms : Type 0
 VariablesHaveSoundForms = (tree : ShownTree) (scope : ℕ) → AllByRecursion IsSoundSense (senses_at (table_of tree) scope)
+
+-- where no name of the module is declared twice, from a variable's number on the program has just its leaves, under its name
+abbrev pub ModuleNamesHaveTheirLeaves : Type 0
+ModuleNamesHaveTheirLeaves = (tree : ShownTree) (devices : List SpecifiedDevice) (procedures : List ℕ) → HasNamesOnce tree →
+    (name : SortedName) (form : Option Form) (inv : Bool) (number : ℕ) →
+    IsModuleName tree devices procedures name (Variable form inv) number → (constants : List ShownConst) ×
+    (take (length (leaves_in form)) (drop number (resolve (table_of tree) devices procedures tree).leaves) ≡
+    filled_leaves (name_text name.name) constants (leaves_in form))
+
+-- a semaphore's number is that of a semaphore of the program, and a task's that of a task
+abbrev pub ModuleNumbersAreThere : Type 0
+ModuleNumbersAreThere = (tree : ShownTree) (devices : List SpecifiedDevice) (procedures : List ℕ) →
+    ((name : SortedName) (number : ℕ) → IsModuleName tree devices procedures name Semaphore number →
+    number < length (resolve (table_of tree) devices procedures tree).semaphores) ×
+    ((name : SortedName) (number : ℕ) → IsModuleName tree devices procedures name Task number →
+    number < length (resolve (table_of tree) devices procedures tree).tasks)

@@ -1,5 +1,7 @@
 -- when names lead to what is there in a program, and when literals are values
 pub mod SoundNames
+-- the names of a module: what each stands for, and its number; and which numbers its procedures may have
+pub mod ModuleNames
 -- when the form of a variable is sound: all its bounds are in their ranges, and its leaves are small
 pub mod SoundForms
 -- what the cells of a routine are given to, stretch by stretch in the order of the text: the names of a scope, a loop that counts, the targets of a GET

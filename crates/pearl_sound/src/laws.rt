@@ -1,6 +1,6 @@
 // What holds of scopes, cells, hidden cells and formats, of names and components, and of what expressions and targets become.
 
-ghost use Rattle.pearl_sound.specs.Laws.{CallsAreSound, ComponentsLieInTheirVariables, ExpressionsAreSound, HiddenCellsAreApart, InnerNamesHaveTheirCells, LiteralsAreValues, NamesHaveTheirCells, NamesHaveTheirDevices, NamesNameOthers, NamesShareNoCells, OwnNamesAreNotHidden, RoutinesAreDivided, RoutinesHaveCells, ScopesShareNoCells, StatementsGoPast, StretchesHaveTheirCells, TargetsHaveTheirKind, VariablesHaveSoundForms};
+ghost use Rattle.pearl_sound.specs.Laws.{CallsAreSound, ComponentsLieInTheirVariables, ExpressionsAreSound, HiddenCellsAreApart, InnerNamesHaveTheirCells, LiteralsAreValues, ModuleNamesHaveTheirLeaves, ModuleNumbersAreThere, NamesHaveTheirCells, NamesHaveTheirDevices, NamesNameOthers, NamesShareNoCells, OwnNamesAreNotHidden, RoutinesAreDivided, RoutinesHaveCells, ScopesShareNoCells, StatementsGoPast, StretchesHaveTheirCells, TargetsHaveTheirKind, VariablesHaveSoundForms};
 
 /// Behind some statements the counters stand at what comes behind the scopes, cells and formats of these.
 pub fn statements_go_past()
@@ -91,4 +91,14 @@ pub fn scopes_share_no_cells()
 /// A variable whose declaration breaks no rule has bounds in their ranges, and leaves of few dimensions and elements.
 pub fn variables_have_sound_forms()
     ensures { VariablesHaveSoundForms }
+{}
+
+/// At the number of a variable of the module the program has just its leaves, with their names, kinds and elements.
+pub fn module_names_have_their_leaves()
+    ensures { ModuleNamesHaveTheirLeaves }
+{}
+
+/// The numbers of semaphores and tasks are those of what the program has.
+pub fn module_numbers_are_there()
+    ensures { ModuleNumbersAreThere }
 {}
