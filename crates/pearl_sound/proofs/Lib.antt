@@ -19,6 +19,9 @@ pub mod Reaching
 pub mod ModuleEntries
 pub mod ModuleLeaves
 pub mod ModuleCounts
+pub mod ScopesThere
+pub mod ByNumber
+pub mod ModuleProcedures
 mod Leading
 mod WholeModule
 mod LeadingBodies

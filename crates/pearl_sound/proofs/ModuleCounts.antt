@@ -1,9 +1,9 @@
 -- Names of a module have numbers below the counts of what they name.
-use Rattle.std.specs.Prelude.{◌≡◌, ℕ, zero, suc, ◌+◌, ◌*◌, ◌<◌, Bool, List, [], ◌∷◌, ◌++◌, length, map, take, drop, Option, Some, None, slice_get}
+use Rattle.std.specs.Prelude.{◌≡◌, ℕ, zero, suc, ◌+◌, ◌*◌, ◌<◌, Bool, List, [], ◌∷◌, ◌++◌, length, map, take, drop, Option, Some, slice_get}
 use Rattle.std.specs.List.{flat_map, sum_by}
 use Rattle.std.proofs.Common.{refl, ap, ◌∙◌, sym, subst, arith}
 use Rattle.std.proofs.lemmas.Option.{none-some}
-use Rattle.std.proofs.lemmas.List.{length-append, length-map, map-append, take_all}
+use Rattle.std.proofs.lemmas.List.{length-append, take_all}
 use Rattle.std.proofs.lemmas.List.Sums.{sum_by-append, sum_by-cons}
 use Rattle.pearl_tree.specs.declared.name.Name.{Name}
 use Rattle.pearl_tree.specs.declared.name.Number.{Number}
@@ -14,7 +14,6 @@ use Rattle.pearl_tree.specs.ShownDeclarations.{ShownDeclared, OfItem, OfSema, Sh
 use Rattle.pearl_tree.specs.ShownModules.{ShownDecl, OfLength, OfType, OfDeclare, OfSpecify, OfTask, OfProc, ShownTree}
 use Rattle.pearl_names.specs.declared.scope.SortedName.{SortedName}
 use Rattle.pearl_names.specs.Known.{Known, known_of}
-use Rattle.pearl_names.specs.Found.{names_in}
 use Rattle.pearl_names.specs.FirstNames.{repeated}
 use Rattle.pearl_names.specs.Scopes.{Meaning, Entry, entries_as, declared_entries, spec_entries, decl_entries, decls_entries, types_in}
 use Rattle.pearl_names.specs.Scopes as scopes
@@ -27,7 +26,7 @@ use Rattle.pearl_resolve.specs.Numbers as numbering
 use Rattle.pearl_resolve.specs.Expressions.{Numbered}
 use Rattle.pearl_resolve.specs.Resolve.{presets, declared_presets, decl_presets, decl_tasks, tasks_in, resolve}
 use Rattle.pearl_sound.specs.ModuleNames.{IsModuleName, HasNamesOnce}
-use Rattle.pearl_sound.proofs.ModuleEntries.{senses_append, length_sorted, entry_sense, gone, entry_number, semaphore_count, task_count, HasGone, has_gone}
+use Rattle.pearl_sound.proofs.ModuleEntries.{senses_append, entry_sense, gone, entry_number, semaphore_count, task_count, has_gone}
 use Rattle.pearl_sound.proofs.ModuleLeaves.{AreFilled, all_filled, filled_lie, filled_length}
 use Rattle.pearl_sound.proofs.SoundParts.{some_one}
 use Rattle.pearl_sound.proofs.Stretched.{Lies, taken}

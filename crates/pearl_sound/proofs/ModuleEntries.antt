@@ -1,9 +1,9 @@
 -- What a name of the module means, where none is declared twice, and which number it has.
-use Rattle.std.specs.Prelude.{◌≡◌, ℕ, zero, suc, ◌+◌, Bool, true, false, ◌||◌, if◌then◌else◌, List, [], ◌∷◌, ◌++◌, length, map, Option, Some, None, option_map, slice_get}
+use Rattle.std.specs.Prelude.{◌≡◌, ℕ, suc, ◌+◌, Bool, true, false, ◌||◌, if◌then◌else◌, List, [], ◌∷◌, ◌++◌, length, map, Some, None, option_map, slice_get}
 use Rattle.std.specs.Option.{option_and_then}
 use Rattle.std.specs.List.{flat_map, sum_by}
 use Rattle.std.specs.Str.{bytes_eq}
-use Rattle.std.proofs.Common.{refl, ap, ◌∙◌, sym, subst, arith, true≢false}
+use Rattle.std.proofs.Common.{refl, ap, ◌∙◌, sym, arith, true≢false}
 use Rattle.std.proofs.lemmas.List.{append-nil, append_assoc, length-append, map-append}
 use Rattle.std.proofs.lemmas.List.Sums.{sum_by-cons}
 use Rattle.std.proofs.lemmas.Slice.Eq.{bytes_eq-Decides}
@@ -15,19 +15,18 @@ use Rattle.pearl_tree.specs.Names.{name_text, is_among, repeats}
 use Rattle.pearl_tree.specs.ShownModules.{ShownTree}
 use Rattle.pearl_names.specs.declared.scope.SortedName.{SortedName}
 use Rattle.pearl_names.specs.declared.scope.View.TheVariants.{Within}
-use Rattle.pearl_names.specs.declared.meaning.Found.{Found}
 use Rattle.pearl_names.specs.FirstNames.{first_index, repeated}
-use Rattle.pearl_names.specs.Found.{found_in, found_through, names_in, outer_of}
+use Rattle.pearl_names.specs.Found.{found_in}
 use Rattle.pearl_names.specs.Known.{Known, known_of}
 use Rattle.pearl_names.specs.Scopes.{Entry, decls_entries}
 use Rattle.pearl_names.specs.Sorts.{sorted_name, sorted_names, names_of_scopes}
-use Rattle.pearl_names.specs.Tables.{Sense, Variable, Control, OwnParameter, NewType, Semaphore, Interrupt, AlphicDation, BasicDation, Task, Procedure, sense_of, senses_of, sense_at, table_of}
+use Rattle.pearl_names.specs.Tables.{Sense, Variable, Control, OwnParameter, NewType, Semaphore, Interrupt, AlphicDation, BasicDation, Task, Procedure, sense_of, senses_of, table_of}
 use Rattle.pearl_names.proofs.FirstNames.{bytes_symm}
 use Rattle.pearl_names.proofs.Sorting.{sorted_names-append, sorted_names-cons}
 use Rattle.pearl_system.specs.declared.device.SpecifiedDevice.{SpecifiedDevice}
 use Rattle.pearl_resolve.specs.Laying.{leaves_of_sense}
 use Rattle.pearl_resolve.specs.Numbers.{Before, behind, module_number, module_numbers}
-use Rattle.pearl_resolve.specs.Expressions.{Numbered, Meant, meant, meant_at}
+use Rattle.pearl_resolve.specs.Expressions.{Numbered, meant, meant_at}
 use Rattle.pearl_sound.specs.Laws.{procedure_count}
 
 -- a list without faults
@@ -45,7 +44,7 @@ not_before of seen (first ∷ before) name after none =
     not_before of (seen ++ first ∷ []) before name after
     (no_fault (is_among seen (name_text first)) first.place of (repeats of (seen ++ first ∷ []) (before ++ name ∷ after)) none).1
 
-neither : (a b : Bool) → (a || b) ≡ false → (a ≡ false) × (b ≡ false)
+pub neither : (a b : Bool) → (a || b) ≡ false → (a ≡ false) × (b ≡ false)
 neither true b is = absurd (true≢false is)
 neither false b is = (refl, is)
 

@@ -1,10 +1,8 @@
 -- The leaves of a program are those of the module's variables, in order.
-use Rattle.std.specs.Prelude.{◌≡◌, ℕ, ◌+◌, List, [], ◌∷◌, ◌++◌, length, map, take, drop, Option, Some, slice_get}
+use Rattle.std.specs.Prelude.{◌≡◌, ℕ, ◌+◌, List, [], ◌∷◌, ◌++◌, length, map}
 use Rattle.std.specs.List.{flat_map}
 use Rattle.std.proofs.Common.{refl, ap, ◌∙◌, sym, subst, arith}
 use Rattle.std.proofs.lemmas.List.{append-nil, append_assoc, length-append}
-use Rattle.std.proofs.lemmas.List.Concat.{flat_map-append}
-use Rattle.pearl_value.specs.declared.kind.Kind.{Kind}
 use Rattle.pearl_tree.specs.declared.name.Name.{Name}
 use Rattle.pearl_tree.specs.Names.{name_text, names_of}
 use Rattle.pearl_tree.specs.ShownLiterals.{ShownConst}
@@ -17,11 +15,11 @@ use Rattle.pearl_names.specs.Layout.{Leaf, elements}
 use Rattle.pearl_names.specs.Scopes.{Meaning, Entry, entries_as, declared_entries, spec_entries, decl_entries, decls_entries, types_in}
 use Rattle.pearl_names.specs.Scopes as scopes
 use Rattle.pearl_names.specs.Sorts.{sorted_names}
-use Rattle.pearl_names.specs.Tables.{sense_of, senses_of, dation_sense, table_of}
+use Rattle.pearl_names.specs.Tables.{sense_of, senses_of, table_of}
 use Rattle.pearl_tree.specs.declared.declaration.Class.TheVariants as class
 use Rattle.pearl_program.specs.PlainPrograms.{PlainLeaf}
 use Rattle.pearl_resolve.specs.Laying.{leaves_of_sense, left_behind, filled_leaves}
-use Rattle.pearl_resolve.specs.Expressions.{Numbered, Meant, meant}
+use Rattle.pearl_resolve.specs.Expressions.{Numbered, meant}
 use Rattle.pearl_resolve.specs.Statements.{slots_of_meant}
 use Rattle.pearl_resolve.specs.Resolve.{variable_leaves, names_leaves, declared_leaves, decl_leaves}
 use Rattle.pearl_sound.proofs.ModuleEntries.{module_meant}

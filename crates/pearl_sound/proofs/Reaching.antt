@@ -1,5 +1,5 @@
 -- Where a variable lies in leaves or in cells, each of its components is there.
-use Rattle.std.specs.Prelude.{◌≡◌, ◌⊎◌, ℕ, zero, suc, ◌+◌, ◌*◌, ◌≤◌, ◌<◌, ℤ, ◌-ℤ◌, unsigned_abs, Bool, true, false, if◌then◌else◌, nat_le, ◌&&◌, List, [], ◌∷◌, ◌++◌, length, map, take, drop, replicate, Option, Some, None, slice_get}
+use Rattle.std.specs.Prelude.{◌≡◌, ◌⊎◌, ℕ, zero, suc, ◌+◌, ◌*◌, ◌≤◌, ◌<◌, ℤ, ◌-ℤ◌, unsigned_abs, Bool, true, false, if◌then◌else◌, nat_le, List, [], ◌∷◌, ◌++◌, length, map, take, drop, replicate, Option, Some, None, slice_get}
 use Rattle.std.specs.List.{AllByRecursion, list_all}
 use Rattle.std.proofs.Common.{inl, inr, refl, ap, ◌∙◌, sym, subst, arith}
 use Rattle.std.specs.Str.{bytes_eq}
@@ -10,7 +10,6 @@ use Rattle.std.proofs.lemmas.List.Concat.{flat_map-append}
 use Rattle.std.proofs.lemmas.List.Folds.{list_all-append}
 use Rattle.std.proofs.lemmas.List.Sums.{sum_by-append}
 use Rattle.pearl_value.specs.declared.kind.Kind.{Kind}
-use Rattle.pearl_value.specs.declared.kind.CellKind.{CellKind}
 use Rattle.pearl_value.specs.declared.kind.CellKind.TheVariants.{Plain}
 use Rattle.pearl_tree.specs.declared.name.Name.{Name}
 use Rattle.pearl_tree.specs.Names.{name_text}
@@ -20,14 +19,13 @@ use Rattle.pearl_names.specs.Layout.{Leaf, leaves_of, leaves_of_fields, leaf_slo
 use Rattle.pearl_names.specs.Forms.{Component, component, leaf_count, slot_count}
 use Rattle.pearl_program.specs.declared.expression.Target.{Target}
 use Rattle.pearl_program.specs.declared.expression.Target.TheVariants as target
-use Rattle.pearl_program.specs.declared.expression.Bound.{Bound}
 use Rattle.pearl_program.specs.PlainExpressions.{PlainExprs}
 use Rattle.pearl_program.specs.PlainPrograms.{PlainLeaf}
 use Rattle.pearl_program.specs.Typing.{Around, elements, IsBound, AreOpen, IsLeafOf}
 use Rattle.pearl_resolve.specs.Laying.{slots}
-use Rattle.pearl_resolve.specs.Expressions.{Walk, bound_of, moved, to_field, field_of}
+use Rattle.pearl_resolve.specs.Expressions.{Walk, bound_of, moved, to_field}
 use Rattle.pearl_sound.specs.SoundForms.{AreBounds, HasBounds, FieldsHaveBounds}
-use Rattle.pearl_sound.specs.SoundNames.{IsVariableAt, IsEnd, IsThere, Follows}
+use Rattle.pearl_sound.specs.SoundNames.{IsVariableAt, IsEnd, Follows}
 use Rattle.pearl_sound.proofs.Going.{slots_length}
 use Rattle.pearl_sound.proofs.Components.{components_lie}
 use Rattle.pearl_sound.proofs.SoundForms.{all_append}

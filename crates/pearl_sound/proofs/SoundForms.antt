@@ -1,5 +1,5 @@
 -- The forms of all variables are sound.
-use Rattle.std.specs.Prelude.{◌≡◌, ℕ, zero, suc, ◌+◌, ℤ, pos, negsuc, neg_ℤ, ◌-◌, ◌^◌, ◌≤ℤ◌, int_le, int_lt, Bool, true, false, ◌&&◌, if◌then◌else◌, List, [], ◌∷◌, ◌++◌, take, map, Option, Some, None, option_map, unwrap_or, slice_get}
+use Rattle.std.specs.Prelude.{◌≡◌, ℕ, zero, suc, ◌+◌, ℤ, pos, negsuc, neg_ℤ, ◌-◌, ◌^◌, ◌≤ℤ◌, int_le, int_lt, Bool, true, false, ◌&&◌, if◌then◌else◌, List, [], ◌∷◌, ◌++◌, take, Option, Some, None, option_map, unwrap_or, slice_get}
 use Rattle.std.specs.Option.{option_and_then}
 use Rattle.std.specs.List.{AllByRecursion, list_all}
 use Rattle.std.proofs.Common.{refl, arith}
@@ -11,7 +11,7 @@ use Rattle.pearl_tree.specs.declared.declaration.Direction.{Direction}
 use Rattle.pearl_tree.specs.declared.declaration.Class.{Class}
 use Rattle.pearl_tree.specs.declared.declaration.Class.TheVariants as class
 use Rattle.pearl_tree.specs.Names.{name_text, names_of, has_repeats}
-use Rattle.pearl_tree.specs.ShownDeclarations.{ShownTyping, OfBasic, OfStruct, OfNamed, ShownFields, NoFields, MoreFields, ShownItem}
+use Rattle.pearl_tree.specs.ShownDeclarations.{ShownTyping, OfBasic, OfStruct, OfNamed, ShownFields, NoFields, MoreFields}
 use Rattle.pearl_tree.specs.ShownModules.{ShownDecl, OfLength, OfType, OfDeclare, OfSpecify, OfTask, OfProc, ShownTree}
 use Rattle.pearl_names.specs.declared.length.DefaultLength.{DefaultLength}
 use Rattle.pearl_names.specs.declared.scope.NameSort.{NameSort}
@@ -25,7 +25,7 @@ use Rattle.pearl_names.specs.Sorts.{names_of_scopes}
 use Rattle.pearl_names.specs.Shapes.{Shape, OfKind, OfFields, Fields, Around, bound_pair, is_sound_pair, is_in_range, sound_bound, sound_bounds, field_names, type_shape, meant_shape, with_fields, with_parts, shape_of, fields_of, decl_shapes, shapes_after}
 use Rattle.pearl_names.specs.Layout.{leaves_of, is_sound_leaf}
 use Rattle.pearl_names.specs.Known.{Known, known_of, around}
-use Rattle.pearl_names.specs.Tables.{Sense, sound_form, form_of, dation_sense, sense_of, senses_of, senses_in, table_of}
+use Rattle.pearl_names.specs.Tables.{sound_form, dation_sense, sense_of, senses_of, senses_in, table_of}
 use Rattle.pearl_program.specs.Typing.{IsBound}
 use Rattle.pearl_resolve.specs.Expressions.{bound_of}
 use Rattle.pearl_resolve.specs.Numbers.{senses_at}

@@ -1,5 +1,5 @@
 -- What holds of scopes, cells, hidden cells and formats, of names and components, and of what expressions and targets become.
-use Rattle.std.specs.Prelude.{◌≡◌, ℕ, ℤ, ◌+◌, ◌-◌, ◌*◌, ◌≤◌, ◌<◌, nat_eq, Bool, false, true, IsTrue, List, [], ◌∷◌, ◌++◌, length, take, drop, Option, Some, unwrap_or, slice_get}
+use Rattle.std.specs.Prelude.{◌≡◌, ℕ, ℤ, ◌+◌, ◌-◌, ◌*◌, ◌≤◌, ◌<◌, nat_eq, Bool, false, true, IsTrue, List, [], ◌∷◌, ◌++◌, length, map, take, drop, Option, Some, unwrap_or, slice_get}
 use Rattle.std.specs.List.{AllByRecursion, IsDistinct, flat_map, list_any, sum_by}
 use Rattle.std.specs.Str.{bytes_eq}
 use Rattle.pearl_value.specs.declared.kind.Kind.{Kind}
@@ -20,18 +20,19 @@ use Rattle.pearl_names.specs.declared.scope.View.{View}
 use Rattle.pearl_check_expr.specs.Judged.{judged, judged_variable, called}
 use Rattle.pearl_check_expr.specs.Senses.{Callee, callee_of}
 use Rattle.pearl_names.specs.declared.scope.SortedName.{SortedName}
-use Rattle.pearl_names.specs.Tables.{Form, Sense, Variable, Control, Semaphore, Interrupt, AlphicDation, BasicDation, Task, Procedure, sense_from, table_of}
+use Rattle.pearl_names.specs.Tables.{Form, Parameter, Sense, Variable, Control, Semaphore, Interrupt, AlphicDation, BasicDation, Task, Procedure, sense_from, table_of}
 use Rattle.pearl_tree.specs.declared.name.Name.{Name}
 use Rattle.pearl_tree.specs.Names.{name_text}
 use Rattle.pearl_program.specs.HiddenCells.{hidden_in_all}
+use Rattle.pearl_program.specs.Sound.{signature_of}
 use Rattle.pearl_program.specs.SoundStatements.{IsCall}
 use Rattle.pearl_program.specs.Typing.{Around, AreOpen, HasKind, IsVariable}
 use Rattle.pearl_system.specs.declared.device.SpecifiedDevice.{SpecifiedDevice}
 use Rattle.pearl_resolve.specs.Numbers.{At, Before, senses_at, routine_start, scope_numbers, module_numbers, own_numbers, after_all, after_body, numbers_in_all, body_numbers}
 use Rattle.pearl_resolve.specs.Laying.{leaves_in, filled_leaves, slots, cells_of_sense}
 use Rattle.pearl_resolve.specs.Expressions.{Numbered, number_of, resolve_expr, resolve_arguments, resolve_variable, target_kind}
-use Rattle.pearl_sound.specs.SoundNames.{IsLiteral, HasLiterals, HaveLiterals, SelectorsHaveLiterals, is_control, LeadNames}
-use Rattle.pearl_sound.specs.ModuleNames.{IsModuleName, HasNamesOnce}
+use Rattle.pearl_sound.specs.SoundNames.{IsLiteral, HasLiterals, HaveLiterals, SelectorsHaveLiterals, is_control, IsCallee, LeadNames}
+use Rattle.pearl_sound.specs.ModuleNames.{IsModuleName, HasNamesOnce, AreProcedureNumbers}
 use Rattle.pearl_sound.specs.SoundForms.{IsSoundSense}
 use Rattle.pearl_sound.specs.Stretches.{Stretch, routine_stretches, IsDivided}
 use Rattle.pearl_resolve.specs.Cells.{sense_cells, cells_in_all, routine_cells}
@@ -226,3 +227,12 @@ ModuleNumbersAreThere = (tree : ShownTree) (devices : List SpecifiedDevice) (pro
     number < length (resolve (table_of tree) devices procedures tree).semaphores) ×
     ((name : SortedName) (number : ℕ) → IsModuleName tree devices procedures name Task number →
     number < length (resolve (table_of tree) devices procedures tree).tasks)
+
+-- where procedures have numbers of their own below their count, at a procedure's number stands one with its parameters and
+-- its result
+abbrev pub ModuleProceduresAreThere : Type 0
+ModuleProceduresAreThere = (tree : ShownTree) (devices : List SpecifiedDevice) (procedures : List ℕ) →
+    AreProcedureNumbers tree devices procedures → (around : Around) →
+    around.procedures ≡ map signature_of (resolve (table_of tree) devices procedures tree).procedures →
+    (name : SortedName) (parameters : List Parameter) (result : Option (Option Kind)) (number : ℕ) →
+    IsModuleName tree devices procedures name (Procedure parameters result) number → IsCallee around number parameters result
