@@ -103,7 +103,7 @@ get_length numbered scope targets =
     omega (arith, a, b, c)
 
 mutual
-  stmt_goes : (numbered : Numbered) (scope : ℕ) (at : At) (s : ShownStmt) →
+  pub stmt_goes : (numbered : Numbered) (scope : ℕ) (at : At) (s : ShownStmt) →
       GoesPast at (after numbered.table at s) (scopes_in s) (numbers_in numbered.table at s) (cells_in numbered scope at s) (formats_in s)
   stmt_goes numbered scope at (OfIf condition statements otherwise place) =
       joins (scopes_in_all statements) (scopes_in_otherwise otherwise) (numbers_in_all numbered.table at statements)
@@ -163,7 +163,7 @@ mutual
       (cells_in_all numbered scope (after numbered.table at s) rest) (formats_in s) (formats_in_all rest)
       (stmt_goes numbered scope at s) (all_go numbered scope (after numbered.table at s) rest)
 
-  branches_go : (numbered : Numbered) (scope : ℕ) (at : At) (branches : ShownBranches) →
+  pub branches_go : (numbered : Numbered) (scope : ℕ) (at : At) (branches : ShownBranches) →
       GoesPast at (after_branches numbered.table at branches) (scopes_in_branches branches)
       (numbers_in_branches numbered.table at branches) (cells_in_branches numbered scope at branches) (formats_in_branches branches)
   branches_go numbered scope at NoBranches = stays at

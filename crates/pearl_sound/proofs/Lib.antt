@@ -22,7 +22,9 @@ pub mod ModuleCounts
 pub mod ScopesThere
 pub mod ByNumber
 pub mod ModuleProcedures
-mod Leading
+pub mod Leading
+pub mod LocalNames
+pub mod Sighted
 mod WholeModule
 mod LeadingBodies
 mod LeadingLoops

@@ -45,6 +45,12 @@ senses_get known from (first ∷ rest) (suc n) scope is =
     let same : from + 1 + n ≡ from + suc n = omega arith in
     senses_get known (from + 1) rest n scope is ∙ ap (λ m. Some (senses_of known m scope.entries)) same
 
+pub senses_there : (tree : ShownTree) (n : ℕ) (scope : Scope) → slice_get (scopes_of tree) n ≡ Some scope →
+    slice_get (table_of tree).senses n ≡ Some (senses_of (known_of tree) n scope.entries)
+senses_there tree n scope is =
+    let same : 0 + n ≡ n = omega arith in
+    senses_get (known_of tree) 0 (scopes_of tree) n scope is ∙ ap (λ m. Some (senses_of (known_of tree) m scope.entries)) same
+
 pub scope_senses : (tree : ShownTree) (n : ℕ) (scope : Scope) → slice_get (scopes_of tree) n ≡ Some scope →
     senses_at (table_of tree) n ≡ senses_of (known_of tree) n scope.entries
 scope_senses tree n scope is =

@@ -333,6 +333,18 @@ name_lies table next stretches end to are k row there j number sense at is own =
       scope_open table next 0 stretches end to has.stretch (next + k) has.control placed has.owner number (cells_of_sense sense) low high,
     )
 
+-- and no further than all reach
+pub name_fits : (table : Table) (next : ℕ) (stretches : List Stretch) (end to : ℕ) → AreInARow table next 0 stretches end to →
+    (k : ℕ) (row : List ℕ) → slice_get (rows_of table stretches) k ≡ Some row → (j number : ℕ) (sense : Sense) → slice_get row j ≡ Some number →
+    slice_get (senses_at table (next + k)) j ≡ Some sense → IsNoControl sense → number + cells_of_sense sense ≤ length (cells_of stretches)
+name_fits table next stretches end to are k row there j number sense at is own =
+    let has = find_row table next 0 stretches end to are k row there in
+    let placed = place table next 0 stretches end to are has.index has.stretch has.there in
+    let high = (within_stretch table next stretches k row has j number sense at is own).high in
+    let more = row_rises table (placed.at + length (rows_in table has.stretch)) (has.stretch.first + length has.stretch.cells) placed.after end to placed.right in
+    let all = cells_before table next 0 stretches end to are in
+    omega (arith, high, more, all)
+
 pub names_apart : (table : Table) (next : ℕ) (stretches : List Stretch) (end to : ℕ) → AreInARow table next 0 stretches end to →
     (k l : ℕ) (row other : List ℕ) → k < l → slice_get (rows_of table stretches) k ≡ Some row → slice_get (rows_of table stretches) l ≡ Some other →
     (i j first second : ℕ) (one two : Sense) → slice_get row i ≡ Some first → slice_get other j ≡ Some second →

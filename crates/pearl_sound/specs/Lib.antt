@@ -2,6 +2,8 @@
 pub mod SoundNames
 -- the names of a module: what each stands for, and its number; and which numbers its procedures may have
 pub mod ModuleNames
+-- from where the names of a module's routines are seen, each view with what stands around it in the program
+pub mod Sights
 -- when the form of a variable is sound: all its bounds are in their ranges, and its leaves are small
 pub mod SoundForms
 -- what the cells of a routine are given to, stretch by stretch in the order of the text: the names of a scope, a loop that counts, the targets of a GET
