@@ -25,6 +25,7 @@ pub mod ModuleProcedures
 pub mod Leading
 pub mod LocalNames
 pub mod Sighted
+pub mod ModuleSighted
 mod WholeModule
 mod LeadingBodies
 mod LeadingLoops

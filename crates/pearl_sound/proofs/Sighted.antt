@@ -77,7 +77,7 @@ items_local : (known : Known) (n types : ℕ) (control : Option Kind) (item : Sh
 items_local known n types control item [] = tt
 items_local known n types control item (name ∷ names) = (tt, items_local known n types control item names)
 
-both_local : (known : Known) (n : ℕ) (control : Option Kind) (one two : List Entry) → AllByRecursion (IsLocal control) (senses_of known n one) →
+pub both_local : (known : Known) (n : ℕ) (control : Option Kind) (one two : List Entry) → AllByRecursion (IsLocal control) (senses_of known n one) →
     AllByRecursion (IsLocal control) (senses_of known n two) → AllByRecursion (IsLocal control) (senses_of known n (one ++ two))
 both_local known n control one two first second =
     subst (λ senses. AllByRecursion (IsLocal control) senses) (sym (senses_append known n one two))

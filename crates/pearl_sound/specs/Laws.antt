@@ -32,11 +32,12 @@ use Rattle.pearl_resolve.specs.Numbers.{At, Before, senses_at, routine_start, sc
 use Rattle.pearl_resolve.specs.Laying.{leaves_in, filled_leaves, slots, cells_of_sense}
 use Rattle.pearl_resolve.specs.Expressions.{Numbered, number_of, resolve_expr, resolve_arguments, resolve_variable, target_kind}
 use Rattle.pearl_sound.specs.SoundNames.{IsLiteral, HasLiterals, HaveLiterals, SelectorsHaveLiterals, is_control, IsCallee, LeadNames}
-use Rattle.pearl_sound.specs.ModuleNames.{IsModuleName, HasNamesOnce, AreProcedureNumbers}
+use Rattle.pearl_sound.specs.ModuleNames.{IsModuleName, HasNamesOnce, AreProcedureNumbers, DevicesAreThere}
+use Rattle.pearl_sound.specs.Sights.{Sight, sights_of}
 use Rattle.pearl_sound.specs.SoundForms.{IsSoundSense}
 use Rattle.pearl_sound.specs.Stretches.{Stretch, routine_stretches, IsDivided}
 use Rattle.pearl_resolve.specs.Cells.{sense_cells, cells_in_all, routine_cells}
-use Rattle.pearl_resolve.specs.Resolve.{formats_in_all, resolve_routine, resolve}
+use Rattle.pearl_resolve.specs.Resolve.{formats_in_all, resolve_routine, numbered_of, resolve}
 
 -- from here to there the text has these scopes, each with the numbers of its names, these cells and these formats
 pub record GoesPast (from to : At) (scopes : ℕ) (numbers : List (List ℕ)) (cells : List CellKind) (formats : List (List Item)) : Type 0 where
@@ -236,3 +237,11 @@ ModuleProceduresAreThere = (tree : ShownTree) (devices : List SpecifiedDevice) (
     around.procedures ≡ map signature_of (resolve (table_of tree) devices procedures tree).procedures →
     (name : SortedName) (parameters : List Parameter) (result : Option (Option Kind)) (number : ℕ) →
     IsModuleName tree devices procedures name (Procedure parameters result) number → IsCallee around number parameters result
+
+-- where no name of the module is declared twice, procedures have numbers of their own below their count, and devices are of
+-- the sorts that their names say, names lead to what is there from each view of the module
+abbrev pub NamesLead : Type 0
+NamesLead = (tree : ShownTree) (devices : List SpecifiedDevice) (procedures : List ℕ) → HasNamesOnce tree →
+    AreProcedureNumbers tree devices procedures → DevicesAreThere tree devices procedures →
+    AllByRecursion (λ (sight : Sight). LeadNames (numbered_of (table_of tree) devices procedures tree) sight.view sight.around)
+    (sights_of tree devices procedures)

@@ -1,6 +1,6 @@
 -- when names lead to what is there in a program, and when literals are values
 pub mod SoundNames
--- the names of a module: what each stands for, and its number; and which numbers its procedures may have
+-- the names of a module: what each stands for, and its number; which numbers its procedures may have, and when devices suit
 pub mod ModuleNames
 -- from where the names of a module's routines are seen, each view with what stands around it in the program
 pub mod Sights

@@ -1,6 +1,6 @@
 // What holds of scopes, cells, hidden cells and formats, of names and components, and of what expressions and targets become.
 
-ghost use Rattle.pearl_sound.specs.Laws.{CallsAreSound, ComponentsLieInTheirVariables, ExpressionsAreSound, HiddenCellsAreApart, InnerNamesHaveTheirCells, LiteralsAreValues, ModuleNamesHaveTheirLeaves, ModuleNumbersAreThere, ModuleProceduresAreThere, NamesHaveTheirCells, NamesHaveTheirDevices, NamesNameOthers, NamesShareNoCells, OwnNamesAreNotHidden, RoutinesAreDivided, RoutinesHaveCells, ScopesShareNoCells, StatementsGoPast, StretchesHaveTheirCells, TargetsHaveTheirKind, VariablesHaveSoundForms};
+ghost use Rattle.pearl_sound.specs.Laws.{CallsAreSound, ComponentsLieInTheirVariables, ExpressionsAreSound, HiddenCellsAreApart, InnerNamesHaveTheirCells, LiteralsAreValues, ModuleNamesHaveTheirLeaves, ModuleNumbersAreThere, ModuleProceduresAreThere, NamesHaveTheirCells, NamesHaveTheirDevices, NamesLead, NamesNameOthers, NamesShareNoCells, OwnNamesAreNotHidden, RoutinesAreDivided, RoutinesHaveCells, ScopesShareNoCells, StatementsGoPast, StretchesHaveTheirCells, TargetsHaveTheirKind, VariablesHaveSoundForms};
 
 /// Behind some statements the counters stand at what comes behind the scopes, cells and formats of these.
 pub fn statements_go_past()
@@ -106,4 +106,9 @@ pub fn module_numbers_are_there()
 /// At a procedure's number the program has a procedure with its parameters and its result.
 pub fn module_procedures_are_there()
     ensures { ModuleProceduresAreThere }
+{}
+
+/// From each view of a module names lead to what is there in its program.
+pub fn names_lead()
+    ensures { NamesLead }
 {}
