@@ -26,6 +26,7 @@ pub mod Leading
 pub mod LocalNames
 pub mod Sighted
 pub mod ModuleSighted
+pub mod ModuleDevices
 mod WholeModule
 mod LeadingBodies
 mod LeadingLoops

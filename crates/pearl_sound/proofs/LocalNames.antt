@@ -1,7 +1,6 @@
 -- The names of a routine's scopes lead to what is there.
-use Rattle.std.specs.Prelude.{◌≡◌, ℕ, zero, suc, ◌+◌, ◌*◌, ◌≤◌, ◌<◌, nat_eq, Bool, true, false, ◌||◌, IsTrue, List, [], ◌∷◌, ◌++◌, length, map, take, drop, replicate, Option, Some, None, option_map, unwrap_or, slice_get}
-use Rattle.std.specs.Option.{option_and_then}
-use Rattle.std.specs.List.{AllByRecursion, list_any, flat_map}
+use Rattle.std.specs.Prelude.{◌≡◌, ℕ, zero, suc, ◌+◌, ◌≤◌, ◌<◌, nat_eq, Bool, true, false, ◌||◌, List, [], ◌∷◌, ◌++◌, length, map, take, drop, Option, Some, None, unwrap_or, slice_get}
+use Rattle.std.specs.List.{list_any}
 use Rattle.std.proofs.Common.{refl, ap, ◌∙◌, sym, subst, arith}
 use Rattle.std.proofs.lemmas.List.{length-take-le, take-append-drop}
 use Rattle.std.proofs.lemmas.Option.{none-some}
@@ -12,7 +11,7 @@ use Rattle.pearl_value.specs.declared.kind.CellKind.TheVariants.{Plain, RefTo}
 use Rattle.pearl_tree.specs.declared.name.Name.{Name}
 use Rattle.pearl_names.specs.Shapes.{Shape, OfKind, OfFields}
 use Rattle.pearl_names.specs.Layout.{leaves_of, slots_of}
-use Rattle.pearl_names.specs.Tables.{Form, Parameter, Sense, Variable, Control, OwnParameter, NewType, Semaphore, Interrupt, AlphicDation, BasicDation, Task, Procedure, Table}
+use Rattle.pearl_names.specs.Tables.{Form, Sense, Variable, Control, OwnParameter, NewType, Semaphore, Interrupt, AlphicDation, BasicDation, Task, Procedure}
 use Rattle.pearl_program.specs.declared.expression.Target.{Target}
 use Rattle.pearl_program.specs.declared.expression.Target.TheVariants as target
 use Rattle.pearl_program.specs.declared.expression.Bound.{Bound}
@@ -27,7 +26,7 @@ use Rattle.pearl_resolve.specs.Cells.{sense_cells}
 use Rattle.pearl_resolve.specs.Expressions.{Meant, Walk, target_in, own_or_param, begun, walk_of, to_field, field_of}
 use Rattle.pearl_sound.specs.Laws.{IsNoControl}
 use Rattle.pearl_sound.specs.SoundForms.{HasSoundForm, IsSoundSense}
-use Rattle.pearl_sound.specs.SoundNames.{IsVariableAt, Points, IsEnd, IsThere, Follows, Reaches}
+use Rattle.pearl_sound.specs.SoundNames.{Points, IsEnd, Follows, Reaches}
 use Rattle.pearl_sound.proofs.Leading.{Leads, thing_of, reaches}
 use Rattle.pearl_sound.proofs.Reaching.{reach}
 use Rattle.pearl_sound.proofs.SoundParts.{some_one}

@@ -30,7 +30,7 @@ use Rattle.pearl_resolve.specs.Expressions.{Numbered, meant, meant_at}
 use Rattle.pearl_sound.specs.Laws.{procedure_count}
 
 -- a list without faults
-no_fault : (broken : Bool) (place of : ℕ) (rest : List RuleFault) → fault_if broken place of ++ rest ≡ [] → (broken ≡ false) × (rest ≡ [])
+pub no_fault : (broken : Bool) (place of : ℕ) (rest : List RuleFault) → fault_if broken place of ++ rest ≡ [] → (broken ≡ false) × (rest ≡ [])
 no_fault true place of rest none = let more = ap (λ (faults : List RuleFault). length faults) none in absurd (omega (arith, more))
 no_fault false place of rest none = (refl, none)
 

@@ -1,13 +1,11 @@
 -- From each view in a module names lead to what is there.
 use Rattle.std.specs.Prelude.{◌≡◌, ℕ, ◌+◌, ◌<◌, List, [], ◌∷◌, ◌++◌, length, map, Option, Some, None, option_map, unwrap_or, slice_get}
-use Rattle.std.specs.Option.{option_and_then}
 use Rattle.std.specs.List.{AllByRecursion, flat_map}
 use Rattle.std.proofs.Common.{refl, ap, ◌∙◌, sym, subst, arith}
 use Rattle.std.proofs.lemmas.List.{append-nil, length-map, map-append}
 use Rattle.std.proofs.lemmas.Option.{none-some}
 use Rattle.pearl_value.specs.declared.kind.Kind.{Kind}
 use Rattle.pearl_tree.specs.declared.name.Name.{Name}
-use Rattle.pearl_tree.specs.declared.typing.Basic.{Basic}
 use Rattle.pearl_tree.specs.declared.declaration.Class.TheVariants as class
 use Rattle.pearl_tree.specs.Names.{name_text, names_of}
 use Rattle.pearl_tree.specs.ShownDeclarations.{ShownDeclared, OfItem, OfSema, ShownSpec, OfInterrupt, OfDation, ShownParam}
@@ -19,8 +17,7 @@ use Rattle.pearl_names.specs.Layout.{leaves_of}
 use Rattle.pearl_names.specs.Scopes.{Meaning, Entry, Scope, scopes_of, as_stmts, entries_as, param_entries, body_entries, declared_entries, spec_entries, decl_entries, decls_entries, types_in, scopes_in_decl, all_scopes, routine_scopes, decl_scopes, decls_scopes}
 use Rattle.pearl_names.specs.Scopes as scopes
 use Rattle.pearl_names.specs.Sorts.{sorted_name, sorted_names, names_of_scopes}
-use Rattle.pearl_names.specs.Tables.{Form, Sense, Variable, Control, OwnParameter, NewType, Semaphore, Interrupt, AlphicDation, BasicDation, Task, Procedure, Table, sense_of, senses_of, table_of}
-use Rattle.pearl_names.proofs.DeclLists.{length-decl_scopes}
+use Rattle.pearl_names.specs.Tables.{Form, Sense, Variable, Control, OwnParameter, NewType, Semaphore, Interrupt, AlphicDation, BasicDation, Task, Procedure, sense_of, senses_of, table_of}
 use Rattle.pearl_system.specs.declared.device.SpecifiedDevice.{SpecifiedDevice}
 use Rattle.pearl_program.specs.declared.expression.Target.TheVariants as target
 use Rattle.pearl_program.specs.PlainExpressions as plain
@@ -31,27 +28,26 @@ use Rattle.pearl_program.specs.Sound.{signature_of, around_of}
 use Rattle.pearl_resolve.specs.Numbers.{At, Before, module_number, module_numbers, nothing_before, senses_at, routine_start, in_body, scope_numbers, numbers_in_all, body_numbers, decl_numbers, decls_numbers, after_decl, first}
 use Rattle.pearl_resolve.specs.Numbers as numbering
 use Rattle.pearl_resolve.specs.Laying.{filled_leaves}
-use Rattle.pearl_resolve.specs.Expressions.{Numbered, meant_at, number_at}
+use Rattle.pearl_resolve.specs.Expressions.{Numbered, number_at}
 use Rattle.pearl_resolve.specs.Resolve.{result_kind, resolve_routine, resolve}
 use Rattle.pearl_sound.specs.ModuleNames.{IsModuleName, HasNamesOnce, AreProcedureNumbers, DevicesAreThere}
 use Rattle.pearl_sound.specs.Sights.{Sight, routine_sights, decl_sights, decls_sights, sights_of}
 use Rattle.pearl_sound.specs.SoundForms.{IsSoundSense, HasSoundForm}
-use Rattle.pearl_sound.specs.SoundNames.{IsTerminal, IsChannel, LeadNames, Reaches}
-use Rattle.pearl_sound.specs.Stretches.{Stretch, routine_stretches, scope_stretch, stretches_in_all, rows_of}
+use Rattle.pearl_sound.specs.SoundNames.{IsTerminal, IsChannel, LeadNames}
+use Rattle.pearl_sound.specs.Stretches.{routine_stretches, scope_stretch, stretches_in_all}
 use Rattle.pearl_sound.proofs.ByNumber.{all_at}
 use Rattle.pearl_sound.proofs.Dividing.{routine_divides}
 use Rattle.pearl_sound.proofs.Going.{all_go}
 use Rattle.pearl_sound.proofs.Leading.{Leads, thing_of}
 use Rattle.pearl_sound.proofs.LocalNames.{IsLocal}
-use Rattle.pearl_sound.proofs.ModuleCounts.{Parted, parted, semaphore_there, task_there, leaves_lie}
+use Rattle.pearl_sound.proofs.ModuleCounts.{parted, semaphore_there, task_there, leaves_lie}
 use Rattle.pearl_sound.proofs.ModuleEntries.{senses_append, get_at, gone, entry_number}
 use Rattle.pearl_sound.proofs.ModuleLeaves.{filled_parts}
 use Rattle.pearl_sound.proofs.ModuleProcedures.{callee_there}
 use Rattle.pearl_sound.proofs.Reaching.{part_of, plain_part, reach}
 use Rattle.pearl_sound.proofs.ScopesThere.{head_there, left_lies, right_lies, scope_named, decl_next, decls_lie}
-use Rattle.pearl_sound.proofs.Sighted.{ScopeLeads, Seen, seen_in, seen_in_module, view_within, body_local, both_local, Surrounds, scope_leads, all_sighted}
+use Rattle.pearl_sound.proofs.Sighted.{ScopeLeads, seen_in, seen_in_module, view_within, body_local, both_local, Surrounds, scope_leads, all_sighted}
 use Rattle.pearl_sound.proofs.SoundForms.{all_append, senses_sound}
-use Rattle.pearl_sound.proofs.SoundParts.{some_one}
 use Rattle.pearl_sound.proofs.Stretched.{Lies}
 
 -- no name of the module is a control variable or a parameter

@@ -1,5 +1,5 @@
 -- From each view in a routine names lead to what is there, where the module's names do.
-use Rattle.std.specs.Prelude.{◌≡◌, ℕ, zero, suc, ◌+◌, ◌≤◌, ◌<◌, nat_eq, Bool, true, false, ◌||◌, if◌then◌else◌, List, [], ◌∷◌, ◌++◌, length, take, drop, Option, Some, None, option_map, unwrap_or, slice_get}
+use Rattle.std.specs.Prelude.{◌≡◌, ℕ, zero, suc, ◌+◌, ◌<◌, nat_eq, Bool, true, false, ◌||◌, if◌then◌else◌, List, [], ◌∷◌, ◌++◌, length, take, drop, Option, Some, None, option_map, unwrap_or, slice_get}
 use Rattle.std.specs.Option.{option_and_then}
 use Rattle.std.specs.List.{AllByRecursion, list_any, flat_map}
 use Rattle.std.proofs.Common.{refl, ap, ◌∙◌, sym, subst, arith}
@@ -25,8 +25,7 @@ use Rattle.pearl_names.specs.Known.{Known, known_of}
 use Rattle.pearl_names.specs.Lengths.{length_at}
 use Rattle.pearl_names.specs.Scopes.{Entry, Scope, scopes_of, as_stmts, entries_as, item_entries, body_decl_entries, body_entries, control_entries, scopes_in, scopes_in_all, scopes_in_branches, stmt_scopes, all_scopes, branch_scopes, otherwise_scopes}
 use Rattle.pearl_names.specs.Scopes as scopes
-use Rattle.pearl_names.specs.Sorts.{scope_names}
-use Rattle.pearl_names.specs.Tables.{Sense, Control, Table, sense_of, senses_of, sense_at, table_of}
+use Rattle.pearl_names.specs.Tables.{Sense, Table, senses_of, table_of}
 use Rattle.pearl_names.proofs.Collecting.{length-stmt_scopes, length-all_scopes, length-branch_scopes}
 use Rattle.pearl_program.specs.declared.expression.Target.TheVariants.{Own}
 use Rattle.pearl_program.specs.PlainExpressions as plain
@@ -36,8 +35,8 @@ use Rattle.pearl_program.specs.Typing.{Around, AreOpen, IsControl}
 use Rattle.pearl_program.specs.SoundStatements.{IsIf, within}
 use Rattle.pearl_resolve.specs.Laying.{cells_of_sense}
 use Rattle.pearl_resolve.specs.Numbers.{At, counts, loop_cells, entered, scope_numbers, own_numbers, senses_at, after, after_all, after_branches, numbers_in, numbers_in_all, numbers_in_branches, numbers_in_otherwise}
-use Rattle.pearl_resolve.specs.Cells.{sense_cells, counter_cells}
-use Rattle.pearl_resolve.specs.Expressions.{Numbered, Meant, meant, meant_at, number_at}
+use Rattle.pearl_resolve.specs.Cells.{counter_cells}
+use Rattle.pearl_resolve.specs.Expressions.{Numbered, meant_at, number_at}
 use Rattle.pearl_resolve.specs.Statements.{counter_in}
 use Rattle.pearl_sound.specs.Laws.{IsNoControl}
 use Rattle.pearl_sound.specs.Sights.{Sight, sights_in, sights_in_all, sights_in_branches, sights_in_otherwise}

@@ -28,6 +28,9 @@ use Rattle.pearl_program.specs.Sound.{signature_of}
 use Rattle.pearl_program.specs.SoundStatements.{IsCall}
 use Rattle.pearl_program.specs.Typing.{Around, AreOpen, HasKind, IsVariable}
 use Rattle.pearl_system.specs.declared.device.SpecifiedDevice.{SpecifiedDevice}
+use Rattle.pearl_system.specs.Devices.{device_key, IsDevice}
+use Rattle.pearl_system.specs.Rising.{Lists}
+use Rattle.pearl_system.specs.Rules.{broken}
 use Rattle.pearl_resolve.specs.Numbers.{At, Before, senses_at, routine_start, scope_numbers, module_numbers, own_numbers, after_all, after_body, numbers_in_all, body_numbers}
 use Rattle.pearl_resolve.specs.Laying.{leaves_in, filled_leaves, slots, cells_of_sense}
 use Rattle.pearl_resolve.specs.Expressions.{Numbered, number_of, resolve_expr, resolve_arguments, resolve_variable, target_kind}
@@ -237,6 +240,12 @@ ModuleProceduresAreThere = (tree : ShownTree) (devices : List SpecifiedDevice) (
     around.procedures ≡ map signature_of (resolve (table_of tree) devices procedures tree).procedures →
     (name : SortedName) (parameters : List Parameter) (result : Option (Option Kind)) (number : ℕ) →
     IsModuleName tree devices procedures name (Procedure parameters result) number → IsCallee around number parameters result
+
+-- where no name of the module is declared twice, and none of the rules on devices is broken, at the number of an interrupt's
+-- or a dation's name stands a device of the sort that the name says
+abbrev pub ModuleDevicesAreThere : Type 0
+ModuleDevicesAreThere = (tree : ShownTree) (devices : List SpecifiedDevice) (procedures : List ℕ) → broken tree ≡ [] →
+    HasNamesOnce tree → Lists device_key (IsDevice tree) devices → DevicesAreThere tree devices procedures
 
 -- where no name of the module is declared twice, procedures have numbers of their own below their count, and devices are of
 -- the sorts that their names say, names lead to what is there from each view of the module
