@@ -13,7 +13,7 @@ use Rattle.pearl_resolve.specs.Numbers.{Before, behind, device_number, module_nu
 use Rattle.pearl_sound.specs.Laws.{IsOfDevice, has_text}
 use Rattle.pearl_sound.proofs.SoundParts.{some_one}
 
-record Stands (text : List ℕ) (devices : List SpecifiedDevice) (number : ℕ) : Type 0 where
+pub record Stands (text : List ℕ) (devices : List SpecifiedDevice) (number : ℕ) : Type 0 where
   pub device : SpecifiedDevice
   pub few : number < length devices
   pub there : slice_get devices number ≡ Some device
@@ -50,7 +50,7 @@ number_is count number less = by (nat_lt number count) refl
     by true is = refl
     by false is = let most = ltb-false number count is in absurd (omega (arith, less, most))
 
-device_stands : (text : List ℕ) (devices : List SpecifiedDevice) → IsTrue (list_any (has_text text) devices) →
+pub device_stands : (text : List ℕ) (devices : List SpecifiedDevice) → IsTrue (list_any (has_text text) devices) →
     Stands text devices (device_number devices text)
 device_stands text devices any =
     let stands = first_stands text devices any in

@@ -51,7 +51,7 @@ sense_length (BasicDation direction kind) = refl
 sense_length Task = refl
 sense_length (Procedure parameters result) = refl
 
-scope_length : (table : Table) (scope : ℕ) → length (scope_cells table scope) ≡ sum_by cells_of_sense (senses_at table scope)
+pub scope_length : (table : Table) (scope : ℕ) → length (scope_cells table scope) ≡ sum_by cells_of_sense (senses_at table scope)
 scope_length table scope =
     length-flat_map sense_cells (senses_at table scope) ∙
     same_sums (λ sense. length (sense_cells sense)) cells_of_sense sense_length (senses_at table scope)
@@ -95,7 +95,7 @@ enters_loop : (table : Table) (at : At) (counting : Bool) (len : ℕ) (row : Lis
 enters_loop table at true len row = enters table at (counter_cells true len) row
 enters_loop table at false len row = enters table at [] row
 
-get_length : (numbered : Numbered) (scope : ℕ) (targets : List ShownRef) → length (get_cells numbered scope targets) ≡ 2 * length targets
+pub get_length : (numbered : Numbered) (scope : ℕ) (targets : List ShownRef) → length (get_cells numbered scope targets) ≡ 2 * length targets
 get_length numbered scope targets =
     let a = length-append (map (λ target. Plain (target_kind numbered (Within scope) target)) targets) (replicate (length targets) (Plain (Fixed 31))) in
     let b = length-map targets (λ target. Plain (target_kind numbered (Within scope) target)) in
@@ -103,7 +103,7 @@ get_length numbered scope targets =
     omega (arith, a, b, c)
 
 mutual
-  stmt_goes : (numbered : Numbered) (scope : ℕ) (at : At) (s : ShownStmt) →
+  pub stmt_goes : (numbered : Numbered) (scope : ℕ) (at : At) (s : ShownStmt) →
       GoesPast at (after numbered.table at s) (scopes_in s) (numbers_in numbered.table at s) (cells_in numbered scope at s) (formats_in s)
   stmt_goes numbered scope at (OfIf condition statements otherwise place) =
       joins (scopes_in_all statements) (scopes_in_otherwise otherwise) (numbers_in_all numbered.table at statements)
@@ -163,7 +163,7 @@ mutual
       (cells_in_all numbered scope (after numbered.table at s) rest) (formats_in s) (formats_in_all rest)
       (stmt_goes numbered scope at s) (all_go numbered scope (after numbered.table at s) rest)
 
-  branches_go : (numbered : Numbered) (scope : ℕ) (at : At) (branches : ShownBranches) →
+  pub branches_go : (numbered : Numbered) (scope : ℕ) (at : At) (branches : ShownBranches) →
       GoesPast at (after_branches numbered.table at branches) (scopes_in_branches branches)
       (numbers_in_branches numbered.table at branches) (cells_in_branches numbered scope at branches) (formats_in_branches branches)
   branches_go numbered scope at NoBranches = stays at

@@ -49,12 +49,12 @@ run_rises from zero to fits = omega (arith, fits)
 run_rises from (suc count) to fits = (omega arith, run_rises (from + 1) count to (omega (arith, fits)))
 
 -- first values hide nothing
-joined_hidden : (x y : PlainStmts) → hidden_in_all (joined x y) ≡ hidden_in_all x ++ hidden_in_all y
+pub joined_hidden : (x y : PlainStmts) → hidden_in_all (joined x y) ≡ hidden_in_all x ++ hidden_in_all y
 joined_hidden NoStmts y = refl
 joined_hidden (MoreStmts s rest) y =
     ap (λ more. hidden_in s ++ more) (joined_hidden rest y) ∙ sym (append_assoc (hidden_in s) (hidden_in_all rest) (hidden_in_all y))
 
-behind_none : (x y : PlainStmts) → hidden_in_all x ≡ [] → hidden_in_all (joined x y) ≡ hidden_in_all y
+pub behind_none : (x y : PlainStmts) → hidden_in_all x ≡ [] → hidden_in_all (joined x y) ≡ hidden_in_all y
 behind_none x y none = joined_hidden x y ∙ ap (λ cells. cells ++ hidden_in_all y) none
 
 renewals_none : (cell : ℕ) (leaves : List PlainLeaf) → hidden_in_all (renewals cell leaves) ≡ []
@@ -79,7 +79,7 @@ items_none numbered scope (item ∷ rest) =
     behind_none (names_renewals numbered scope item.init (names_of item.names)) (items_renewals numbered scope rest)
     (names_none numbered scope item.init (names_of item.names)) ∙ items_none numbered scope rest
 
-declared_none : (numbered : Numbered) (scope : ℕ) (declarations : List ShownBodyDecl) →
+pub declared_none : (numbered : Numbered) (scope : ℕ) (declarations : List ShownBodyDecl) →
     hidden_in_all (declared_renewals numbered scope declarations) ≡ []
 declared_none numbered scope [] = refl
 declared_none numbered scope (declaration ∷ rest) =

@@ -37,7 +37,7 @@ Leads around thing = by thing.sense
     by Task = IsTaskNumber around thing.number
     by (Procedure parameters result) = IsCallee around thing.number parameters result
 
-abbrev thing_of : Sense → (scope number : ℕ) → Meant
+abbrev pub thing_of : Sense → (scope number : ℕ) → Meant
 thing_of sense scope number = record { sense = sense; scope = scope; number = number }
 
 abbrev number_if : Option Meant → ℕ

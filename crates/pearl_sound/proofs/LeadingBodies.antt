@@ -41,9 +41,11 @@ alone_if own = if own then Some 0 else option_map suc None
 array_there : (around : Around) → around.leaves ≡ program.leaves →
     IsThere around false (begun (Leaf 0) ((pos 1, pos 3) ∷ []) (OfKind short))
 array_there around is = record {
-  few = omega arith;
   sound = (record { rising = omega (arith, ints); low = omega (arith, ints); high = omega (arith, ints) }, tt);
-  end = subst (λ leaves. IsLeafOf (slice_get leaves 0) (record { lower = pos 1; upper = pos 3 } ∷ []) short) (sym is) (refl, refl);
+  end = (
+    omega arith,
+    subst (λ leaves. IsLeafOf (slice_get leaves 0) (record { lower = pos 1; upper = pos 3 } ∷ []) short) (sym is) (refl, refl),
+  );
 }
 
 module_leads : (around : Around) → around.leaves ≡ program.leaves → around.devices ≡ program.devices →
@@ -68,7 +70,7 @@ procedure_leads : (x tty a p t : Bool) →
     IsIf (Leads around_procedure) (option_and_then (meant_at numbered) (found_in 1 (alone_if x) (module_if tty a p t)))
 unfolding names_of_scopes sorted_names
 procedure_leads true tty a p t =
-    reaches around_procedure false (Param 0) [] short (record { few = omega arith; sound = tt; end = (refl, refl) })
+    reaches around_procedure false (Param 0) [] short (record { sound = tt; end = (omega arith, (refl, refl)) })
 procedure_leads false true a p t = module_leads around_procedure refl refl refl refl true a p t
 procedure_leads false false true p t = module_leads around_procedure refl refl refl refl false true p t
 procedure_leads false false false true t = module_leads around_procedure refl refl refl refl false false true t
@@ -89,9 +91,9 @@ loop_leads : (i n tty a p t : Bool) → IsIf (Leads around_loop)
     (option_and_then (meant_at numbered) (found_in 3 (alone_if i) (found_in 2 (alone_if n) (module_if tty a p t))))
 unfolding names_of_scopes sorted_names
 loop_leads true n tty a p t =
-    reaches around_loop true (Own 1) [] short (record { few = omega arith; sound = tt; end = (refl, refl) })
+    reaches around_loop true (Own 1) [] short (record { sound = tt; end = (omega arith, (refl, refl)) })
 loop_leads false true tty a p t =
-    reaches around_loop false (Own 0) [] short (record { few = omega arith; sound = tt; end = (refl, free) })
+    reaches around_loop false (Own 0) [] short (record { sound = tt; end = (omega arith, (refl, free)) })
 loop_leads false false true a p t = module_leads around_loop refl refl refl refl true a p t
 loop_leads false false false true p t = module_leads around_loop refl refl refl refl false true p t
 loop_leads false false false false true t = module_leads around_loop refl refl refl refl false false true t

@@ -81,7 +81,7 @@ task_if t = found_in 0 (if t then Some 0 else option_map suc None) None
 outer_leads : (i t : Bool) →
     IsIf (Leads around) (option_and_then (meant_at numbered) (found_in 2 (if i then Some 0 else option_map suc None) (task_if t)))
 unfolding names_of_scopes sorted_names
-outer_leads true t = reaches around true (Own 0) [] short (record { few = omega arith; sound = tt; end = (refl, refl) })
+outer_leads true t = reaches around true (Own 0) [] short (record { sound = tt; end = (omega arith, (refl, refl)) })
 outer_leads false true = omega arith
 outer_leads false false = tt
 
@@ -89,13 +89,12 @@ inner_leads : (j k i t : Bool) → IsIf (Leads around) (option_and_then (meant_a
     (found_in 3 (if j then Some 0 else option_map suc (if k then Some 0 else option_map suc None))
     (found_in 2 (if i then Some 0 else option_map suc None) (task_if t))))
 unfolding names_of_scopes sorted_names
-inner_leads true k i t = reaches around true (Own 3) [] short (record { few = omega arith; sound = tt; end = (refl, refl) })
+inner_leads true k i t = reaches around true (Own 3) [] short (record { sound = tt; end = (omega arith, (refl, refl)) })
 inner_leads false true i t = reaches around false (Own 6) [] short (record {
-  few = omega arith;
   sound = tt;
   end = (
-    refl,
-    (inl (omega arith), (inl (omega arith), (inl (omega arith), (inl (omega arith), (inl (omega arith), (inl (omega arith), tt)))))),
+    omega arith,
+    (refl, (inl (omega arith), (inl (omega arith), (inl (omega arith), (inl (omega arith), (inl (omega arith), (inl (omega arith), tt))))))),
   );
 })
 inner_leads false false true t = outer_leads true t
@@ -111,7 +110,7 @@ in_body = lead_all numbered (Within 3) around (λ name. inner_leads (bytes_eq (n
 condition_leads : (j i t : Bool) → IsIf (Leads around) (option_and_then (meant_at numbered)
     (if j then Some (record { scope = 3; entry = 0 }) else found_in 2 (if i then Some 0 else option_map suc None) (task_if t)))
 unfolding names_of_scopes sorted_names
-condition_leads true i t = reaches around true (Own 3) [] short (record { few = omega arith; sound = tt; end = (refl, refl) })
+condition_leads true i t = reaches around true (Own 3) [] short (record { sound = tt; end = (omega arith, (refl, refl)) })
 condition_leads false true t = outer_leads true t
 condition_leads false false true = outer_leads false true
 condition_leads false false false = tt

@@ -11,7 +11,22 @@ pub mod Components
 pub mod HiddenRising
 pub mod OwnOpen
 pub mod Devices
-mod Leading
+pub mod Dividing
+pub mod Stretched
+pub mod RoutineNames
+pub mod SoundForms
+pub mod Reaching
+pub mod ModuleEntries
+pub mod ModuleLeaves
+pub mod ModuleCounts
+pub mod ScopesThere
+pub mod ByNumber
+pub mod ModuleProcedures
+pub mod Leading
+pub mod LocalNames
+pub mod Sighted
+pub mod ModuleSighted
+pub mod ModuleDevices
 mod WholeModule
 mod LeadingBodies
 mod LeadingLoops

@@ -108,7 +108,7 @@ limit_sound around control name dimension side walk (Open dimensions shape) kind
     by true true a b is =
         let one = leb-true 1 dimension a in
         let most = leb-true dimension dimensions b in
-        let left = stands.left in
+        let left = stands.fits in
         let some = length-drop (count walk.subscripts) walk.bounds in
         subst (λ k. HasKind around (limit_value side (slice_get (open_bounds walk) (dimension - 1))) k) (some_one is)
         (bound_there around side (open_bounds walk) (dimension - 1) (omega (arith, one, most, left, some))

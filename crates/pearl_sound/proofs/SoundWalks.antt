@@ -1,8 +1,8 @@
 -- References come to what is there, with a subscript for each bound on the way.
-use Rattle.std.specs.Prelude.{◌≡◌, ℕ, ℤ, zero, suc, ◌+◌, ◌≤◌, Bool, true, false, if◌then◌else◌, List, [], ◌∷◌, length, map, take, drop, Option, Some, None, option_map}
+use Rattle.std.specs.Prelude.{◌≡◌, ℕ, ℤ, zero, suc, ◌+◌, ◌≤◌, Bool, true, false, if◌then◌else◌, List, [], ◌∷◌, ◌++◌, length, map, take, drop, Option, Some, None, option_map}
 use Rattle.std.specs.Option.{option_and_then}
 use Rattle.std.proofs.Common.{refl, ap, ◌∙◌, sym, subst, arith}
-use Rattle.std.proofs.lemmas.List.{length-append, length-map, take-append-drop, take-append-le}
+use Rattle.std.proofs.lemmas.List.{length-append, length-map, length-drop, length-take-le, take-append-le}
 use Rattle.pearl_value.specs.declared.kind.Kind.{Kind}
 use Rattle.pearl_tree.specs.declared.name.Name.{Name}
 use Rattle.pearl_tree.specs.Names.{name_text}
@@ -22,12 +22,13 @@ use Rattle.pearl_program.specs.PlainExpressions.{PlainVariable, OfVariable, Plai
 use Rattle.pearl_program.specs.Typing.{Around, IsParam, IsControl, IsVariable, AreSubscripts}
 use Rattle.pearl_resolve.specs.Expressions.{Numbered, number_at, meant_at, meant, Walk, bound_of, own_or_param, target_in, begun, walk_of, walk_from, to_field, field_of, count, joined_exprs, variable_of}
 use Rattle.pearl_sound.specs.SoundNames.{Points, IsEnd, Follows, Reaches, is_control, LeadNames}
-use Rattle.pearl_sound.proofs.Subscripting.{cut_small, AreAllFixed, count_joined, fixed_given, joined_given, sound_behind}
+use Rattle.pearl_sound.proofs.Subscripting.{cut_small, cut_most, sound_before, AreAllFixed, count_joined, fixed_given, joined_given, sound_behind}
 
 pub record StandsSound (around : Around) (control : Bool) (dimensions : ℕ) (shape : Shape) (walk : Walk) : Type 0 where
   pub same : walk.shape ≡ shape
   pub reaches : Reaches around control walk
-  pub left : dimensions + count walk.subscripts ≡ length walk.bounds
+  pub fits : dimensions + count walk.subscripts ≤ length walk.bounds
+  pub left : length walk.bounds ≤ 3 → dimensions + count walk.subscripts ≡ length walk.bounds
   pub given : AreSubscripts around (take (count walk.subscripts) walk.bounds) walk.subscripts
 
 abbrev pub IsSoundAt : Around → Bool → Standing → Walk → Type 0
@@ -40,14 +41,14 @@ begun_sound : (around : Around) (control : Bool) (target : Target) (bounds : Lis
 begun_sound around control target bounds shape reaches = record {
   same = refl;
   reaches = reaches;
-  left = let a = (reaches []).few in let b = length-map bounds bound_of in let c = cut_small (length bounds) (omega (arith, a, b)) in
-      omega (arith, b, c);
+  fits = let a = cut_most (length bounds) in let b = length-map bounds bound_of in omega (arith, a, b);
+  left = λ few. let b = length-map bounds bound_of in let c = cut_small (length bounds) (omega (arith, few, b)) in omega (arith, b, c);
   given = tt;
 }
 
 one_sound : (around : Around) (control : Bool) (target : Target) (kind : Kind) →
     Reaches around control (begun target [] (OfKind kind)) → StandsSound around control 0 (OfKind kind) (begun target [] (OfKind kind))
-one_sound around control target kind reaches = record { same = refl; reaches = reaches; left = refl; given = tt }
+one_sound around control target kind reaches = record { same = refl; reaches = reaches; fits = omega arith; left = λ few. refl; given = tt }
 
 form_sound : (around : Around) (control : Bool) (scope number : ℕ) (form : Option Form) (inv : Bool) →
     ((d : ℕ) (s : Shape) → judged.form_standing form ≡ Open d s →
@@ -114,15 +115,15 @@ to_field_sound around control name shape walk None is stands = tt
 to_field_sound around control name shape walk (Some field) is stands =
     let reaches : Reaches around control (to_field walk (Some field)) =
     λ path. subst (λ f. Follows around control (to_field walk f) path) is (stands.reaches (name ∷ path)) in
-    let few = (reaches []).few in
     let a = length-append walk.bounds (map bound_of field.bounds) in
     let b = length-map field.bounds bound_of in
-    let c = stands.left in
-    let d = cut_small (length field.bounds) (omega (arith, few, a, b)) in
+    let c = stands.fits in
     record {
       same = refl;
       reaches = reaches;
-      left = omega (arith, a, b, c, d);
+      fits = let d = cut_most (length field.bounds) in omega (arith, a, b, c, d);
+      left = λ few. let d = cut_small (length field.bounds) (omega (arith, few, a, b)) in let e = stands.left (omega (arith, few, a)) in
+          omega (arith, a, b, d, e);
       given = subst (λ bounds. AreSubscripts around bounds walk.subscripts)
           (sym (take-append-le (count walk.subscripts) walk.bounds (map bound_of field.bounds) (omega (arith, c)))) stands.given;
     }
@@ -144,7 +145,7 @@ field_behind walk subscripts (Some field) = refl
 
 follows_behind : (around : Around) (control : Bool) (path : List Name) (walk : Walk) (subscripts : PlainExprs) →
     Follows around control walk path → Follows around control (record walk { subscripts = subscripts }) path
-follows_behind around control [] walk subscripts there = record { few = there.few; sound = there.sound; end = there.end }
+follows_behind around control [] walk subscripts there = record { sound = there.sound; end = there.end }
 follows_behind around control (name ∷ path) walk subscripts follows =
     subst (λ w. Follows around control w path) (field_behind walk subscripts (field_of walk.shape name))
     (follows_behind around control path (to_field walk (field_of walk.shape name)) subscripts follows)
@@ -156,32 +157,41 @@ take_whole n bounds is = ap (λ m. take m bounds) is ∙ whole bounds
     whole [] = refl
     whole (x ∷ xs) = ap (λ rest. x ∷ rest) (whole xs)
 
+take_more : (n m : ℕ) (bounds : List Bound) → take (n + m) bounds ≡ take n bounds ++ take m (drop n bounds)
+take_more zero m bounds = let same : 0 + m ≡ m = omega arith in ap (λ k. take k bounds) same
+take_more (suc n) m [] = let same : suc n + m ≡ suc (n + m) = omega arith in ap (λ k. take k no_bounds_at_all) same ∙ sym (none m)
+  where
+    no_bounds_at_all : List Bound
+    no_bounds_at_all = []
+
+    none : (m : ℕ) → take m no_bounds_at_all ≡ []
+    none zero = refl
+    none (suc m) = refl
+take_more (suc n) m (bound ∷ rest) =
+    let same : suc n + m ≡ suc (n + m) = omega arith in
+    ap (λ k. take k (bound ∷ rest)) same ∙ ap (λ more. bound ∷ more) (take_more n m rest)
+
 pub subscripts_sound : (around : Around) (control : Bool) (dimensions : ℕ) (shape : Shape) (walk : Walk) (exprs : PlainExprs) →
     StandsSound around control dimensions shape walk → count exprs ≡ dimensions → AreAllFixed around exprs →
     StandsSound around control 0 shape (record walk { subscripts = joined_exprs walk.subscripts exprs })
 subscripts_sound around control dimensions shape walk exprs stands counted fixed =
     let all = count_joined walk.subscripts exprs in
-    let left = stands.left in
-    let whole : count (joined_exprs walk.subscripts exprs) ≡ length walk.bounds = omega (arith, all, left, counted) in
-    let split = take-append-drop (count walk.subscripts) walk.bounds in
-    let lengths = length-append (take (count walk.subscripts) walk.bounds) (drop (count walk.subscripts) walk.bounds) in
+    let fits = stands.fits in
+    let open_bounds = drop (count walk.subscripts) walk.bounds in
+    let some = length-drop (count walk.subscripts) walk.bounds in
     record {
       same = stands.same;
       reaches = λ path. follows_behind around control path walk (joined_exprs walk.subscripts exprs) (stands.reaches path);
-      left = omega (arith, whole);
+      fits = omega (arith, all, counted, fits);
+      left = λ few. let left = stands.left few in omega (arith, all, counted, left);
       given = subst (λ bounds. AreSubscripts around bounds (joined_exprs walk.subscripts exprs))
-          (split ∙ sym (take_whole (count (joined_exprs walk.subscripts exprs)) walk.bounds whole))
-          (joined_given around (take (count walk.subscripts) walk.bounds) (drop (count walk.subscripts) walk.bounds) walk.subscripts exprs
+          (sym (ap (λ n. take n walk.bounds) all ∙ take_more (count walk.subscripts) (count exprs) walk.bounds))
+          (joined_given around (take (count walk.subscripts) walk.bounds) (take (count exprs) open_bounds) walk.subscripts exprs
           stands.given
-          (fixed_given around (drop (count walk.subscripts) walk.bounds) exprs (behind_length (count walk.subscripts) walk.bounds exprs (omega (arith, left, counted)))
-          (sound_behind (count walk.subscripts) walk.bounds (stands.reaches []).sound) fixed));
+          (fixed_given around (take (count exprs) open_bounds) exprs
+          (sym (length-take-le (count exprs) open_bounds (omega (arith, some, counted, fits))))
+          (sound_before (count exprs) open_bounds (sound_behind (count walk.subscripts) walk.bounds (stands.reaches []).sound)) fixed));
     }
-  where
-    behind_length : (n : ℕ) (bounds : List Bound) (exprs : PlainExprs) → count exprs + n ≡ length bounds →
-        count exprs ≡ length (drop n bounds)
-    behind_length zero bounds exprs is = omega (arith, is)
-    behind_length (suc n) [] exprs is = absurd (omega (arith, is))
-    behind_length (suc n) (bound ∷ rest) exprs is = behind_length n rest exprs (omega (arith, is))
 
 pub element_sound : (around : Around) (control : Bool) (place rule : ℕ) (test known : Bool) (shape : Shape) (walk : Walk) →
     (test ≡ true → known ≡ true → StandsSound around control 0 shape walk) →
@@ -223,9 +233,8 @@ element_is around true (Param cell) bounds subscripts kind points few given = ab
 pub variable_sound : (around : Around) (control : Bool) (walk : Walk) (kind : Kind) →
     StandsSound around control 0 (OfKind kind) walk → Reads around control (variable_of walk) kind
 variable_sound around control walk kind stands =
-    let left = stands.left in
-    element_is around control walk.target walk.bounds walk.subscripts kind
-    (subst (λ shape. IsEnd around control shape walk.target walk.bounds) stands.same (stands.reaches []).end)
-    (few_dropped walk.bounds (stands.reaches []).few)
+    let end = subst (λ shape. IsEnd around control shape walk.target walk.bounds) stands.same (stands.reaches []).end in
+    let left = stands.left end.0 in
+    element_is around control walk.target walk.bounds walk.subscripts kind end.1 (few_dropped walk.bounds end.0)
     (subst (λ bounds. AreSubscripts around bounds walk.subscripts)
     (take_whole (count walk.subscripts) walk.bounds (omega (arith, left))) stands.given)

@@ -1,5 +1,5 @@
 -- Subscripts that are given for the bounds of arrays.
-use Rattle.std.specs.Prelude.{◌≡◌, ℕ, zero, suc, ◌+◌, ◌≤◌, Bool, true, false, ◌&&◌, List, [], ◌∷◌, ◌++◌, length, drop, Option, Some, None, is_some}
+use Rattle.std.specs.Prelude.{◌≡◌, ℕ, zero, suc, ◌+◌, ◌≤◌, Bool, true, false, ◌&&◌, List, [], ◌∷◌, ◌++◌, length, take, drop, Option, Some, None, is_some}
 use Rattle.std.specs.List.{AllByRecursion}
 use Rattle.std.proofs.Common.{refl, sym, arith, true≢false}
 use Rattle.pearl_value.specs.declared.kind.Kind.TheVariants.{Fixed}
@@ -19,6 +19,9 @@ some_of (Some y) is = (y, refl)
 
 pub cut_small : (n : ℕ) → n ≤ 3 → cut n ≡ n
 cut_small n small = omega arith
+
+pub cut_most : (n : ℕ) → cut n ≤ n
+cut_most n = omega arith
 
 abbrev pub AreAllFixed : Around → PlainExprs → Type 0
 AreAllFixed around NoExprs = Unit {0}
@@ -48,3 +51,8 @@ pub sound_behind : (n : ℕ) (bounds : List Bound) → AllByRecursion IsBound bo
 sound_behind zero bounds sound = sound
 sound_behind (suc n) [] sound = tt
 sound_behind (suc n) (bound ∷ rest) sound = sound_behind n rest sound.1
+
+pub sound_before : (n : ℕ) (bounds : List Bound) → AllByRecursion IsBound bounds → AllByRecursion IsBound (take n bounds)
+sound_before zero bounds sound = tt
+sound_before (suc n) [] sound = tt
+sound_before (suc n) (bound ∷ rest) sound = (sound.0, sound_before n rest sound.1)

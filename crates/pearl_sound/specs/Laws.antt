@@ -1,5 +1,5 @@
 -- What holds of scopes, cells, hidden cells and formats, of names and components, and of what expressions and targets become.
-use Rattle.std.specs.Prelude.{◌≡◌, ℕ, ℤ, ◌+◌, ◌-◌, ◌*◌, ◌≤◌, ◌<◌, nat_eq, Bool, false, true, IsTrue, List, [], ◌∷◌, ◌++◌, length, take, drop, Some, unwrap_or, slice_get}
+use Rattle.std.specs.Prelude.{◌≡◌, ℕ, ℤ, ◌+◌, ◌-◌, ◌*◌, ◌≤◌, ◌<◌, nat_eq, Bool, false, true, IsTrue, List, [], ◌∷◌, ◌++◌, length, map, take, drop, Option, Some, unwrap_or, slice_get}
 use Rattle.std.specs.List.{AllByRecursion, IsDistinct, flat_map, list_any, sum_by}
 use Rattle.std.specs.Str.{bytes_eq}
 use Rattle.pearl_value.specs.declared.kind.Kind.{Kind}
@@ -9,8 +9,8 @@ use Rattle.pearl_tree.specs.ShownExpressions.{ShownExpr, ShownExprs, ShownRef}
 use Rattle.pearl_tree.specs.ShownStatements.{ShownStmts}
 use Rattle.pearl_tree.specs.declared.literal.Literal.{Literal}
 use Rattle.pearl_tree.specs.Lawful.{IsLawfulLiteral}
-use Rattle.pearl_tree.specs.ShownLiterals.{shown_literal}
-use Rattle.pearl_tree.specs.ShownModules.{ShownBody, ShownDecl}
+use Rattle.pearl_tree.specs.ShownLiterals.{ShownConst, shown_literal}
+use Rattle.pearl_tree.specs.ShownModules.{ShownBody, ShownDecl, ShownTree}
 use Rattle.pearl_names.specs.Lengths.{lengths_set}
 use Rattle.pearl_names.specs.Shapes.{Fields}
 use Rattle.pearl_names.specs.Layout.{Leaf, leaves_of, leaves_of_fields, elements}
@@ -20,19 +20,27 @@ use Rattle.pearl_names.specs.declared.scope.View.{View}
 use Rattle.pearl_check_expr.specs.Judged.{judged, judged_variable, called}
 use Rattle.pearl_check_expr.specs.Senses.{Callee, callee_of}
 use Rattle.pearl_names.specs.declared.scope.SortedName.{SortedName}
-use Rattle.pearl_names.specs.Tables.{Sense, Variable, Control, Semaphore, Interrupt, AlphicDation, BasicDation, Task, Procedure, sense_from}
+use Rattle.pearl_names.specs.Tables.{Form, Parameter, Sense, Variable, Control, Semaphore, Interrupt, AlphicDation, BasicDation, Task, Procedure, sense_from, table_of}
 use Rattle.pearl_tree.specs.declared.name.Name.{Name}
 use Rattle.pearl_tree.specs.Names.{name_text}
 use Rattle.pearl_program.specs.HiddenCells.{hidden_in_all}
+use Rattle.pearl_program.specs.Sound.{signature_of}
 use Rattle.pearl_program.specs.SoundStatements.{IsCall}
 use Rattle.pearl_program.specs.Typing.{Around, AreOpen, HasKind, IsVariable}
 use Rattle.pearl_system.specs.declared.device.SpecifiedDevice.{SpecifiedDevice}
-use Rattle.pearl_resolve.specs.Numbers.{At, Before, senses_at, routine_start, scope_numbers, module_numbers, own_numbers, after_all, after_body, numbers_in_all}
-use Rattle.pearl_resolve.specs.Laying.{leaves_in, slots, cells_of_sense}
+use Rattle.pearl_system.specs.Devices.{device_key, IsDevice}
+use Rattle.pearl_system.specs.Rising.{Lists}
+use Rattle.pearl_system.specs.Rules.{broken}
+use Rattle.pearl_resolve.specs.Numbers.{At, Before, senses_at, routine_start, scope_numbers, module_numbers, own_numbers, after_all, after_body, numbers_in_all, body_numbers}
+use Rattle.pearl_resolve.specs.Laying.{leaves_in, filled_leaves, slots, cells_of_sense}
 use Rattle.pearl_resolve.specs.Expressions.{Numbered, number_of, resolve_expr, resolve_arguments, resolve_variable, target_kind}
-use Rattle.pearl_sound.specs.SoundNames.{IsLiteral, HasLiterals, HaveLiterals, SelectorsHaveLiterals, is_control, LeadNames}
+use Rattle.pearl_sound.specs.SoundNames.{IsLiteral, HasLiterals, HaveLiterals, SelectorsHaveLiterals, is_control, IsCallee, LeadNames}
+use Rattle.pearl_sound.specs.ModuleNames.{IsModuleName, HasNamesOnce, AreProcedureNumbers, DevicesAreThere}
+use Rattle.pearl_sound.specs.Sights.{Sight, sights_of}
+use Rattle.pearl_sound.specs.SoundForms.{IsSoundSense}
+use Rattle.pearl_sound.specs.Stretches.{Stretch, routine_stretches, IsDivided}
 use Rattle.pearl_resolve.specs.Cells.{sense_cells, cells_in_all, routine_cells}
-use Rattle.pearl_resolve.specs.Resolve.{formats_in_all, resolve_routine}
+use Rattle.pearl_resolve.specs.Resolve.{formats_in_all, resolve_routine, numbered_of, resolve}
 
 -- from here to there the text has these scopes, each with the numbers of its names, these cells and these formats
 pub record GoesPast (from to : At) (scopes : ℕ) (numbers : List (List ℕ)) (cells : List CellKind) (formats : List (List Item)) : Type 0 where
@@ -170,3 +178,79 @@ OwnNamesAreNotHidden = (numbered : Numbered) (at : At) (body : ShownBody) (i num
     slice_get (senses_at numbered.table at.next) i ≡ Some sense → IsNoControl sense →
     slice_get (scope_numbers numbered.table 0 (routine_start at)) i ≡ Some number →
     AreOpen (hidden_in_all (resolve_routine numbered at body).body) number (cells_of_sense sense)
+
+-- the cells, the hidden cells and the numbers of a routine are those of its stretches, which stand one behind the other
+abbrev pub RoutinesAreDivided : Type 0
+RoutinesAreDivided = (numbered : Numbered) (at : At) (body : ShownBody) →
+    IsDivided numbered.table (routine_start at) (after_body numbered.table at body) (routine_stretches numbered at body)
+    (routine_cells numbered at body) (hidden_in_all (resolve_routine numbered at body).body) (body_numbers numbered.table at body)
+
+-- in a routine's cells those of a loop, of a GET and of a scope lie from the first of their stretch on
+abbrev pub StretchesHaveTheirCells : Type 0
+StretchesHaveTheirCells = (numbered : Numbered) (at : At) (body : ShownBody) (i : ℕ) (stretch : Stretch) →
+    slice_get (routine_stretches numbered at body) i ≡ Some stretch →
+    take (length stretch.cells) (drop stretch.first (routine_cells numbered at body)) ≡ stretch.cells
+
+-- a name of a routine's scope, the k-th that begins in it, has this number and stands for this; it is no control variable
+pub record IsNameIn (numbered : Numbered) (at : At) (body : ShownBody) (k number : ℕ) (sense : Sense) : Type 0 where
+  pub row : List ℕ
+  pub index : ℕ
+  pub scope : slice_get (body_numbers numbered.table at body) k ≡ Some row
+  pub there : slice_get row index ≡ Some number
+  pub means : slice_get (senses_at numbered.table (at.next + k)) index ≡ Some sense
+  pub own : IsNoControl sense
+
+-- from the number of a name of any scope on the routine's cells have just its kinds, and none of them is hidden
+abbrev pub InnerNamesHaveTheirCells : Type 0
+InnerNamesHaveTheirCells = (numbered : Numbered) (at : At) (body : ShownBody) (k number : ℕ) (sense : Sense) →
+    IsNameIn numbered at body k number sense →
+    (take (cells_of_sense sense) (drop number (routine_cells numbered at body)) ≡ sense_cells sense) ×
+    AreOpen (hidden_in_all (resolve_routine numbered at body).body) number (cells_of_sense sense)
+
+-- names of different scopes of a routine share no cells
+abbrev pub ScopesShareNoCells : Type 0
+ScopesShareNoCells = (numbered : Numbered) (at : At) (body : ShownBody) (k l first second : ℕ) (one two : Sense) → k < l →
+    IsNameIn numbered at body k first one → IsNameIn numbered at body l second two → first + cells_of_sense one ≤ second
+
+-- where a variable has a form, all its bounds are in their ranges, and it has leaves of few dimensions and elements
+abbrev pub VariablesHaveSoundForms : Type 0
+VariablesHaveSoundForms = (tree : ShownTree) (scope : ℕ) → AllByRecursion IsSoundSense (senses_at (table_of tree) scope)
+
+-- where no name of the module is declared twice, from a variable's number on the program has just its leaves, under its name
+abbrev pub ModuleNamesHaveTheirLeaves : Type 0
+ModuleNamesHaveTheirLeaves = (tree : ShownTree) (devices : List SpecifiedDevice) (procedures : List ℕ) → HasNamesOnce tree →
+    (name : SortedName) (form : Option Form) (inv : Bool) (number : ℕ) →
+    IsModuleName tree devices procedures name (Variable form inv) number → (constants : List ShownConst) ×
+    (take (length (leaves_in form)) (drop number (resolve (table_of tree) devices procedures tree).leaves) ≡
+    filled_leaves (name_text name.name) constants (leaves_in form))
+
+-- a semaphore's number is that of a semaphore of the program, and a task's that of a task
+abbrev pub ModuleNumbersAreThere : Type 0
+ModuleNumbersAreThere = (tree : ShownTree) (devices : List SpecifiedDevice) (procedures : List ℕ) →
+    ((name : SortedName) (number : ℕ) → IsModuleName tree devices procedures name Semaphore number →
+    number < length (resolve (table_of tree) devices procedures tree).semaphores) ×
+    ((name : SortedName) (number : ℕ) → IsModuleName tree devices procedures name Task number →
+    number < length (resolve (table_of tree) devices procedures tree).tasks)
+
+-- where procedures have numbers of their own below their count, at a procedure's number stands one with its parameters and
+-- its result
+abbrev pub ModuleProceduresAreThere : Type 0
+ModuleProceduresAreThere = (tree : ShownTree) (devices : List SpecifiedDevice) (procedures : List ℕ) →
+    AreProcedureNumbers tree devices procedures → (around : Around) →
+    around.procedures ≡ map signature_of (resolve (table_of tree) devices procedures tree).procedures →
+    (name : SortedName) (parameters : List Parameter) (result : Option (Option Kind)) (number : ℕ) →
+    IsModuleName tree devices procedures name (Procedure parameters result) number → IsCallee around number parameters result
+
+-- where no name of the module is declared twice, and none of the rules on devices is broken, at the number of an interrupt's
+-- or a dation's name stands a device of the sort that the name says
+abbrev pub ModuleDevicesAreThere : Type 0
+ModuleDevicesAreThere = (tree : ShownTree) (devices : List SpecifiedDevice) (procedures : List ℕ) → broken tree ≡ [] →
+    HasNamesOnce tree → Lists device_key (IsDevice tree) devices → DevicesAreThere tree devices procedures
+
+-- where no name of the module is declared twice, procedures have numbers of their own below their count, and devices are of
+-- the sorts that their names say, names lead to what is there from each view of the module
+abbrev pub NamesLead : Type 0
+NamesLead = (tree : ShownTree) (devices : List SpecifiedDevice) (procedures : List ℕ) → HasNamesOnce tree →
+    AreProcedureNumbers tree devices procedures → DevicesAreThere tree devices procedures →
+    AllByRecursion (λ (sight : Sight). LeadNames (numbered_of (table_of tree) devices procedures tree) sight.view sight.around)
+    (sights_of tree devices procedures)

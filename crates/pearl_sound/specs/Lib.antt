@@ -1,4 +1,12 @@
 -- when names lead to what is there in a program, and when literals are values
 pub mod SoundNames
+-- the names of a module: what each stands for, and its number; which numbers its procedures may have, and when devices suit
+pub mod ModuleNames
+-- from where the names of a module's routines are seen, each view with what stands around it in the program
+pub mod Sights
+-- when the form of a variable is sound: all its bounds are in their ranges, and its leaves are small
+pub mod SoundForms
+-- what the cells of a routine are given to, stretch by stretch in the order of the text: the names of a scope, a loop that counts, the targets of a GET
+pub mod Stretches
 -- what holds of scopes, cells, hidden cells and formats, of names and components, and of what expressions and targets become
 pub mod Laws

@@ -74,13 +74,12 @@ abbrev pub Points : Around → (control : Bool) → Target → List Bound → Ki
 Points around false target bounds kind = IsVariableAt around target bounds kind
 Points around true target bounds kind = IsControl around (OfVariable target bounds plain.NoExprs) kind
 
--- a whole structure is nowhere by itself
+-- what lies within three dimensions at most is there; a whole structure is nowhere by itself
 abbrev pub IsEnd : Around → Bool → Shape → Target → List Bound → Type 0
-IsEnd around control (OfKind kind) target bounds = Points around control target bounds kind
+IsEnd around control (OfKind kind) target bounds = (length bounds ≤ 3) × Points around control target bounds kind
 IsEnd around control (OfFields fields) target bounds = Unit {0}
 
 pub record IsThere (around : Around) (control : Bool) (walk : Walk) : Type 0 where
-  pub few : length walk.bounds ≤ 3
   pub sound : AllByRecursion IsBound walk.bounds
   pub end : IsEnd around control walk.shape walk.target walk.bounds
 

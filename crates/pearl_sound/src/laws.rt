@@ -1,6 +1,6 @@
 // What holds of scopes, cells, hidden cells and formats, of names and components, and of what expressions and targets become.
 
-ghost use Rattle.pearl_sound.specs.Laws.{CallsAreSound, ComponentsLieInTheirVariables, ExpressionsAreSound, HiddenCellsAreApart, LiteralsAreValues, NamesHaveTheirCells, NamesHaveTheirDevices, NamesNameOthers, NamesShareNoCells, OwnNamesAreNotHidden, RoutinesHaveCells, StatementsGoPast, TargetsHaveTheirKind};
+ghost use Rattle.pearl_sound.specs.Laws.{CallsAreSound, ComponentsLieInTheirVariables, ExpressionsAreSound, HiddenCellsAreApart, InnerNamesHaveTheirCells, LiteralsAreValues, ModuleDevicesAreThere, ModuleNamesHaveTheirLeaves, ModuleNumbersAreThere, ModuleProceduresAreThere, NamesHaveTheirCells, NamesHaveTheirDevices, NamesLead, NamesNameOthers, NamesShareNoCells, OwnNamesAreNotHidden, RoutinesAreDivided, RoutinesHaveCells, ScopesShareNoCells, StatementsGoPast, StretchesHaveTheirCells, TargetsHaveTheirKind, VariablesHaveSoundForms};
 
 /// Behind some statements the counters stand at what comes behind the scopes, cells and formats of these.
 pub fn statements_go_past()
@@ -66,4 +66,54 @@ pub fn hidden_cells_are_apart()
 /// Parameters and variables that a task or procedure declares for itself lie in no hidden cell of it.
 pub fn own_names_are_not_hidden()
     ensures { OwnNamesAreNotHidden }
+{}
+
+/// A task's or procedure's cells are given to its scopes, its loops and its GETs, one stretch behind the other.
+pub fn routines_are_divided()
+    ensures { RoutinesAreDivided }
+{}
+
+/// At the number of a loop or of a GET the cells have just the kinds that it needs.
+pub fn stretches_have_their_cells()
+    ensures { StretchesHaveTheirCells }
+{}
+
+/// At the number of a parameter or variable of any scope the cells have just its kinds, and none is hidden.
+pub fn inner_names_have_their_cells()
+    ensures { InnerNamesHaveTheirCells }
+{}
+
+/// Names of different scopes of one task or procedure share no cells.
+pub fn scopes_share_no_cells()
+    ensures { ScopesShareNoCells }
+{}
+
+/// A variable whose declaration breaks no rule has bounds in their ranges, and leaves of few dimensions and elements.
+pub fn variables_have_sound_forms()
+    ensures { VariablesHaveSoundForms }
+{}
+
+/// At the number of a variable of the module the program has just its leaves, with their names, kinds and elements.
+pub fn module_names_have_their_leaves()
+    ensures { ModuleNamesHaveTheirLeaves }
+{}
+
+/// The numbers of semaphores and tasks are those of what the program has.
+pub fn module_numbers_are_there()
+    ensures { ModuleNumbersAreThere }
+{}
+
+/// At a procedure's number the program has a procedure with its parameters and its result.
+pub fn module_procedures_are_there()
+    ensures { ModuleProceduresAreThere }
+{}
+
+/// From each view of a module names lead to what is there in its program.
+pub fn names_lead()
+    ensures { NamesLead }
+{}
+
+/// At the number of an interrupt's or a dation's name the program has a device of the sort that the name says.
+pub fn module_devices_are_there()
+    ensures { ModuleDevicesAreThere }
 {}
