@@ -1,5 +1,5 @@
 -- Leaves that are made one after the other, how many slots they take, and how many elements there are within bounds.
-use Rattle.std.proofs.Common.{◌≡◌, ℕ, suc, ◌+◌, ◌*◌, ◌<◌, List, [], ◌∷◌, ◌++◌, map, length, take, drop, drop-cons, get_or, Option, Some, None, refl, sym, ap, ◌∙◌, append_assoc, append-nil, arith}
+use Rattle.std.proofs.Common.{◌≡◌, ℕ, ◌+◌, ◌*◌, ◌<◌, List, [], ◌∷◌, ◌++◌, map, length, take, drop, get_or, Option, Some, None, refl, sym, ap, ◌∙◌, append_assoc, append-nil, arith}
 use Rattle.std.proofs.Math.Nat.{mul_assoc}
 use Rattle.std.proofs.lemmas.List.Sums.{sum_by-cons}
 use Rattle.pearl_tree.specs.ShownLiterals.{ShownConst}
@@ -13,6 +13,7 @@ use Rattle.pearl_data.specs.declared.walk.Frame.{Frame}
 use Rattle.pearl_data.specs.declared.walk.Found.{Found}
 use Rattle.pearl_data.specs.Laying.{slots, constant_in, values_of_leaf, left_behind, path_name, filled_leaves}
 use Rattle.pearl_data.specs.Walks.{AllLeft, IsFound, GoesOn}
+use Rattle.pearl_data.proofs.Making.{one_left}
 
 -- these leaves are left, what is made so far joined with them is all, and so are the slots
 pub record Fills (forms : List StructForm) (base : List ℕ) (next : Option Found) (frames : List Frame) (text : List ℕ) (made begun : List PlainLeaf) (constants first : List ShownConst) (count : ℕ) (all : List Leaf) : Type 0 where
@@ -76,10 +77,8 @@ pub elements_more : (xs : List Bounds) (i : ℕ) (x : Bounds) (count own next to
     count * elements (map pair_of (drop i xs)) ≡ total → next * elements (map pair_of (drop (i + 1) xs)) ≡ total
 elements_more xs i x count own next total inside is counted product so =
     let rest = map pair_of (drop (i + 1) xs) in
-    let after : suc i ≡ i + 1 = omega arith in
-    let left : drop i xs ≡ x ∷ drop (i + 1) xs = drop-cons xs i x inside ∙ (λ j. sym is j ∷ drop (after j) xs) in
     ap (λ n. n * elements rest) (product ∙ ap (λ n. count * n) counted)
     ∙ mul_assoc count (elements (pair_of x ∷ [])) (elements rest)
     ∙ ap (λ n. count * n) (sym (elements-append (pair_of x ∷ []) rest))
-    ∙ ap (λ l. count * elements (map pair_of l)) (sym left)
+    ∙ ap (λ l. count * elements (map pair_of l)) (sym (one_left xs i x inside is))
     ∙ so

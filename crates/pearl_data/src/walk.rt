@@ -14,14 +14,14 @@ use pearl_value::kind::Kind;
 use std::alloc::AllocError;
 
 /// A leaf that a walk has come to: the kind of its elements, and how many it has.
-#[derive(Clone, Copy, PartialEq, Eq, Debug)]
+#[derive(Clone, Copy)]
 pub(crate) struct Found {
     pub kind: Kind,
     pub count: u32,
 }
 
 /// What is left of a STRUCT of so many elements: its fields from an index on. Its name has so many bytes.
-#[derive(Clone, Copy, PartialEq, Eq, Debug)]
+#[derive(Clone, Copy)]
 pub(crate) struct Frame {
     pub number: u32,
     pub next: usize,
