@@ -1,4 +1,5 @@
 pub mod Shapes
+pub mod Numbering
 pub mod Fronts
 pub mod Tables
 pub mod Flowing

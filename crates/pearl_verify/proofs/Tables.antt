@@ -1,17 +1,21 @@
 -- How the tables of jumps and of stated shapes are made, and what they tell.
-use Rattle.std.proofs.Common.{◌≡◌, ◌≢◌, ℕ, ◌+◌, ◌<◌, List, [], ◌∷◌, ◌++◌, Option, Some, None, length, reverse, take, drop, get_or, set, slice_get, slice_set, get_or-set_same, get_or-set_other, length-set, refl, sym, ap, ◌∙◌, arith, Bool, true, false, inl, inr, ne_eqb, eq-eqb}
-use Rattle.std.specs.Prelude.{◌||◌, ◌==◌, option_map, if◌then◌else◌}
+use Rattle.std.proofs.Common.{◌≡◌, ◌≢◌, ℕ, zero, suc, ◌+◌, ◌<◌, List, [], ◌∷◌, ◌++◌, Option, Some, None, length, reverse, take, drop, get_or, set, slice_get, slice_set, get_or-set_same, get_or-set_other, length-set, refl, sym, ap, ◌∙◌, arith, Bool, true, false, inl, inr, ne_eqb, eq-eqb}
+use Rattle.std.specs.Prelude.{◌||◌, ◌==◌, option_map, MatchOption, if◌then◌else◌}
 use Rattle.std.specs.List.{list_any}
 use Rattle.std.proofs.lemmas.Bool.{cases_eq}
 use Rattle.std.proofs.lemmas.List.{drop_more}
 use Rattle.std.proofs.lemmas.List.Folds.{list_any-append}
 use Rattle.std.proofs.lemmas.Grind.{take_at_read}
 use Rattle.std.proofs.Math.Seq.{drop-length}
-use Rattle.std.proofs.lemmas.Option.{slice_get-get_or, slice_get_within, get_or_from_slice_get, slice_get_read}
+use Rattle.std.proofs.lemmas.Option.{slice_get-get_or, slice_get_within, get_or_from_slice_get, slice_get_read, same_Some}
 use Rattle.pearl_instructions.specs.declared.instr.Instr.{Instr}
 use Rattle.pearl_instructions.specs.declared.object.Shape.{Shape as Stated}
 use Rattle.pearl_instructions.specs.Valid.{is_named, stated, targets}
-use Rattle.pearl_verify.specs.Jumps.{shape_of, marked}
+use Rattle.pearl_instructions.specs.declared.object.Code.{Code}
+use Rattle.pearl_instructions.specs.Operands.{Shape}
+use Rattle.pearl_verify.specs.Numbers.{Edges, number_of, Grows}
+use Rattle.pearl_verify.specs.Jumps.{shape_of, marked, AreStated, AreNumbered, IsStatedNumber}
+use Rattle.pearl_verify.proofs.Numbering.{still_numbered}
 
 or_false : (b : Bool) → b || false ≡ b
 or_false true = refl
@@ -94,3 +98,38 @@ pub stated_begun : (count : ℕ) (ss : List Stated) (numbers : List (Option ℕ)
     (i : ℕ) → i < count → option_map (shape_of ss) (slice_get numbers i) ≡ Some (stated (drop (length ss) ss) i)
 stated_begun count ss numbers none i less =
     ap (option_map (shape_of ss)) (none i less) ∙ sym (ap (λ s. Some (stated s i)) (drop-length ss))
+
+-- the numbers of the stated shapes
+pub numbers_more : (edges : Edges) (ss : List Stated) (ns : List ℕ) (s : Stated) (n : ℕ) → AreNumbered edges ss ns → number_of edges (reverse s.kinds) ≡ Some n →
+    AreNumbered edges (ss ++ s ∷ []) (ns ++ n ∷ [])
+numbers_more edges [] [] s n h e = (e, tt)
+numbers_more edges (a ∷ ss) (b ∷ ns) s n h e = (h.0, numbers_more edges ss ns s n h.1 e)
+numbers_more edges [] (b ∷ ns) s n h e = absurd h
+numbers_more edges (a ∷ ss) [] s n h e = absurd h
+
+pub numbers_stay : (m n : Edges) (ss : List Stated) (ns : List ℕ) → Grows m n → AreNumbered m ss ns → AreNumbered n ss ns
+numbers_stay m n [] [] grows h = tt
+numbers_stay m n (a ∷ ss) (b ∷ ns) grows h = (still_numbered m n (reverse a.kinds) b grows h.0, numbers_stay m n ss ns grows h.1)
+numbers_stay m n [] (b ∷ ns) grows h = absurd h
+numbers_stay m n (a ∷ ss) [] grows h = absurd h
+
+numbered_at : (edges : Edges) (ss : List Stated) (ns : List ℕ) (j : ℕ) (found : Option Shape) → AreNumbered edges ss ns →
+    option_map (λ (s : Stated). reverse s.kinds) (slice_get ss j) ≡ found →
+    MatchOption (slice_get ns j) (found ≡ None) (λ n. (s : Shape) × (found ≡ Some s) × (number_of edges s ≡ Some n))
+numbered_at edges [] [] zero found h e = sym e
+numbered_at edges [] [] (suc j) found h e = sym e
+numbered_at edges (s ∷ ss) (n ∷ ns) zero found h e = (reverse s.kinds, sym e, h.0)
+numbered_at edges (s ∷ ss) (n ∷ ns) (suc j) found h e = numbered_at edges ss ns j found h.1 e
+numbered_at edges [] (n ∷ ns) j found h e = absurd h
+numbered_at edges (s ∷ ss) [] j found h e = absurd h
+
+pub stated_number : (edges : Edges) (code : Code) (shapes : List (Option ℕ)) (ns : List ℕ) (i shape : ℕ) → AreStated (length code.instructions) code.shapes shapes →
+    AreNumbered edges code.shapes ns → i < length code.instructions → slice_get shapes i ≡ Some (Some shape) →
+    MatchOption (slice_get ns shape) (stated code.shapes i ≡ None) (IsStatedNumber edges code i)
+stated_number edges code shapes ns i shape are numbered less at =
+    numbered_at edges code.shapes ns shape (stated code.shapes i) numbered
+    (same_Some _ _ (sym (ap (option_map (shape_of code.shapes)) at) ∙ are.stated i less))
+
+pub none_stated : (code : Code) (shapes : List (Option ℕ)) (i : ℕ) → AreStated (length code.instructions) code.shapes shapes → i < length code.instructions →
+    slice_get shapes i ≡ Some None → stated code.shapes i ≡ None
+none_stated code shapes i are less at = sym (same_Some _ _ (sym (ap (option_map (shape_of code.shapes)) at) ∙ are.stated i less))

@@ -1,4 +1,4 @@
--- The tables of a routine's instructions: which of them a jump names, and which shape is stated for each.
+-- The tables of a routine's instructions: which of them a jump names, and which shape is stated for each, with its number.
 use Rattle.std.specs.Prelude.{◌≡◌, ℕ, ◌<◌, Bool, true, false, List, [], ◌∷◌, Option, Some, None, option_map, length, reverse, slice_get, slice_set}
 use Rattle.std.specs.List.{AllByRecursion}
 use Rattle.pearl_instructions.specs.declared.instr.Instr.{Instr}
@@ -8,6 +8,7 @@ use Rattle.pearl_instructions.specs.Operands.{Shape}
 use Rattle.pearl_instructions.specs.declared.object.Object.{Object}
 use Rattle.pearl_instructions.specs.Valid.{is_named, stated, shape_before}
 use Rattle.pearl_verify.specs.declared.jumps.JumpTable.{JumpTable}
+use Rattle.pearl_verify.specs.Numbers.{Edges, number_of, IsTree}
 
 -- the shape of a number, where there is one
 abbrev pub shape_of : List Stated → Option ℕ → Option Shape
@@ -27,9 +28,21 @@ pub record AreNone (count : ℕ) (numbers : List (Option ℕ)) : Type 0 where
   pub long : length numbers ≡ count
   pub none : (i : ℕ) → i < count → slice_get numbers i ≡ Some None
 
+-- these are the numbers of the stated shapes
+abbrev pub AreNumbered : Edges → List Stated → List ℕ → Type 0
+AreNumbered edges [] [] = Unit {0}
+AreNumbered edges (s ∷ shapes) (n ∷ numbers) = (number_of edges (reverse s.kinds) ≡ Some n) × AreNumbered edges shapes numbers
+AreNumbered edges shapes numbers = ⊥
+
 pub record HoldsJumps (code : Code) (table : JumpTable) : Type 0 where
   pub named : AreNamed code.instructions table.named.items
   pub stated : AreStated (length code.instructions) code.shapes table.stated.items
+  pub tree : IsTree table.tree.edges
+  pub numbers : AreNumbered table.tree.edges code.shapes table.numbers.items
+
+-- a shape is stated for an instruction, and this is its number
+abbrev pub IsStatedNumber : Edges → Code → ℕ → ℕ → Type 0
+IsStatedNumber edges code i n = (s : Shape) × (stated code.shapes i ≡ Some s) × (number_of edges s ≡ Some n)
 
 -- these numbers marked
 abbrev pub marked : List ℕ → List Bool → List Bool

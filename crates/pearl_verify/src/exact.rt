@@ -1,11 +1,12 @@
 // Exact kinds, ranges of one kind, and cells that must be no references.
 
 ghost use Rattle.std.specs.Prelude.{◌≡◌, map, slice_get};
-ghost use Rattle.pearl_format.specs.Items.{data_count};
 ghost use Rattle.pearl_instructions.specs.Named.{range_of, cells_at};
 ghost use Rattle.pearl_instructions.specs.Kinds.{has_on_top, suits_reference, suits_parameters, is_uniform, are_fixed, first_kind, suits_exactly, v4, v5};
 ghost use Rattle.pearl_verify.specs.Runs.{HoldsRuns};
+ghost use Rattle.pearl_verify.specs.Formats.{format_row};
 
+use crate::formats::FormatRow;
 use crate::kinds::Kinds;
 use crate::runs::CellRuns;
 use crate::same::{is_fixed, is_kind, referred, same_cell, same_list};
@@ -116,11 +117,11 @@ pub(crate) fn is_exact(
 pub(crate) fn names_values(
     object: &Object,
     code: &Code,
-    counts: &[usize],
+    formats: &[FormatRow],
     runs: &CellRuns,
     instr: &Instr,
 ) -> bool
-    requires counts { counts.now ≡ map data_count object.now.formats }
+    requires formats { formats.now ≡ map format_row object.now.formats }
     requires runs { HoldsRuns code.now.cells runs.now }
     ensures { result ≡ v5 object.now code.now instr.now }
 {
@@ -132,7 +133,7 @@ pub(crate) fn names_values(
         | Instr::RefCellAt { first, count } => runs.are_values(code, *first, *count),
         Instr::Within(first) => runs.are_values(code, *first, 3),
         Instr::Advance { first, .. } => runs.are_values(code, *first, 3),
-        Instr::Get(reading) => match data_count(object, counts, reading.format) {
+        Instr::Get(reading) => match data_count(object, formats, reading.format) {
             Some(count) => runs.are_values(code, reading.first, count as u64),
             None => true,
         },

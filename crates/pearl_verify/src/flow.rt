@@ -9,9 +9,11 @@ ghost use Rattle.pearl_instructions.specs.Named.{v1};
 ghost use Rattle.pearl_instructions.specs.Valid.{goes_on, targets, is_named, stated, shape_before, v6, is_turn, v7, v8, result_shape, v10, call_fits, v11};
 ghost use Rattle.std.specs.Prelude.{nat_lt, ◌||◌};
 ghost use Rattle.pearl_verify.specs.Jumps.{HoldsJumps, AllNamed, ComesBefore};
+ghost use Rattle.pearl_verify.specs.Numbers.{IsNumbered};
 
 use crate::jumps::JumpTable;
 use crate::kinds::Kinds;
+use crate::running::Running;
 use crate::table::{is_task, result_of};
 use pearl_instructions::instr::Instr;
 use pearl_instructions::object::{Code, Object};
@@ -38,19 +40,20 @@ fn lands(
     code: &Code,
     jumps: &JumpTable,
     to: u64,
-    kinds: &Kinds,
+    running: &Running,
 ) -> bool
     requires table { HoldsJumps code.now jumps.now }
+    requires numbered { IsNumbered jumps.now.tree.edges running.now }
     requires within { to < length code.now.instructions }
     requires named { is_named code.now.instructions to ≡ true }
-    ensures { result ≡ same_shape (shape_before object.now routine code.now to) kinds.now }
+    ensures { result ≡ same_shape (shape_before object.now routine code.now to) running.now.kinds }
 {
     if to == 0 {
-        return kinds.are(&[]);
+        return running.kinds.are(&[]);
     }
-    match jumps.stated(code, to as usize) {
-        Some(stated) => kinds.are(stated),
-        None => kinds.are(&[]),
+    match jumps.number(code, to as usize) {
+        Some(number) => running.has_number(number),
+        None => running.kinds.are(&[]),
     }
 }
 
@@ -60,14 +63,15 @@ fn all_land(
     code: &Code,
     jumps: &JumpTable,
     list: &[u64],
-    kinds: &Kinds,
+    running: &Running,
 ) -> bool
     requires table { HoldsJumps code.now jumps.now }
+    requires numbered { IsNumbered jumps.now.tree.edges running.now }
     requires named { AllNamed code.now.instructions list.now }
-    ensures { result ≡ list_all (λ t. same_shape (shape_before object.now routine code.now t) kinds.now) list.now }
+    ensures { result ≡ list_all (λ t. same_shape (shape_before object.now routine code.now t) running.now.kinds) list.now }
 {
     for to in list {
-        if !lands(object, routine, code, jumps, *to, kinds) {
+        if !lands(object, routine, code, jumps, *to, running) {
             return false;
         }
     }
@@ -81,17 +85,18 @@ fn arrives(
     code: &Code,
     jumps: &JumpTable,
     instr: &Instr,
-    kinds: &Kinds,
+    running: &Running,
 ) -> bool
     requires table { HoldsJumps code.now jumps.now }
+    requires numbered { IsNumbered jumps.now.tree.edges running.now }
     requires named { AllNamed code.now.instructions (targets instr.now) }
-    ensures { result ≡ list_all (λ t. same_shape (shape_before object.now routine code.now t) kinds.now) (targets instr.now) }
+    ensures { result ≡ list_all (λ t. same_shape (shape_before object.now routine code.now t) running.now.kinds) (targets instr.now) }
 {
     match instr {
-        Instr::Jump(to) => lands(object, routine, code, jumps, *to, kinds),
-        Instr::JumpZero(to) => lands(object, routine, code, jumps, *to, kinds),
-        Instr::Case(list) => all_land(object, routine, code, jumps, list.as_slice(), kinds),
-        Instr::Advance { past, .. } => lands(object, routine, code, jumps, *past, kinds),
+        Instr::Jump(to) => lands(object, routine, code, jumps, *to, running),
+        Instr::JumpZero(to) => lands(object, routine, code, jumps, *to, running),
+        Instr::Case(list) => all_land(object, routine, code, jumps, list.as_slice(), running),
+        Instr::Advance { past, .. } => lands(object, routine, code, jumps, *past, running),
         _ => true,
     }
 }
@@ -103,18 +108,19 @@ fn follows(
     code: &Code,
     jumps: &JumpTable,
     i: usize,
-    kinds: &Kinds,
+    running: &Running,
 ) -> bool
     requires table { HoldsJumps code.now jumps.now }
+    requires numbered { IsNumbered jumps.now.tree.edges running.now }
     requires within { i + 1 < length code.now.instructions }
-    requires after { ComesBefore object.now routine code.now (i + 1) kinds.now }
-    ensures { result ≡ same_shape (shape_before object.now routine code.now (i + 1)) kinds.now }
+    requires after { ComesBefore object.now routine code.now (i + 1) running.now.kinds }
+    ensures { result ≡ same_shape (shape_before object.now routine code.now (i + 1)) running.now.kinds }
 {
-    match jumps.stated(code, i + 1) {
-        Some(stated) => kinds.are(stated),
+    match jumps.number(code, i + 1) {
+        Some(number) => running.has_number(number),
         None => {
             if jumps.is_named(code, i + 1) {
-                kinds.are(&[])
+                running.kinds.are(&[])
             } else {
                 true
             }
@@ -130,21 +136,22 @@ pub(crate) fn flows(
     jumps: &JumpTable,
     i: usize,
     instr: &Instr,
-    kinds: &Kinds,
+    running: &Running,
 ) -> bool
     requires table { HoldsJumps code.now jumps.now }
+    requires numbered { IsNumbered jumps.now.tree.edges running.now }
     requires at { slice_get code.now.instructions i ≡ Some instr.now }
     requires names { v1 object.now code.now instr.now ≡ true }
     requires next { i + 1 < 2 ^ 64 }
-    requires after { kinds.now ≡ shape_after object.now routine code.now instr.now (shape_before object.now routine code.now i) }
-    ensures { result ≡ v6 object.now routine code.now i instr.now kinds.now }
+    requires after { running.now.kinds ≡ shape_after object.now routine code.now instr.now (shape_before object.now routine code.now i) }
+    ensures { result ≡ v6 object.now routine code.now i instr.now running.now.kinds }
 {
-    if !arrives(object, routine, code, jumps, instr, kinds) {
+    if !arrives(object, routine, code, jumps, instr, running) {
         return false;
     }
     if goes_on(instr) {
         if i + 1 < code.instructions.as_slice().len() {
-            return follows(object, routine, code, jumps, i, kinds);
+            return follows(object, routine, code, jumps, i, running);
         }
     }
     true
@@ -158,19 +165,21 @@ pub(crate) fn advance(
     jumps: &JumpTable,
     i: usize,
     instr: &Instr,
-    kinds: &mut Kinds,
+    running: &mut Running,
 ) -> Result<(), NoMemory>
     requires table { HoldsJumps code.now jumps.now }
+    requires numbered { IsNumbered jumps.now.tree.edges running.old }
     requires within { i + 1 < length code.now.instructions }
     requires at { slice_get code.now.instructions i ≡ Some instr.now }
-    requires after { kinds.old ≡ shape_after object.now routine code.now instr.now (shape_before object.now routine code.now i) }
-    ensures { OnOk result (kinds.new ≡ shape_before object.now routine code.now (i + 1)) }
+    requires after { running.old.kinds ≡ shape_after object.now routine code.now instr.now (shape_before object.now routine code.now i) }
+    ensures kinds { OnOk result (running.new.kinds ≡ shape_before object.now routine code.now (i + 1)) }
+    ensures numbered { OnOk result (IsNumbered jumps.now.tree.edges running.new) }
 {
     match jumps.stated(code, i + 1) {
-        Some(stated) => kinds.become_these(stated)?,
+        Some(stated) => running.become_these(&jumps.tree, stated)?,
         None => {
             if jumps.is_named(code, i + 1) || !goes_on(instr) {
-                kinds.clear();
+                running.clear();
             }
         }
     }

@@ -1,17 +1,19 @@
 // The least rule that fails at an instruction.
 
 ghost use Rattle.std.specs.Prelude.{◌≡◌, ◌++◌, ◌+◌, ◌<◌, ◌^◌, true, Some, None, drop, length, map, option_to_list, slice_get, IfOk, OnOk};
-ghost use Rattle.pearl_format.specs.Items.{data_count};
 ghost use Rattle.pearl_instructions.specs.Operands.{asked, v2};
 ghost use Rattle.pearl_instructions.specs.Named.{v1};
 ghost use Rattle.pearl_instructions.specs.Kinds.{v3, v4, v5, shape_after};
 ghost use Rattle.pearl_instructions.specs.Valid.{keep, shape_before, v7, v8, v10, v11, v12, judged};
 ghost use Rattle.pearl_verify.specs.Runs.{HoldsRuns};
 ghost use Rattle.pearl_verify.specs.Jumps.{HoldsJumps};
+ghost use Rattle.pearl_verify.specs.Numbers.{IsNumbered};
 ghost use Rattle.pearl_verify.specs.Verdicts.{first_rules, last_rules};
+ghost use Rattle.pearl_verify.specs.Formats.{format_row};
 
 use crate::exact::{is_exact, names_values};
 use crate::flow::{advance, calls_smaller, ends_well, flows, goes_forward, keeps_depth};
+use crate::formats::FormatRow;
 use crate::jumps::JumpTable;
 use crate::kinds::Kinds;
 use crate::limits::keeps_limits;
@@ -19,7 +21,9 @@ use crate::named::names_all;
 use crate::operands::{are_operands, operand_count};
 use crate::pushed::{has_row, pushed_kind};
 use crate::rule::{V1, V2, V3, V4, V5, V6, V7, V8, V10, V11, V12};
+use crate::running::Running;
 use crate::runs::CellRuns;
+use crate::tree::ShapeTree;
 use pearl_instructions::instr::Instr;
 use pearl_instructions::object::{Code, Object};
 use std::alloc::AllocError as NoMemory;
@@ -27,21 +31,21 @@ use std::alloc::AllocError as NoMemory;
 // The least of the rules on numbers and kinds that fails.
 fn first_rule(
     object: &Object,
-    counts: &[usize],
+    formats: &[FormatRow],
     routine: usize,
     code: &Code,
     runs: &CellRuns,
     instr: &Instr,
     kinds: &Kinds,
 ) -> Option<u8>
-    requires counts { counts.now ≡ map data_count object.now.formats }
+    requires formats { formats.now ≡ map format_row object.now.formats }
     requires runs { HoldsRuns code.now.cells runs.now }
     ensures { result ≡ first_rules object.now routine code.now instr.now kinds.now }
 {
-    if !names_all(object, code, counts, instr) {
+    if !names_all(object, code, formats, instr) {
         return Some(V1);
     }
-    if !are_operands(object, counts, routine, instr, kinds) {
+    if !are_operands(object, formats, routine, instr, kinds) {
         return Some(V2);
     }
     if !has_row(instr, kinds) {
@@ -50,7 +54,7 @@ fn first_rule(
     if !is_exact(object, code, runs, instr, kinds) {
         return Some(V4);
     }
-    if !names_values(object, code, counts, runs, instr) {
+    if !names_values(object, code, formats, runs, instr) {
         return Some(V5);
     }
     None
@@ -59,14 +63,14 @@ fn first_rule(
 // The least of the rules on jumps, calls, ends, depths and limits that fails.
 fn last_rule(
     object: &Object,
-    counts: &[usize],
+    formats: &[FormatRow],
     routine: usize,
     code: &Code,
     i: usize,
     instr: &Instr,
     kinds: &Kinds,
 ) -> Option<u8>
-    requires { counts.now ≡ map data_count object.now.formats }
+    requires { formats.now ≡ map format_row object.now.formats }
     ensures { result ≡ last_rules object.now routine code.now i instr.now kinds.now }
 {
     if !goes_forward(code, i, instr) {
@@ -81,7 +85,7 @@ fn last_rule(
     if !keeps_depth(object, code, instr, kinds) {
         return Some(V11);
     }
-    if !keeps_limits(object, code, counts, instr, kinds) {
+    if !keeps_limits(object, code, formats, instr, kinds) {
         return Some(V12);
     }
     None
@@ -90,19 +94,22 @@ fn last_rule(
 // Makes the kinds before an instruction those behind it.
 fn carry_out(
     object: &Object,
-    counts: &[usize],
+    formats: &[FormatRow],
     routine: usize,
     code: &Code,
+    tree: &ShapeTree,
     instr: &Instr,
-    kinds: &mut Kinds,
+    running: &mut Running,
 ) -> Result<(), NoMemory>
-    requires { counts.now ≡ map data_count object.now.formats }
-    ensures { OnOk result (kinds.new ≡ shape_after object.now routine code.now instr.now kinds.old) }
+    requires formats { formats.now ≡ map format_row object.now.formats }
+    requires numbered { IsNumbered tree.now.edges running.old }
+    ensures kinds { OnOk result (running.new.kinds ≡ shape_after object.now routine code.now instr.now running.old.kinds) }
+    ensures numbered { OnOk result (IsNumbered tree.now.edges running.new) }
 {
-    let pushed = pushed_kind(object, code, instr, kinds);
-    kinds.drop_top(operand_count(object, counts, routine, instr) as usize);
+    let pushed = pushed_kind(object, code, instr, &running.kinds);
+    running.drop_top(operand_count(object, formats, routine, instr) as usize);
     match pushed {
-        Some(kind) => kinds.push(kind),
+        Some(kind) => running.push(tree, kind),
         None => Ok(()),
     }
 }
@@ -111,34 +118,36 @@ fn carry_out(
 /// next instruction.
 pub(crate) fn judge(
     object: &Object,
-    counts: &[usize],
+    formats: &[FormatRow],
     routine: usize,
     code: &Code,
     runs: &CellRuns,
     jumps: &JumpTable,
     i: usize,
     instr: &Instr,
-    kinds: &mut Kinds,
+    running: &mut Running,
 ) -> Result<Option<u8>, NoMemory>
-    requires counts { counts.now ≡ map data_count object.now.formats }
+    requires formats { formats.now ≡ map format_row object.now.formats }
     requires runs { HoldsRuns code.now.cells runs.now }
     requires jumps { HoldsJumps code.now jumps.now }
     requires at { slice_get code.now.instructions i ≡ Some instr.now }
     requires next { i + 1 < 2 ^ 64 }
-    requires before { kinds.old ≡ shape_before object.now routine code.now i }
+    requires before { running.old.kinds ≡ shape_before object.now routine code.now i }
+    requires numbered { IsNumbered jumps.now.tree.edges running.old }
     ensures rule { IfOk result (λ rule. rule ≡ judged object.now routine code.now i instr.now (shape_before object.now routine code.now i)) }
-    ensures next { IfOk result (λ rule. rule ≡ None → i + 1 < length code.now.instructions → kinds.new ≡ shape_before object.now routine code.now (i + 1)) }
+    ensures next { IfOk result (λ rule. rule ≡ None → i + 1 < length code.now.instructions → running.new.kinds ≡ shape_before object.now routine code.now (i + 1)) }
+    ensures numbered { IfOk result (λ rule. rule ≡ None → i + 1 < length code.now.instructions → IsNumbered jumps.now.tree.edges running.new) }
 {
-    if let Some(rule) = first_rule(object, counts, routine, code, runs, instr, kinds) {
+    if let Some(rule) = first_rule(object, formats, routine, code, runs, instr, &running.kinds) {
         return Ok(Some(rule));
     }
-    let last = last_rule(object, counts, routine, code, i, instr, kinds);
-    carry_out(object, counts, routine, code, instr, kinds)?;
-    if !flows(object, routine, code, jumps, i, instr, kinds) {
+    let last = last_rule(object, formats, routine, code, i, instr, &running.kinds);
+    carry_out(object, formats, routine, code, &jumps.tree, instr, running)?;
+    if !flows(object, routine, code, jumps, i, instr, running) {
         return Ok(Some(V6));
     }
     if i + 1 < code.instructions.as_slice().len() {
-        advance(object, routine, code, jumps, i, instr, kinds)?;
+        advance(object, routine, code, jumps, i, instr, running)?;
     }
     Ok(last)
 }

@@ -1,19 +1,24 @@
-// For each instruction whether a jump names it, and which shape is stated for it.
+// For each instruction whether a jump names it, and which shape is stated for it, with its number.
 
-ghost use Rattle.std.specs.Prelude.{◌≡◌, ◌<◌, true, false, Some, None, length, reverse, slice_set, IfOk, MatchOption};
+ghost use Rattle.std.specs.Prelude.{◌≡◌, ◌<◌, true, false, Some, None, length, reverse, slice_get, slice_set, IfOk, OnOk, MatchOption};
 ghost use Rattle.pearl_instructions.specs.Valid.{is_named, stated, targets};
-ghost use Rattle.pearl_verify.specs.Jumps.{HoldsJumps, marked, AreNamed, AreStated, AreNone};
+ghost use Rattle.pearl_verify.specs.Jumps.{HoldsJumps, marked, AreNamed, AreStated, AreNone, AreNumbered, IsStatedNumber};
+ghost use Rattle.pearl_verify.specs.Numbers.{IsTree};
 
+use crate::tree::ShapeTree;
 use pearl_instructions::instr::Instr;
 use pearl_instructions::object::{Code, Shape};
 use pearl_value::kind::CellKind;
 use std::alloc::{AllocError as NoMemory, Global};
 
-/// The instructions that jumps name, and for each instruction the number of the shape that is stated for it.
+/// The instructions that jumps name, and for each instruction which of the stated shapes is its own. Each of these has a
+/// number in the tree.
 #[derive(Drop)]
 pub(crate) struct JumpTable {
     pub named: Vec<bool>,
     pub stated: Vec<Option<usize>>,
+    pub tree: ShapeTree,
+    pub numbers: Vec<usize>,
 }
 
 fn mark(marks: &mut Vec<bool>, number: u64)
@@ -91,6 +96,29 @@ fn stated_shapes(
     Ok(numbers)
 }
 
+// The number of each stated shape.
+fn shape_numbers(
+    alloc: Global,
+    tree: &mut ShapeTree,
+    shapes: &[Shape],
+) -> Result<Vec<usize>, NoMemory>
+    requires { IsTree tree.old.edges }
+    ensures tree { OnOk result (IsTree tree.new.edges) }
+    ensures numbers { IfOk result (λ numbers. AreNumbered tree.new.edges shapes.now numbers.items) }
+{
+    let mut numbers = Vec::with_capacity(alloc, shapes.len())?;
+    for shape in shapes {
+        numbers.push(tree.add(shape.kinds.as_slice())?)?;
+    }
+    Ok(numbers)
+}
+
+fn number_at(numbers: &[usize], shape: usize) -> Option<usize>
+    ensures { result ≡ slice_get numbers.now shape }
+{
+    numbers.get(shape).copied()
+}
+
 impl JumpTable {
     pub(crate) fn new(alloc: Global, code: &Code) -> Result<JumpTable, NoMemory>
         ensures { IfOk result (λ table. HoldsJumps code.now table) }
@@ -98,7 +126,14 @@ impl JumpTable {
         let instrs = code.instructions.as_slice();
         let named = named_by_jumps(alloc, instrs)?;
         let stated = stated_shapes(alloc, instrs.len(), code.shapes.as_slice())?;
-        Ok(JumpTable { named, stated })
+        let mut tree = ShapeTree::new(alloc);
+        let numbers = shape_numbers(alloc, &mut tree, code.shapes.as_slice())?;
+        Ok(JumpTable {
+            named,
+            stated,
+            tree,
+            numbers,
+        })
     }
 
     /// Whether a jump names this instruction.
@@ -121,6 +156,17 @@ impl JumpTable {
                 Some(shape) => Some(shape.kinds.as_slice()),
                 None => None,
             },
+            None => None,
+        }
+    }
+    /// The number of the shape that is stated for this instruction.
+    pub(crate) fn number(&self, code: &Code, instruction: usize) -> Option<usize>
+        requires table { HoldsJumps code.now self.now }
+        requires within { instruction < length code.now.instructions }
+        ensures { MatchOption result (stated code.now.shapes instruction ≡ None) (IsStatedNumber self.now.tree.edges code.now instruction) }
+    {
+        match self.stated[instruction] {
+            Some(shape) => number_at(self.numbers.as_slice(), shape),
             None => None,
         }
     }

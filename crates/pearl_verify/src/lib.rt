@@ -3,6 +3,7 @@
 
 mod exact;
 mod flow;
+mod formats;
 mod judge;
 mod jumps;
 mod kinds;
@@ -13,7 +14,9 @@ mod operator;
 mod pushed;
 mod routine;
 pub mod rule;
+mod running;
 mod runs;
 mod same;
 mod table;
+mod tree;
 pub mod verify;

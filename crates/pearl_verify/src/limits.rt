@@ -1,17 +1,19 @@
 // The limits of lists of semaphores, of bounds and of formats.
 
-ghost use Rattle.std.specs.Prelude.{◌≡◌, ◌≤◌, ◌<◌, ◌+◌, ◌-ℤ◌, unsigned_abs, int_le, length, map, drop, nat_le, option_map, ◌&&◌, Some, None, MatchOption};
+ghost use Rattle.std.specs.Prelude.{◌≡◌, ◌≤◌, ◌<◌, ◌+◌, ◌-ℤ◌, unsigned_abs, int_le, List, length, map, nat_le, option_map};
 ghost use Rattle.std.specs.List.{list_all};
-ghost use Rattle.pearl_format.specs.Fields.{width_or, digit_count};
-ghost use Rattle.pearl_format.specs.Items.{data_count, data_here, letters_width, bits_width, text_width, width_over};
+ghost use Rattle.pearl_format.specs.Fields.{digit_count};
+ghost use Rattle.pearl_format.specs.Items.{letters_width, bits_width, width_over};
 ghost use Rattle.pearl_format.specs.declared.item.Item.{Item};
-ghost use Rattle.pearl_instructions.specs.Offers.{item_suits, items_suit, takes_kind};
+ghost use Rattle.pearl_instructions.specs.Offers.{item_suits, takes_kind};
 ghost use Rattle.pearl_instructions.specs.Objects.{items_at};
 ghost use Rattle.pearl_instructions.specs.Named.{read_cells};
 ghost use Rattle.pearl_instructions.specs.Valid.{is_repeated, are_different, is_semaphore_list, extent, elements, is_array, plain_kinds, suits_format, values_suit, cells_suit, v12};
+ghost use Rattle.pearl_verify.specs.Formats.{format_row, row_fits};
 
+use crate::formats::{FormatRow, data_here, width_or};
 use crate::kinds::Kinds;
-use crate::table::{cells_at, data_count, items_at};
+use crate::table::cells_at;
 use arrayvec::ArrayVec;
 use pearl_format::item::{Item, ItemCode};
 use pearl_instructions::instr::{Bounds, Instr, Reading};
@@ -101,13 +103,6 @@ fn takes_kind(code: ItemCode, kind: Kind) -> bool
     }
 }
 
-/// The width, or else that of what it stands for.
-fn width_or(width: u8, own: u8) -> u8
-    ensures { result ≡ width_or width own }
-{
-    if width == 0 { own } else { width }
-}
-
 /// How many digits of so many bits stand for so many bits.
 fn digit_count(group: u8, len: u8) -> u8
     requires some { 0 < group }
@@ -155,29 +150,6 @@ fn width_over(item: Item, kinds: &[Kind]) -> u8
     }
 }
 
-/// How many values an item takes.
-fn data_here(code: ItemCode) -> usize
-    ensures value { result ≡ data_here code }
-    ensures few { result ≤ 1 }
-{
-    match code {
-        ItemCode::X => 0,
-        ItemCode::Skip => 0,
-        _ => 1,
-    }
-}
-
-/// How many values the items take.
-pub(crate) fn values_of(items: &[Item]) -> usize
-    ensures { result ≡ data_count items.now }
-{
-    let mut count = 0;
-    for item in items {
-        count += data_here(item.code);
-    }
-    count
-}
-
 /// Whether the first of the kinds that are left suits the item, where it takes a value.
 fn item_suits(code: ItemCode, kinds: &[Kind]) -> bool
     ensures { result ≡ item_suits code kinds.now }
@@ -192,13 +164,16 @@ fn item_suits(code: ItemCode, kinds: &[Kind]) -> bool
     }
 }
 
-/// Whether the items take just these kinds, and are at most 1,024 wide together.
-fn items_fit(items: &[Item], kinds: &[Kind]) -> bool
-    ensures { result ≡ items_suit items.now kinds.now && nat_le (text_width items.now kinds.now) 1024 }
+/// Whether the items with a value take just these kinds, and with the others they are at most 1,024 wide.
+fn row_fits(row: &FormatRow, kinds: &[Kind]) -> bool
+    ensures { result ≡ row_fits row.now kinds.now }
 {
-    let mut width = 0;
+    if row.blank > 1024 {
+        return false;
+    }
+    let mut width = row.blank as u32;
     let mut at = 0;
-    for item in items {
+    for item in row.values.as_slice() {
         let rest = &kinds[at..];
         width += width_over(*item, rest) as u32;
         if width > 1024 || !item_suits(item.code, rest) {
@@ -224,42 +199,37 @@ fn plain_kinds(cells: &[CellKind]) -> Option<ArrayVec<Kind, 64>>
     Some(kinds)
 }
 
-/// Whether the items suit these kinds, are at most 64 that take a value, and at most 1,024 wide together. What it takes
-/// doesn't grow with the format: each item takes one of at most 64 kinds, or adds to the width.
-fn suits_format(items: &[Item], cells: &[CellKind]) -> bool
-    ensures { result ≡ suits_format items.now (plain_kinds cells.now) }
+/// Whether a format's items suit these kinds, are at most 64 that take a value, and at most 1,024 wide together. At most
+/// 65 items are looked at: each takes one of at most 64 kinds.
+fn suits_format(row: &FormatRow, cells: &[CellKind]) -> bool
+    ensures { (items : List Item) → row.now ≡ format_row items → result ≡ suits_format items (plain_kinds cells.now) }
 {
     if cells.len() > 64 {
         return false;
     }
     match plain_kinds(cells) {
-        Some(kinds) => items_fit(items, kinds.as_slice()),
+        Some(kinds) => row_fits(row, kinds.as_slice()),
         None => false,
     }
 }
 
-fn values_suit(object: &Object, counts: &[usize], format: u64, kinds: &Kinds) -> bool
-    requires { counts.now ≡ map data_count object.now.formats }
+fn values_suit(object: &Object, formats: &[FormatRow], format: u64, kinds: &Kinds) -> bool
+    requires { formats.now ≡ map format_row object.now.formats }
     ensures { result ≡ values_suit (items_at object.now format) kinds.now }
 {
-    match (items_at(object, format), data_count(object, counts, format)) {
-        (Some(items), Some(count)) => suits_format(items, kinds.top(count)),
-        _ => false,
+    match formats.get(format as usize) {
+        Some(row) => suits_format(row, kinds.top(row.count)),
+        None => false,
     }
 }
 
-fn cells_suit(object: &Object, code: &Code, counts: &[usize], reading: Reading) -> bool
-    requires { counts.now ≡ map data_count object.now.formats }
+fn cells_suit(object: &Object, code: &Code, formats: &[FormatRow], reading: Reading) -> bool
+    requires { formats.now ≡ map format_row object.now.formats }
     ensures { result ≡ cells_suit (items_at object.now reading.format) (read_cells code.now reading.first (items_at object.now reading.format)) }
 {
-    match (
-        items_at(object, reading.format),
-        data_count(object, counts, reading.format),
-    ) {
-        (Some(items), Some(count)) => {
-            suits_format(items, cells_at(code, reading.first, count as u64))
-        }
-        _ => false,
+    match formats.get(reading.format as usize) {
+        Some(row) => suits_format(row, cells_at(code, reading.first, row.count as u64)),
+        None => false,
     }
 }
 
@@ -267,18 +237,18 @@ fn cells_suit(object: &Object, code: &Code, counts: &[usize], reading: Reading) 
 pub(crate) fn keeps_limits(
     object: &Object,
     code: &Code,
-    counts: &[usize],
+    formats: &[FormatRow],
     instr: &Instr,
     kinds: &Kinds,
 ) -> bool
-    requires { counts.now ≡ map data_count object.now.formats }
+    requires { formats.now ≡ map format_row object.now.formats }
     ensures { result ≡ v12 object.now code.now instr.now kinds.now }
 {
     match instr {
         Instr::Request(list) | Instr::Release(list) => is_semaphore_list(list.as_slice()),
         Instr::Index(bounds) => is_array(bounds.as_slice()),
-        Instr::Put { format, .. } => values_suit(object, counts, *format, kinds),
-        Instr::Get(reading) => cells_suit(object, code, counts, **reading),
+        Instr::Put { format, .. } => values_suit(object, formats, *format, kinds),
+        Instr::Get(reading) => cells_suit(object, code, formats, **reading),
         _ => true,
     }
 }

@@ -1,11 +1,12 @@
 // Which numbers an instruction may name.
 
 ghost use Rattle.std.specs.Prelude.{◌≡◌, map};
-ghost use Rattle.pearl_format.specs.Items.{data_count};
 ghost use Rattle.pearl_instructions.specs.Named.{names_interrupt, has_read_cells, v1};
 ghost use Rattle.pearl_instructions.specs.Offers.{as_start, start_or_free};
 ghost use Rattle.pearl_instructions.specs.Objects.{items_at};
+ghost use Rattle.pearl_verify.specs.Formats.{format_row};
 
+use crate::formats::FormatRow;
 use crate::table::{
     all_below, data_count, gives_texts, has_cells, is_below, is_input, is_interrupt, is_output,
     items_at, takes_texts,
@@ -46,20 +47,19 @@ fn names_interrupt(object: &Object, form: StartForm) -> bool
     }
 }
 
-fn has_read_cells(object: &Object, code: &Code, counts: &[usize], reading: Reading) -> bool
-    requires { counts.now ≡ map data_count object.now.formats }
+fn has_read_cells(object: &Object, code: &Code, formats: &[FormatRow], reading: Reading) -> bool
+    requires { formats.now ≡ map format_row object.now.formats }
     ensures { result ≡ has_read_cells code.now reading.first (items_at object.now reading.format) }
 {
-    match data_count(object, counts, reading.format) {
+    match data_count(object, formats, reading.format) {
         Some(count) => count == 0 || has_cells(code, reading.first, count as u64),
         None => false,
     }
 }
 
-/// Whether each number names something of the right sort, and each range is one of the routine's cells (V1). The counts
-/// are the numbers of values that the formats take.
-pub(crate) fn names_all(object: &Object, code: &Code, counts: &[usize], instr: &Instr) -> bool
-    requires { counts.now ≡ map data_count object.now.formats }
+/// Whether each number names something of the right sort, and each range is one of the routine's cells (V1).
+pub(crate) fn names_all(object: &Object, code: &Code, formats: &[FormatRow], instr: &Instr) -> bool
+    requires { formats.now ≡ map format_row object.now.formats }
     ensures { result ≡ v1 object.now code.now instr.now }
 {
     let cells = code.cells.as_slice().len();
@@ -103,7 +103,7 @@ pub(crate) fn names_all(object: &Object, code: &Code, counts: &[usize], instr: &
             takes_texts(object, *device) && items_at(object, *format).is_some()
         }
         Instr::Get(reading) => {
-            gives_texts(object, reading.device) && has_read_cells(object, code, counts, **reading)
+            gives_texts(object, reading.device) && has_read_cells(object, code, formats, **reading)
         }
         Instr::Take(device) => is_input(object, *device),
         Instr::Send(device) => is_output(object, *device),

@@ -2,11 +2,12 @@
 
 ghost use Rattle.std.specs.Prelude.{◌≡◌, ◌≤◌, ◌++◌, [], ◌∷◌, length, drop, map, replicate, slice_get, nat_le};
 ghost use Rattle.pearl_value.specs.declared.kind.Kind.{Kind};
-ghost use Rattle.pearl_format.specs.Items.{data_count};
 ghost use Rattle.pearl_instructions.specs.Objects.{items_at};
 ghost use Rattle.pearl_instructions.specs.Offers.{start_kinds, repeat_kinds, start_or_free, as_start};
 ghost use Rattle.pearl_instructions.specs.Operands.{Anything, SomeFixed, SomeReference, Exactly, asked, scheduled, priority_asked, arguments_asked, values_asked, v2};
+ghost use Rattle.pearl_verify.specs.Formats.{format_row};
 
+use crate::formats::FormatRow;
 use crate::kinds::Kinds;
 use crate::named::{as_start, start_or_free};
 use crate::same::{is_fixed, is_reference, same_cell};
@@ -152,22 +153,22 @@ fn arguments_count(object: &Object, procedure: u64) -> u64
     }
 }
 
-fn values_count(object: &Object, counts: &[usize], format: u64) -> usize
-    requires { counts.now ≡ map data_count object.now.formats }
+fn values_count(object: &Object, formats: &[FormatRow], format: u64) -> usize
+    requires { formats.now ≡ map format_row object.now.formats }
     ensures { result ≡ length (values_asked (items_at object.now format)) }
 {
-    data_count(object, counts, format).unwrap_or(0)
+    data_count(object, formats, format).unwrap_or(0)
 }
 
 /// Whether the operands are what the instruction takes (V2).
 pub(crate) fn are_operands(
     object: &Object,
-    counts: &[usize],
+    formats: &[FormatRow],
     routine: usize,
     instr: &Instr,
     kinds: &Kinds,
 ) -> bool
-    requires { counts.now ≡ map data_count object.now.formats }
+    requires { formats.now ≡ map format_row object.now.formats }
     ensures { result ≡ v2 (asked object.now routine instr.now) kinds.now }
 {
     match instr {
@@ -190,14 +191,19 @@ pub(crate) fn are_operands(
         Instr::Activate(a) => meets_activation(kinds, **a),
         Instr::Continue(c) => meets_start(kinds, 0, start_or_free(c.once)),
         Instr::Resume(form) => meets_start(kinds, 0, as_start(*form)),
-        Instr::Put { format, .. } => has(kinds, values_count(object, counts, *format) as u64),
+        Instr::Put { format, .. } => has(kinds, values_count(object, formats, *format) as u64),
         _ => true,
     }
 }
 
 /// How many operands the instruction takes.
-pub(crate) fn operand_count(object: &Object, counts: &[usize], routine: usize, instr: &Instr) -> u64
-    requires { counts.now ≡ map data_count object.now.formats }
+pub(crate) fn operand_count(
+    object: &Object,
+    formats: &[FormatRow],
+    routine: usize,
+    instr: &Instr,
+) -> u64
+    requires { formats.now ≡ map format_row object.now.formats }
     ensures { result ≡ length (asked object.now routine instr.now) }
 {
     match instr {
@@ -220,7 +226,7 @@ pub(crate) fn operand_count(object: &Object, counts: &[usize], routine: usize, i
         }
         Instr::Continue(c) => start_count(start_or_free(c.once)) as u64,
         Instr::Resume(form) => start_count(as_start(*form)) as u64,
-        Instr::Put { format, .. } => values_count(object, counts, *format) as u64,
+        Instr::Put { format, .. } => values_count(object, formats, *format) as u64,
         _ => 0,
     }
 }

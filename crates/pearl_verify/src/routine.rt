@@ -2,15 +2,16 @@
 
 ghost use Rattle.std.specs.Prelude.{◌≡◌, map, IfOk, MatchOption, nat_lt, length};
 ghost use Rattle.std.specs.List.{list_all};
-ghost use Rattle.pearl_format.specs.Items.{data_count};
 ghost use Rattle.pearl_instructions.specs.Valid.{is_closed, judged_whole};
 ghost use Rattle.pearl_verify.specs.Verdicts.{IsKept, IsBroken};
+ghost use Rattle.pearl_verify.specs.Formats.{format_row};
 
 use crate::flow::goes_on;
+use crate::formats::FormatRow;
 use crate::judge::judge;
 use crate::jumps::JumpTable;
-use crate::kinds::Kinds;
 use crate::rule::{V1, V9, V11};
+use crate::running::Running;
 use crate::runs::CellRuns;
 use pearl_instructions::instr::Instr;
 use pearl_instructions::object::{Code, Object, Shape};
@@ -65,19 +66,27 @@ fn judge_whole(code: &Code) -> Option<u8>
 pub(crate) fn judge_routine(
     alloc: Global,
     object: &Object,
-    counts: &[usize],
+    formats: &[FormatRow],
     routine: usize,
     code: &Code,
 ) -> Result<Option<Broken>, NoMemory>
-    requires { counts.now ≡ map data_count object.now.formats }
+    requires { formats.now ≡ map format_row object.now.formats }
     ensures { IfOk result (λ found. MatchOption found (IsKept object.now routine code.now) (IsBroken object.now routine code.now)) }
 {
     let runs = CellRuns::new(alloc, code.cells.as_slice())?;
     let jumps = JumpTable::new(alloc, code)?;
-    let mut kinds = Kinds::none(alloc);
+    let mut running = Running::none(alloc);
     for (i, instr) in code.instructions.as_slice().iter().enumerate() {
         if let Some(rule) = judge(
-            object, counts, routine, code, &runs, &jumps, i, instr, &mut kinds,
+            object,
+            formats,
+            routine,
+            code,
+            &runs,
+            &jumps,
+            i,
+            instr,
+            &mut running,
         )? {
             return Ok(Some(Broken {
                 instruction: i,

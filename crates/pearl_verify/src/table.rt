@@ -6,7 +6,9 @@ ghost use Rattle.pearl_format.specs.Items.{data_count};
 ghost use Rattle.pearl_instructions.specs.Objects.{is_task, result_of, items_at};
 ghost use Rattle.pearl_instructions.specs.Named.{has_cells, cells_at, is_interrupt, takes_texts, gives_texts, is_input, is_output};
 ghost use Rattle.pearl_instructions.specs.Kinds.{leaf_kind, kind_sent, kind_taken};
+ghost use Rattle.pearl_verify.specs.Formats.{format_row};
 
+use crate::formats::FormatRow;
 use pearl_format::item::Item;
 use pearl_instructions::object::{Code, Object};
 use pearl_rules::setup::{Device, Direction};
@@ -165,10 +167,13 @@ pub(crate) fn items_at(object: &Object, format: u64) -> Option<&[Item]>
     }
 }
 
-/// How many values a format takes, where there is one: the counts are those of all formats.
-pub(crate) fn data_count(object: &Object, counts: &[usize], format: u64) -> Option<usize>
-    requires { counts.now ≡ map data_count object.now.formats }
+/// How many values a format takes, where there is one.
+pub(crate) fn data_count(object: &Object, formats: &[FormatRow], format: u64) -> Option<usize>
+    requires { formats.now ≡ map format_row object.now.formats }
     ensures { result ≡ option_map data_count (items_at object.now format) }
 {
-    counts.get(format as usize).copied()
+    match formats.get(format as usize) {
+        Some(row) => Some(row.count),
+        None => None,
+    }
 }

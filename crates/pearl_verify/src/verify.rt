@@ -1,19 +1,17 @@
 // The validator.
 
-ghost use Rattle.std.specs.Prelude.{◌≡◌, ℕ, Some, None, map, IfOk, IfErr, OnOk, MatchOption};
-ghost use Rattle.pearl_format.specs.Items.{data_count};
-ghost use Rattle.pearl_instructions.specs.declared.object.Object.{Object};
+ghost use Rattle.std.specs.Prelude.{◌≡◌, ◌+◌, ◌<◌, ◌^◌, ℕ, Some, None, map, IfOk, IfErr, IfSome, OnOk, MatchOption};
+ghost use Rattle.pearl_instructions.specs.Lawful.{IsObject};
 ghost use Rattle.pearl_instructions.specs.Objects.{routine_at};
 ghost use Rattle.pearl_instructions.specs.Valid.{unsound, IsValid};
 ghost use Rattle.pearl_verify.specs.Verdicts.{BreaksFirst, IsLeast};
+ghost use Rattle.pearl_verify.specs.Formats.{format_row};
 
-use crate::limits::values_of;
+use crate::formats::{FormatRow, format_rows};
 use crate::routine::judge_routine;
-use pearl_format::item::Item;
 use pearl_instructions::object::{Code, Object};
-use pearl_value::listing::Listing;
+use pearl_instructions::valid::Valid;
 use std::alloc::{AllocError as NoMemory, Global};
-use std::marker::Model;
 use thiserror::Error;
 
 /// Why there is no valid object.
@@ -23,7 +21,7 @@ pub enum VerifyFault {
     /// whole routine is told behind its last instruction.
     #[error("Unsound")]
     Unsound {
-        routine: u32,
+        routine: u64,
         instruction: u64,
         rule: u8,
     },
@@ -31,54 +29,10 @@ pub enum VerifyFault {
     NoMemory,
 }
 
-/// An object in which no rule of the validator fails.
-#[derive(Drop)]
-pub struct Valid {
-    object: Object,
-}
-
-impl Model for Valid {
-    ghost use Rattle.pearl_instructions.specs.declared.object.Object.{Object};
-    ghost use Rattle.pearl_instructions.specs.Valid.{IsValid};
-
-    ghost Value = { Object };
-
-    ghost view = { λ v. v.object };
-
-    ghost invariant = { λ v. IsValid v.object };
-}
-
-impl Valid {
-    pub fn object(&self) -> &Object
-        ensures value { result.now ≡ self.now }
-        ensures valid { IsValid result.now }
-    {
-        &self.object
-    }
-
-    /// The object, which may be changed then.
-    pub fn into_object(self) -> Object
-        ensures value { result ≡ self }
-        ensures valid { IsValid result }
-    {
-        self.object
-    }
-}
-
-/// How many values each format takes.
-fn counts_of(alloc: Global, formats: &[Listing<Item>]) -> Result<Vec<usize>, NoMemory>
-    ensures { IfOk result (λ counts. counts.items ≡ map data_count formats.now) }
-{
-    let mut counts = Vec::new(alloc);
-    for items in formats {
-        counts.push(values_of(items.as_slice()))?;
-    }
-    Ok(counts)
-}
-
 /// The code of a routine: the procedures come first, and then the tasks.
 fn code_at(object: &Object, routine: usize) -> Option<&Code>
-    ensures { MatchOption result (routine_at object.now routine ≡ None) (λ code. routine_at object.now routine ≡ Some code.now) }
+    ensures code { MatchOption result (routine_at object.now routine ≡ None) (λ code. routine_at object.now routine ≡ Some code.now) }
+    ensures few { IfSome result (λ code. routine + 1 < 2 ^ 64) }
 {
     let procedures = object.procedures.as_slice();
     if routine < procedures.len() {
@@ -93,19 +47,19 @@ fn code_at(object: &Object, routine: usize) -> Option<&Code>
 fn judge_at(
     alloc: Global,
     object: &Object,
-    counts: &[usize],
-    routine: u32,
+    formats: &[FormatRow],
+    routine: usize,
     code: &Code,
 ) -> Result<(), VerifyFault>
-    requires counts { counts.now ≡ map data_count object.now.formats }
+    requires formats { formats.now ≡ map format_row object.now.formats }
     requires code { routine_at object.now routine ≡ Some code.now }
     ensures ok { OnOk result ((i : ℕ) → unsound object.now routine i ≡ None) }
     ensures err { IfErr result (BreaksFirst object.now routine) }
 {
-    match judge_routine(alloc, object, counts, routine as usize, code) {
+    match judge_routine(alloc, object, formats, routine, code) {
         Ok(None) => Ok(()),
         Ok(Some(broken)) => Err(VerifyFault::Unsound {
-            routine,
+            routine: routine as u64,
             instruction: broken.instruction as u64,
             rule: broken.rule,
         }),
@@ -114,39 +68,43 @@ fn judge_at(
 }
 
 /// Judges all routines, up to the first in which a rule fails.
-fn judge_all(alloc: Global, object: &Object, counts: &[usize]) -> Result<(), VerifyFault>
-    requires { counts.now ≡ map data_count object.now.formats }
+fn judge_all(alloc: Global, object: &Object, formats: &[FormatRow]) -> Result<(), VerifyFault>
+    requires { formats.now ≡ map format_row object.now.formats }
     ensures ok { OnOk result (IsValid object.now) }
     ensures err { IfErr result (IsLeast object.now) }
 {
-    let mut routine: u32 = 0;
-    'routines: while let Some(code) = code_at(object, routine as usize) {
-        judge_at(alloc, object, counts, routine, code)?;
-        match routine.checked_add(1) {
-            Some(next) => routine = next,
-            None => return Err(VerifyFault::NoMemory),
-        }
+    let mut routine = 0;
+    'routines: while let Some(code) = code_at(object, routine) {
+        judge_at(alloc, object, formats, routine, code)?;
+        routine += 1;
     }
     Ok(())
 }
 
-/// The same object as a valid one, or the least routine, instruction and rule that fails.
+/// Nothing where no rule fails in the code of any routine, else the least routine, instruction and rule that fails.
 ///
-/// What it takes grows with the object as written, but for two products. For each target of a jump the kinds of all
-/// operands are compared with those stated there: a routine may take the product of its targets and its longest stated
-/// shape, whatever depth it states. In a valid one a shape has at most 4,096 kinds. And each PUT and GET looks through its
-/// format, up to 1,025 items that take no value and 65 that take one.
-///
-/// An object with more routines than a 32-bit number counts is answered as want of memory.
+/// What it takes grows with the object as written, times the logarithm of a routine's stated shapes: each of these gets a
+/// number once, so that at a jump two numbers are compared, and of a PUT's or GET's format at most 65 items are looked at.
+pub fn judge_object(alloc: Global, object: &Object) -> Result<(), VerifyFault>
+    ensures ok { OnOk result (IsValid object.now) }
+    ensures err { IfErr result (IsLeast object.now) }
+{
+    match format_rows(alloc, object.formats.as_slice()) {
+        Ok(formats) => judge_all(alloc, object, formats.as_slice()),
+        Err(_) => Err(VerifyFault::NoMemory),
+    }
+}
+
+/// The same object as a valid one, or the least routine, instruction and rule that fails. It costs what `judge_object`
+/// does.
 pub fn verify(alloc: Global, object: Object) -> Result<Valid, VerifyFault>
+    requires { IsObject object }
     ensures ok { IfOk result (λ valid. (valid ≡ object) × IsValid object) }
     ensures err { IfErr result (IsLeast object) }
 {
-    match counts_of(alloc, object.formats.as_slice()) {
-        Ok(counts) => {
-            judge_all(alloc, &object, counts.as_slice())?;
-            Ok(Valid { object })
-        }
+    judge_object(alloc, &object)?;
+    match Valid::new(alloc, object) {
+        Ok(valid) => Ok(valid),
         Err(_) => Err(VerifyFault::NoMemory),
     }
 }

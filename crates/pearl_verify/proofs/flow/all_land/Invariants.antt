@@ -6,5 +6,5 @@ use Rattle.pearl_verify.proofs.flow.all_land.Given as goal
 
 abbrev pub invariant-loop-to : goal.invariant-loop-to
 invariant-loop-to l =
-    list_all (λ t. same_shape (shape_before l.object l.routine l.code t) l.kinds) l.list
-    ≡ list_all (λ t. same_shape (shape_before l.object l.routine l.code t) l.kinds) (drop l.to-index l.list)
+    list_all (λ t. same_shape (shape_before l.object l.routine l.code t) l.running.kinds) l.list
+    ≡ list_all (λ t. same_shape (shape_before l.object l.routine l.code t) l.running.kinds) (drop l.to-index l.list)

@@ -12,7 +12,7 @@ loop-i-preserved c =
     let at : slice_get c.args.code.now.instructions i ≡ Some x =
     subst (λ xs. slice_get xs i ≡ Some x) c.as_slice-instr-items.ensures
     (slice_get_read c.as_slice-instr-items.result.now (length c.as_slice-instr-items.result.now) i x refl c.loop-i-test.true c.instr-item.is) in (
-      (λ less. c.in_ok-rule.ensures.next c.in_default.is less),
+      (λ less. (c.in_ok-rule.ensures.next c.in_default.is less, c.in_ok-rule.ensures.numbered c.in_default.is less)),
       kept_more c.args.object.now c.args.routine c.args.code.now i x at (sym c.in_ok-rule.ensures.rule ∙ c.in_default.is) c.loop-i.invariant.1,
     )
 
