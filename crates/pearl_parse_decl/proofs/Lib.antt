@@ -4,3 +4,5 @@ pub mod Types
 pub mod Items
 pub mod Specifications
 pub mod Constants
+pub mod LocalLists
+pub mod LocalDeclarations
