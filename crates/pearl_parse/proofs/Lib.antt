@@ -18,3 +18,5 @@ pub mod Blocks
 pub mod BlockRests
 pub mod UnitRests
 pub mod ModuleRests
+pub mod LocalStatements
+pub mod LocalModules
