@@ -20,3 +20,16 @@ pub mod UnitRests
 pub mod ModuleRests
 pub mod LocalStatements
 pub mod LocalModules
+pub mod LocalRests
+pub mod Comes
+pub mod Made
+pub mod ScheduleMade
+pub mod NestedMade
+pub mod ModulesMade
+pub mod Tails
+pub mod StatementComes
+pub mod ModuleComes
+pub mod Telling
+pub mod LeafLeast
+pub mod ListReach
+pub mod Beginnings
