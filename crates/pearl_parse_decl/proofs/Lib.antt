@@ -6,3 +6,5 @@ pub mod Specifications
 pub mod Constants
 pub mod Local
 pub mod Leaves
+pub mod LocalLists
+pub mod LocalDeclarations

@@ -1,0 +1,216 @@
+-- The tokens that complete what was read of a statement or a module: names, symbols, words, and the ends of what is open.
+use Rattle.std.proofs.Common.{ℕ, ◌+◌, inl, false, List, [], ◌∷◌, None, ap, refl, arith}
+use Rattle.std.specs.Option.{option_map}
+use Rattle.pearl_tree.specs.declared.expression.Primary as primary
+use Rattle.pearl_tree.specs.declared.expression.Expr as tree
+use Rattle.pearl_tree.specs.declared.format.FreeCode.TheVariants.{A}
+use Rattle.pearl_tree.specs.declared.format.Fmt.TheVariants.{Free}
+use Rattle.pearl_tree.specs.declared.token.What.TheVariants as what
+use Rattle.pearl_tree.specs.declared.token.Token.{Token}
+use Rattle.pearl_tree.specs.Tokens.{IsLawfulWhat}
+use Rattle.pearl_tree.specs.Standing.{Spelling, SpellsName, SpellsList, SpellsEach, SpellsSome, SpellsSymbolFlag}
+use Rattle.pearl_tree.specs.Expressions.{SpellsWhole}
+use Rattle.pearl_tree.specs.Formats.{SpellsFmt}
+use Rattle.pearl_tree.specs.Statements.{HasBecomes, SpellsPeriod, SpellsBranch}
+use Rattle.pearl_tree.specs.Modules.{SpellsBlock, SpellsModuleName, SpellsSystem, SpellsDecl}
+use Rattle.pearl_tables.specs.declared.symbol.TheConstants as s
+use Rattle.pearl_tables.specs.declared.word_code.TheConstants as w
+use Rattle.pearl_parse_expr.proofs.Ids.{letter_token, letter_lawful}
+use Rattle.pearl_parse_expr.proofs.Reaching.{placed, token_of}
+use Rattle.pearl_parse_expr.proofs.Trees.{parts_of}
+use Rattle.pearl_parse.specs.Stops.{SpellsFormats}
+use Rattle.pearl_parse.specs.Calls.{SpellsArguments}
+use Rattle.pearl_parse.specs.Bodies.{SpellsStatements}
+use Rattle.pearl_parse.proofs.Steps.{Rest, Ends, Then}
+use Rattle.pearl_parse.proofs.Comes.{Fills, Behind, BehindWord, BehindSymbol, Maybe, ends_fill, fills_as, fills_token, fills_word, fills_symbol, fills_name, fills_maybe}
+use Rattle.pearl_parse.proofs.Made.{semicolon, station}
+use Rattle.pearl_parse.proofs.ScheduleMade.{After, activation, continuation, resumption}
+use Rattle.pearl_parse.proofs.NestedRests.{closing_rest}
+use Rattle.pearl_parse.proofs.LocalRests.{SpellsInner}
+
+module _ (n : ℕ) (rest : Rest) (fills : Fills n rest) where
+  -- NOW, as the expression that is missing
+  pub fills_expr : Fills (n + 1) (Then SpellsWhole rest)
+  fills_expr =
+      fills_token n rest fills (token_of (what.Word w.NOW)) (Then SpellsWhole rest) (omega arith)
+      (λ others k to here h.
+      let word = ap (option_map (λ token. token.what)) here in
+      let at = ap (option_map (λ token. token.place)) here in (
+        tree.Operand (record { monadics = parts_of [] (omega arith); primary = primary.Now 0; place = 0 }),
+        k + 1,
+        ((k, at, omega arith, refl, (at, word, refl)), omega arith),
+        h,
+      ))
+
+  -- A, as the only format
+  pub fills_formats : Fills (n + 1) (Then (λ tokens. SpellsList tokens (SpellsFmt tokens)) rest)
+  fills_formats =
+      fills_token n rest fills (letter_token 65) (Then (λ tokens. SpellsList tokens (SpellsFmt tokens)) rest) (letter_lawful 65 (inl (omega arith, omega arith)))
+      (λ others k to here h. (
+        Free A None 0 ∷ [],
+        k + 1,
+        (k + 1, (ap (option_map (λ token. token.place)) here, ap (option_map (λ token. token.what)) here, refl), refl),
+        h,
+      ))
+
+  -- no parts
+  pub fills_each : {X : Type 0} (spells : List Token → Spelling X) → Fills n (Then (λ tokens. SpellsEach (spells tokens)) rest)
+  fills_each spells = fills_as n rest fills (Then (λ tokens. SpellsEach (spells tokens)) rest) (λ others k to h. ([], k, refl, h))
+
+  pub fills_statements : (depth : ℕ) → Fills n (Then (SpellsStatements depth) rest)
+  fills_statements depth = fills_as n rest fills (Then (SpellsStatements depth) rest) (λ others k to h. ([], k, refl, h))
+
+  pub fills_inner : (depth : ℕ) → Fills n (Then (SpellsInner depth) rest)
+  fills_inner depth = fills_as n rest fills (Then (SpellsInner depth) rest) (λ others k to h. (([], []), k, (k, refl, refl), h))
+
+-- ---- statements
+
+pub semicolon_fills : Fills 1 semicolon
+semicolon_fills = fills_symbol 0 Ends ends_fill s.SEMICOLON (omega arith)
+
+pub name_fills : Fills 2 (Then SpellsName semicolon)
+name_fills = fills_name 1 semicolon semicolon_fills
+
+-- TO id ";", or FROM id ";"
+pub to_fills : Fills 3 (station w.TO)
+to_fills = fills_word 2 (Then SpellsName semicolon) name_fills w.TO (omega arith)
+
+pub from_fills : Fills 3 (station w.FROM)
+from_fills = fills_word 2 (Then SpellsName semicolon) name_fills w.FROM (omega arith)
+
+-- ":=" expr ";"
+pub assignment_fills : Fills 3 (Behind HasBecomes (Then SpellsWhole semicolon))
+assignment_fills =
+    fills_as 3 (BehindSymbol s.BECOMES (Then SpellsWhole semicolon)) (fills_symbol 2 (Then SpellsWhole semicolon) (fills_expr 1 semicolon semicolon_fills) s.BECOMES (omega arith))
+    (Behind HasBecomes (Then SpellsWhole semicolon)) (λ others k to h. (inl h.0, h.1))
+
+-- ")" ";"
+pub closed_fills : Fills 2 (BehindSymbol s.RIGHT_ROUND semicolon)
+closed_fills = fills_symbol 1 semicolon semicolon_fills s.RIGHT_ROUND (omega arith)
+
+pub bracket_fills : Fills 1 (BehindSymbol s.RIGHT_ROUND Ends)
+bracket_fills = fills_symbol 0 Ends ends_fill s.RIGHT_ROUND (omega arith)
+
+-- behind the id of a call
+pub arguments_fill : Fills 1 (Then SpellsArguments Ends)
+arguments_fill = fills_as 1 semicolon semicolon_fills (Then SpellsArguments Ends) (λ others k to h. ([], to, (k, refl, h.0, h.1), refl))
+
+-- id ";"
+pub call_fills : Fills 2 (Then SpellsName (Then SpellsArguments Ends))
+call_fills = fills_name 1 (Then SpellsArguments Ends) arguments_fill
+
+-- fmt ";"
+pub formats_fill : Fills 2 (Then SpellsFormats Ends)
+formats_fill =
+    fills_as 2 (Then (λ tokens. SpellsList tokens (SpellsFmt tokens)) semicolon) (fills_formats 1 semicolon semicolon_fills) (Then SpellsFormats Ends)
+    (λ others k to h. (h.0, to, (h.1, h.2, h.3.0, h.3.1), refl))
+
+-- BY fmt ";"
+pub by_fills : Fills 3 (BehindWord w.BY (Then SpellsFormats Ends))
+by_fills = fills_word 2 (Then SpellsFormats Ends) formats_fill w.BY (omega arith)
+
+-- ---- schedules
+
+pub activation_fills : Fills 3 activation
+activation_fills = fills_word 2 (Then SpellsName (Then (Maybe (After w.PRIO)) semicolon))
+    (fills_name 1 (Then (Maybe (After w.PRIO)) semicolon) (fills_maybe 1 semicolon semicolon_fills (After w.PRIO))) w.ACTIVATE (omega arith)
+
+pub period_activation_fills : Fills 3 (Then (Maybe SpellsPeriod) activation)
+period_activation_fills = fills_maybe 3 activation activation_fills SpellsPeriod
+
+pub late_activation_fills : Fills 3 (Then (Maybe (After w.AFTER)) (Then (Maybe SpellsPeriod) activation))
+late_activation_fills = fills_maybe 3 (Then (Maybe SpellsPeriod) activation) period_activation_fills (After w.AFTER)
+
+pub continuation_fills : Fills 3 continuation
+continuation_fills = fills_word 2 (Then SpellsName semicolon) name_fills w.CONTINUE (omega arith)
+
+pub resumption_fills : Fills 2 resumption
+resumption_fills = fills_word 1 semicolon semicolon_fills w.RESUME (omega arith)
+
+-- ---- statements with others in them
+
+pub closing_fills : (word : ℕ) → IsLawfulWhat (what.Word word) → Fills 2 (closing_rest word)
+closing_fills word known =
+    fills_as 2 (BehindWord word semicolon) (fills_word 1 semicolon semicolon_fills word known) (closing_rest word)
+    (λ others k to h. (tt, to, (h.0, h.1.0, omega (arith, h.1.1)), refl))
+
+pub fin_fills : Fills 2 (closing_rest w.FIN)
+fin_fills = closing_fills w.FIN (omega arith)
+
+pub end_fills : Fills 2 (closing_rest w.END)
+end_fills = closing_fills w.END (omega arith)
+
+-- [ word { stmt } ] FIN ";"
+abbrev pub otherwise : ℕ → ℕ → Rest
+otherwise depth word = Then (Maybe (λ tokens. SpellsBranch tokens depth word)) (closing_rest w.FIN)
+
+pub otherwise_fills : (depth word : ℕ) → Fills 2 (otherwise depth word)
+otherwise_fills depth word = fills_maybe 2 (closing_rest w.FIN) fin_fills (λ tokens. SpellsBranch tokens depth word)
+
+-- { stmt } [ ELSE { stmt } ] FIN ";"
+pub then_fills : (depth : ℕ) → Fills 2 (Then (SpellsStatements depth) (otherwise depth w.ELSE))
+then_fills depth = fills_statements 2 (otherwise depth w.ELSE) (otherwise_fills depth w.ELSE) depth
+
+-- ALT { stmt } { ALT { stmt } } [ OUT { stmt } ] FIN ";"
+pub alternatives_fill : (depth : ℕ) → Fills 3 (Then (λ tokens. SpellsSome (SpellsBranch tokens depth w.ALT)) (otherwise depth w.OUT))
+alternatives_fill depth =
+    fills_token 2 (otherwise depth w.OUT) (otherwise_fills depth w.OUT) (token_of (what.Word w.ALT))
+    (Then (λ tokens. SpellsSome (SpellsBranch tokens depth w.ALT)) (otherwise depth w.OUT)) (omega arith)
+    (λ others k to here h. (
+      record { statements = parts_of [] (omega arith); place = 0 } ∷ [],
+      k + 1,
+      (k + 1, (ap (option_map (λ token. token.place)) here, ap (option_map (λ token. token.what)) here, refl), refl),
+      h,
+    ))
+
+-- body END ";"
+pub inner_fills : (depth : ℕ) → Fills 2 (Then (SpellsInner depth) (closing_rest w.END))
+inner_fills depth = fills_inner 2 (closing_rest w.END) end_fills depth
+
+-- ---- modules
+
+-- ";" END ";"
+pub block_fills : Fills 3 (Then SpellsBlock Ends)
+block_fills =
+    fills_as 3 (BehindSymbol s.SEMICOLON (BehindWord w.END semicolon)) (fills_symbol 2 (BehindWord w.END semicolon) (fills_word 1 semicolon semicolon_fills w.END (omega arith)) s.SEMICOLON (omega arith))
+    (Then SpellsBlock Ends)
+    (λ others k to h.
+    let at = placed others (k + 1) (what.Word w.END) h.1.0 in (
+      record { declarations = parts_of [] (omega arith); statements = parts_of [] (omega arith); place = at.0 },
+      to,
+      (k + 1, h.0, (k + 1, at.1, refl, refl), h.1.0, h.1.1.0, omega (arith, h.1.1.1)),
+      refl,
+    ))
+
+-- MODEND [ ";" ]
+abbrev pub module_end : Rest
+module_end = BehindWord w.MODEND (Then (λ tokens. SpellsSymbolFlag tokens s.SEMICOLON) Ends)
+
+pub module_end_fills : Fills 1 module_end
+module_end_fills =
+    fills_word 0 (Then (λ tokens. SpellsSymbolFlag tokens s.SEMICOLON) Ends)
+    (fills_as 0 Ends ends_fill (Then (λ tokens. SpellsSymbolFlag tokens s.SEMICOLON) Ends) (λ others k to h. (false, k, refl, h))) w.MODEND (omega arith)
+
+-- { decl } MODEND [ ";" ]
+abbrev pub declarations : Rest
+declarations = Then (λ tokens. SpellsEach (SpellsDecl tokens)) module_end
+
+pub declarations_fill : Fills 1 declarations
+declarations_fill = fills_each 1 module_end module_end_fills SpellsDecl
+
+-- PROBLEM ";" { decl } MODEND [ ";" ]
+abbrev pub problem : Rest
+problem = BehindWord w.PROBLEM (BehindSymbol s.SEMICOLON declarations)
+
+pub problem_fills : Fills 3 problem
+problem_fills = fills_word 2 (BehindSymbol s.SEMICOLON declarations) (fills_symbol 1 declarations declarations_fill s.SEMICOLON (omega arith)) w.PROBLEM (omega arith)
+
+-- ";" [ system ] PROBLEM ";" { decl } MODEND [ ";" ]
+pub module_fills : Fills 4 (BehindSymbol s.SEMICOLON (Then (Maybe SpellsSystem) problem))
+module_fills = fills_symbol 3 (Then (Maybe SpellsSystem) problem) (fills_maybe 3 problem problem_fills SpellsSystem) s.SEMICOLON (omega arith)
+
+-- MODULE and all that must follow it
+pub tree_fills : Fills 5 (BehindWord w.MODULE (Then (Maybe SpellsModuleName) (BehindSymbol s.SEMICOLON (Then (Maybe SpellsSystem) problem))))
+tree_fills =
+    fills_word 4 (Then (Maybe SpellsModuleName) (BehindSymbol s.SEMICOLON (Then (Maybe SpellsSystem) problem)))
+    (fills_maybe 4 (BehindSymbol s.SEMICOLON (Then (Maybe SpellsSystem) problem)) module_fills SpellsModuleName) w.MODULE (omega arith)
