@@ -212,9 +212,10 @@ abbrev pub ScopesShareNoCells : Type 0
 ScopesShareNoCells = (numbered : Numbered) (at : At) (body : ShownBody) (k l first second : ℕ) (one two : Sense) → k < l →
     IsNameIn numbered at body k first one → IsNameIn numbered at body l second two → first + cells_of_sense one ≤ second
 
--- where a variable has a form, all its bounds are in their ranges, and it has leaves of few dimensions and elements
-abbrev pub VariablesHaveSoundForms : Type 0
-VariablesHaveSoundForms = (tree : ShownTree) (scope : ℕ) → AllByRecursion IsSoundSense (senses_at (table_of tree) scope)
+-- all kinds have lengths in their ranges; where a variable has a form, so are all its bounds, and it has leaves of few
+-- dimensions and elements
+abbrev pub SensesAreSound : Type 0
+SensesAreSound = (tree : ShownTree) (scope : ℕ) → AllByRecursion IsSoundSense (senses_at (table_of tree) scope)
 
 -- where no name of the module is declared twice, from a variable's number on the program has just its leaves, under its name
 abbrev pub ModuleNamesHaveTheirLeaves : Type 0

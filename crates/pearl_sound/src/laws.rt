@@ -1,6 +1,6 @@
 // What holds of scopes, cells, hidden cells and formats, of names and components, and of what expressions and targets become.
 
-ghost use Rattle.pearl_sound.specs.Laws.{CallsAreSound, ComponentsLieInTheirVariables, ExpressionsAreSound, HiddenCellsAreApart, InnerNamesHaveTheirCells, LiteralsAreValues, ModuleDevicesAreThere, ModuleNamesHaveTheirLeaves, ModuleNumbersAreThere, ModuleProceduresAreThere, NamesHaveTheirCells, NamesHaveTheirDevices, NamesLead, NamesNameOthers, NamesShareNoCells, OwnNamesAreNotHidden, RoutinesAreDivided, RoutinesHaveCells, ScopesShareNoCells, StatementsGoPast, StretchesHaveTheirCells, TargetsHaveTheirKind, VariablesHaveSoundForms};
+ghost use Rattle.pearl_sound.specs.Laws.{CallsAreSound, ComponentsLieInTheirVariables, ExpressionsAreSound, HiddenCellsAreApart, InnerNamesHaveTheirCells, LiteralsAreValues, ModuleDevicesAreThere, ModuleNamesHaveTheirLeaves, ModuleNumbersAreThere, ModuleProceduresAreThere, NamesHaveTheirCells, NamesHaveTheirDevices, NamesLead, NamesNameOthers, NamesShareNoCells, OwnNamesAreNotHidden, RoutinesAreDivided, RoutinesHaveCells, ScopesShareNoCells, SensesAreSound, StatementsGoPast, StretchesHaveTheirCells, TargetsHaveTheirKind};
 
 /// Behind some statements the counters stand at what comes behind the scopes, cells and formats of these.
 pub fn statements_go_past()
@@ -88,9 +88,10 @@ pub fn scopes_share_no_cells()
     ensures { ScopesShareNoCells }
 {}
 
-/// A variable whose declaration breaks no rule has bounds in their ranges, and leaves of few dimensions and elements.
-pub fn variables_have_sound_forms()
-    ensures { VariablesHaveSoundForms }
+/// The kinds of what names stand for have lengths in their ranges. A variable whose declaration breaks no rule has bounds in
+/// theirs, and leaves of few dimensions and elements.
+pub fn senses_are_sound()
+    ensures { SensesAreSound }
 {}
 
 /// At the number of a variable of the module the program has just its leaves, with their names, kinds and elements.
