@@ -27,6 +27,7 @@ pub mod LocalNames
 pub mod Sighted
 pub mod ModuleSighted
 pub mod ModuleDevices
+pub mod ModuleRules
 mod WholeModule
 mod LeadingBodies
 mod LeadingLoops

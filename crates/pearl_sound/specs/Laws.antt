@@ -27,6 +27,7 @@ use Rattle.pearl_program.specs.HiddenCells.{hidden_in_all}
 use Rattle.pearl_program.specs.Sound.{signature_of}
 use Rattle.pearl_program.specs.SoundStatements.{IsCall}
 use Rattle.pearl_program.specs.Typing.{Around, AreOpen, HasKind, IsVariable}
+use Rattle.pearl_scope.specs.Rules as names
 use Rattle.pearl_system.specs.declared.device.SpecifiedDevice.{SpecifiedDevice}
 use Rattle.pearl_system.specs.Devices.{device_key, IsDevice}
 use Rattle.pearl_system.specs.Rising.{Lists}
@@ -253,5 +254,13 @@ ModuleDevicesAreThere = (tree : ShownTree) (devices : List SpecifiedDevice) (pro
 abbrev pub NamesLead : Type 0
 NamesLead = (tree : ShownTree) (devices : List SpecifiedDevice) (procedures : List ℕ) → HasNamesOnce tree →
     AreProcedureNumbers tree devices procedures → DevicesAreThere tree devices procedures →
+    AllByRecursion (λ (sight : Sight). LeadNames (numbered_of (table_of tree) devices procedures tree) sight.view sight.around)
+    (sights_of tree devices procedures)
+
+-- where a module breaks none of the rules on names, types and declarations, nor one of those on devices, and its procedures
+-- have numbers of their own below their count, names lead to what is there from each of its views
+abbrev pub NamesLeadInModules : Type 0
+NamesLeadInModules = (tree : ShownTree) (devices : List SpecifiedDevice) (procedures : List ℕ) → names.broken tree ≡ [] →
+    broken tree ≡ [] → Lists device_key (IsDevice tree) devices → AreProcedureNumbers tree devices procedures →
     AllByRecursion (λ (sight : Sight). LeadNames (numbered_of (table_of tree) devices procedures tree) sight.view sight.around)
     (sights_of tree devices procedures)

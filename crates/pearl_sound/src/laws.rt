@@ -1,6 +1,6 @@
 // What holds of scopes, cells, hidden cells and formats, of names and components, and of what expressions and targets become.
 
-ghost use Rattle.pearl_sound.specs.Laws.{CallsAreSound, ComponentsLieInTheirVariables, ExpressionsAreSound, HiddenCellsAreApart, InnerNamesHaveTheirCells, LiteralsAreValues, ModuleDevicesAreThere, ModuleNamesHaveTheirLeaves, ModuleNumbersAreThere, ModuleProceduresAreThere, NamesHaveTheirCells, NamesHaveTheirDevices, NamesLead, NamesNameOthers, NamesShareNoCells, OwnNamesAreNotHidden, RoutinesAreDivided, RoutinesHaveCells, ScopesShareNoCells, SensesAreSound, StatementsGoPast, StretchesHaveTheirCells, TargetsHaveTheirKind};
+ghost use Rattle.pearl_sound.specs.Laws.{CallsAreSound, ComponentsLieInTheirVariables, ExpressionsAreSound, HiddenCellsAreApart, InnerNamesHaveTheirCells, LiteralsAreValues, ModuleDevicesAreThere, ModuleNamesHaveTheirLeaves, ModuleNumbersAreThere, ModuleProceduresAreThere, NamesHaveTheirCells, NamesHaveTheirDevices, NamesLead, NamesLeadInModules, NamesNameOthers, NamesShareNoCells, OwnNamesAreNotHidden, RoutinesAreDivided, RoutinesHaveCells, ScopesShareNoCells, SensesAreSound, StatementsGoPast, StretchesHaveTheirCells, TargetsHaveTheirKind};
 
 /// Behind some statements the counters stand at what comes behind the scopes, cells and formats of these.
 pub fn statements_go_past()
@@ -117,4 +117,9 @@ pub fn names_lead()
 /// At the number of an interrupt's or a dation's name the program has a device of the sort that the name says.
 pub fn module_devices_are_there()
     ensures { ModuleDevicesAreThere }
+{}
+
+/// In a module that keeps the rules on names, types, declarations and devices, names lead to what is there from each view.
+pub fn names_lead_in_modules()
+    ensures { NamesLeadInModules }
 {}
