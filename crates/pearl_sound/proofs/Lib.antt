@@ -28,6 +28,7 @@ pub mod Sighted
 pub mod ModuleSighted
 pub mod ModuleDevices
 pub mod ModuleRules
+pub mod SimpleStatements
 mod WholeModule
 mod LeadingBodies
 mod LeadingLoops

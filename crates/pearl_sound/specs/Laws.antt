@@ -17,6 +17,7 @@ use Rattle.pearl_names.specs.Layout.{Leaf, leaves_of, leaves_of_fields, elements
 use Rattle.pearl_names.specs.Forms.{Component, component}
 use Rattle.pearl_names.specs.Scopes.{scopes_in_all}
 use Rattle.pearl_names.specs.declared.scope.View.{View}
+use Rattle.pearl_names.specs.declared.scope.View.TheVariants.{Within}
 use Rattle.pearl_check_expr.specs.Judged.{judged, judged_variable, called}
 use Rattle.pearl_check_expr.specs.Senses.{Callee, callee_of}
 use Rattle.pearl_names.specs.declared.scope.SortedName.{SortedName}
@@ -25,9 +26,13 @@ use Rattle.pearl_tree.specs.declared.name.Name.{Name}
 use Rattle.pearl_tree.specs.Names.{name_text}
 use Rattle.pearl_program.specs.HiddenCells.{hidden_in_all}
 use Rattle.pearl_program.specs.Sound.{signature_of}
-use Rattle.pearl_program.specs.SoundStatements.{IsCall}
+use Rattle.pearl_program.specs.SoundStatements.{IsCall, AreStmts}
 use Rattle.pearl_program.specs.Typing.{Around, AreOpen, HasKind, IsVariable}
 use Rattle.pearl_scope.specs.Rules as names
+use Rattle.pearl_scope.specs.Placed.{Placed}
+use Rattle.pearl_check.specs.Asked.{asked_at}
+use Rattle.pearl_check.specs.Routines.{RoutineSort}
+use Rattle.pearl_check.specs.Rules.{statement_faults}
 use Rattle.pearl_system.specs.declared.device.SpecifiedDevice.{SpecifiedDevice}
 use Rattle.pearl_system.specs.Devices.{device_key, IsDevice}
 use Rattle.pearl_system.specs.Rising.{Lists}
@@ -37,6 +42,8 @@ use Rattle.pearl_resolve.specs.Laying.{leaves_in, filled_leaves, slots, cells_of
 use Rattle.pearl_resolve.specs.Expressions.{Numbered, number_of, resolve_expr, resolve_arguments, resolve_variable, target_kind}
 use Rattle.pearl_sound.specs.SoundNames.{IsLiteral, HasLiterals, HaveLiterals, SelectorsHaveLiterals, is_control, IsCallee, LeadNames}
 use Rattle.pearl_sound.specs.ModuleNames.{IsModuleName, HasNamesOnce, AreProcedureNumbers, DevicesAreThere}
+use Rattle.pearl_sound.specs.KnownParts.{IsKnown, IsSimple, Returns}
+use Rattle.pearl_resolve.specs.Statements.{resolve_stmt}
 use Rattle.pearl_sound.specs.Sights.{Sight, sights_of}
 use Rattle.pearl_sound.specs.SoundForms.{IsSoundSense}
 use Rattle.pearl_sound.specs.Stretches.{Stretch, routine_stretches, IsDivided}
@@ -264,3 +271,12 @@ NamesLeadInModules = (tree : ShownTree) (devices : List SpecifiedDevice) (proced
     broken tree ≡ [] → Lists device_key (IsDevice tree) devices → AreProcedureNumbers tree devices procedures →
     AllByRecursion (λ (sight : Sight). LeadNames (numbered_of (table_of tree) devices procedures tree) sight.view sight.around)
     (sights_of tree devices procedures)
+
+-- where names lead to what is there, a statement that has none within it, and names neither semaphores nor a format, becomes
+-- a sound one, if what it asks for is known and no rule is broken
+abbrev pub SimpleStatementsAreSound : Type 0
+SimpleStatementsAreSound = (numbered : Numbered) (sort : RoutineSort) (place : Placed) (at : At) (around : Around) →
+    LeadNames numbered (Within place.spot.scope) around → at.next ≡ place.next → IsSimple place.statement →
+    Returns numbered.table.lengths sort around.returns → place.spot.in_loop ≡ around.in_loop →
+    AllByRecursion (IsKnown numbered.table) (asked_at place) → statement_faults numbered.table sort place ≡ [] →
+    AreStmts around (resolve_stmt numbered place.spot.scope at place.statement)
