@@ -29,6 +29,7 @@ pub mod ModuleSighted
 pub mod ModuleDevices
 pub mod ModuleRules
 pub mod SimpleStatements
+pub mod KnownKinds
 mod WholeModule
 mod LeadingBodies
 mod LeadingLoops

@@ -5,7 +5,7 @@ use Rattle.std.proofs.Common.{refl, ap, arith}
 use Rattle.pearl_tree.specs.declared.fault.RuleFault.{RuleFault}
 use Rattle.pearl_tree.specs.ShownModules.{ShownTree}
 use Rattle.pearl_names.specs.Known.{known_of}
-use Rattle.pearl_names.specs.Scopes.{Entry, decls_entries, decls_scopes}
+use Rattle.pearl_names.specs.Scopes.{decls_entries, decls_scopes}
 use Rattle.pearl_names.specs.Sorts.{sorted_names, names_of_scopes}
 use Rattle.pearl_names.specs.FirstNames.{repeated}
 use Rattle.pearl_names.specs.Tables.{table_of}

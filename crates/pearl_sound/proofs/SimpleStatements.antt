@@ -1,16 +1,12 @@
 -- A statement that has none within it and breaks no rule becomes a sound one.
-use Rattle.std.specs.Prelude.{◌≡◌, ℕ, ◌==◌, Bool, true, false, not, ◌||◌, List, [], ◌∷◌, ◌++◌, length, Option, Some, None, option_map}
-use Rattle.std.specs.Option.{option_and_then}
+use Rattle.std.specs.Prelude.{◌≡◌, ℕ, Bool, true, false, not, ◌||◌, List, [], ◌∷◌, ◌++◌, length, Option, Some, None, option_map}
 use Rattle.std.specs.List.{AllByRecursion, flat_map}
 use Rattle.std.proofs.Common.{refl, ap, ◌∙◌, sym, subst, arith, true≢false}
-use Rattle.std.proofs.lemmas.Bool.{eqb-true}
-use Rattle.std.proofs.lemmas.Option.{none-some}
 use Rattle.pearl_value.specs.declared.kind.Kind.{Kind}
-use Rattle.pearl_value.specs.declared.kind.Kind.TheVariants.{Fixed, Bits, Chars, Clock, Span}
+use Rattle.pearl_value.specs.declared.kind.Kind.TheVariants.{Fixed, Clock, Span}
 use Rattle.pearl_value.specs.Conversions.{SuitsKind}
 use Rattle.pearl_tree.specs.declared.fault.RuleFault.{RuleFault}
 use Rattle.pearl_tree.specs.declared.name.Name.{Name}
-use Rattle.pearl_tree.specs.declared.typing.Basic.{Basic}
 use Rattle.pearl_tree.specs.declared.declaration.Direction.{Direction}
 use Rattle.pearl_tree.specs.declared.declaration.Direction.TheVariants.{In, Out, InOut}
 use Rattle.pearl_tree.specs.declared.statement.TaskWord.{TaskWord}
@@ -19,19 +15,18 @@ use Rattle.pearl_tree.specs.declared.statement.InterruptWord.{InterruptWord}
 use Rattle.pearl_tree.specs.declared.statement.InterruptWord.TheVariants.{Enable, Disable, Trigger}
 use Rattle.pearl_tree.specs.declared.rule.TheConstants as rule
 use Rattle.pearl_tree.specs.Faults.{fault_if}
-use Rattle.pearl_tree.specs.ShownExpressions.{ShownExpr, ShownExprs, MoreExprs, ShownRef}
+use Rattle.pearl_tree.specs.ShownExpressions.{ShownExpr, MoreExprs, ShownRef}
 use Rattle.pearl_tree.specs.ShownStatements as shown
 use Rattle.pearl_tree.specs.ShownStatements.{ShownPeriodEnd, ShownPeriod, ShownStart, ShownOnce, ShownStmt}
 use Rattle.pearl_names.specs.declared.scope.View.TheVariants.{Within}
-use Rattle.pearl_names.specs.Lengths.{kind_of_basic}
 use Rattle.pearl_names.specs.Tables.{Sense, Variable, Control, OwnParameter, NewType, Semaphore, Interrupt, AlphicDation, BasicDation, Procedure, Table}
 use Rattle.pearl_names.specs.Tables as sense
 use Rattle.pearl_scope.specs.Placed.{Placed}
 use Rattle.pearl_system.specs.Rules.{is_in, is_out}
 use Rattle.pearl_program.specs.PlainExpressions.{PlainExpr, PlainVariable}
-use Rattle.pearl_check_expr.specs.Senses.{Callee, callee_of, is_fixed}
+use Rattle.pearl_check_expr.specs.Senses.{is_fixed}
 use Rattle.pearl_check_expr.specs.Kinds.{suits_kind}
-use Rattle.pearl_check_expr.specs.Judged.{misfits, called, expr_place}
+use Rattle.pearl_check_expr.specs.Judged.{misfits, expr_place}
 use Rattle.pearl_check_expr.specs.Subjects.{OfValue, OfTarget, OfCallStatement}
 use Rattle.pearl_check_expr.proofs.Suiting.{suits_both}
 use Rattle.pearl_check.specs.declared.asked.Role.{Role}
@@ -42,37 +37,37 @@ use Rattle.pearl_check.specs.Asked as asking
 use Rattle.pearl_check.specs.Asked.{Asked, Subject, Named, as_exprs, asked_at, start_asked, period_asked, once_asked, period_end_asked}
 use Rattle.pearl_check.specs.Dations.{s32, takes_no_send, gives_no_take}
 use Rattle.pearl_check.specs.Formats.{s33}
-use Rattle.pearl_check.specs.Roles.{is_for_role, s23_in, s25_in, s29_in, is_role, role_of, is_misnamed, asked_faults, part_faults, role_faults, s23, s25, s29}
+use Rattle.pearl_check.specs.Roles.{is_for_role, s23_in, s29_in, is_role, role_of, is_misnamed, asked_faults, part_faults, role_faults}
 use Rattle.pearl_check.specs.Routines.{RoutineSort, Task}
 use Rattle.pearl_check.specs.Routines as routine
 use Rattle.pearl_check.specs.Rules.{own_faults, statement_faults}
-use Rattle.pearl_check.specs.Statements.{s24, s26, s27, s31, returns_ill, is_misplaced_return}
-use Rattle.pearl_check.specs.Views.{seen, value_kind, target_kind, subject_kind}
+use Rattle.pearl_check.specs.Statements.{s24, s26, s27, s31, is_misplaced_return}
+use Rattle.pearl_check.specs.Views.{seen, value_kind, target_kind}
 use Rattle.pearl_program.specs.Typing.{Around, HasKind, IsVariable, IsFixed}
-use Rattle.pearl_program.specs.SoundStatements.{IsIf, IsAssign, IsCall, IsReturn, IsTaskNumber, IsInterrupt, IsMoment, IsLapse, IsPeriodEnd, IsPeriod, IsStart, IsOnce, IsActivate, IsSend, IsTake, IsInput, IsOutput, AreStmts}
+use Rattle.pearl_program.specs.SoundStatements.{IsIf, IsCall, IsReturn, IsTaskNumber, IsInterrupt, IsMoment, IsLapse, IsPeriodEnd, IsPeriod, IsStart, IsOnce, IsSend, IsTake, AreStmts}
 use Rattle.pearl_resolve.specs.Numbers.{At}
 use Rattle.pearl_resolve.specs.Expressions.{Numbered, meant, number_of, params_of, resolve_arguments, resolve_variable}
-use Rattle.pearl_resolve.specs.Statements.{value_in, listed, or_no_params, period_end_in, period_in, when_in, start_in, start_in_if, period_of_if, once_in, on_task, on_interrupt, alone, resolve_stmt}
-use Rattle.pearl_resolve.specs.Resolve.{result_kind, kind_or_short}
-use Rattle.pearl_sound.specs.KnownParts.{HasItsKind, HasItsLiterals, IsKnownSense, IsKnown, IsSimple, HasResult, Returns}
-use Rattle.pearl_sound.specs.SoundNames.{IsChannel, LeadNames}
+use Rattle.pearl_resolve.specs.Statements.{value_in, listed, or_no_params, period_end_in, period_in, when_in, start_in_if, period_of_if, once_in, on_task, on_interrupt, alone, resolve_stmt}
+use Rattle.pearl_resolve.specs.Resolve.{kind_or_short}
+use Rattle.pearl_sound.specs.KnownParts.{IsKnownSense, IsKnown, IsSimple, Returns}
+use Rattle.pearl_sound.specs.SoundNames.{LeadNames}
 use Rattle.pearl_sound.proofs.SoundExpressions.{expr_sound, target_sound, call_sound}
-use Rattle.pearl_sound.proofs.SoundParts.{some_one, no_control, same_params, params_of_callee}
+use Rattle.pearl_sound.proofs.SoundParts.{no_control, same_params, params_of_callee}
 
 -- lists without faults
-left_none : (xs ys : List RuleFault) → xs ++ ys ≡ [] → xs ≡ []
+pub left_none : (xs ys : List RuleFault) → xs ++ ys ≡ [] → xs ≡ []
 left_none [] ys none = refl
 left_none (x ∷ xs) ys none = let more = ap (λ (faults : List RuleFault). length faults) none in absurd (omega (arith, more))
 
-right_none : (xs ys : List RuleFault) → xs ++ ys ≡ [] → ys ≡ []
+pub right_none : (xs ys : List RuleFault) → xs ++ ys ≡ [] → ys ≡ []
 right_none [] ys none = none
 right_none (x ∷ xs) ys none = let more = ap (λ (faults : List RuleFault). length faults) none in absurd (omega (arith, more))
 
-not_broken : (broken : Bool) (place of : ℕ) → fault_if broken place of ≡ [] → broken ≡ false
+pub not_broken : (broken : Bool) (place of : ℕ) → fault_if broken place of ≡ [] → broken ≡ false
 not_broken true place of none = let more = ap (λ (faults : List RuleFault). length faults) none in absurd (omega (arith, more))
 not_broken false place of none = refl
 
-really : (b : Bool) → not b ≡ false → b ≡ true
+pub really : (b : Bool) → not b ≡ false → b ≡ true
 really true is = refl
 really false is = absurd (true≢false is)
 

@@ -21,7 +21,7 @@ use Rattle.pearl_names.specs.declared.scope.View.TheVariants.{Within}
 use Rattle.pearl_check_expr.specs.Judged.{judged, judged_variable, called}
 use Rattle.pearl_check_expr.specs.Senses.{Callee, callee_of}
 use Rattle.pearl_names.specs.declared.scope.SortedName.{SortedName}
-use Rattle.pearl_names.specs.Tables.{Form, Parameter, Sense, Variable, Control, Semaphore, Interrupt, AlphicDation, BasicDation, Task, Procedure, sense_from, table_of}
+use Rattle.pearl_names.specs.Tables.{Form, Parameter, Sense, Variable, Control, Semaphore, Interrupt, AlphicDation, BasicDation, Task, Procedure, Table, sense_from, table_of}
 use Rattle.pearl_tree.specs.declared.name.Name.{Name}
 use Rattle.pearl_tree.specs.Names.{name_text}
 use Rattle.pearl_program.specs.HiddenCells.{hidden_in_all}
@@ -42,6 +42,7 @@ use Rattle.pearl_resolve.specs.Laying.{leaves_in, filled_leaves, slots, cells_of
 use Rattle.pearl_resolve.specs.Expressions.{Numbered, number_of, resolve_expr, resolve_arguments, resolve_variable, target_kind}
 use Rattle.pearl_sound.specs.SoundNames.{IsLiteral, HasLiterals, HaveLiterals, SelectorsHaveLiterals, is_control, IsCallee, LeadNames}
 use Rattle.pearl_sound.specs.ModuleNames.{IsModuleName, HasNamesOnce, AreProcedureNumbers, DevicesAreThere}
+use Rattle.pearl_sound.specs.KnownNames.{IsThereIn, IsNamed, HasNames, SelectorsHaveNames}
 use Rattle.pearl_sound.specs.KnownParts.{IsKnown, IsSimple, Returns}
 use Rattle.pearl_resolve.specs.Statements.{resolve_stmt}
 use Rattle.pearl_sound.specs.Sights.{Sight, sights_of}
@@ -280,3 +281,10 @@ SimpleStatementsAreSound = (numbered : Numbered) (sort : RoutineSort) (place : P
     Returns numbered.table.lengths sort around.returns → place.spot.in_loop ≡ around.in_loop →
     AllByRecursion (IsKnown numbered.table) (asked_at place) → statement_faults numbered.table sort place ≡ [] →
     AreStmts around (resolve_stmt numbered place.spot.scope at place.statement)
+
+-- where all names and literals are known and no rule is broken, an expression has a kind, and so has a target
+abbrev pub KindsAreKnown : Type 0
+KindsAreKnown = (table : Table) (view : View) →
+    ((e : ShownExpr) → HasNames table view e → (judged table view e).faults ≡ [] → IsThereIn (judged table view e).kind) ×
+    ((reference : ShownRef) → IsNamed table view reference.name → SelectorsHaveNames table view reference.selectors →
+    (judged_variable table view reference).faults ≡ [] → IsThereIn (judged_variable table view reference).kind)

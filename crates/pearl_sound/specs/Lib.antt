@@ -4,6 +4,8 @@ pub mod SoundNames
 pub mod ModuleNames
 -- from where the names of a module's routines are seen, each view with what stands around it in the program
 pub mod Sights
+-- when all names and literals of an expression are known: each name has a sense with no rule broken in it, and each literal a kind
+pub mod KnownNames
 -- when what a statement asks for is known: each subject has a kind, and each name a sense; and which statements are asked
 pub mod KnownParts
 -- when what a name stands for is sound: kinds have lengths in their ranges, and of a variable all bounds are in theirs, and its leaves are small
