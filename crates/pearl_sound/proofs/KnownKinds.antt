@@ -1,7 +1,7 @@
 -- Where no rule is broken in an expression and all its names are known, so is its kind.
 use Rattle.std.specs.Prelude.{◌≡◌, ℕ, zero, suc, ◌==◌, Bool, true, false, ◌&&◌, ◌||◌, not, nat_le, if◌then◌else◌, List, [], ◌∷◌, ◌++◌, length, Option, Some, None, is_some, is_none}
 use Rattle.std.specs.Option.{option_and_then}
-use Rattle.std.specs.List.{AllByRecursion, flat_map}
+use Rattle.std.specs.List.{AllByRecursion}
 use Rattle.std.proofs.Common.{refl, ap, ◌∙◌, sym, subst, arith, true≢false}
 use Rattle.std.proofs.lemmas.Bool.{eqb-true}
 use Rattle.std.proofs.lemmas.Option.{none-some}
@@ -21,10 +21,10 @@ use Rattle.pearl_names.specs.Shapes.{Shape, OfKind, OfFields}
 use Rattle.pearl_names.specs.Forms.{Component, component}
 use Rattle.pearl_names.specs.Tables.{Parameter, Sense, Variable, Control, OwnParameter, NewType, Semaphore, Interrupt, AlphicDation, BasicDation, Task, Procedure, Table, sense_from}
 use Rattle.pearl_check_expr.specs.Senses.{Callee, callee_of, is_fixed, is_semaphore}
-use Rattle.pearl_check_expr.specs.Standings.{Judged, faulty, Standing, Broken, Open, Walked, standing_of, start_at, variable_start, stopped, walked_on, behind, element_standing, element_of, all_fixed, all_known, faults_of, to_field, field_of, selected, value_of, as_value}
-use Rattle.pearl_check_expr.specs.Judged.{result_of, monadic_result, with_monadics, dyadic_result, with_dyadic, try_judged, dimension_of, limit_of, limit_judged, misfits, differs, Argument, value_argument, no_variable, variable_argument, named_argument, ident_argument, plain_name, expr_place, fitted, argument_of, all_well, argument_faults, called_with, applied_on, is_last, result_kind, if_well, call_value, called_or, judged, judged_primary, along, step, judged_all, applied, first_applied, beyond, beyond_one, arguments, judged_variable}
+use Rattle.pearl_check_expr.specs.Standings.{Judged, faulty, Standing, Broken, Open, Walked, standing_of, start_at, variable_start, stopped, walked_on, behind, element_standing, element_of, all_fixed, all_known, faults_of, to_field, selected, value_of, as_value}
+use Rattle.pearl_check_expr.specs.Judged.{result_of, monadic_result, with_monadics, dyadic_result, with_dyadic, try_judged, dimension_of, limit_of, limit_judged, misfits, differs, Argument, value_argument, no_variable, variable_argument, named_argument, ident_argument, plain_name, expr_place, fitted, argument_of, all_well, argument_faults, called_with, is_last, if_well, call_value, called_or, judged, judged_primary, along, step, judged_all, applied, first_applied, beyond, arguments, judged_variable}
 use Rattle.pearl_sound.specs.KnownNames.{IsThereIn, HasKnownResult, IsComplete, IsNamed, HasNames, PrimaryHasNames, SelectorsHaveNames, SelectorHasNames, HaveNames}
-use Rattle.pearl_sound.proofs.SimpleStatements.{left_none, right_none, not_broken, really}
+use Rattle.pearl_sound.proofs.SimpleStatements.{left_none, right_none, not_broken}
 use Rattle.pearl_sound.proofs.SoundParts.{some_one, callee_is}
 
 one_fault : {X : Type 0} (fault : RuleFault) (rest : List RuleFault) → fault ∷ rest ≡ [] → X

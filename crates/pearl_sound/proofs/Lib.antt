@@ -30,6 +30,7 @@ pub mod ModuleDevices
 pub mod ModuleRules
 pub mod SimpleStatements
 pub mod KnownKinds
+pub mod RuleNumbers
 mod WholeModule
 mod LeadingBodies
 mod LeadingLoops

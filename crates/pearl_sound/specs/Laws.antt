@@ -28,6 +28,9 @@ use Rattle.pearl_program.specs.HiddenCells.{hidden_in_all}
 use Rattle.pearl_program.specs.Sound.{signature_of}
 use Rattle.pearl_program.specs.SoundStatements.{IsCall, AreStmts}
 use Rattle.pearl_program.specs.Typing.{Around, AreOpen, HasKind, IsVariable}
+use Rattle.pearl_calls.specs.Callers.{Caller}
+use Rattle.pearl_calls.specs.Numberings.{IsNumbering}
+use Rattle.pearl_calls.specs.Numbers.{AreNumbers}
 use Rattle.pearl_scope.specs.Rules as names
 use Rattle.pearl_scope.specs.Placed.{Placed}
 use Rattle.pearl_check.specs.Asked.{asked_at}
@@ -37,6 +40,7 @@ use Rattle.pearl_system.specs.declared.device.SpecifiedDevice.{SpecifiedDevice}
 use Rattle.pearl_system.specs.Devices.{device_key, IsDevice}
 use Rattle.pearl_system.specs.Rising.{Lists}
 use Rattle.pearl_system.specs.Rules.{broken}
+use Rattle.pearl_resolve.specs.Numbers as numbering
 use Rattle.pearl_resolve.specs.Numbers.{At, Before, senses_at, routine_start, scope_numbers, module_numbers, own_numbers, after_all, after_body, numbers_in_all, body_numbers}
 use Rattle.pearl_resolve.specs.Laying.{leaves_in, filled_leaves, slots, cells_of_sense}
 use Rattle.pearl_resolve.specs.Expressions.{Numbered, number_of, resolve_expr, resolve_arguments, resolve_variable, target_kind}
@@ -49,7 +53,7 @@ use Rattle.pearl_sound.specs.Sights.{Sight, sights_of}
 use Rattle.pearl_sound.specs.SoundForms.{IsSoundSense}
 use Rattle.pearl_sound.specs.Stretches.{Stretch, routine_stretches, IsDivided}
 use Rattle.pearl_resolve.specs.Cells.{sense_cells, cells_in_all, routine_cells}
-use Rattle.pearl_resolve.specs.Resolve.{formats_in_all, resolve_routine, numbered_of, resolve}
+use Rattle.pearl_resolve.specs.Resolve.{formats_in_all, resolve_routine, procedures_in, numbered_of, resolve}
 
 -- from here to there the text has these scopes, each with the numbers of its names, these cells and these formats
 pub record GoesPast (from to : At) (scopes : ℕ) (numbers : List (List ℕ)) (cells : List CellKind) (formats : List (List Item)) : Type 0 where
@@ -288,3 +292,10 @@ KindsAreKnown = (table : Table) (view : View) →
     ((e : ShownExpr) → HasNames table view e → (judged table view e).faults ≡ [] → IsThereIn (judged table view e).kind) ×
     ((reference : ShownRef) → IsNamed table view reference.name → SelectorsHaveNames table view reference.selectors →
     (judged_variable table view reference).faults ≡ [] → IsThereIn (judged_variable table view reference).kind)
+
+-- the numbers that procedures get by the rule are numbers of their own below the count, where there are as many
+abbrev pub RuleGivesNumbers : Type 0
+RuleGivesNumbers = (tree : ShownTree) (devices : List SpecifiedDevice) (callers : List Caller) (order numbers : List ℕ) →
+    IsNumbering callers order → AreNumbers order numbers →
+    length numbers ≡ length (procedures_in (numbered_of (table_of tree) devices numbers tree) numbering.first tree.declarations) →
+    AreProcedureNumbers tree devices numbers

@@ -1,6 +1,6 @@
 // What holds of scopes, cells, hidden cells and formats, of names and components, and of what expressions and targets become.
 
-ghost use Rattle.pearl_sound.specs.Laws.{CallsAreSound, ComponentsLieInTheirVariables, ExpressionsAreSound, HiddenCellsAreApart, InnerNamesHaveTheirCells, KindsAreKnown, LiteralsAreValues, ModuleDevicesAreThere, ModuleNamesHaveTheirLeaves, ModuleNumbersAreThere, ModuleProceduresAreThere, NamesHaveTheirCells, NamesHaveTheirDevices, NamesLead, NamesLeadInModules, NamesNameOthers, NamesShareNoCells, OwnNamesAreNotHidden, RoutinesAreDivided, RoutinesHaveCells, ScopesShareNoCells, SensesAreSound, SimpleStatementsAreSound, StatementsGoPast, StretchesHaveTheirCells, TargetsHaveTheirKind};
+ghost use Rattle.pearl_sound.specs.Laws.{CallsAreSound, ComponentsLieInTheirVariables, ExpressionsAreSound, HiddenCellsAreApart, InnerNamesHaveTheirCells, KindsAreKnown, LiteralsAreValues, ModuleDevicesAreThere, ModuleNamesHaveTheirLeaves, ModuleNumbersAreThere, ModuleProceduresAreThere, NamesHaveTheirCells, NamesHaveTheirDevices, NamesLead, NamesLeadInModules, NamesNameOthers, NamesShareNoCells, OwnNamesAreNotHidden, RoutinesAreDivided, RoutinesHaveCells, RuleGivesNumbers, ScopesShareNoCells, SensesAreSound, SimpleStatementsAreSound, StatementsGoPast, StretchesHaveTheirCells, TargetsHaveTheirKind};
 
 /// Behind some statements the counters stand at what comes behind the scopes, cells and formats of these.
 pub fn statements_go_past()
@@ -133,4 +133,9 @@ pub fn simple_statements_are_sound()
 /// An expression whose names and literals are known, and in which no rule is broken, has a kind, and so has a target.
 pub fn kinds_are_known()
     ensures { KindsAreKnown }
+{}
+
+/// The numbers that the rule gives to procedures are below their count, and no two are the same.
+pub fn rule_gives_numbers()
+    ensures { RuleGivesNumbers }
 {}
