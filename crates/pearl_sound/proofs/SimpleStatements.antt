@@ -154,7 +154,7 @@ module _ (numbered : Numbered) (scope : ℕ) (around : Around) (lead : LeadNames
       record {
         kind = known.0;
         is = known.1;
-        has = expr_sound numbered (Within scope) around lead e kept.known.1 known.0 known.1;
+        has = expr_sound numbered (Within scope) around lead.values e kept.known.1 known.0 known.1;
         fits = fits_role role known.0 (expr_place e) []
             (subst (λ kind. s23_in role kind (expr_place e) ++ ([] ++ s29_in role kind (expr_place e)) ≡ []) known.1 faults);
       }
@@ -187,7 +187,7 @@ module _ (numbered : Numbered) (scope : ℕ) (around : Around) (lead : LeadNames
       record {
         kind = known.0;
         is = known.1;
-        variable = target_sound numbered (Within scope) around lead target kept.known.1 (no_control (seen table (Within scope) target.name) free) known.0 known.1;
+        variable = target_sound numbered (Within scope) around lead.values target kept.known.1 (no_control (seen table (Within scope) target.name) free) known.0 known.1;
       }
 
   named_role : (role : NameRole) (name : Name) (kept : IsKept table (Named role scope name)) → is_role role (role_of kept.known.0) ≡ true
@@ -275,7 +275,7 @@ module _ (numbered : Numbered) (scope : ℕ) (around : Around) (lead : LeadNames
       (resolve_arguments numbered (Within scope) (or_no_params (params_of (meant numbered (Within scope) name))) exprs)) (same_listed arguments)
       (subst (λ parameters. IsCall around (number_of numbered (Within scope) name)
       (resolve_arguments numbered (Within scope) (or_no_params parameters) (as_exprs arguments))) (sym same)
-      (call_sound numbered (Within scope) around lead name known.0 (as_exprs arguments) kept.known.1 known.1 known.2))
+      (call_sound numbered (Within scope) around lead.values name known.0 (as_exprs arguments) kept.known.1 known.1 known.2))
 
   return_sound : (sort : RoutineSort) (value : Option ShownExpr) → Returns table.lengths sort around.returns →
       is_misplaced_return table scope sort value ≡ false → AreKept table (asking.value_if Plain scope value) →

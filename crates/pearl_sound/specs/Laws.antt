@@ -44,7 +44,7 @@ use Rattle.pearl_resolve.specs.Numbers as numbering
 use Rattle.pearl_resolve.specs.Numbers.{At, Before, senses_at, routine_start, scope_numbers, module_numbers, own_numbers, after_all, after_body, numbers_in_all, body_numbers}
 use Rattle.pearl_resolve.specs.Laying.{leaves_in, filled_leaves, slots, cells_of_sense}
 use Rattle.pearl_resolve.specs.Expressions.{Numbered, number_of, resolve_expr, resolve_arguments, resolve_variable, target_kind}
-use Rattle.pearl_sound.specs.SoundNames.{IsLiteral, HasLiterals, HaveLiterals, SelectorsHaveLiterals, is_control, IsCallee, LeadNames}
+use Rattle.pearl_sound.specs.SoundNames.{IsLiteral, HasLiterals, HaveLiterals, SelectorsHaveLiterals, is_control, IsCallee, LeadValues, LeadNames}
 use Rattle.pearl_sound.specs.ModuleNames.{IsModuleName, HasNamesOnce, AreProcedureNumbers, DevicesAreThere}
 use Rattle.pearl_sound.specs.KnownNames.{IsThereIn, IsNamed, HasNames, SelectorsHaveNames}
 use Rattle.pearl_sound.specs.KnownParts.{IsKnown, IsSimple, Returns}
@@ -81,7 +81,7 @@ TargetsHaveTheirKind = (numbered : Numbered) (view : View) (reference : ShownRef
 -- where names lead to what is there, what an expression becomes has the kind with which the expression is judged, and so
 -- has what a target becomes, whose name is that of no control variable
 abbrev pub ExpressionsAreSound : Type 0
-ExpressionsAreSound = (numbered : Numbered) (view : View) (around : Around) → LeadNames numbered view around →
+ExpressionsAreSound = (numbered : Numbered) (view : View) (around : Around) → LeadValues numbered view around →
     ((e : ShownExpr) → HasLiterals numbered.table.lengths e → (kind : Kind) →
     (judged numbered.table view e).kind ≡ Some kind → HasKind around (resolve_expr numbered view e) kind) ×
     ((reference : ShownRef) → SelectorsHaveLiterals numbered.table.lengths reference.selectors →
@@ -95,7 +95,7 @@ LiteralsAreValues = (declarations : List ShownDecl) (part : Literal) → IsLawfu
 
 -- what a call hands over, whose arguments are as many as the parameters and suit them, suits in the program
 abbrev pub CallsAreSound : Type 0
-CallsAreSound = (numbered : Numbered) (view : View) (around : Around) → LeadNames numbered view around →
+CallsAreSound = (numbered : Numbered) (view : View) (around : Around) → LeadValues numbered view around →
     (name : Name) (callee : Callee) (exprs : ShownExprs) → HaveLiterals numbered.table.lengths exprs →
     callee_of (sense_from numbered.table view (name_text name)) ≡ Some callee →
     (called numbered.table view name callee exprs).well ≡ true →
