@@ -39,8 +39,8 @@ IsKnown table (Named role scope name) = (sense : Sense) × (seen table (Within s
 
 -- no statement within, no semaphores, and no format
 abbrev pub IsSimple : ShownStmt → Type 0
-IsSimple (OfIf condition statements otherwise place) = ⊥
-IsSimple (OfCase selector alternatives otherwise place) = ⊥
+IsSimple (OfIf condition statements rest place) = ⊥
+IsSimple (OfCase selector alternatives rest place) = ⊥
 IsSimple (OfRepeat control begin step end condition declarations statements body_place place) = ⊥
 IsSimple (OfBegin declarations statements body_place place) = ⊥
 IsSimple (OfOnSemas word names place) = ⊥
