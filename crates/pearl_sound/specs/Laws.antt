@@ -31,11 +31,10 @@ use Rattle.pearl_program.specs.Typing.{Around, AreOpen, HasKind, IsVariable}
 use Rattle.pearl_calls.specs.Callers.{Caller}
 use Rattle.pearl_calls.specs.Numberings.{IsNumbering}
 use Rattle.pearl_calls.specs.Numbers.{AreNumbers}
-use Rattle.pearl_scope.specs.Rules as names
 use Rattle.pearl_scope.specs.Placed.{Placed}
 use Rattle.pearl_check.specs.Asked.{asked_at}
 use Rattle.pearl_check.specs.Routines.{RoutineSort}
-use Rattle.pearl_check.specs.Rules.{statement_faults}
+use Rattle.pearl_check.specs.Rules.{all_broken, statement_faults}
 use Rattle.pearl_system.specs.declared.device.SpecifiedDevice.{SpecifiedDevice}
 use Rattle.pearl_system.specs.Devices.{device_key, IsDevice}
 use Rattle.pearl_system.specs.Rising.{Lists}
@@ -269,11 +268,11 @@ NamesLead = (tree : ShownTree) (devices : List SpecifiedDevice) (procedures : Li
     AllByRecursion (λ (sight : Sight). LeadNames (numbered_of (table_of tree) devices procedures tree) sight.view sight.around)
     (sights_of tree devices procedures)
 
--- where a module breaks none of the rules on names, types and declarations, nor one of those on devices, and its procedures
--- have numbers of their own below their count, names lead to what is there from each of its views
+-- where a module breaks no static rule, and its procedures have numbers of their own below their count, names lead to what is
+-- there from each of its views
 abbrev pub NamesLeadInModules : Type 0
-NamesLeadInModules = (tree : ShownTree) (devices : List SpecifiedDevice) (procedures : List ℕ) → names.broken tree ≡ [] →
-    broken tree ≡ [] → Lists device_key (IsDevice tree) devices → AreProcedureNumbers tree devices procedures →
+NamesLeadInModules = (tree : ShownTree) (devices : List SpecifiedDevice) (procedures : List ℕ) → all_broken tree ≡ [] →
+    Lists device_key (IsDevice tree) devices → AreProcedureNumbers tree devices procedures →
     AllByRecursion (λ (sight : Sight). LeadNames (numbered_of (table_of tree) devices procedures tree) sight.view sight.around)
     (sights_of tree devices procedures)
 

@@ -119,7 +119,7 @@ pub fn module_devices_are_there()
     ensures { ModuleDevicesAreThere }
 {}
 
-/// In a module that keeps the rules on names, types, declarations and devices, names lead to what is there from each view.
+/// In a module that breaks no static rule names lead to what is there from each view.
 pub fn names_lead_in_modules()
     ensures { NamesLeadInModules }
 {}
