@@ -40,7 +40,7 @@ all_at P [] i x all is = absurd (none-some x is)
 all_at P (first ∷ rest) zero x all is = subst P (some_one is) all.0
 all_at P (first ∷ rest) (suc i) x all is = all_at P rest i x all.1 is
 
-not_same : (x y : ℕ) → nat_eq y x ≡ false → nat_eq x y ≡ false
+pub not_same : (x y : ℕ) → nat_eq y x ≡ false → nat_eq x y ≡ false
 not_same x y other = by (nat_eq x y) refl
   where
     by : (test : Bool) → nat_eq x y ≡ test → test ≡ false

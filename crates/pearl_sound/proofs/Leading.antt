@@ -92,10 +92,12 @@ variable_found numbered around name dimensions shape (Some found) leads is =
 pub lead_all : (numbered : Numbered) (view : View) (around : Around) →
     ((name : Name) → IsIf (Leads around) (meant numbered view name)) → LeadNames numbered view around
 lead_all numbered view around leads = record {
-  variables = λ name dimensions shape is.
-      variable_found numbered around name dimensions shape (found_from numbered.table.names view (name_text name)) (leads name) is;
-  semaphores = λ name is. (led name Semaphore is).1;
-  procedures = λ name parameters result is. (led name (Procedure parameters result) is).1;
+  values = record {
+    variables = λ name dimensions shape is.
+        variable_found numbered around name dimensions shape (found_from numbered.table.names view (name_text name)) (leads name) is;
+    semaphores = λ name is. (led name Semaphore is).1;
+    procedures = λ name parameters result is. (led name (Procedure parameters result) is).1;
+  };
   tasks = λ name is. (led name Task is).1;
   interrupts = λ name is. (led name Interrupt is).1;
   terminals = λ name direction is. (led name (AlphicDation direction) is).1;

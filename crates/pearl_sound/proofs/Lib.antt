@@ -27,6 +27,10 @@ pub mod LocalNames
 pub mod Sighted
 pub mod ModuleSighted
 pub mod ModuleDevices
+pub mod ModuleRules
+pub mod SimpleStatements
+pub mod KnownKinds
+pub mod RuleNumbers
 mod WholeModule
 mod LeadingBodies
 mod LeadingLoops

@@ -26,7 +26,7 @@ use Rattle.pearl_sound.specs.SoundNames.{IsLiteral}
 use Rattle.pearl_sound.proofs.Subscripting.{both}
 use Rattle.pearl_sound.proofs.SoundParts.{some_one}
 
-abbrev IsSet : DefaultLength → Type 0
+abbrev pub IsSet : DefaultLength → Type 0
 IsSet default = is_length default.sort default.len ≡ true
 
 abbrev IsFixedLength : ℕ → Type 0
@@ -69,7 +69,7 @@ decl_set (OfSpecify specs place) = tt
 decl_set (OfTask name head body place) = tt
 decl_set (OfProc name params returns body place) = tt
 
-all_set : (declarations : List ShownDecl) → AllByRecursion IsSet (lengths_set declarations)
+pub all_set : (declarations : List ShownDecl) → AllByRecursion IsSet (lengths_set declarations)
 all_set [] = tt
 all_set (decl ∷ rest) = set_both (length_set decl) (lengths_set rest) (decl_set decl) (all_set rest)
 

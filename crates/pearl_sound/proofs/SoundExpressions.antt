@@ -23,7 +23,7 @@ use Rattle.pearl_program.specs.Typing.{Around, HasKind, IsVariable, Suit, SuitsP
 use Rattle.pearl_resolve.specs.Expressions as resolved
 use Rattle.pearl_resolve.specs.Expressions.{Numbered, meant, number_of, Walk, walk_from, variable_of, count, params_of, handed, along, step, resolve_expr, resolve_primary, resolve_exprs, resolve_call, first_arguments, resolve_arguments, resolve_variable}
 use Rattle.pearl_resolve.specs.Cells.{param_cell}
-use Rattle.pearl_sound.specs.SoundNames.{HasLiterals, PrimaryHasLiterals, SelectorsHaveLiterals, SelectorHasLiterals, HaveLiterals, param_cells, is_control, LeadNames}
+use Rattle.pearl_sound.specs.SoundNames.{HasLiterals, PrimaryHasLiterals, SelectorsHaveLiterals, SelectorHasLiterals, HaveLiterals, param_cells, is_control, LeadValues}
 use Rattle.pearl_sound.proofs.Subscripting.{both, some_of, AreAllFixed}
 use Rattle.pearl_sound.proofs.SoundWalks.{IsSoundAt, Reads, starts_sound, component_sound, subscripts_sound, element_sound, variable_sound}
 use Rattle.pearl_sound.proofs.SoundParts.{some_one, dyadic_is, monadics_sound, try_is, limit_sound, fixed_is, no_control, value_suits, variable_suits, well_is, params_of_callee, same_params, callee_is}
@@ -48,7 +48,7 @@ read_sound : (around : Around) (control : Bool) (name : Name) (standing : Standi
 read_sound around control name standing walk kind stands is =
     either around control (variable_of walk) kind (reads_is around control name standing walk kind stands is)
 
-module _ (numbered : Numbered) (view : View) (around : Around) (lead : LeadNames numbered view around) where
+module _ (numbered : Numbered) (view : View) (around : Around) (lead : LeadValues numbered view around) where
   abbrev read_of : Name → ShownSelectors → PlainExpr
   read_of name selectors = OfRead (variable_of (along numbered view (walk_from (meant numbered view name)) selectors))
 
@@ -291,7 +291,7 @@ module _ (numbered : Numbered) (view : View) (around : Around) (lead : LeadNames
             (arguments_suit callee.parameters exprs lits (eqb-true (length given) (length callee.parameters) tests.0) tests.1),
       )
 
-pub all_sound : (numbered : Numbered) (view : View) (around : Around) → LeadNames numbered view around →
+pub all_sound : (numbered : Numbered) (view : View) (around : Around) → LeadValues numbered view around →
     ((e : ShownExpr) → HasLiterals numbered.table.lengths e → (kind : Kind) →
     (judged numbered.table view e).kind ≡ Some kind → HasKind around (resolve_expr numbered view e) kind) ×
     ((reference : ShownRef) → SelectorsHaveLiterals numbered.table.lengths reference.selectors →

@@ -21,7 +21,7 @@ use Rattle.pearl_program.specs.declared.expression.Bound.{Bound}
 use Rattle.pearl_program.specs.PlainExpressions.{PlainVariable, OfVariable, PlainExprs, NoExprs, MoreExprs}
 use Rattle.pearl_program.specs.Typing.{Around, IsParam, IsControl, IsVariable, AreSubscripts}
 use Rattle.pearl_resolve.specs.Expressions.{Numbered, number_at, meant_at, meant, Walk, bound_of, own_or_param, target_in, begun, walk_of, walk_from, to_field, field_of, count, joined_exprs, variable_of}
-use Rattle.pearl_sound.specs.SoundNames.{Points, IsEnd, Follows, Reaches, is_control, LeadNames}
+use Rattle.pearl_sound.specs.SoundNames.{Points, IsEnd, Follows, Reaches, is_control, LeadValues}
 use Rattle.pearl_sound.proofs.Subscripting.{cut_small, cut_most, sound_before, AreAllFixed, count_joined, fixed_given, joined_given, sound_behind}
 
 pub record StandsSound (around : Around) (control : Bool) (dimensions : ℕ) (shape : Shape) (walk : Walk) : Type 0 where
@@ -100,7 +100,7 @@ if_found around control numbered name None reach = tt
 if_found around control numbered name (Some found) reach =
     if_sense around control name found.scope (number_at numbered.numbers found) (sense_at numbered.table.senses found) reach
 
-pub starts_sound : (numbered : Numbered) (view : View) (around : Around) → LeadNames numbered view around → (name : Name) →
+pub starts_sound : (numbered : Numbered) (view : View) (around : Around) → LeadValues numbered view around → (name : Name) →
     IsSoundAt around (is_control (sense_from numbered.table view (name_text name)))
     (variable_start name (sense_from numbered.table view (name_text name))).standing (walk_from (meant numbered view name))
 starts_sound numbered view around lead name =

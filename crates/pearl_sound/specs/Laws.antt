@@ -17,30 +17,42 @@ use Rattle.pearl_names.specs.Layout.{Leaf, leaves_of, leaves_of_fields, elements
 use Rattle.pearl_names.specs.Forms.{Component, component}
 use Rattle.pearl_names.specs.Scopes.{scopes_in_all}
 use Rattle.pearl_names.specs.declared.scope.View.{View}
+use Rattle.pearl_names.specs.declared.scope.View.TheVariants.{Within}
 use Rattle.pearl_check_expr.specs.Judged.{judged, judged_variable, called}
 use Rattle.pearl_check_expr.specs.Senses.{Callee, callee_of}
 use Rattle.pearl_names.specs.declared.scope.SortedName.{SortedName}
-use Rattle.pearl_names.specs.Tables.{Form, Parameter, Sense, Variable, Control, Semaphore, Interrupt, AlphicDation, BasicDation, Task, Procedure, sense_from, table_of}
+use Rattle.pearl_names.specs.Tables.{Form, Parameter, Sense, Variable, Control, Semaphore, Interrupt, AlphicDation, BasicDation, Task, Procedure, Table, sense_from, table_of}
 use Rattle.pearl_tree.specs.declared.name.Name.{Name}
 use Rattle.pearl_tree.specs.Names.{name_text}
 use Rattle.pearl_program.specs.HiddenCells.{hidden_in_all}
 use Rattle.pearl_program.specs.Sound.{signature_of}
-use Rattle.pearl_program.specs.SoundStatements.{IsCall}
+use Rattle.pearl_program.specs.SoundStatements.{IsCall, AreStmts}
 use Rattle.pearl_program.specs.Typing.{Around, AreOpen, HasKind, IsVariable}
+use Rattle.pearl_calls.specs.Callers.{Caller}
+use Rattle.pearl_calls.specs.Numberings.{IsNumbering}
+use Rattle.pearl_calls.specs.Numbers.{AreNumbers}
+use Rattle.pearl_scope.specs.Placed.{Placed}
+use Rattle.pearl_check.specs.Asked.{asked_at}
+use Rattle.pearl_check.specs.Routines.{RoutineSort}
+use Rattle.pearl_check.specs.Rules.{all_broken, statement_faults}
 use Rattle.pearl_system.specs.declared.device.SpecifiedDevice.{SpecifiedDevice}
 use Rattle.pearl_system.specs.Devices.{device_key, IsDevice}
 use Rattle.pearl_system.specs.Rising.{Lists}
 use Rattle.pearl_system.specs.Rules.{broken}
+use Rattle.pearl_resolve.specs.Numbers as numbering
 use Rattle.pearl_resolve.specs.Numbers.{At, Before, senses_at, routine_start, scope_numbers, module_numbers, own_numbers, after_all, after_body, numbers_in_all, body_numbers}
 use Rattle.pearl_resolve.specs.Laying.{leaves_in, filled_leaves, slots, cells_of_sense}
 use Rattle.pearl_resolve.specs.Expressions.{Numbered, number_of, resolve_expr, resolve_arguments, resolve_variable, target_kind}
-use Rattle.pearl_sound.specs.SoundNames.{IsLiteral, HasLiterals, HaveLiterals, SelectorsHaveLiterals, is_control, IsCallee, LeadNames}
+use Rattle.pearl_sound.specs.SoundNames.{IsLiteral, HasLiterals, HaveLiterals, SelectorsHaveLiterals, is_control, IsCallee, LeadValues, LeadNames}
 use Rattle.pearl_sound.specs.ModuleNames.{IsModuleName, HasNamesOnce, AreProcedureNumbers, DevicesAreThere}
+use Rattle.pearl_sound.specs.KnownNames.{IsThereIn, IsNamed, HasNames, SelectorsHaveNames}
+use Rattle.pearl_sound.specs.KnownParts.{IsKnown, IsSimple, Returns}
+use Rattle.pearl_resolve.specs.Statements.{resolve_stmt}
 use Rattle.pearl_sound.specs.Sights.{Sight, sights_of}
 use Rattle.pearl_sound.specs.SoundForms.{IsSoundSense}
 use Rattle.pearl_sound.specs.Stretches.{Stretch, routine_stretches, IsDivided}
 use Rattle.pearl_resolve.specs.Cells.{sense_cells, cells_in_all, routine_cells}
-use Rattle.pearl_resolve.specs.Resolve.{formats_in_all, resolve_routine, numbered_of, resolve}
+use Rattle.pearl_resolve.specs.Resolve.{formats_in_all, resolve_routine, procedures_in, numbered_of, resolve}
 
 -- from here to there the text has these scopes, each with the numbers of its names, these cells and these formats
 pub record GoesPast (from to : At) (scopes : ℕ) (numbers : List (List ℕ)) (cells : List CellKind) (formats : List (List Item)) : Type 0 where
@@ -68,7 +80,7 @@ TargetsHaveTheirKind = (numbered : Numbered) (view : View) (reference : ShownRef
 -- where names lead to what is there, what an expression becomes has the kind with which the expression is judged, and so
 -- has what a target becomes, whose name is that of no control variable
 abbrev pub ExpressionsAreSound : Type 0
-ExpressionsAreSound = (numbered : Numbered) (view : View) (around : Around) → LeadNames numbered view around →
+ExpressionsAreSound = (numbered : Numbered) (view : View) (around : Around) → LeadValues numbered view around →
     ((e : ShownExpr) → HasLiterals numbered.table.lengths e → (kind : Kind) →
     (judged numbered.table view e).kind ≡ Some kind → HasKind around (resolve_expr numbered view e) kind) ×
     ((reference : ShownRef) → SelectorsHaveLiterals numbered.table.lengths reference.selectors →
@@ -82,7 +94,7 @@ LiteralsAreValues = (declarations : List ShownDecl) (part : Literal) → IsLawfu
 
 -- what a call hands over, whose arguments are as many as the parameters and suit them, suits in the program
 abbrev pub CallsAreSound : Type 0
-CallsAreSound = (numbered : Numbered) (view : View) (around : Around) → LeadNames numbered view around →
+CallsAreSound = (numbered : Numbered) (view : View) (around : Around) → LeadValues numbered view around →
     (name : Name) (callee : Callee) (exprs : ShownExprs) → HaveLiterals numbered.table.lengths exprs →
     callee_of (sense_from numbered.table view (name_text name)) ≡ Some callee →
     (called numbered.table view name callee exprs).well ≡ true →
@@ -212,9 +224,10 @@ abbrev pub ScopesShareNoCells : Type 0
 ScopesShareNoCells = (numbered : Numbered) (at : At) (body : ShownBody) (k l first second : ℕ) (one two : Sense) → k < l →
     IsNameIn numbered at body k first one → IsNameIn numbered at body l second two → first + cells_of_sense one ≤ second
 
--- where a variable has a form, all its bounds are in their ranges, and it has leaves of few dimensions and elements
-abbrev pub VariablesHaveSoundForms : Type 0
-VariablesHaveSoundForms = (tree : ShownTree) (scope : ℕ) → AllByRecursion IsSoundSense (senses_at (table_of tree) scope)
+-- all kinds have lengths in their ranges; where a variable has a form, so are all its bounds, and it has leaves of few
+-- dimensions and elements
+abbrev pub SensesAreSound : Type 0
+SensesAreSound = (tree : ShownTree) (scope : ℕ) → AllByRecursion IsSoundSense (senses_at (table_of tree) scope)
 
 -- where no name of the module is declared twice, from a variable's number on the program has just its leaves, under its name
 abbrev pub ModuleNamesHaveTheirLeaves : Type 0
@@ -254,3 +267,34 @@ NamesLead = (tree : ShownTree) (devices : List SpecifiedDevice) (procedures : Li
     AreProcedureNumbers tree devices procedures → DevicesAreThere tree devices procedures →
     AllByRecursion (λ (sight : Sight). LeadNames (numbered_of (table_of tree) devices procedures tree) sight.view sight.around)
     (sights_of tree devices procedures)
+
+-- where a module breaks no static rule, and its procedures have numbers of their own below their count, names lead to what is
+-- there from each of its views
+abbrev pub NamesLeadInModules : Type 0
+NamesLeadInModules = (tree : ShownTree) (devices : List SpecifiedDevice) (procedures : List ℕ) → all_broken tree ≡ [] →
+    Lists device_key (IsDevice tree) devices → AreProcedureNumbers tree devices procedures →
+    AllByRecursion (λ (sight : Sight). LeadNames (numbered_of (table_of tree) devices procedures tree) sight.view sight.around)
+    (sights_of tree devices procedures)
+
+-- where names lead to what is there, a statement that has none within it, and names neither semaphores nor a format, becomes
+-- a sound one, if what it asks for is known and no rule is broken
+abbrev pub SimpleStatementsAreSound : Type 0
+SimpleStatementsAreSound = (numbered : Numbered) (sort : RoutineSort) (place : Placed) (at : At) (around : Around) →
+    LeadNames numbered (Within place.spot.scope) around → at.next ≡ place.next → IsSimple place.statement →
+    Returns numbered.table.lengths sort around.returns → place.spot.in_loop ≡ around.in_loop →
+    AllByRecursion (IsKnown numbered.table) (asked_at place) → statement_faults numbered.table sort place ≡ [] →
+    AreStmts around (resolve_stmt numbered place.spot.scope at place.statement)
+
+-- where all names and literals are known and no rule is broken, an expression has a kind, and so has a target
+abbrev pub KindsAreKnown : Type 0
+KindsAreKnown = (table : Table) (view : View) →
+    ((e : ShownExpr) → HasNames table view e → (judged table view e).faults ≡ [] → IsThereIn (judged table view e).kind) ×
+    ((reference : ShownRef) → IsNamed table view reference.name → SelectorsHaveNames table view reference.selectors →
+    (judged_variable table view reference).faults ≡ [] → IsThereIn (judged_variable table view reference).kind)
+
+-- the numbers that procedures get by the rule are numbers of their own below the count, where there are as many
+abbrev pub RuleGivesNumbers : Type 0
+RuleGivesNumbers = (tree : ShownTree) (devices : List SpecifiedDevice) (callers : List Caller) (order numbers : List ℕ) →
+    IsNumbering callers order → AreNumbers order numbers →
+    length numbers ≡ length (procedures_in (numbered_of (table_of tree) devices numbers tree) numbering.first tree.declarations) →
+    AreProcedureNumbers tree devices numbers

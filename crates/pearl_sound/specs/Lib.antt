@@ -4,7 +4,11 @@ pub mod SoundNames
 pub mod ModuleNames
 -- from where the names of a module's routines are seen, each view with what stands around it in the program
 pub mod Sights
--- when the form of a variable is sound: all its bounds are in their ranges, and its leaves are small
+-- when all names and literals of an expression are known: each name has a sense with no rule broken in it, and each literal a kind
+pub mod KnownNames
+-- when what a statement asks for is known: each subject has a kind, and each name a sense; and which statements are asked
+pub mod KnownParts
+-- when what a name stands for is sound: kinds have lengths in their ranges, and of a variable all bounds are in theirs, and its leaves are small
 pub mod SoundForms
 -- what the cells of a routine are given to, stretch by stretch in the order of the text: the names of a scope, a loop that counts, the targets of a GET
 pub mod Stretches

@@ -117,8 +117,9 @@ IsChannel In kind device = IsInput device kind
 IsChannel Out kind device = IsOutput device kind
 IsChannel InOut kind device = ⊥
 
--- each name that is seen from here leads to what is there; which procedures may be called isn't asked here
-pub record LeadNames (numbered : Numbered) (view : View) (around : Around) : Type 0 where
+-- each name that is seen from here and may stand in an expression, a target or a call leads to what is there; which
+-- procedures may be called isn't asked here
+pub record LeadValues (numbered : Numbered) (view : View) (around : Around) : Type 0 where
   pub variables : (name : Name) (dimensions : ℕ) (shape : Shape) →
       (variable_start name (sense_from numbered.table view (name_text name))).standing ≡ Open dimensions shape →
       Reaches around (is_control (sense_from numbered.table view (name_text name))) (walk_from (meant numbered view name))
@@ -127,6 +128,10 @@ pub record LeadNames (numbered : Numbered) (view : View) (around : Around) : Typ
   pub procedures : (name : Name) (parameters : List Parameter) (result : Option (Option Kind)) →
       sense_from numbered.table view (name_text name) ≡ Some (Procedure parameters result) →
       IsCallee around (number_of numbered view name) parameters result
+
+-- and so does each other name
+pub record LeadNames (numbered : Numbered) (view : View) (around : Around) : Type 0 where
+  pub values : LeadValues numbered view around
   pub tasks : (name : Name) → sense_from numbered.table view (name_text name) ≡ Some Task →
       IsTaskNumber around (number_of numbered view name)
   pub interrupts : (name : Name) → sense_from numbered.table view (name_text name) ≡ Some Interrupt →

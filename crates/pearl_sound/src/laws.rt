@@ -1,6 +1,6 @@
 // What holds of scopes, cells, hidden cells and formats, of names and components, and of what expressions and targets become.
 
-ghost use Rattle.pearl_sound.specs.Laws.{CallsAreSound, ComponentsLieInTheirVariables, ExpressionsAreSound, HiddenCellsAreApart, InnerNamesHaveTheirCells, LiteralsAreValues, ModuleDevicesAreThere, ModuleNamesHaveTheirLeaves, ModuleNumbersAreThere, ModuleProceduresAreThere, NamesHaveTheirCells, NamesHaveTheirDevices, NamesLead, NamesNameOthers, NamesShareNoCells, OwnNamesAreNotHidden, RoutinesAreDivided, RoutinesHaveCells, ScopesShareNoCells, StatementsGoPast, StretchesHaveTheirCells, TargetsHaveTheirKind, VariablesHaveSoundForms};
+ghost use Rattle.pearl_sound.specs.Laws.{CallsAreSound, ComponentsLieInTheirVariables, ExpressionsAreSound, HiddenCellsAreApart, InnerNamesHaveTheirCells, KindsAreKnown, LiteralsAreValues, ModuleDevicesAreThere, ModuleNamesHaveTheirLeaves, ModuleNumbersAreThere, ModuleProceduresAreThere, NamesHaveTheirCells, NamesHaveTheirDevices, NamesLead, NamesLeadInModules, NamesNameOthers, NamesShareNoCells, OwnNamesAreNotHidden, RoutinesAreDivided, RoutinesHaveCells, RuleGivesNumbers, ScopesShareNoCells, SensesAreSound, SimpleStatementsAreSound, StatementsGoPast, StretchesHaveTheirCells, TargetsHaveTheirKind};
 
 /// Behind some statements the counters stand at what comes behind the scopes, cells and formats of these.
 pub fn statements_go_past()
@@ -88,9 +88,10 @@ pub fn scopes_share_no_cells()
     ensures { ScopesShareNoCells }
 {}
 
-/// A variable whose declaration breaks no rule has bounds in their ranges, and leaves of few dimensions and elements.
-pub fn variables_have_sound_forms()
-    ensures { VariablesHaveSoundForms }
+/// The kinds of what names stand for have lengths in their ranges. A variable whose declaration breaks no rule has bounds in
+/// theirs, and leaves of few dimensions and elements.
+pub fn senses_are_sound()
+    ensures { SensesAreSound }
 {}
 
 /// At the number of a variable of the module the program has just its leaves, with their names, kinds and elements.
@@ -116,4 +117,25 @@ pub fn names_lead()
 /// At the number of an interrupt's or a dation's name the program has a device of the sort that the name says.
 pub fn module_devices_are_there()
     ensures { ModuleDevicesAreThere }
+{}
+
+/// In a module that breaks no static rule names lead to what is there from each view.
+pub fn names_lead_in_modules()
+    ensures { NamesLeadInModules }
+{}
+
+/// Where names lead to what is there, a statement without others within it, in which all is known and no rule is broken,
+/// becomes a sound one; semaphores and formats are left out.
+pub fn simple_statements_are_sound()
+    ensures { SimpleStatementsAreSound }
+{}
+
+/// An expression whose names and literals are known, and in which no rule is broken, has a kind, and so has a target.
+pub fn kinds_are_known()
+    ensures { KindsAreKnown }
+{}
+
+/// The numbers that the rule gives to procedures are below their count, and no two are the same.
+pub fn rule_gives_numbers()
+    ensures { RuleGivesNumbers }
 {}

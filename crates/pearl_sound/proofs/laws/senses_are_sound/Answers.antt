@@ -1,5 +1,5 @@
 use Rattle.pearl_sound.proofs.SoundForms.{senses_sound}
-use Rattle.pearl_sound.proofs.laws.variables_have_sound_forms.Goals as goal
+use Rattle.pearl_sound.proofs.laws.senses_are_sound.Goals as goal
 
 pub returns : goal.returns
 returns c = senses_sound

@@ -1,0 +1,58 @@
+-- When what a statement asks for is known: each subject has a kind, and each name a sense. And which statements are asked.
+use Rattle.std.specs.Prelude.{◌≡◌, ℕ, true, List, Option, Some, None}
+use Rattle.pearl_value.specs.declared.kind.Kind.{Kind}
+use Rattle.pearl_tree.specs.declared.typing.Basic.{Basic}
+use Rattle.pearl_tree.specs.ShownStatements.{ShownStmt, OfIf, OfCase, OfRepeat, OfBegin, OfOnSemas, OfPut, OfGet}
+use Rattle.pearl_names.specs.declared.length.DefaultLength.{DefaultLength}
+use Rattle.pearl_names.specs.declared.scope.View.TheVariants.{Within}
+use Rattle.pearl_names.specs.Lengths.{kind_of_basic}
+use Rattle.pearl_names.specs.Tables.{Sense, BasicDation, Table}
+use Rattle.pearl_check_expr.specs.Judged.{called}
+use Rattle.pearl_check_expr.specs.Senses.{Callee, callee_of}
+use Rattle.pearl_check_expr.specs.Subjects.{ShownSubject, OfValue, OfWhile, OfTarget, OfCallStatement}
+use Rattle.pearl_check.specs.Asked.{Asked, Subject, Named}
+use Rattle.pearl_check.specs.Routines.{RoutineSort, Task, Procedure}
+use Rattle.pearl_check.specs.Views.{seen, subject_kind}
+use Rattle.pearl_resolve.specs.Resolve.{result_kind}
+use Rattle.pearl_sound.specs.SoundNames.{HasLiterals, SelectorsHaveLiterals, HaveLiterals}
+
+abbrev pub HasItsLiterals : List DefaultLength → ShownSubject → Type 0
+HasItsLiterals lengths (OfValue expr) = HasLiterals lengths expr
+HasItsLiterals lengths (OfWhile expr) = HasLiterals lengths expr
+HasItsLiterals lengths (OfTarget target) = SelectorsHaveLiterals lengths target.selectors
+HasItsLiterals lengths (OfCallStatement name arguments) = HaveLiterals lengths arguments
+
+-- a call statement needs no kind, but a procedure that its arguments suit
+abbrev pub HasItsKind : Table → ℕ → ShownSubject → Type 0
+HasItsKind table scope (OfCallStatement name arguments) =
+    (callee : Callee) × (callee_of (seen table (Within scope) name) ≡ Some callee) ×
+    ((called table (Within scope) name callee arguments).well ≡ true)
+HasItsKind table scope subject = (kind : Kind) × (subject_kind table scope subject ≡ Some kind)
+
+abbrev pub IsKnownSense : Sense → Type 0
+IsKnownSense (BasicDation direction known) = (kind : Kind) × (known ≡ Some kind)
+IsKnownSense sense = Unit {0}
+
+abbrev pub IsKnown : Table → Asked → Type 0
+IsKnown table (Subject role scope subject) = HasItsKind table scope subject × HasItsLiterals table.lengths subject
+IsKnown table (Named role scope name) = (sense : Sense) × (seen table (Within scope) name ≡ Some sense) × IsKnownSense sense
+
+-- no statement within, no semaphores, and no format
+abbrev pub IsSimple : ShownStmt → Type 0
+IsSimple (OfIf condition statements rest place) = ⊥
+IsSimple (OfCase selector alternatives rest place) = ⊥
+IsSimple (OfRepeat control begin step end condition declarations statements body_place place) = ⊥
+IsSimple (OfBegin declarations statements body_place place) = ⊥
+IsSimple (OfOnSemas word names place) = ⊥
+IsSimple (OfPut values dation formats place) = ⊥
+IsSimple (OfGet targets dation formats place) = ⊥
+IsSimple statement = Unit {0}
+
+abbrev pub HasResult : List DefaultLength → Option Basic → Type 0
+HasResult lengths None = Unit {0}
+HasResult lengths (Some basic) = (kind : Kind) × (kind_of_basic lengths basic ≡ Some kind)
+
+-- what a routine of this sort returns
+abbrev pub Returns : List DefaultLength → RoutineSort → Option (Option Kind) → Type 0
+Returns lengths (Task head) returns = returns ≡ None
+Returns lengths (Procedure result) returns = (returns ≡ Some (result_kind lengths result)) × HasResult lengths result
