@@ -13,11 +13,7 @@ use Rattle.pearl_instructions.specs.Operators.{number_of, numbers_of, offset_of,
 use Rattle.pearl_instructions.specs.Valid.{extent, elements, is_array}
 use Rattle.pearl_solo.specs.Indices.{distance_of, distance_at, offset_among}
 use Rattle.pearl_solo.specs.Steps.{on_top, Applies, made_on}
-use Rattle.pearl_solo.proofs.Applied.{given_some, needed_true}
-
-and_true : (a b : Bool) → a && b ≡ true → (a ≡ true) × (b ≡ true)
-and_true true b e = (refl, e)
-and_true false b e = cc
+use Rattle.pearl_solo.proofs.Applied.{given_some, needed_true, and_true}
 
 -- how far one number is above another
 pub above : (a b : ℤ) → int_le a b ≡ true → (d : ℕ) × (b -ℤ a ≡ pos d)

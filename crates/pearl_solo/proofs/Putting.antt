@@ -1,5 +1,5 @@
 -- Values that suit a format.
-use Rattle.std.proofs.Common.{◌≡◌, ℕ, zero, suc, ◌+◌, ◌≤◌, List, [], ◌∷◌, Option, Some, None, length, map, reverse, take, drop, refl, sym, ap, ◌∙◌, subst, arith, Bool, true, false, leb-true}
+use Rattle.std.proofs.Common.{◌≡◌, ℕ, zero, suc, ◌+◌, ◌≤◌, List, [], ◌∷◌, Option, Some, None, length, map, reverse, take, drop, refl, sym, ap, ◌∙◌, subst, arith, true, leb-true}
 use Rattle.std.specs.Prelude.{◌&&◌, nat_le, option_map, option_and_then}
 use Rattle.std.specs.List.{AllByRecursion, AllZip}
 use Rattle.std.proofs.lemmas.List.Elements.{All-from_recursion}
@@ -29,13 +29,9 @@ use Rattle.pearl_instructions.specs.Steps.{Offers, given, needed, taken, value_k
 use Rattle.pearl_instructions.specs.Valid.{plain_kinds, suits_format, values_suit}
 use Rattle.pearl_solo.specs.Steps.{on_top, Applies}
 use Rattle.pearl_solo.specs.Texts.{MakesText}
-use Rattle.pearl_solo.proofs.Applied.{given_some, needed_true}
-use Rattle.pearl_solo.proofs.Stands.{all_of}
+use Rattle.pearl_solo.proofs.Applied.{given_some, needed_true, and_true}
+use Rattle.pearl_solo.proofs.Filling.{all_given}
 use mathlib.Core.List.{reverse_aux}
-
-and_true : (a b : Bool) → a && b ≡ true → (a ≡ true) × (b ≡ true)
-and_true true b e = (refl, e)
-and_true false b e = cc
 
 -- an item of lawful width takes the kind that it suits
 
@@ -208,7 +204,7 @@ pub makes_text : (o : Object) (rs : List ℕ) (format : ℕ) (s : Shape) (xs : L
     AllZip (SuitsCell o rs) s xs → data_count items ≤ length xs → values_suit (items_at o format) s ≡ true → MakesText (items_at o format) xs
 makes_text o rs format s xs items w e z there h =
     subst (λ i. MakesText i xs) (sym e)
-    (makes_by o rs items s xs (all_of IsFormat o.formats format items w e) z there (ap (λ i. values_suit i s) (sym e) ∙ h))
+    (makes_by o rs items s xs (all_given IsFormat o.formats format items w e) z there (ap (λ i. values_suit i s) (sym e) ∙ h))
 
 -- the row, where the values make a text
 pub puts_row : (o : Object) (d format : ℕ) (frames : List Frame) (room : ℕ) (items : List Item) (text : List ℕ) → items_at o format ≡ Some items →

@@ -1,6 +1,6 @@
 -- Numbers that an instruction names are small, and what it stands on besides.
 use Rattle.std.proofs.Common.{◌≡◌, ℕ, ◌<◌, ◌≤◌, ◌^◌, List, [], ◌∷◌, Option, Some, None, length, slice_get, refl, sym, ap, ◌∙◌, subst, arith, Bool, true, false, ltb-true, leb-true, Box, Global}
-use Rattle.std.specs.Prelude.{◌&&◌, nat_lt, nat_le, is_some, IfSome}
+use Rattle.std.specs.Prelude.{nat_lt, nat_le, is_some, IfSome}
 use Rattle.std.specs.List.{AllByRecursion, list_all}
 use Rattle.std.proofs.lemmas.Option.{same_Some, slice_get_within}
 use Rattle.pearl_format.specs.Items.{data_count}
@@ -23,12 +23,8 @@ use Rattle.pearl_solo.specs.Owners.{lowest_of}
 use Rattle.pearl_solo.specs.Standing.{act_on, StandsAt}
 use Rattle.pearl_solo.specs.Steps.{on_top, Applies}
 use Rattle.pearl_solo.specs.Texts.{MakesText}
-use Rattle.pearl_solo.proofs.Applied.{given_some, needed_true}
+use Rattle.pearl_solo.proofs.Applied.{given_some, needed_true, and_true}
 use Rattle.pearl_solo.proofs.Putting.{format_few, makes_text}
-
-pub and_true : (a b : Bool) → a && b ≡ true → (a ≡ true) × (b ≡ true)
-and_true true b e = (refl, e)
-and_true false b e = cc
 
 -- rules of the instruction, where it is told to be another
 pub named_as : (o : Object) (instr other : Instr) (here : size.Frame) (s : Stack) (e : instr ≡ other) (h : StandsAt o instr here s) → v1 o h.code other ≡ true

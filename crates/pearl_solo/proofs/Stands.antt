@@ -1,5 +1,5 @@
 -- A stack of a valid object stands at an instruction, and what a step leaves is again such a stack.
-use Rattle.std.proofs.Common.{◌≡◌, ℕ, zero, suc, ◌+◌, ◌<◌, ◌≤◌, ◌^◌, List, [], ◌∷◌, ◌++◌, Option, Some, None, length, map, slice_get, refl, sym, ap, ◌∙◌, subst, arith, Bool, true, false, eqb, eq-eqb}
+use Rattle.std.proofs.Common.{◌≡◌, ℕ, zero, suc, ◌+◌, ◌<◌, ◌≤◌, ◌^◌, List, [], ◌∷◌, ◌++◌, Option, Some, None, length, map, slice_get, refl, sym, ap, ◌∙◌, subst, arith, true, eqb, eq-eqb}
 use Rattle.std.specs.Prelude.{IsSome, option_map, option_and_then}
 use Rattle.std.specs.List.{AllByRecursion, AllZip}
 use Rattle.std.proofs.lemmas.Option.{same_Some}
@@ -21,12 +21,14 @@ use Rattle.pearl_instructions.specs.Owned.{IsOfTask, Moves, Afterwards}
 use Rattle.pearl_instructions.specs.Rows.{row, act, instr_at}
 use Rattle.pearl_instructions.specs.Stacks.{routines_of, Suits, IsStack, Goes, task_of, depth_or_none, room}
 use Rattle.pearl_instructions.specs.Steps.{Step, Silent, Offers, Missing, given}
-use Rattle.pearl_instructions.specs.Valid.{shape_before, keep, judged, judged_at, unsound_in, v6, v7, v8, v10, v11, v12, IsValid}
+use Rattle.pearl_instructions.specs.Valid.{shape_before, judged, judged_at, unsound_in, v6, v7, v8, v10, v11, v12, IsValid}
 use Rattle.pearl_solo.specs.declared.stepped.Stepped.{Stepped}
 use Rattle.pearl_solo.specs.declared.stepped.Stepped.TheVariants as stepped
 use Rattle.pearl_solo.specs.Known.{Known}
 use Rattle.pearl_solo.specs.Steps.{Does, Applies, IsFormed, IsSizes, IsHere}
 use Rattle.pearl_solo.specs.Standing.{act_on, instr_of, StandsAt}
+use Rattle.pearl_solo.proofs.Begins.{keeps}
+use Rattle.pearl_solo.proofs.Filling.{all_given}
 
 -- the row is that of the instruction
 pub row_is : (o : Object) (frames : List Frame) (instr : Instr) → instr_of o frames ≡ Some instr → row o frames ≡ act_on o instr frames
@@ -119,23 +121,19 @@ all_formed o rs (k ∷ ks) (x ∷ xs) z = (formed o rs k x z.0, all_formed o rs 
 
 -- what the rules say of the instruction
 
-keep_none : (b : Bool) (rule : ℕ) (more : Option ℕ) → keep b rule more ≡ None → (b ≡ true) × (more ≡ None)
-keep_none true rule more e = (refl, e)
-keep_none false rule more e = cc
-
 rules : (o : Object) (r : ℕ) (code : Code) (i : ℕ) (instr : Instr) (s : Shape) → judged o r code i instr s ≡ None → (v1 o code instr ≡ true) × (v12 o code instr s ≡ true)
 rules o r code i instr s e =
-    let a = keep_none (v1 o code instr) 1 _ e in
-    let b = keep_none (v2 (asked o r instr) s) 2 _ a.1 in
-    let c = keep_none (v3 instr s) 3 _ b.1 in
-    let d = keep_none (v4 o code instr s) 4 _ c.1 in
-    let f = keep_none (v5 o code instr) 5 _ d.1 in
-    let g = keep_none (v6 o r code i instr (shape_after o r code instr s)) 6 _ f.1 in
-    let h = keep_none (v7 code i instr) 7 _ g.1 in
-    let j = keep_none (v8 o r instr) 8 _ h.1 in
-    let k = keep_none (v10 o r instr s) 10 _ j.1 in
-    let l = keep_none (v11 o code instr s) 11 _ k.1 in
-    let m = keep_none (v12 o code instr s) 12 _ l.1 in
+    let a = keeps (v1 o code instr) 1 _ e in
+    let b = keeps (v2 (asked o r instr) s) 2 _ a.1 in
+    let c = keeps (v3 instr s) 3 _ b.1 in
+    let d = keeps (v4 o code instr s) 4 _ c.1 in
+    let f = keeps (v5 o code instr) 5 _ d.1 in
+    let g = keeps (v6 o r code i instr (shape_after o r code instr s)) 6 _ f.1 in
+    let h = keeps (v7 code i instr) 7 _ g.1 in
+    let j = keeps (v8 o r instr) 8 _ h.1 in
+    let k = keeps (v10 o r instr s) 10 _ j.1 in
+    let l = keeps (v11 o code instr s) 11 _ k.1 in
+    let m = keeps (v12 o code instr s) 12 _ l.1 in
     (a.0, m.0)
 
 rules_at : (o : Object) (r : ℕ) (code : Code) (i : ℕ) (instr : Instr) → IsValid o → routine_at o r ≡ Some code → slice_get code.instructions i ≡ Some instr →
@@ -147,11 +145,6 @@ rules_at o r code i instr v e h =
 
 -- each routine's code is lawful
 
-pub all_of : {A : Type 0} (P : A → Type 0) (xs : List A) (n : ℕ) (x : A) → AllByRecursion P xs → slice_get xs n ≡ Some x → P x
-all_of P [] n x all e = cc
-all_of P (y ∷ xs) zero x all e = subst P (same_Some y x e) all.0
-all_of P (y ∷ xs) (suc n) x all e = all_of P xs n x all.1 e
-
 all_front : {A : Type 0} (P : A → Type 0) (xs ys : List A) → AllByRecursion P xs → AllByRecursion P ys → AllByRecursion P (xs ++ ys)
 all_front P [] ys a b = b
 all_front P (x ∷ xs) ys a b = (a.0, all_front P xs ys a.1 b)
@@ -161,7 +154,7 @@ all_mapped P Q f [] h a = tt
 all_mapped P Q f (x ∷ xs) h a = (h x a.0, all_mapped P Q f xs h a.1)
 
 instructions_are : (o : Object) (r : ℕ) (code : Code) → IsObject o → routine_at o r ≡ Some code → AllByRecursion IsInstr code.instructions
-instructions_are o r code w e = all_of (λ code. AllByRecursion IsInstr code.instructions) (routines o) r code
+instructions_are o r code w e = all_given (λ code. AllByRecursion IsInstr code.instructions) (routines o) r code
     (all_front (λ code. AllByRecursion IsInstr code.instructions) (map (λ p. p.code) o.procedures) (map (λ t. t.code) o.tasks)
     (all_mapped IsProcedure (λ code. AllByRecursion IsInstr code.instructions) (λ p. p.code) o.procedures (λ p is. is.code.instructions) w.procedures)
     (all_mapped IsTask (λ code. AllByRecursion IsInstr code.instructions) (λ t. t.code) o.tasks (λ t is. is.code.instructions) w.tasks)) e
@@ -223,7 +216,7 @@ on_frames k o v w (f ∷ lower) most instr here t less formats sizes there =
       operands = all_formed o (f.routine ∷ routines_of lower) (shape_before o f.routine t.code f.place) f.operands t.stands.operands;
       cells = all_formed o (routines_of lower) t.code.cells f.cells t.stands.cells;
       offers = λ action go is. k.offers o v w (f ∷ lower) t action go (e ∙ is);
-      literal = all_of IsInstr t.code.instructions f.place instr (instructions_are o f.routine t.code w t.routine) at;
+      literal = all_given IsInstr t.code.instructions f.place instr (instructions_are o f.routine t.code w t.routine) at;
       code = t.code;
       kinds = shape_before o f.routine t.code f.place;
       suits = t.stands.operands;

@@ -74,9 +74,9 @@ family TerminateOwn = 3
 family PreventOwn = 3
 family instr = 4
 
--- The stack stands at this instruction, the sizes of whose frame are these: its row is there, and memory for what that leaves; cells
--- and operands are values or references; an action that is offered names what is there; and the validator's rules on numbers and
--- limits are kept, the operands being of these kinds.
+-- The stack stands at this instruction, the sizes of its top frame are these, and the number of a format has 32 bits. The row is there, and
+-- memory for what it leaves; cells and operands are values or references; an action that is offered names what is there; and the
+-- validator's rules on numbers and limits are kept, the operands being of these kinds.
 pub record StandsAt (o : Object) (instr : Instr) (here : size.Frame) (s : Stack) : Type 0 where
   pub lawful : IsObject o
   pub formats : length o.formats < 2 ^ 32
