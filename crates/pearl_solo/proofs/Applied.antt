@@ -1,6 +1,6 @@
 -- What is there where a row applies.
 use Rattle.std.proofs.Common.{◌≡◌, ℕ, ◌<◌, List, [], ◌∷◌, Option, Some, None, length, refl, ap, arith, Bool, true, false}
-use Rattle.std.specs.Prelude.{option_and_then}
+use Rattle.std.specs.Prelude.{◌&&◌, option_and_then}
 use Rattle.pearl_value.specs.declared.cell.Cell.{Cell}
 use Rattle.pearl_stack.specs.Frames.{Frame, top_operands}
 use Rattle.pearl_instructions.specs.Steps.{Step, given, needed, popped}
@@ -36,3 +36,7 @@ two_there (f ∷ lower) go room a =
 pub and_then_some : {A B : Type 0} (o : Option A) (go : A → Option B) (y : B) → option_and_then go o ≡ Some y → (x : A) × (o ≡ Some x) × (go x ≡ Some y)
 and_then_some None go y e = cc
 and_then_some (Some x) go y e = (x, refl, e)
+
+pub and_true : (a b : Bool) → a && b ≡ true → (a ≡ true) × (b ≡ true)
+and_true true b e = (refl, e)
+and_true false b e = cc

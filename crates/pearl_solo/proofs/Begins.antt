@@ -29,7 +29,7 @@ some_mapped : {A B : Type 0} (f : A → B) (o : Option A) (y : B) → option_map
 some_mapped f None y e = cc
 some_mapped f (Some x) y e = (x, refl, same_Some (f x) y e)
 
-keeps : (b : Bool) (rule : ℕ) (more : Option ℕ) → keep b rule more ≡ None → (b ≡ true) × (more ≡ None)
+pub keeps : (b : Bool) (rule : ℕ) (more : Option ℕ) → keep b rule more ≡ None → (b ≡ true) × (more ≡ None)
 keeps true rule more e = (refl, e)
 keeps false rule more e = cc
 

@@ -17,3 +17,14 @@ mod VariableRows
 mod SlotRows
 mod PlanRows
 mod OwnRows
+mod Standing
+mod Families
+mod Stands
+mod Indexed
+mod Putting
+mod Activating
+mod Getting
+mod Hearing
+mod Small
+mod Settling
+mod Answering

@@ -15,7 +15,7 @@ use Rattle.pearl_instructions.specs.Objects.{first_slot}
 use Rattle.pearl_instructions.specs.Steps as step
 use Rattle.pearl_instructions.specs.Steps.{Step, Offers, given, leaves, asks, acts, traps, within}
 use Rattle.pearl_instructions.specs.Cells.{reads, writes, slot_reference}
-use Rattle.pearl_solo.specs.Slots.{IsLeafAt}
+use Rattle.pearl_instructions.specs.Slots.{IsLeafAt}
 use Rattle.pearl_solo.specs.Steps.{on_top, Applies, IsSizes, made_on, offset_below}
 use Rattle.pearl_solo.proofs.CellRows.{within_some, within_none}
 

@@ -6,9 +6,19 @@ pub mod Numbers
 pub mod Answered
 -- what Advance and NonZero make of numbers
 pub mod Advances
--- a leaf of an object, with the number of its first slot
-pub mod Slots
 -- when a plan begins, by the value that lies for it
 pub mod Plans
 -- the routine of the task whose stack this is
 pub mod Owners
+-- what an instruction stands on: a stack of a valid object at this instruction, with memory for what its row leaves
+pub mod Standing
+-- what is known of every valid object, and whose laws a step rests on
+pub mod Known
+-- the offset of an element, by values as subscripts
+pub mod Indices
+-- which operands make the text of a format
+pub mod Texts
+-- silent rows, one after the other, up to the row that offers an action
+pub mod Settling
+-- what the answer to an instruction's action stands on
+pub mod Hearing

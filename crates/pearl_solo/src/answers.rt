@@ -1,12 +1,29 @@
 // How a task goes on after the answer to its action.
 
-ghost use Rattle.std.specs.Prelude.{◌≡◌, ◌<◌, ◌≤◌, length};
+ghost use Rattle.std.specs.Prelude.{◌≡◌, ◌+◌, ◌<◌, ◌≤◌, ◌^◌, IfSome, length, slice_get};
 ghost use Rattle.pearl_stack.specs.Frames.{top_operands, used, without};
-ghost use Rattle.pearl_instructions.specs.Steps.{heard as heard_of};
-ghost use Rattle.pearl_solo.specs.Steps.{IsHere};
-ghost use Rattle.pearl_solo.specs.Answered.{gone_on, gone_on_with};
+ghost use Rattle.pearl_instructions.specs.Flow.{called};
+ghost use Rattle.pearl_instructions.specs.Lawful.{IsObject};
+ghost use Rattle.pearl_instructions.specs.Objects.{items_at as items_of};
+ghost use Rattle.pearl_instructions.specs.Offers.{with_values};
+ghost use Rattle.pearl_instructions.specs.Rows.{row, after};
+ghost use Rattle.pearl_instructions.specs.Stacks.{IsStack, task_of, room};
+ghost use Rattle.pearl_instructions.specs.Steps.{heard as heard_of, all_heard as all_heard_of};
+ghost use Rattle.pearl_solo.specs.Answered.{count_or_none, gone_on, gone_on_with, taken_of, CanHear};
+ghost use Rattle.pearl_solo.specs.Hearing.{read_on, Enters, HasFew, HasFormat, HearsAt};
+ghost use Rattle.pearl_solo.specs.Standing.{act_on};
+ghost use Rattle.pearl_solo.specs.Steps.{top_cells, with_cells, IsHere, IsSizes};
 
-use crate::top::drop_top;
+use crate::calls::enter;
+use crate::cells::element;
+use crate::devices::{data_count, items_at};
+use crate::known::laws_hold;
+use crate::plans::{activation_count, as_start, start_count, start_or_free};
+use crate::table::instr_at;
+use crate::top::{drop_top, set_own_cell};
+use arrayvec::ArrayVec;
+use pearl_instructions::instr::Instr;
+use pearl_instructions::valid::Valid;
 use pearl_rules::action::Answer;
 use pearl_stack::stack::{Frame, Loaded};
 use pearl_value::cell::Cell;
@@ -23,7 +40,7 @@ fn heard(answer: Answer) -> Cell
 }
 
 // Goes on without so many operands.
-pub fn go_on(stack: &mut Loaded, here: Frame, taken: u32)
+fn go_on(stack: &mut Loaded, here: Frame, taken: u32)
     requires here { IsHere here stack.old.frames }
     requires there { taken ≤ length (top_operands stack.old.frames) }
     ensures { stack.new ≡ record stack.old { frames = gone_on taken stack.old.frames } }
@@ -33,7 +50,7 @@ pub fn go_on(stack: &mut Loaded, here: Frame, taken: u32)
 }
 
 // Goes on with the answer's value in the place of so many operands.
-pub fn hear(stack: &mut Loaded, here: Frame, taken: u32, answer: Answer)
+fn hear(stack: &mut Loaded, here: Frame, taken: u32, answer: Answer)
     requires here { IsHere here stack.old.frames }
     requires there { taken ≤ length (top_operands stack.old.frames) }
     requires room { used (without taken stack.old.frames) < stack.old.room }
@@ -42,4 +59,113 @@ pub fn hear(stack: &mut Loaded, here: Frame, taken: u32, answer: Answer)
     drop_top(stack, taken);
     stack.push(heard(answer));
     stack.go(here.instruction + 1);
+}
+
+// Writes values into the cells of the top frame from cell `first` on.
+fn set_values(stack: &mut Loaded, here: Frame, first: u64, values: ArrayVec<Cell, 64>)
+    requires here { IsSizes here stack.old.frames }
+    requires there { 0 < length values.items → first + length values.items ≤ length (top_cells stack.old.frames) }
+    ensures { stack.new ≡ record stack.old { frames = with_cells (with_values (top_cells stack.old.frames) first values.items) stack.old.frames } }
+{
+    let mut left = values;
+    while let Some(x) = left.pop() {
+        let c = element(here, first, left.len() as u64);
+        set_own_cell(stack, c as u32, x);
+    }
+}
+
+// The values that the answer to a GET has.
+fn all_heard(answer: Answer) -> ArrayVec<Cell, 64>
+    ensures { result.items ≡ all_heard_of answer }
+{
+    match answer {
+        Answer::Many(values) => values,
+        Answer::One(_) => ArrayVec::new(),
+        Answer::Nothing => ArrayVec::new(),
+    }
+}
+
+// After Get: its values become cells.
+fn hear_all(stack: &mut Loaded, here: Frame, first: u64, answer: Answer)
+    requires here { IsHere here stack.old.frames }
+    requires there { 0 < length (all_heard_of answer) → first + length (all_heard_of answer) ≤ length (top_cells stack.old.frames) }
+    ensures { stack.new ≡ record stack.old { frames = read_on first (all_heard_of answer) stack.old.frames } }
+{
+    set_values(stack, here, first, all_heard(answer));
+    stack.go(here.instruction + 1);
+}
+
+// After Call: the procedure's frame.
+fn enter_called(code: &Valid, stack: &mut Loaded, p: u64)
+    requires object { IsObject code.now }
+    requires enters { Enters code.now p stack.old }
+    ensures { IfSome (slice_get code.now.procedures p) (λ callee.
+        stack.new ≡ record stack.old { frames = called p callee stack.old.frames (top_operands stack.old.frames) }) }
+{
+    let callee = &code.object().procedures.as_slice()[p as usize];
+    enter(stack, p as u32, callee);
+}
+
+// How many values a format's items take.
+fn count_at(code: &Valid, format: u64) -> u32
+    requires { HasFew (items_of code.now format) }
+    ensures { result ≡ count_or_none (items_of code.now format) }
+{
+    data_count(items_at(code, format))
+}
+
+// How many operands an instruction's action takes off.
+fn taken_by(code: &Valid, instr: &Instr) -> u32
+    requires { HasFormat code.now instr.now }
+    ensures { result ≡ taken_of code.now instr.now }
+{
+    match instr {
+        Instr::Write(_) => 1,
+        Instr::WriteAt(_) => 2,
+        Instr::WriteRef => 2,
+        Instr::Activate(a) => activation_count(a),
+        Instr::Continue(c) => start_count(start_or_free(c.once)),
+        Instr::Resume(form) => start_count(as_start(*form)),
+        Instr::Put { format, .. } => count_at(code, *format),
+        Instr::Send(_) => 1,
+        _ => 0,
+    }
+}
+
+// The stack after the answer to what this instruction offers.
+fn hear_at(code: &Valid, stack: &mut Loaded, here: Frame, instr: &Instr, answer: Answer)
+    requires { HearsAt code.now instr.now here stack.old answer }
+    ensures { stack.new ≡ record stack.old { frames = after (act_on code.now instr.now stack.old.frames) answer } }
+{
+    match instr {
+        Instr::Read(_) => hear(stack, here, 0, answer),
+        Instr::ReadAt(_) => hear(stack, here, 1, answer),
+        Instr::ReadRef => hear(stack, here, 1, answer),
+        Instr::Now => hear(stack, here, 0, answer),
+        Instr::Try(_) => hear(stack, here, 0, answer),
+        Instr::Take(_) => hear(stack, here, 0, answer),
+        Instr::Call(p) => enter_called(code, stack, *p),
+        Instr::Get(reading) => hear_all(stack, here, reading.first, answer),
+        _ => {
+            let taken = taken_by(code, instr);
+            go_on(stack, here, taken);
+        }
+    }
+}
+
+/// Goes on after the answer to the action at which the task stands.
+pub fn answer(code: &Valid, stack: &mut Loaded, answer: Answer)
+    requires stack { IsStack code.now stack.old.frames }
+    requires room { room code.now stack.old.frames ≤ stack.old.room }
+    requires most { length code.now.procedures + 1 ≤ stack.old.most }
+    requires formats { length code.now.formats < 2 ^ 32 }
+    requires suits { CanHear code.now (task_of code.now stack.old.frames) (row code.now stack.old.frames) answer }
+    ensures after { stack.new ≡ record stack.old { frames = after (row code.now stack.old.frames) answer } }
+    ensures stack { IsStack code.now stack.new.frames }
+    ensures room { room code.now stack.new.frames ≤ stack.new.room }
+{
+    laws_hold(code);
+    let here = stack.frame(stack.frames() - 1);
+    let instr = instr_at(code, here);
+    hear_at(code, stack, here, instr, answer);
 }

@@ -3,15 +3,15 @@
 ghost use Rattle.std.specs.Prelude.{◌≡◌, ◌≢◌, ◌+◌, ◌<◌, ◌≤◌, ◌^◌, [], ◌++◌, Some, length, map, take, drop, option_map, slice_get};
 ghost use Rattle.std.specs.List.{AllByRecursion};
 ghost use Rattle.pearl_instructions.specs.Flow.{fresh as fresh_of};
-ghost use Rattle.pearl_instructions.specs.Lawful.{IsCellKind, IsObject};
+ghost use Rattle.pearl_instructions.specs.Lawful.{IsCellKind};
 ghost use Rattle.pearl_instructions.specs.Rows.{begun};
 ghost use Rattle.pearl_instructions.specs.Stacks.{IsStack, room};
-ghost use Rattle.pearl_instructions.specs.Valid.{IsValid};
 ghost use Rattle.pearl_solo.specs.Steps.{top_cells, with_cells};
 
+use crate::known::laws_hold;
 use crate::top::set_own_cell;
 use pearl_instructions::laws;
-use pearl_instructions::object::Object;
+use pearl_instructions::valid::Valid;
 use pearl_stack::stack::Loaded;
 use pearl_value::cell::Cell;
 use pearl_value::conversion::blank;
@@ -52,34 +52,34 @@ pub(crate) fn set_fresh(stack: &mut Loaded, kinds: &[CellKind], from: u32)
 }
 
 // The kinds of a task's cells.
-fn task_kinds(code: &Object, task: u32) -> &[CellKind]
+fn task_kinds(code: &Valid, task: u32) -> &[CellKind]
     requires { task < length code.now.tasks }
     ensures { option_map (λ t. t.code.cells) (slice_get code.now.tasks task) ≡ Some result.now }
 {
-    code.tasks.as_slice()[task as usize].code.cells.as_slice()
+    let tasks = code.object().tasks.as_slice();
+    tasks[task as usize].code.cells.as_slice()
 }
 
 // The number of a task's routine.
-fn task_routine(code: &Object, task: u32) -> u32
+fn task_routine(code: &Valid, task: u32) -> u32
     requires procedures { length code.now.procedures ≤ 200 }
     requires task { task < 200 }
     ensures { result ≡ length code.now.procedures + task }
 {
-    code.procedures.as_slice().len() as u32 + task
+    code.object().procedures.as_slice().len() as u32 + task
 }
 
 /// Leaves the one frame of a task's routine at its first instruction, with unset cells.
-pub fn begin(code: &Object, task: u32, stack: &mut Loaded)
-    requires valid { IsValid code.now }
-    requires object { IsObject code.now }
+pub fn begin(code: &Valid, task: u32, stack: &mut Loaded)
     requires task { task < length code.now.tasks }
     requires room { room code.now (begun code.now (length code.now.procedures + task)) ≤ stack.old.room }
     requires most { length code.now.procedures + 1 ≤ stack.old.most }
     ensures frames { stack.new ≡ record stack.old { frames = begun code.now (length code.now.procedures + task) } }
     ensures stack { IsStack code.now stack.new.frames }
+    ensures room { room code.now stack.new.frames ≤ stack.new.room }
 {
+    laws_hold(code);
     laws::tasks_begin_with_a_stack();
-    laws::depth_is_kept();
     let kinds = task_kinds(code, task);
     let routine = task_routine(code, task);
     stack.clear();

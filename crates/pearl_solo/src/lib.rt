@@ -2,17 +2,23 @@
 #![tactic(auto)]
 
 mod advances;
-mod answers;
+pub mod answers;
 mod calls;
 mod cells;
+mod devices;
 mod flow;
 pub mod frames;
+mod indices;
+mod known;
 mod loops;
 mod offers;
 mod operators;
 mod own;
 mod plans;
 mod references;
+pub mod settle;
+pub mod step;
 pub mod stepped;
+mod table;
 mod top;
 mod variables;

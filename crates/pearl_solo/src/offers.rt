@@ -8,7 +8,7 @@ ghost use Rattle.pearl_solo.specs.Steps.{on_top, Does, Applies, IsHere};
 
 use crate::stepped::Stepped;
 use crate::top::operand;
-use pearl_instructions::object::Object;
+use pearl_instructions::valid::Valid;
 use pearl_rules::action::Action;
 use pearl_stack::stack::{Frame, Loaded};
 use pearl_value::cell::copy_of;
@@ -49,9 +49,9 @@ pub fn send(stack: &Loaded, here: Frame, device: u32) -> Stepped
 }
 
 // Call.
-pub fn call(object: &Object, stack: &Loaded, p: u64) -> Stepped
-    requires ready { Applies (on_top (λ f lower. call_row p (slice_get object.now.procedures p) f lower) stack.now.frames) stack.now.room }
-    ensures { Does (on_top (λ f lower. call_row p (slice_get object.now.procedures p) f lower) stack.now.frames) stack.now stack.now result }
+pub fn call(code: &Valid, stack: &Loaded, p: u64) -> Stepped
+    requires ready { Applies (on_top (λ f lower. call_row p (slice_get code.now.procedures p) f lower) stack.now.frames) stack.now.room }
+    ensures { Does (on_top (λ f lower. call_row p (slice_get code.now.procedures p) f lower) stack.now.frames) stack.now stack.now result }
 {
     Stepped::Offers(Action::Enter)
 }

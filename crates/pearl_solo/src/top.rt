@@ -1,13 +1,14 @@
 // The top frame of a stack.
 
-ghost use Rattle.std.specs.Prelude.{◌≡◌, ◌<◌, ◌≤◌, IsSome, Some, length, slice_get};
+ghost use Rattle.std.specs.Prelude.{◌≡◌, ◌<◌, ◌≤◌, IsSome, Some, length, take, reverse, slice_get};
 ghost use Rattle.pearl_stack.specs.Frames.{top_operands, without};
 ghost use Rattle.pearl_solo.specs.Steps.{IsHere, Applies, Does, top_cells, with_top_cell, made_on, left_on};
 
 use crate::stepped::Stepped;
+use arrayvec::ArrayVec;
 use pearl_rules::action::Action;
 use pearl_stack::stack::{Frame, Loaded};
-use pearl_value::cell::Cell;
+use pearl_value::cell::{Cell, copy_of};
 use pearl_value::trap::Trap;
 
 // The operand of the top frame that has so many above it.
@@ -73,4 +74,18 @@ pub fn pass(stack: &mut Loaded, here: Frame, taken: u32) -> Stepped
     drop_top(stack, taken);
     stack.go(here.instruction + 1);
     Stepped::Silent
+}
+
+// The top operands, so many, in the order in which they were pushed.
+pub fn top_values(stack: &Loaded, here: Frame, count: u32) -> ArrayVec<Cell, 64>
+    requires here { IsHere here stack.now.frames }
+    requires there { count ≤ length (top_operands stack.now.frames) }
+    requires few { count ≤ 64 }
+    ensures { result.items ≡ reverse (take count (top_operands stack.now.frames)) }
+{
+    let mut values = ArrayVec::new();
+    for i in 0..count {
+        values.push(copy_of(operand(stack, here, count - 1 - i)));
+    }
+    values
 }

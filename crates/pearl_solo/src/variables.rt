@@ -4,47 +4,34 @@
 ghost use Rattle.std.specs.Prelude.{◌≡◌, ◌+◌, ◌<◌, ◌≤◌, slice_get};
 ghost use Rattle.pearl_instructions.specs.Cells.{reads as reads_row, writes as writes_row, slot_reference};
 ghost use Rattle.pearl_instructions.specs.Steps.{given as given_row, popped as popped_row, within as within_row};
-ghost use Rattle.pearl_solo.specs.Slots.{IsLeafAt};
+ghost use Rattle.pearl_instructions.specs.Slots.{IsLeafAt};
 ghost use Rattle.pearl_solo.specs.Steps.{on_top, Does, Applies, IsHere};
 
 use crate::cells::offset;
 use crate::stepped::Stepped;
 use crate::top::{finish, operand};
-use pearl_instructions::object::{Leaf, Object};
+use pearl_instructions::object::Leaf;
+use pearl_instructions::valid::Valid;
 use pearl_rules::action::Action;
 use pearl_stack::stack::{Frame, Loaded};
 use pearl_value::cell::{Cell, Place, copy_of};
 use pearl_value::trap::Trap;
 
 // Read.
-pub fn read(
-    object: &Object,
-    stack: &Loaded,
-    here: Frame,
-    v: u64,
-    leaf: &Leaf,
-    first: u32,
-) -> Stepped
+pub fn read(code: &Valid, stack: &Loaded, here: Frame, v: u64, leaf: &Leaf, first: u32) -> Stepped
     requires here { IsHere here stack.now.frames }
-    requires leaf { IsLeafAt object.now v leaf.now first }
-    ensures { Does (on_top (λ f lower. given_row (slice_get object.now.leaves v) (λ leaf. reads_row object.now v 0 f lower f.operands)) stack.now.frames) stack.now stack.now result }
+    requires leaf { IsLeafAt code.now v leaf.now first }
+    ensures { Does (on_top (λ f lower. given_row (slice_get code.now.leaves v) (λ leaf. reads_row code.now v 0 f lower f.operands)) stack.now.frames) stack.now stack.now result }
 {
     Stepped::Offers(Action::Read(first))
 }
 
 // Write: offers the value on top, which is copied since it stays there up to the answer.
-pub fn write(
-    object: &Object,
-    stack: &Loaded,
-    here: Frame,
-    v: u64,
-    leaf: &Leaf,
-    first: u32,
-) -> Stepped
+pub fn write(code: &Valid, stack: &Loaded, here: Frame, v: u64, leaf: &Leaf, first: u32) -> Stepped
     requires here { IsHere here stack.now.frames }
-    requires leaf { IsLeafAt object.now v leaf.now first }
-    requires ready { Applies (on_top (λ f lower. given_row (slice_get object.now.leaves v) (λ leaf. popped_row f.operands (λ x left. writes_row object.now v 0 x f lower left))) stack.now.frames) stack.now.room }
-    ensures { Does (on_top (λ f lower. given_row (slice_get object.now.leaves v) (λ leaf. popped_row f.operands (λ x left. writes_row object.now v 0 x f lower left))) stack.now.frames) stack.now stack.now result }
+    requires leaf { IsLeafAt code.now v leaf.now first }
+    requires ready { Applies (on_top (λ f lower. given_row (slice_get code.now.leaves v) (λ leaf. popped_row f.operands (λ x left. writes_row code.now v 0 x f lower left))) stack.now.frames) stack.now.room }
+    ensures { Does (on_top (λ f lower. given_row (slice_get code.now.leaves v) (λ leaf. popped_row f.operands (λ x left. writes_row code.now v 0 x f lower left))) stack.now.frames) stack.now stack.now result }
 {
     let x = copy_of(operand(stack, here, 0));
     Stepped::Offers(Action::Write(first, x))
@@ -52,7 +39,7 @@ pub fn write(
 
 // RefSlot.
 pub fn ref_slot(
-    object: &Object,
+    code: &Valid,
     stack: &mut Loaded,
     here: Frame,
     v: u64,
@@ -60,9 +47,9 @@ pub fn ref_slot(
     first: u32,
 ) -> Stepped
     requires here { IsHere here stack.old.frames }
-    requires leaf { IsLeafAt object.now v leaf.now first }
-    requires ready { Applies (on_top (λ f lower. given_row (slice_get object.now.leaves v) (λ leaf. slot_reference object.now v leaf 0 f lower f.operands)) stack.old.frames) stack.old.room }
-    ensures { Does (on_top (λ f lower. given_row (slice_get object.now.leaves v) (λ leaf. slot_reference object.now v leaf 0 f lower f.operands)) stack.old.frames) stack.old stack.new result }
+    requires leaf { IsLeafAt code.now v leaf.now first }
+    requires ready { Applies (on_top (λ f lower. given_row (slice_get code.now.leaves v) (λ leaf. slot_reference code.now v leaf 0 f lower f.operands)) stack.old.frames) stack.old.room }
+    ensures { Does (on_top (λ f lower. given_row (slice_get code.now.leaves v) (λ leaf. slot_reference code.now v leaf 0 f lower f.operands)) stack.old.frames) stack.old stack.new result }
 {
     let of = leaf.kind;
     let place = Place::Slot(first);
@@ -80,7 +67,7 @@ fn slot(leaf: &Leaf, first: u32, o: u64) -> u32
 
 // ReadAt.
 pub fn read_at(
-    object: &Object,
+    code: &Valid,
     stack: &Loaded,
     here: Frame,
     v: u64,
@@ -88,9 +75,9 @@ pub fn read_at(
     first: u32,
 ) -> Stepped
     requires here { IsHere here stack.now.frames }
-    requires leaf { IsLeafAt object.now v leaf.now first }
-    requires ready { Applies (on_top (λ f lower. given_row (slice_get object.now.leaves v) (λ leaf. popped_row f.operands (λ n left. within_row leaf.slots n f lower (λ n. reads_row object.now v n f lower left)))) stack.now.frames) stack.now.room }
-    ensures { Does (on_top (λ f lower. given_row (slice_get object.now.leaves v) (λ leaf. popped_row f.operands (λ n left. within_row leaf.slots n f lower (λ n. reads_row object.now v n f lower left)))) stack.now.frames) stack.now stack.now result }
+    requires leaf { IsLeafAt code.now v leaf.now first }
+    requires ready { Applies (on_top (λ f lower. given_row (slice_get code.now.leaves v) (λ leaf. popped_row f.operands (λ n left. within_row leaf.slots n f lower (λ n. reads_row code.now v n f lower left)))) stack.now.frames) stack.now.room }
+    ensures { Does (on_top (λ f lower. given_row (slice_get code.now.leaves v) (λ leaf. popped_row f.operands (λ n left. within_row leaf.slots n f lower (λ n. reads_row code.now v n f lower left)))) stack.now.frames) stack.now stack.now result }
 {
     match offset(operand(stack, here, 0), leaf.slots as u64) {
         Some(o) => {
@@ -103,7 +90,7 @@ pub fn read_at(
 
 // WriteAt: offers the value on top, which is copied since it stays there up to the answer.
 pub fn write_at(
-    object: &Object,
+    code: &Valid,
     stack: &Loaded,
     here: Frame,
     v: u64,
@@ -111,9 +98,9 @@ pub fn write_at(
     first: u32,
 ) -> Stepped
     requires here { IsHere here stack.now.frames }
-    requires leaf { IsLeafAt object.now v leaf.now first }
-    requires ready { Applies (on_top (λ f lower. given_row (slice_get object.now.leaves v) (λ leaf. popped_row f.operands (λ x more. popped_row more (λ n left. within_row leaf.slots n f lower (λ n. writes_row object.now v n x f lower left))))) stack.now.frames) stack.now.room }
-    ensures { Does (on_top (λ f lower. given_row (slice_get object.now.leaves v) (λ leaf. popped_row f.operands (λ x more. popped_row more (λ n left. within_row leaf.slots n f lower (λ n. writes_row object.now v n x f lower left))))) stack.now.frames) stack.now stack.now result }
+    requires leaf { IsLeafAt code.now v leaf.now first }
+    requires ready { Applies (on_top (λ f lower. given_row (slice_get code.now.leaves v) (λ leaf. popped_row f.operands (λ x more. popped_row more (λ n left. within_row leaf.slots n f lower (λ n. writes_row code.now v n x f lower left))))) stack.now.frames) stack.now.room }
+    ensures { Does (on_top (λ f lower. given_row (slice_get code.now.leaves v) (λ leaf. popped_row f.operands (λ x more. popped_row more (λ n left. within_row leaf.slots n f lower (λ n. writes_row code.now v n x f lower left))))) stack.now.frames) stack.now stack.now result }
 {
     match offset(operand(stack, here, 1), leaf.slots as u64) {
         Some(o) => {
@@ -127,7 +114,7 @@ pub fn write_at(
 
 // RefSlotAt.
 pub fn ref_slot_at(
-    object: &Object,
+    code: &Valid,
     stack: &mut Loaded,
     here: Frame,
     v: u64,
@@ -135,9 +122,9 @@ pub fn ref_slot_at(
     first: u32,
 ) -> Stepped
     requires here { IsHere here stack.old.frames }
-    requires leaf { IsLeafAt object.now v leaf.now first }
-    requires ready { Applies (on_top (λ f lower. given_row (slice_get object.now.leaves v) (λ leaf. popped_row f.operands (λ n left. within_row leaf.slots n f lower (λ n. slot_reference object.now v leaf n f lower left)))) stack.old.frames) stack.old.room }
-    ensures { Does (on_top (λ f lower. given_row (slice_get object.now.leaves v) (λ leaf. popped_row f.operands (λ n left. within_row leaf.slots n f lower (λ n. slot_reference object.now v leaf n f lower left)))) stack.old.frames) stack.old stack.new result }
+    requires leaf { IsLeafAt code.now v leaf.now first }
+    requires ready { Applies (on_top (λ f lower. given_row (slice_get code.now.leaves v) (λ leaf. popped_row f.operands (λ n left. within_row leaf.slots n f lower (λ n. slot_reference code.now v leaf n f lower left)))) stack.old.frames) stack.old.room }
+    ensures { Does (on_top (λ f lower. given_row (slice_get code.now.leaves v) (λ leaf. popped_row f.operands (λ n left. within_row leaf.slots n f lower (λ n. slot_reference code.now v leaf n f lower left)))) stack.old.frames) stack.old stack.new result }
 {
     match offset(operand(stack, here, 0), leaf.slots as u64) {
         Some(o) => {

@@ -4,5 +4,5 @@ use Rattle.pearl_solo.proofs.offers.call.Goals as goal
 
 pub returns : goal.returns
 returns c =
-    let at = call_offers c.args.stack.now.frames c.args.p c.args.stack.now.room (slice_get c.args.object.now.procedures c.args.p) c.requires.ready in
+    let at = call_offers c.args.stack.now.frames c.args.p c.args.stack.now.room (slice_get c.args.code.now.procedures c.args.p) c.requires.ready in
     (at.0, at.1, refl)

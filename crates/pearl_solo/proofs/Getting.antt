@@ -1,0 +1,110 @@
+-- The operands and cells that are read in a row.
+use Rattle.std.proofs.Common.{◌≡◌, ℕ, zero, suc, ◌+◌, ◌<◌, ◌≤◌, List, [], ◌∷◌, ◌++◌, Option, Some, None, length, reverse, take, drop, slice_get, refl, sym, ap, ◌∙◌, subst, arith, Bool, true, false, leb-true}
+use Rattle.std.specs.Prelude.{nat_le, if◌then◌else◌, option_map, option_and_then, IsSome}
+use Rattle.std.proofs.lemmas.List.{reverse-append}
+use Rattle.std.proofs.lemmas.Option.{same_Some}
+use Rattle.pearl_value.specs.declared.kind.Kind.{Kind}
+use Rattle.pearl_value.specs.declared.cell.Cell.{Cell}
+use Rattle.pearl_value.specs.declared.cell.Cell.TheVariants.{Fixed, Bits, Chars, Clock, Span, Ref}
+use Rattle.pearl_value.specs.Cells.{kind_of}
+use Rattle.pearl_instructions.specs.Offers.{value_kinds, cells_from}
+use Rattle.pearl_instructions.specs.Steps.{value_kind}
+
+-- the top operands in the order in which they were pushed
+
+pub take_last : {A : Type 0} (xs : List A) (m : ℕ) (x : A) → slice_get xs m ≡ Some x → take (suc m) xs ≡ take m xs ++ (x ∷ [])
+take_last [] m x e = cc
+take_last (y ∷ xs) zero x e = ap (λ y. y ∷ []) (same_Some y x e)
+take_last (y ∷ xs) (suc m) x e = ap (λ ys. y ∷ ys) (take_last xs m x e)
+
+pub reverse_last : (xs : List Cell) (m : ℕ) (x : Cell) → slice_get xs m ≡ Some x → reverse (take (suc m) xs) ≡ x ∷ reverse (take m xs)
+reverse_last xs m x e = ap reverse (take_last xs m x e) ∙ reverse-append (take m xs) (x ∷ [])
+
+append_one : (xs ys : List Cell) (x : Cell) → (xs ++ (x ∷ [])) ++ ys ≡ xs ++ (x ∷ ys)
+append_one [] ys x = refl
+append_one (y ∷ xs) ys x = ap (λ zs. y ∷ zs) (append_one xs ys x)
+
+-- one operand more was read, n being left
+pub one_more : (made all xs : List Cell) (n left : ℕ) (x : Cell) → n ≡ suc left → slice_get xs left ≡ Some x → made ++ reverse (take n xs) ≡ all →
+    (made ++ (x ∷ [])) ++ reverse (take left xs) ≡ all
+one_more made all xs n left x e h is =
+    append_one made (reverse (take left xs)) x ∙ (ap (λ t. made ++ t) (sym (reverse_last xs left x h) ∙ ap (λ k. reverse (take k xs)) (sym e)) ∙ is)
+
+-- the kinds of cells
+
+more_is : (k : Option Kind) (ks : Option (List Kind)) → IsSome (option_and_then (λ of. option_map (λ kinds. of ∷ kinds) ks) k) → IsSome k × IsSome ks
+more_is None ks some = cc
+more_is (Some of) None some = cc
+more_is (Some of) (Some kinds) some = (refl, refl)
+
+pub kind_is : (x : Cell) → IsSome (value_kind x) → value_kind x ≡ Some (kind_of x)
+kind_is (Fixed len n) some = refl
+kind_is (Bits len n) some = refl
+kind_is (Chars text) some = refl
+kind_is (Clock time) some = refl
+kind_is (Span time) some = refl
+kind_is (Ref kind place) some = cc
+
+pub each_some : (xs : List Cell) (n i : ℕ) (x : Cell) → IsSome (value_kinds (take n xs)) → i < n → slice_get xs i ≡ Some x → IsSome (value_kind x)
+each_some [] n i x some less e = cc
+each_some (y ∷ xs) zero i x some less e = absurd (omega (arith, less))
+each_some (y ∷ xs) (suc n) zero x some less e =
+    subst (λ y. IsSome (value_kind y)) (same_Some y x e) (more_is (value_kind y) (value_kinds (take n xs)) some).0
+each_some (y ∷ xs) (suc n) (suc i) x some less e = each_some xs n i x (more_is (value_kind y) (value_kinds (take n xs)) some).1 (omega (arith, less)) e
+
+told_more : (k : Option Kind) (rest : Option (List Kind)) (ks : List Kind) → option_and_then (λ of. option_map (λ kinds. of ∷ kinds) rest) k ≡ Some ks →
+    (of : Kind) × (more : List Kind) × (k ≡ Some of) × (rest ≡ Some more) × (of ∷ more ≡ ks)
+told_more None rest ks e = cc
+told_more (Some of) None ks e = cc
+told_more (Some of) (Some more) ks e = (of, more, refl, refl, same_Some (of ∷ more) ks e)
+
+pub kinds_more : (xs : List Cell) (i : ℕ) (x : Cell) (ks : List Kind) → slice_get xs i ≡ Some x → value_kind x ≡ Some (kind_of x) → value_kinds (take i xs) ≡ Some ks →
+    value_kinds (take (suc i) xs) ≡ Some (ks ++ (kind_of x ∷ []))
+kinds_more [] i x ks e h is = cc
+kinds_more (y ∷ xs) zero x ks e h is =
+    let same : y ≡ x = same_Some y x e in
+    let none : [] ≡ ks = same_Some [] ks is in
+    ap (λ y. value_kinds (y ∷ [])) same ∙ (ap (option_and_then (λ of. option_map (λ kinds. of ∷ kinds) (Some []))) h ∙ ap (λ ks. Some (ks ++ (kind_of x ∷ []))) none)
+kinds_more (y ∷ xs) (suc i) x ks e h is =
+    let m = told_more (value_kind y) (value_kinds (take i xs)) ks is in
+    let more = kinds_more xs i x m.1 e h m.3 in
+    ap (λ k. option_and_then (λ of. option_map (λ kinds. of ∷ kinds) (value_kinds (take (suc i) xs))) k) m.2
+    ∙ (ap (option_map (λ kinds. m.0 ∷ kinds)) more ∙ ap (λ ks. Some (ks ++ (kind_of x ∷ []))) m.4)
+
+pub kinds_few : (xs : List Cell) (i : ℕ) (ks : List Kind) → value_kinds (take i xs) ≡ Some ks → length ks ≤ i
+kinds_few xs zero ks e = let none : [] ≡ ks = same_Some [] ks e in omega (arith, ap length none)
+kinds_few [] (suc i) ks e = let none : [] ≡ ks = same_Some [] ks e in omega (arith, ap length none)
+kinds_few (y ∷ xs) (suc i) ks e =
+    let m = told_more (value_kind y) (value_kinds (take i xs)) ks e in
+    let less = kinds_few xs i m.1 m.3 in
+    omega (arith, less, ap length m.4)
+
+-- the cells that GET reads into
+
+pub record Reads (cells : List Cell) (first count : ℕ) : Type 0 where
+  pub from : cells_from cells first count ≡ Some (take count (drop first cells))
+  pub some : IsSome (value_kinds (take count (drop first cells)))
+  pub within : 0 < count → first + count ≤ length cells
+
+pub reads : (cells : List Cell) (first count : ℕ) → IsSome (option_and_then value_kinds (cells_from cells first count)) → Reads cells first count
+reads cells first count some = by (nat_le (first + count) (length cells)) refl
+  where
+    by_none : (b : Bool) → nat_le count 0 ≡ b → cells_from cells first count ≡ (if b then Some [] else None) → Reads cells first count
+    by_none false e h = let none : IsSome (option_and_then value_kinds None) = subst (λ o. IsSome (option_and_then value_kinds o)) h some in cc
+    by_none true e h =
+        let none = leb-true count 0 e in
+        let zero : count ≡ 0 = omega (arith, none) in
+        let empty : take count (drop first cells) ≡ [] = ap (λ n. take n (drop first cells)) zero in
+        record { from = h ∙ ap Some (sym empty); some = rw empty refl; within = λ less. absurd (omega (arith, less, zero)) }
+
+    by : (b : Bool) → nat_le (first + count) (length cells) ≡ b → Reads cells first count
+    by true e =
+        let h : cells_from cells first count ≡ Some (take count (drop first cells)) =
+        ap (λ b. if b then Some (take count (drop first cells)) else (if nat_le count 0 then Some [] else None)) e in
+        record { from = h; some = subst (λ o. IsSome (option_and_then value_kinds o)) h some; within = λ less. leb-true (first + count) (length cells) e }
+    by false e = by_none (nat_le count 0) refl (ap (λ b. if b then Some (take count (drop first cells)) else (if nat_le count 0 then Some [] else None)) e)
+
+pub dropped_at : (xs : List Cell) (c i : ℕ) → slice_get (drop c xs) i ≡ slice_get xs (c + i)
+dropped_at xs zero i = let e : zero + i ≡ i = omega arith in ap (slice_get xs) (sym e)
+dropped_at [] (suc c) i = refl
+dropped_at (x ∷ xs) (suc c) i = let e : suc c + i ≡ suc (c + i) = omega arith in dropped_at xs c i ∙ ap (slice_get (x ∷ xs)) (sym e)

@@ -1,0 +1,106 @@
+// Texts and values of terminals.
+
+ghost use Rattle.std.specs.Prelude.{◌≡◌, ◌<◌, ◌≤◌, ◌^◌, Some, IsSome, IfSome, option_and_then};
+ghost use Rattle.pearl_format.specs.Items.{data_count as count_of, data_here as count_here};
+ghost use Rattle.pearl_stack.specs.Frames.{top_operands};
+ghost use Rattle.pearl_instructions.specs.Objects.{items_at as items_of};
+ghost use Rattle.pearl_instructions.specs.Offers.{value_kinds, cells_from, put_values as put_row, get_values as get_row};
+ghost use Rattle.pearl_solo.specs.Texts.{MakesText};
+ghost use Rattle.pearl_solo.specs.Steps.{on_top, Does, Applies, IsHere, top_cells};
+
+use crate::stepped::Stepped;
+use crate::top::{own_cell, top_values};
+use arrayvec::ArrayVec;
+use pearl_format::item::{Item, ItemCode};
+use pearl_format::put::put_text;
+use pearl_instructions::instr::Reading;
+use pearl_instructions::valid::Valid;
+use pearl_rules::action::Action;
+use pearl_stack::stack::{Frame, Loaded};
+use pearl_value::conversion::kind;
+use pearl_value::kind::Kind;
+
+// The items of a format.
+pub fn items_at(code: &Valid, format: u64) -> &[Item]
+    requires { IsSome (items_of code.now format) }
+    ensures { items_of code.now format ≡ Some result.now }
+{
+    code.object().formats.as_slice()[format as usize].as_slice()
+}
+
+// How many values an item takes.
+fn data_here(code: ItemCode) -> u32
+    ensures { result ≡ count_here code }
+{
+    match code {
+        ItemCode::X => 0,
+        ItemCode::Skip => 0,
+        _ => 1,
+    }
+}
+
+// How many of the items take a value.
+pub fn data_count(items: &[Item]) -> u32
+    requires { count_of items.now ≤ 64 }
+    ensures { result ≡ count_of items.now }
+{
+    let mut count: u32 = 0;
+    for item in items {
+        count += data_here(item.code);
+    }
+    count
+}
+
+// Put. The values are copied, since they stay up to the answer.
+pub fn put(code: &Valid, stack: &Loaded, here: Frame, device: u64, format: u64) -> Stepped
+    requires here { IsHere here stack.now.frames }
+    requires device { device < 2 ^ 32 }
+    requires text { MakesText (items_of code.now format) (top_operands stack.now.frames) }
+    requires ready { Applies (on_top (λ f lower. put_row code.now device format f lower) stack.now.frames) stack.now.room }
+    ensures { Does (on_top (λ f lower. put_row code.now device format f lower) stack.now.frames) stack.now stack.now result }
+{
+    let items = items_at(code, format);
+    let count = data_count(items);
+    let values = top_values(stack, here, count);
+    let mut text: ArrayVec<u8, 1024> = ArrayVec::new();
+    match put_text(items, values.as_slice(), &mut text) {
+        Ok(()) => Stepped::Offers(Action::Put {
+            device: device as u32,
+            text,
+        }),
+        Err(trap) => Stepped::Offers(Action::Trap(trap)),
+    }
+}
+
+// The kinds of so many cells of the top frame.
+fn kinds_from(stack: &Loaded, here: Frame, first: u64, count: u32) -> ArrayVec<Kind, 64>
+    requires here { IsHere here stack.now.frames }
+    requires few { count ≤ 64 }
+    requires there { IsSome (option_and_then value_kinds (cells_from (top_cells stack.now.frames) first count)) }
+    ensures { option_and_then value_kinds (cells_from (top_cells stack.now.frames) first count) ≡ Some result.items }
+{
+    let mut kinds = ArrayVec::new();
+    for i in 0..count {
+        kinds.push(kind(own_cell(stack, here, first + i as u64)));
+    }
+    kinds
+}
+
+// Get.
+pub fn get(code: &Valid, stack: &Loaded, here: Frame, reading: &Reading) -> Stepped
+    requires here { IsHere here stack.now.frames }
+    requires device { reading.now.device < 2 ^ 32 }
+    requires format { reading.now.format < 2 ^ 32 }
+    requires few { IfSome (items_of code.now reading.now.format) (λ items. count_of items ≤ 64) }
+    requires ready { Applies (on_top (λ f lower. get_row code.now reading.now f lower) stack.now.frames) stack.now.room }
+    ensures { Does (on_top (λ f lower. get_row code.now reading.now f lower) stack.now.frames) stack.now stack.now result }
+{
+    let items = items_at(code, reading.format);
+    let count = data_count(items);
+    let kinds = kinds_from(stack, here, reading.first, count);
+    Stepped::Offers(Action::Get {
+        device: reading.device as u32,
+        format: reading.format as u32,
+        kinds,
+    })
+}

@@ -1,0 +1,31 @@
+// Instructions, one after the other, until an action is offered.
+
+ghost use Rattle.std.specs.Prelude.{◌≡◌, ◌<◌, ◌≤◌, ◌^◌, length};
+ghost use Rattle.pearl_instructions.specs.Stacks.{IsStack, room};
+ghost use Rattle.pearl_solo.specs.Settling.{Settles};
+
+use crate::known::laws_hold;
+use crate::step::step;
+use crate::stepped::Stepped;
+use pearl_instructions::valid::Valid;
+use pearl_rules::action::Action;
+use pearl_stack::stack::Loaded;
+
+/// Carries out instructions until one offers an action, at which the task stands then.
+pub fn settle(code: &Valid, stack: &mut Loaded) -> Action
+    requires stack { IsStack code.now stack.old.frames }
+    requires room { room code.now stack.old.frames ≤ stack.old.room }
+    requires formats { length code.now.formats < 2 ^ 32 }
+    ensures settles { Settles code.now stack.old.frames stack.new.frames result }
+    ensures memory { (stack.new.room ≡ stack.old.room) × (stack.new.most ≡ stack.old.most) }
+    ensures stack { IsStack code.now stack.new.frames }
+    ensures room { room code.now stack.new.frames ≤ stack.new.room }
+{
+    laws_hold(code);
+    loop {
+        match step(code, stack) {
+            Stepped::Silent => {}
+            Stepped::Offers(action) => return action,
+        }
+    }
+}
