@@ -82,13 +82,4 @@ impl Kinds {
     {
         self.kinds.clear();
     }
-
-    /// Become these, the top one last.
-    pub(crate) fn become_these(&mut self, kinds: &[CellKind]) -> Result<(), NoMemory>
-        ensures { OnOk result (self.new ≡ reverse kinds.now) }
-    {
-        self.kinds.clear();
-        self.kinds.extend_from_slice(kinds)?;
-        Ok(())
-    }
 }
