@@ -1,5 +1,5 @@
 -- An object with an interrupt, inputs, outputs, semaphores and two tasks that is lawful and valid, and what is refused beside it.
-use Rattle.std.proofs.Common.{◌≡◌, ℕ, zero, suc, List, [], ◌∷◌, Option, Some, None, refl, arith, false, true}
+use Rattle.std.proofs.Common.{◌≡◌, ℕ, zero, suc, List, [], ◌∷◌, Option, Some, None, inl, inr, refl, arith, false, true}
 use Rattle.pearl_value.specs.declared.kind.Kind.TheVariants as kind
 use Rattle.pearl_value.specs.declared.cell.Cell.TheVariants as cell
 use Rattle.pearl_value.specs.Kinds.{IsKind}
@@ -36,19 +36,19 @@ continuing task device = Continue (boxed (record { task = task; once = Some (onc
 abbrev leading : List Instr
 leading =
     Enable 0 ∷ Load 0 ∷ activating 1 0 ∷ Trigger 0 ∷ Suspend 1 ∷ continuing 1 0 ∷ Prevent 1 ∷ Terminate 1 ∷ Resume (once.When 0) ∷ Disable 0 ∷
-    Request (boxed (0 ∷ 1 ∷ [])) ∷ Take 1 ∷ Write 0 ∷ Read 0 ∷ Send 2 ∷ Release (boxed (1 ∷ 0 ∷ [])) ∷ End ∷ []
+    Request (boxed (0 ∷ 1 ∷ [])) ∷ Take 3 ∷ Write 0 ∷ Read 0 ∷ Send 4 ∷ Release (boxed (1 ∷ 0 ∷ [])) ∷ End ∷ []
 
 -- the second one writes what was measured where the semaphore is free, and reads a command
 abbrev following : List Instr
-following = Try 0 ∷ JumpZero 5 ∷ Read 0 ∷ Put 3 0 ∷ Release (boxed (0 ∷ [])) ∷ Get (boxed (record { device = 4; format = 0; first = 0 })) ∷ End ∷ []
+following = Try 0 ∷ JumpZero 5 ∷ Read 0 ∷ Put 1 0 ∷ Release (boxed (0 ∷ [])) ∷ Get (boxed (record { device = 2; format = 0; first = 0 })) ∷ End ∷ []
 
 abbrev named : ℕ → List Instr → Task
 named letter instrs = record { name = record { items = letter ∷ [] }; priority = 1; main = false; code = code (fixed ∷ []) 2 instrs [] }
 
--- an interrupt, an input, an output, a terminal to write to and one to read from
+-- an interrupt, a terminal to write to and one to read from, an input and an output
 abbrev plant : List Instr → Object
 plant instrs = record {
-  devices = Interrupt 0 ∷ Input 1 (kind.Fixed 31) ∷ Output 2 (kind.Fixed 31) ∷ Terminal 3 Out ∷ Terminal 4 In ∷ [];
+  devices = Interrupt 1 ∷ Terminal 1 Out ∷ Terminal 2 In ∷ Input 1 (kind.Fixed 31) ∷ Output 1 (kind.Fixed 31) ∷ [];
   semaphores = 1 ∷ 0 ∷ [];
   leaves = record { name = 118 ∷ []; kind = kind.Fixed 31; slots = 1; constants = [] } ∷ [];
   formats = (item F 5 ∷ []) ∷ [];
@@ -66,14 +66,17 @@ it_is_valid = record { sound = sound }
 
 it_is_lawful : IsObject (plant leading)
 it_is_lawful = record {
+  devices = ((omega arith, omega arith, tt), ((omega arith, omega arith, tt), ((omega arith, omega arith, tt), ((omega arith, omega arith, fixed_is), ((omega arith, omega arith, fixed_is), tt)))));
+  rising = (inl (omega arith), (inr (refl, omega arith), (inl (omega arith), (inl (omega arith), tt))));
   leaves = (record { named = ((omega arith, omega arith), tt); short = omega arith; kind = fixed_is; some = (omega arith, omega arith); constants = tt; few = omega arith }, tt);
   formats = (((omega arith, omega arith), tt), tt);
   procedures = tt;
   tasks = (
-    record { code = is_leading; urgent = (omega arith, omega arith) },
-    (record { code = is_following; urgent = (omega arith, omega arith) }, tt),
+    record { code = is_leading; named = refl; urgent = (omega arith, omega arith) },
+    (record { code = is_following; named = refl; urgent = (omega arith, omega arith) }, tt),
   );
   semaphores = (omega arith, (omega arith, tt));
+  few_formats = omega arith;
   few_slots = omega arith;
   few_procedures = omega arith;
   few_tasks = omega arith;
@@ -112,13 +115,13 @@ abbrev over_value : Instr → Option ℕ
 over_value instr = unsound (plant (Load 0 ∷ instr ∷ End ∷ [])) 0 1
 
 -- only an interrupt is enabled, disabled, triggered and waited for
-enables_an_input : bare (Enable 1) ≡ Some 1
+enables_an_input : bare (Enable 3) ≡ Some 1
 enables_an_input = refl
 
-disables_a_terminal : bare (Disable 3) ≡ Some 1
+disables_a_terminal : bare (Disable 1) ≡ Some 1
 disables_a_terminal = refl
 
-triggers_an_output : bare (Trigger 2) ≡ Some 1
+triggers_an_output : bare (Trigger 4) ≡ Some 1
 triggers_an_output = refl
 
 triggers_nothing : bare (Trigger 5) ≡ Some 1
@@ -127,54 +130,54 @@ triggers_nothing = refl
 when_an_interrupt : over_value (activating 1 0) ≡ None
 when_an_interrupt = refl
 
-when_an_input : over_value (activating 1 1) ≡ Some 1
+when_an_input : over_value (activating 1 3) ≡ Some 1
 when_an_input = refl
 
 activates_no_task : over_value (activating 2 0) ≡ Some 1
 activates_no_task = refl
 
-continues_when_a_terminal : bare (continuing 1 3) ≡ Some 1
+continues_when_a_terminal : bare (continuing 1 1) ≡ Some 1
 continues_when_a_terminal = refl
 
-resumes_when_an_output : bare (Resume (once.When 2)) ≡ Some 1
+resumes_when_an_output : bare (Resume (once.When 4)) ≡ Some 1
 resumes_when_an_output = refl
 
 suspends_no_task : bare (Suspend 2) ≡ Some 1
 suspends_no_task = refl
 
 -- values come in from an input, and go out to an output
-takes_from_an_output : bare (Take 2) ≡ Some 1
+takes_from_an_output : bare (Take 4) ≡ Some 1
 takes_from_an_output = refl
 
 takes_from_an_interrupt : bare (Take 0) ≡ Some 1
 takes_from_an_interrupt = refl
 
-takes_from_a_terminal : bare (Take 4) ≡ Some 1
+takes_from_a_terminal : bare (Take 2) ≡ Some 1
 takes_from_a_terminal = refl
 
-sends_to_an_output : over_value (Send 2) ≡ None
+sends_to_an_output : over_value (Send 4) ≡ None
 sends_to_an_output = refl
 
-sends_to_an_input : over_value (Send 1) ≡ Some 1
+sends_to_an_input : over_value (Send 3) ≡ Some 1
 sends_to_an_input = refl
 
-sends_to_a_terminal : over_value (Send 3) ≡ Some 1
+sends_to_a_terminal : over_value (Send 1) ≡ Some 1
 sends_to_a_terminal = refl
 
-sends_another_kind : unsound (plant (Try 0 ∷ Send 2 ∷ End ∷ [])) 0 1 ≡ Some 4
+sends_another_kind : unsound (plant (Try 0 ∷ Send 4 ∷ End ∷ [])) 0 1 ≡ Some 4
 sends_another_kind = refl
 
 -- texts go to a terminal that takes them, and come from one that gives them
-puts_to_an_output : over_value (Put 2 0) ≡ Some 1
+puts_to_an_output : over_value (Put 4 0) ≡ Some 1
 puts_to_an_output = refl
 
-puts_to_one_that_gives : over_value (Put 4 0) ≡ Some 1
+puts_to_one_that_gives : over_value (Put 2 0) ≡ Some 1
 puts_to_one_that_gives = refl
 
-gets_from_an_input : bare (Get (boxed (record { device = 1; format = 0; first = 0 }))) ≡ Some 1
+gets_from_an_input : bare (Get (boxed (record { device = 3; format = 0; first = 0 }))) ≡ Some 1
 gets_from_an_input = refl
 
-gets_from_one_that_takes : bare (Get (boxed (record { device = 3; format = 0; first = 0 }))) ≡ Some 1
+gets_from_one_that_takes : bare (Get (boxed (record { device = 1; format = 0; first = 0 }))) ≡ Some 1
 gets_from_one_that_takes = refl
 
 tries_no_semaphore : bare (Try 2) ≡ Some 1
@@ -202,14 +205,14 @@ triggers = refl
 requests : offered (row (plant leading) (frame 10 (number 7 ∷ []) [])) ≡ Some (action.Request (record { items = 0 ∷ 1 ∷ [] }))
 requests = refl
 
-takes : offered (row (plant leading) (frame 11 (number 7 ∷ []) [])) ≡ Some (action.Take 1)
+takes : offered (row (plant leading) (frame 11 (number 7 ∷ []) [])) ≡ Some (action.Take 3)
 takes = refl
 
 -- a value of the input's kind suits, and is pushed
-hears_a_value : Answers (plant leading) 0 (action.Take 1) (One (number 5))
+hears_a_value : Answers (plant leading) 0 (action.Take 3) (One (number 5))
 hears_a_value = record { is_value = small 5 (omega arith); same_kind = refl }
 
-hears_no_bit : Answers (plant leading) 0 (action.Take 1) (One (cell.Bits 1 0)) → ⊥
+hears_no_bit : Answers (plant leading) 0 (action.Take 3) (One (cell.Bits 1 0)) → ⊥
 hears_no_bit suits = let same = suits.same_kind in cc
 
 pushes_the_value : after (row (plant leading) (frame 11 (number 7 ∷ []) [])) (One (number 5)) ≡ frame 12 (number 7 ∷ []) (number 5 ∷ [])
@@ -218,7 +221,7 @@ pushes_the_value = refl
 writes : offered (row (plant leading) (frame 12 (number 7 ∷ []) (number 5 ∷ []))) ≡ Some (action.Write 0 (number 5))
 writes = refl
 
-sends : offered (row (plant leading) (frame 14 (number 7 ∷ []) (number 5 ∷ []))) ≡ Some (action.Send 2 (number 5))
+sends : offered (row (plant leading) (frame 14 (number 7 ∷ []) (number 5 ∷ []))) ≡ Some (action.Send 4 (number 5))
 sends = refl
 
 releases : offered (row (plant leading) (frame 15 (number 7 ∷ []) [])) ≡ Some (action.Release (record { items = 1 ∷ 0 ∷ [] }))

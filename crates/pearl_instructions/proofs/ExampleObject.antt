@@ -96,11 +96,14 @@ small n less = ((omega arith, omega arith), record { low = grind (arith, ints); 
 
 it_is_lawful : IsObject whole
 it_is_lawful = record {
+  devices = ((omega arith, omega arith, tt), tt);
+  rising = tt;
   leaves = tt;
   formats = (((omega arith, omega arith), ((tt, omega arith), tt)), tt);
   procedures = (record { code = is_adding; result = tt }, tt);
-  tasks = (record { code = is_looping; urgent = (omega arith, omega arith) }, tt);
+  tasks = (record { code = is_looping; named = refl; urgent = (omega arith, omega arith) }, tt);
   semaphores = tt;
+  few_formats = omega arith;
   few_slots = omega arith;
   few_procedures = omega arith;
   few_tasks = omega arith;

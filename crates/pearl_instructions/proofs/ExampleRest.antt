@@ -47,7 +47,7 @@ named letter code = record { name = record { items = letter ∷ [] }; priority =
 
 abbrev rest : Object
 rest = record {
-  devices = Interrupt 0 ∷ [];
+  devices = Interrupt 1 ∷ [];
   semaphores = 1 ∷ [];
   leaves = record { name = 118 ∷ []; kind = kind.Fixed 31; slots = 2; constants = [] } ∷ [];
   formats = [];

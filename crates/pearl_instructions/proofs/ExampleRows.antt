@@ -69,16 +69,16 @@ leaves_its_kind : row (only (Advance 0 5)) (frame 0 (short 127 ∷ short 1 ∷ s
 leaves_its_kind = refl
 
 -- a procedure whose one parameter is of this kind, and which has a BIT(1) besides, and a task; the task is routine 1
-abbrev calling : Procedure → Object
+abbrev pub calling : Procedure → Object
 calling procedure = record (only (Call 0)) { procedures = procedure ∷ [] }
 
 abbrev returning : Object
 returning = calling (record { params = 1; result = Some (kind.Fixed 31); code = code (fixed ∷ Plain (kind.Bits 1) ∷ []) 9 (Load 0 ∷ Return ∷ []) [] })
 
-abbrev caller : ℕ → List Cell → List Cell → Frame
+abbrev pub caller : ℕ → List Cell → List Cell → Frame
 caller place cells operands = record { routine = 1; place = place; cells = cells; operands = operands }
 
-abbrev callee : ℕ → List Cell → List Cell → Frame
+abbrev pub callee : ℕ → List Cell → List Cell → Frame
 callee place cells operands = record { routine = 0; place = place; cells = cells; operands = operands }
 
 enters : offered (row returning (caller 0 [] (number 2 ∷ number 9 ∷ []) ∷ [])) ≡ Some action.Enter
@@ -109,7 +109,7 @@ abbrev leaf : ℕ → Leaf
 leaf slots = record { name = 120 ∷ []; kind = kind.Fixed 31; slots = slots; constants = [] }
 
 -- leaves of three slots and of two
-abbrev with_leaves : Instr → Object
+abbrev pub with_leaves : Instr → Object
 with_leaves instr = record (only instr) { leaves = leaf 3 ∷ leaf 2 ∷ [] }
 
 refers_to_a_slot : row (with_leaves (RefSlotAt 1)) (frame 0 [] (number 1 ∷ [])) ≡ Silent (frame 1 [] (Ref (kind.Fixed 31) (place.Slot 4) ∷ []))

@@ -19,6 +19,7 @@ mod Moved
 mod Owned
 mod Examples
 mod ExampleRows
+mod ExampleValues
 mod ExampleObject
 mod ExampleTasks
 mod ExampleDevices

@@ -1,11 +1,12 @@
 -- What is asked of each object, before any rule of the validator: lengths, counts, kinds, names and numbers.
-use Rattle.std.specs.Prelude.{ℕ, ◌^◌, ◌<◌, ◌≤◌, List, [], ◌∷◌, IfSome, length, drop, sum_by}
+use Rattle.std.specs.Prelude.{ℕ, ◌^◌, ◌<◌, ◌≤◌, List, [], ◌∷◌, IfSome, IsTrue, length, drop, sum_by}
 use Rattle.std.specs.List.{AllByRecursion}
 use Rattle.pearl_value.specs.declared.kind.CellKind.{CellKind}
 use Rattle.pearl_value.specs.declared.kind.CellKind.TheVariants.{Plain, RefTo}
 use Rattle.pearl_value.specs.Kinds.{IsKind}
 use Rattle.pearl_value.specs.WellFormed.{IsValue, IsValueOf, IsLetter}
-use Rattle.pearl_rules.specs.Tables.{IsFormat}
+use Rattle.pearl_rules.specs.Tables.{IsDevice, IsFormat, is_id}
+use Rattle.pearl_rules.specs.Tables as tables
 use Rattle.pearl_instructions.specs.declared.instr.Instr.{Instr}
 use Rattle.pearl_instructions.specs.declared.instr.Instr.TheVariants.{Const, Fill, Conv}
 use Rattle.pearl_instructions.specs.declared.object.Leaf.{Leaf}
@@ -59,15 +60,20 @@ pub record IsProcedure (p : Procedure) : Type 0 where
 
 pub record IsTask (t : Task) : Type 0 where
   pub code : IsCode 0 t.code
+  pub named : IsTrue (is_id t.name.items)
   pub urgent : (0 < t.priority) × (t.priority ≤ 255)
 
--- at most 200 procedures and tasks each, 1,000 semaphores, 396 devices and 65,536 slots
+-- at most 200 procedures and tasks each, 1,000 semaphores, 396 devices and 65,536 slots; a format has a number of 32 bits, and the
+-- devices rise by sort and number, so none stands twice
 pub record IsObject (o : Object) : Type 0 where
+  pub devices : AllByRecursion IsDevice o.devices
+  pub rising : tables.AreRising o.devices
   pub leaves : AllByRecursion IsLeaf o.leaves
   pub formats : AllByRecursion IsFormat o.formats
   pub procedures : AllByRecursion IsProcedure o.procedures
   pub tasks : AllByRecursion IsTask o.tasks
   pub semaphores : AllByRecursion (λ count. count < 2 ^ 31) o.semaphores
+  pub few_formats : length o.formats < 2 ^ 32
   pub few_slots : sum_by (λ leaf. leaf.slots) o.leaves ≤ 65536
   pub few_procedures : length o.procedures ≤ 200
   pub few_tasks : length o.tasks ≤ 200

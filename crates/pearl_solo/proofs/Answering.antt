@@ -39,7 +39,7 @@ use Rattle.pearl_solo.proofs.Begins.{depth_small}
 use Rattle.pearl_solo.proofs.Getting.{reads, kinds_few}
 use Rattle.pearl_solo.proofs.Hearing.{Heard, GoesOn, TakesUp}
 use Rattle.pearl_solo.proofs.Small.{puts}
-use Rattle.pearl_solo.proofs.Stands.{room_of_task, row_stays, same_room, frames_some}
+use Rattle.pearl_solo.proofs.Stands.{room_of_task, row_stays, task_is, same_room, frames_some}
 
 -- the stack after an answer that suits
 
@@ -66,6 +66,7 @@ pub record Kept (o : Object) (s : Stack) (frames : List Frame) : Type 0 where
   pub within : used frames ≤ s.room
   pub small : used frames ≤ 4096
   pub few : length frames ≤ length o.procedures + 1
+  pub task : task_of o frames ≡ task_of o s.frames
 
 pub kept_after : Known → (o : Object) (s : Stack) (answer : Answer) → IsValid o → IsObject o → IsStack o s.frames → room o s.frames ≤ s.room →
     CanHear o (task_of o s.frames) (row o s.frames) answer → Kept o s (after (row o s.frames) answer)
@@ -85,6 +86,7 @@ kept_after k o s answer v w t less suits =
       within = omega (arith, deep, same, less);
       small = omega (arith, deep, all, least);
       few = k.frames o v next stack;
+      task = task_is o own next of;
     }
 
 pub hears : Known → (o : Object) (s : Stack) (instr : Instr) (here : size.Frame) (answer : Answer) → IsValid o → IsObject o → IsStack o s.frames → room o s.frames ≤ s.room →

@@ -101,5 +101,5 @@ gets_format o instr here s g e h =
     by None q has = cc
     by (Some items) q has =
         let within = slice_get_within o.formats g.value.format items q in
-        let few = h.formats in
+        let few = h.lawful.few_formats in
         omega (arith, within, few)

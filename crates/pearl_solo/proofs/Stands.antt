@@ -1,5 +1,5 @@
 -- A stack of a valid object stands at an instruction, and what a step leaves is again such a stack.
-use Rattle.std.proofs.Common.{◌≡◌, ℕ, zero, suc, ◌+◌, ◌<◌, ◌≤◌, ◌^◌, List, [], ◌∷◌, ◌++◌, Option, Some, None, length, map, slice_get, refl, sym, ap, ◌∙◌, subst, arith, true, eqb, eq-eqb}
+use Rattle.std.proofs.Common.{◌≡◌, ℕ, zero, suc, ◌+◌, ◌<◌, ◌≤◌, List, [], ◌∷◌, ◌++◌, Option, Some, None, length, map, slice_get, refl, sym, ap, ◌∙◌, subst, arith, true, eqb, eq-eqb}
 use Rattle.std.specs.Prelude.{IsSome, option_map, option_and_then}
 use Rattle.std.specs.List.{AllByRecursion, AllZip}
 use Rattle.std.proofs.lemmas.Option.{same_Some}
@@ -63,6 +63,11 @@ row_stays k o v w (f ∷ lower) t =
     let instr = some_instr o f lower (instr_at o f) refl (k.leads o v w (f ∷ lower) t) in
     only_task o own (Moves instr.0 f lower) (row o (f ∷ lower)) (k.stays o own f lower instr.0 (k.task o (f ∷ lower) t).1 instr.1)
 
+pub task_is : (o : Object) (task : ℕ) (frames : List Frame) → IsOfTask o task frames → task_of o frames ≡ task
+task_is o task [] never = absurd never
+task_is o task (f ∷ []) of = omega (arith, of)
+task_is o task (f ∷ g ∷ lower) of = task_is o task (g ∷ lower) of
+
 pub same_room : Known → (o : Object) (frames next : List Frame) → IsStack o frames → IsOfTask o (task_of o frames) next → room o next ≡ room o frames
 same_room k o frames next t of = room_of_task o (task_of o frames) next of ∙ sym (room_of_task o (task_of o frames) frames (k.task o frames t).1)
 
@@ -96,6 +101,16 @@ pub kept : Known → (o : Object) (old now : Stack) (result : Stepped) → IsVal
     Does (row o old.frames) old now result → IsStack o now.frames × (room o now.frames ≤ now.room)
 kept k o old now result v w t less does =
     kept_by k o old now (row o old.frames) result t less (k.leads o v w old.frames t) (row_stays k o v w old.frames t) does
+
+-- the stack stays that of its task
+
+same_by : (o : Object) (old now : Stack) (step : Step) (result : Stepped) → Stays o (task_of o old.frames) step → Does step old now result → task_of o now.frames ≡ task_of o old.frames
+same_by o old now step stepped.Silent stays does = task_is o (task_of o old.frames) now.frames (subst (Stays o (task_of o old.frames)) does.0 stays)
+same_by o old now step (stepped.Offers action) stays does = ap (λ (s : Stack). task_of o s.frames) does.2
+
+pub same_task : Known → (o : Object) (old now : Stack) (result : Stepped) → IsValid o → IsObject o → IsStack o old.frames → Does (row o old.frames) old now result →
+    task_of o now.frames ≡ task_of o old.frames
+same_task k o old now result v w t does = same_by o old now (row o old.frames) result (row_stays k o v w old.frames t) does
 
 -- cells and operands are values or references
 
@@ -200,16 +215,15 @@ instr_there o (f ∷ lower) t =
 -- it stands there
 
 on_frames : Known → (o : Object) → IsValid o → IsObject o → (frames : List Frame) (most : ℕ) (instr : Instr) (here : size.Frame) → IsStack o frames → room o frames ≤ most →
-    length o.formats < 2 ^ 32 → IsHere here frames → instr_of o frames ≡ Some instr → StandsAt o instr here (record { frames = frames; room = most; most = 0 })
-on_frames k o v w [] most instr here never less formats sizes there = absurd never
-on_frames k o v w (f ∷ lower) most instr here t less formats sizes there =
+    IsHere here frames → instr_of o frames ≡ Some instr → StandsAt o instr here (record { frames = frames; room = most; most = 0 })
+on_frames k o v w [] most instr here never less sizes there = absurd never
+on_frames k o v w (f ∷ lower) most instr here t less sizes there =
     let e : row o (f ∷ lower) ≡ act_on o instr (f ∷ lower) = row_is o (f ∷ lower) instr there in
     let at : slice_get t.code.instructions f.place ≡ Some instr =
     ap (option_and_then (λ (code : Code). slice_get code.instructions f.place)) (sym t.routine) ∙ there in
     let kept = rules_at o f.routine t.code f.place instr v t.routine at in
     record {
       lawful = w;
-      formats = formats;
       stack = t;
       sizes = sizes;
       ready = subst (λ r. Applies r most) e (row_ready k o v w (f ∷ lower) most t less);
@@ -225,12 +239,11 @@ on_frames k o v w (f ∷ lower) most instr here t less formats sizes there =
     }
 
 pub stands : Known → (o : Object) (s : Stack) (instr : Instr) (here : size.Frame) → IsValid o → IsObject o → IsStack o s.frames → room o s.frames ≤ s.room →
-    length o.formats < 2 ^ 32 → IsHere here s.frames → instr_of o s.frames ≡ Some instr → StandsAt o instr here s
-stands k o s instr here v w t less formats sizes there =
-    let h = on_frames k o v w s.frames s.room instr here t less formats sizes there in
+    IsHere here s.frames → instr_of o s.frames ≡ Some instr → StandsAt o instr here s
+stands k o s instr here v w t less sizes there =
+    let h = on_frames k o v w s.frames s.room instr here t less sizes there in
     record {
       lawful = h.lawful;
-      formats = h.formats;
       stack = h.stack;
       sizes = h.sizes;
       ready = h.ready;

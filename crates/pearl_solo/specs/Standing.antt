@@ -1,5 +1,5 @@
 -- What an instruction stands on: a stack of a valid object at this instruction, with memory for what its row leaves.
-use Rattle.std.specs.Prelude.{◌≡◌, ℕ, ◌<◌, ◌^◌, true, List, [], ◌∷◌, Option, None, length}
+use Rattle.std.specs.Prelude.{◌≡◌, ℕ, true, List, [], ◌∷◌, Option, None}
 use Rattle.std.specs.List.{AllByRecursion, AllZip}
 use Rattle.pearl_rules.specs.declared.action.Action.{Action}
 use Rattle.pearl_rules.specs.declared.action.Answer.{Answer}
@@ -79,7 +79,6 @@ family instr = 4
 -- validator's rules on numbers and limits are kept, the operands being of these kinds.
 pub record StandsAt (o : Object) (instr : Instr) (here : size.Frame) (s : Stack) : Type 0 where
   pub lawful : IsObject o
-  pub formats : length o.formats < 2 ^ 32
   pub stack : IsStack o s.frames
   pub sizes : IsHere here s.frames
   pub ready : Applies (act_on o instr s.frames) s.room

@@ -1,6 +1,6 @@
 // How a task goes on after the answer to its action.
 
-ghost use Rattle.std.specs.Prelude.{◌≡◌, ◌+◌, ◌<◌, ◌≤◌, ◌^◌, IfSome, length, slice_get};
+ghost use Rattle.std.specs.Prelude.{◌≡◌, ◌+◌, ◌<◌, ◌≤◌, IfSome, length, slice_get};
 ghost use Rattle.pearl_stack.specs.Frames.{top_operands, used, without};
 ghost use Rattle.pearl_instructions.specs.Flow.{called};
 ghost use Rattle.pearl_instructions.specs.Lawful.{IsObject};
@@ -158,11 +158,11 @@ pub fn answer(code: &Valid, stack: &mut Loaded, answer: Answer)
     requires stack { IsStack code.now stack.old.frames }
     requires room { room code.now stack.old.frames ≤ stack.old.room }
     requires most { length code.now.procedures + 1 ≤ stack.old.most }
-    requires formats { length code.now.formats < 2 ^ 32 }
     requires suits { CanHear code.now (task_of code.now stack.old.frames) (row code.now stack.old.frames) answer }
     ensures after { stack.new ≡ record stack.old { frames = after (row code.now stack.old.frames) answer } }
     ensures stack { IsStack code.now stack.new.frames }
     ensures room { room code.now stack.new.frames ≤ stack.new.room }
+    ensures task { task_of code.now stack.new.frames ≡ task_of code.now stack.old.frames }
 {
     laws_hold(code);
     let here = stack.frame(stack.frames() - 1);

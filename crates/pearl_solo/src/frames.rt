@@ -5,7 +5,7 @@ ghost use Rattle.std.specs.List.{AllByRecursion};
 ghost use Rattle.pearl_instructions.specs.Flow.{fresh as fresh_of};
 ghost use Rattle.pearl_instructions.specs.Lawful.{IsCellKind};
 ghost use Rattle.pearl_instructions.specs.Rows.{begun};
-ghost use Rattle.pearl_instructions.specs.Stacks.{IsStack, room};
+ghost use Rattle.pearl_instructions.specs.Stacks.{IsStack, task_of, room};
 ghost use Rattle.pearl_solo.specs.Steps.{top_cells, with_cells};
 
 use crate::known::laws_hold;
@@ -77,6 +77,7 @@ pub fn begin(code: &Valid, task: u32, stack: &mut Loaded)
     ensures frames { stack.new ≡ record stack.old { frames = begun code.now (length code.now.procedures + task) } }
     ensures stack { IsStack code.now stack.new.frames }
     ensures room { room code.now stack.new.frames ≤ stack.new.room }
+    ensures task { task_of code.now stack.new.frames ≡ task }
 {
     laws_hold(code);
     laws::tasks_begin_with_a_stack();

@@ -1,7 +1,7 @@
 // Instructions, one after the other, until an action is offered.
 
-ghost use Rattle.std.specs.Prelude.{◌≡◌, ◌<◌, ◌≤◌, ◌^◌, length};
-ghost use Rattle.pearl_instructions.specs.Stacks.{IsStack, room};
+ghost use Rattle.std.specs.Prelude.{◌≡◌, ◌≤◌};
+ghost use Rattle.pearl_instructions.specs.Stacks.{IsStack, task_of, room};
 ghost use Rattle.pearl_solo.specs.Settling.{Settles};
 
 use crate::known::laws_hold;
@@ -15,11 +15,11 @@ use pearl_stack::stack::Loaded;
 pub fn settle(code: &Valid, stack: &mut Loaded) -> Action
     requires stack { IsStack code.now stack.old.frames }
     requires room { room code.now stack.old.frames ≤ stack.old.room }
-    requires formats { length code.now.formats < 2 ^ 32 }
     ensures settles { Settles code.now stack.old.frames stack.new.frames result }
     ensures memory { (stack.new.room ≡ stack.old.room) × (stack.new.most ≡ stack.old.most) }
     ensures stack { IsStack code.now stack.new.frames }
     ensures room { room code.now stack.new.frames ≤ stack.new.room }
+    ensures task { task_of code.now stack.new.frames ≡ task_of code.now stack.old.frames }
 {
     laws_hold(code);
     loop {

@@ -1,8 +1,8 @@
 // One instruction.
 
-ghost use Rattle.std.specs.Prelude.{◌≡◌, ◌<◌, ◌≤◌, ◌^◌, length};
+ghost use Rattle.std.specs.Prelude.{◌≡◌, ◌≤◌};
 ghost use Rattle.pearl_instructions.specs.Rows.{row};
-ghost use Rattle.pearl_instructions.specs.Stacks.{IsStack, room};
+ghost use Rattle.pearl_instructions.specs.Stacks.{IsStack, task_of, room};
 ghost use Rattle.pearl_solo.specs.Standing.{act_on, family, StandsAt};
 ghost use Rattle.pearl_solo.specs.Steps.{Does};
 
@@ -156,10 +156,10 @@ fn on_devices(code: &Valid, stack: &mut Loaded, here: Frame, instr: &Instr) -> S
 pub fn step(code: &Valid, stack: &mut Loaded) -> Stepped
     requires stack { IsStack code.now stack.old.frames }
     requires room { room code.now stack.old.frames ≤ stack.old.room }
-    requires formats { length code.now.formats < 2 ^ 32 }
     ensures does { Does (row code.now stack.old.frames) stack.old stack.new result }
     ensures stack { IsStack code.now stack.new.frames }
     ensures room { room code.now stack.new.frames ≤ stack.new.room }
+    ensures task { task_of code.now stack.new.frames ≡ task_of code.now stack.old.frames }
 {
     laws_hold(code);
     let here = stack.frame(stack.frames() - 1);

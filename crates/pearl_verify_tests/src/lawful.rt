@@ -21,8 +21,10 @@ fn smallest(alloc: Global) -> Result<Object, AllocError>
         instructions: Listing::new(vec![in alloc; Instr::End]?),
         shapes: Listing::new(Vec::new(alloc)),
     };
+    let mut name = ArrayVec::new();
+    name.push(b'T');
     let task = Task {
-        name: ArrayVec::new(),
+        name,
         priority: 1,
         main: true,
         code,

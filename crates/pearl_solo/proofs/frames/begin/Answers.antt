@@ -1,8 +1,8 @@
-use Rattle.std.proofs.Common.{◌≡◌, ◌+◌, ◌≤◌, [], ◌++◌, length, map, take, drop, sym, ap, ◌∙◌, subst, arith}
+use Rattle.std.proofs.Common.{◌≡◌, ◌+◌, ◌-◌, ◌≤◌, [], ◌++◌, length, map, take, drop, sym, ap, ◌∙◌, subst, arith}
 use Rattle.pearl_stack.specs.Frames.{Stack, entered}
 use Rattle.pearl_instructions.specs.declared.object.Object.{Object}
 use Rattle.pearl_instructions.specs.Flow as flow
-use Rattle.pearl_instructions.specs.Stacks.{IsStack, room}
+use Rattle.pearl_instructions.specs.Stacks.{IsStack, task_of, room}
 use Rattle.pearl_solo.specs.Steps.{top_cells, with_cells}
 use Rattle.pearl_solo.proofs.Begins.{starts}
 use Rattle.pearl_solo.proofs.frames.begin.Goals as goal
@@ -56,3 +56,9 @@ returns-clause-stack c =
 
 pub returns-clause-room : goal.returns-clause-room
 returns-clause-room c = subst (λ (s : Stack). room c.args.code.now s.frames ≤ s.room) (sym (returns-clause-frames c)) c.requires.room
+
+pub returns-clause-task : goal.returns-clause-task
+returns-clause-task c =
+    let o : Object = c.args.code.now in
+    let same : (length o.procedures + c.args.task) - length o.procedures ≡ c.args.task = omega arith in
+    ap (λ (s : Stack). task_of o s.frames) (returns-clause-frames c) ∙ same

@@ -1,6 +1,6 @@
 use Rattle.std.proofs.Common.{◌≡◌, ◌≤◌}
 use Rattle.pearl_instructions.specs.Objects.{routines}
-use Rattle.pearl_instructions.specs.Stacks.{IsStack, room, all_rows}
+use Rattle.pearl_instructions.specs.Stacks.{IsStack, task_of, room, all_rows}
 use Rattle.pearl_solo.proofs.Settling.{Run, rows_left}
 use Rattle.pearl_solo.proofs.settle.settle.Given as goal
 
@@ -8,6 +8,7 @@ abbrev pub invariant-loop-action : goal.invariant-loop-action
 invariant-loop-action l = record {
   stack : IsStack l.code l.stack.frames;
   room : room l.code l.stack.frames ≤ l.stack.room;
+  task : task_of l.code l.stack.frames ≡ task_of l.code l.initial.stack.frames;
   run : Run l.code l.initial.stack.frames l.stack.frames;
   same : (l.stack.room ≡ l.initial.stack.room) × (l.stack.most ≡ l.initial.stack.most);
 }

@@ -2,7 +2,7 @@ use Rattle.std.proofs.Common.{◌≡◌, suc, ◌-◌, Some, length, sym, ◌∙
 use Rattle.pearl_instructions.specs.Rows.{row}
 use Rattle.pearl_solo.specs.Standing.{instr_of}
 use Rattle.pearl_solo.specs.Steps.{Does, IsSizes}
-use Rattle.pearl_solo.proofs.Stands.{row_is, kept, stands, frames_some, top_sizes, read_is}
+use Rattle.pearl_solo.proofs.Stands.{row_is, kept, same_task, stands, frames_some, top_sizes, read_is}
 use Rattle.pearl_solo.proofs.step.step.Goals as goal
 
 pub on_cells-requires : goal.on_cells-requires
@@ -13,7 +13,7 @@ on_cells-requires c =
     let top : IsSizes c.frame-here.result frames = top_sizes c.args.code.now frames (c.frames.result - 1) c.frame-here.result c.requires.stack one c.frame-here.ensures in
     let there : instr_of c.args.code.now frames ≡ Some c.instr_at-instr.result.now = sym (read_is c.args.code.now frames c.frame-here.result top) ∙ c.instr_at-instr.ensures.instr in
     stands c.laws_hold.ensures.laws c.args.code.now c.args.stack.now c.instr_at-instr.result.now c.frame-here.result c.laws_hold.ensures.valid c.laws_hold.ensures.object c.requires.stack c.requires.room
-    c.requires.formats (record { top = top; next = c.instr_at-instr.ensures.next }) there
+    (record { top = top; next = c.instr_at-instr.ensures.next }) there
 
 pub returns-clause-does : goal.returns-clause-does
 returns-clause-does c =
@@ -47,3 +47,14 @@ returns-clause-room c =
     let does : Does (row c.args.code.now frames) c.args.stack.now c.on_cells.new.stack c.on_cells.result =
     subst (λ r. Does r c.args.stack.now c.on_cells.new.stack c.on_cells.result) (sym (row_is c.args.code.now frames c.instr_at-instr.result.now there)) c.on_cells.ensures in
     (kept c.laws_hold.ensures.laws c.args.code.now c.args.stack.now c.on_cells.new.stack c.on_cells.result c.laws_hold.ensures.valid c.laws_hold.ensures.object c.requires.stack c.requires.room does).1
+
+pub returns-clause-task : goal.returns-clause-task
+returns-clause-task c =
+    let frames = c.args.stack.now.frames in
+    let some = frames_some c.args.code.now frames c.requires.stack in
+    let one : suc (c.frames.result - 1) ≡ length frames = omega (arith, c.frames.ensures, some) in
+    let top : IsSizes c.frame-here.result frames = top_sizes c.args.code.now frames (c.frames.result - 1) c.frame-here.result c.requires.stack one c.frame-here.ensures in
+    let there : instr_of c.args.code.now frames ≡ Some c.instr_at-instr.result.now = sym (read_is c.args.code.now frames c.frame-here.result top) ∙ c.instr_at-instr.ensures.instr in
+    let does : Does (row c.args.code.now frames) c.args.stack.now c.on_cells.new.stack c.on_cells.result =
+    subst (λ r. Does r c.args.stack.now c.on_cells.new.stack c.on_cells.result) (sym (row_is c.args.code.now frames c.instr_at-instr.result.now there)) c.on_cells.ensures in
+    same_task c.laws_hold.ensures.laws c.args.code.now c.args.stack.now c.on_cells.new.stack c.on_cells.result c.laws_hold.ensures.valid c.laws_hold.ensures.object c.requires.stack does
