@@ -5,5 +5,7 @@ pub mod ModuleNumbers
 pub mod Numbering
 pub mod PlainNodes
 pub mod Reached
+pub mod Resolving
 pub mod Sizes
+pub mod StatementNodes
 pub mod StatementParts

@@ -2,13 +2,16 @@
 #![tactic(auto)]
 
 mod bounds;
+mod cells;
+mod counter;
 mod counts;
 pub mod expression;
 mod literal;
 mod making;
 mod module_names;
+mod nodes;
 pub mod numbered;
 pub mod numbers;
-pub mod schedule;
-pub mod simple;
+mod schedule;
+mod simple;
 mod walk;

@@ -13,6 +13,7 @@ ghost use Rattle.pearl_resolve.specs.Laying as laying;
 ghost use Rattle.pearl_resolve.specs.Numbers as spec;
 ghost use Rattle.pearl_resolve.specs.Resolve.{numbered_of};
 
+use crate::counter::loop_cells;
 use crate::counts::{cells_of_sense, sum};
 use crate::module_names::module_numbers;
 use crate::numbered::{NumberedTable, ScopeNumbers};
@@ -21,7 +22,7 @@ use pearl_names::table::SenseTable;
 use pearl_names::types::StructForm;
 use pearl_system::device::SpecifiedDevice;
 use pearl_tree::parts::Parts;
-use pearl_tree::statement::{Body, Branch, Repeat, Stmt};
+use pearl_tree::statement::{Body, Branch, Stmt};
 use pearl_tree::tree::{Decl, Tree};
 use std::alloc::{AllocError, Global};
 
@@ -105,8 +106,8 @@ fn enter_scope(
     })
 }
 
-// A PUT or a GET with so many targets.
-fn past_format(at: At, targets: usize) -> Result<At, AllocError>
+/// A PUT or a GET with so many targets.
+pub(crate) fn past_format(at: At, targets: usize) -> Result<At, AllocError>
     ensures { IfOk result (λ after. at_in after ≡ record { next = at.next; cell = at.cell + 2 * targets; format = at.format + 1 }) }
 {
     let targets = match u32::try_from(targets) {
@@ -116,17 +117,6 @@ fn past_format(at: At, targets: usize) -> Result<At, AllocError>
     let cell = sum(at.cell, sum(targets, targets)?)?;
     let format = sum(at.format, 1)?;
     Ok(At { cell, format, ..at })
-}
-
-/// How many cells a loop has before those of its body.
-pub(crate) fn loop_cells(part: &Repeat) -> u32
-    ensures { result ≡ spec.loop_cells part.now.control part.now.begin part.now.step part.now.end }
-{
-    if part.control.is_some() || part.begin.is_some() || part.step.is_some() || part.end.is_some() {
-        3
-    } else {
-        0
-    }
 }
 
 #[cycle(statement)]

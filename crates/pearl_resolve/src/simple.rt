@@ -7,12 +7,16 @@ ghost use Rattle.pearl_program.specs.PlainExpressions.{plain_arguments, plain_ex
 ghost use Rattle.pearl_program.specs.PlainStatements.{OfActivate, OfAssign, OfCallOf, OfContinue, OfGet, OfPut, OfResume, OfReturn, OfSend, OfTake, plain_stmt};
 ghost use Rattle.pearl_tree.specs.ShownExpressions.{shown_expr, shown_ref};
 ghost use Rattle.pearl_tree.specs.ShownStatements.{shown_once, shown_start};
+ghost use Rattle.pearl_value.specs.declared.kind.CellKind.TheVariants.{Plain};
+ghost use Rattle.pearl_resolve.specs.Cells.{get_cells};
 ghost use Rattle.pearl_resolve.specs.Expressions as expressions;
 ghost use Rattle.pearl_resolve.specs.Holding.{Becomes};
 ghost use Rattle.pearl_resolve.specs.Statements as spec;
 
-use crate::expression::{add_exprs, resolve_arguments, resolve_variable};
+use crate::cells::add_cells;
+use crate::expression::{add_exprs, resolve_arguments, resolve_target, resolve_variable};
 use crate::numbered::NumberedTable;
+use crate::numbers::At;
 use crate::schedule::{number_in, once_if, once_in, period_if, start_if, value_if, value_in};
 use arrayvec::ArrayVec;
 use pearl_names::scope::View;
@@ -22,9 +26,10 @@ use pearl_tree::expression::{Expr as Written, Ref};
 use pearl_tree::name::Name;
 use pearl_tree::statement as tree;
 use pearl_tree::statement::{InterruptWord, SemaWord, TaskWord};
+use pearl_value::kind::{CellKind, Kind};
 use std::alloc::{AllocError, Global};
 
-pub fn assign(
+pub(crate) fn assign(
     alloc: Global,
     numbered: &NumberedTable,
     scope: u32,
@@ -64,7 +69,7 @@ fn arguments_in(
     }
 }
 
-pub fn call_of(
+pub(crate) fn call_of(
     alloc: Global,
     numbered: &NumberedTable,
     scope: u32,
@@ -87,7 +92,7 @@ pub fn call_of(
     Ok(Stmt::Call(call))
 }
 
-pub fn return_of(
+pub(crate) fn return_of(
     alloc: Global,
     numbered: &NumberedTable,
     scope: u32,
@@ -100,7 +105,7 @@ pub fn return_of(
     Ok(Stmt::Return(made))
 }
 
-pub fn activate(
+pub(crate) fn activate(
     alloc: Global,
     numbered: &NumberedTable,
     scope: u32,
@@ -127,7 +132,7 @@ pub fn activate(
     Ok(Stmt::Activate(made))
 }
 
-pub fn continue_of(
+pub(crate) fn continue_of(
     alloc: Global,
     numbered: &NumberedTable,
     scope: u32,
@@ -142,7 +147,7 @@ pub fn continue_of(
     Ok(Stmt::Continue(made))
 }
 
-pub fn resume(
+pub(crate) fn resume(
     alloc: Global,
     numbered: &NumberedTable,
     scope: u32,
@@ -164,7 +169,7 @@ fn number_if(numbered: &NumberedTable, scope: u32, name: &Option<Name>) -> Optio
     }
 }
 
-pub fn on_task(numbered: &NumberedTable, scope: u32, part: &tree::OnTask) -> Stmt
+pub(crate) fn on_task(numbered: &NumberedTable, scope: u32, part: &tree::OnTask) -> Stmt
     ensures { Becomes numbered.now (plain_stmt result) (λ of. spec.on_task part.now.word (option_map (expressions.number_of of (Within scope)) part.now.task)) }
 {
     let task = number_if(numbered, scope, &part.task);
@@ -175,7 +180,7 @@ pub fn on_task(numbered: &NumberedTable, scope: u32, part: &tree::OnTask) -> Stm
     }
 }
 
-pub fn on_interrupt(numbered: &NumberedTable, scope: u32, part: &tree::OnInterrupt) -> Stmt
+pub(crate) fn on_interrupt(numbered: &NumberedTable, scope: u32, part: &tree::OnInterrupt) -> Stmt
     ensures { Becomes numbered.now (plain_stmt result) (λ of. spec.on_interrupt part.now.word (expressions.number_of of (Within scope) part.now.name)) }
 {
     let interrupt = number_in(numbered, scope, &part.name);
@@ -219,7 +224,7 @@ fn semaphores_in(
     Ok(semaphores)
 }
 
-pub fn on_semaphores(
+pub(crate) fn on_semaphores(
     alloc: Global,
     numbered: &NumberedTable,
     scope: u32,
@@ -248,7 +253,7 @@ fn values_in(
     Ok(values)
 }
 
-pub fn put(
+pub(crate) fn put(
     alloc: Global,
     numbered: &NumberedTable,
     scope: u32,
@@ -271,51 +276,60 @@ pub fn put(
     Ok(Stmt::Put(made))
 }
 
-fn variables_in(
+// The targets of a GET, with a cell for the value of each.
+fn targets_in(
     alloc: Global,
     numbered: &NumberedTable,
     scope: u32,
     targets: &[Ref],
+    cells: &mut Vec<CellKind>,
 ) -> Result<Vec<Variable>, AllocError>
-    ensures { IfOk result (λ made. Becomes numbered.now (map plain_variable made.items)
+    ensures variables { IfOk result (λ made. Becomes numbered.now (map plain_variable made.items)
         (λ of. map (expressions.resolve_variable of (Within scope)) (map shown_ref targets.now))) }
+    ensures cells { OnOk result (Becomes numbered.now cells.new.items
+        (λ of. cells.old.items ++ map (λ target. Plain (expressions.target_kind of (Within scope) target)) (map shown_ref targets.now))) }
 {
     let mut variables = Vec::new(alloc);
     variables.reserve_exact(targets.len())?;
     for target in targets {
-        let variable = resolve_variable(alloc, numbered, View::Within(scope), target)?;
+        let (variable, kind) = resolve_target(alloc, numbered, View::Within(scope), target)?;
         variables.push(variable)?;
+        cells.push(CellKind::Plain(kind))?;
     }
     Ok(variables)
 }
 
-pub fn get(
+pub(crate) fn get(
     alloc: Global,
     numbered: &NumberedTable,
     scope: u32,
-    format: u32,
-    cell: u32,
+    at: At,
     part: &tree::Get,
+    cells: &mut Vec<CellKind>,
 ) -> Result<Stmt, AllocError>
-    ensures { IfOk result (λ s. Becomes numbered.now (plain_stmt s) (λ of. OfGet
+    ensures made { IfOk result (λ s. Becomes numbered.now (plain_stmt s) (λ of. OfGet
         (map (expressions.resolve_variable of (Within scope)) (map shown_ref part.now.targets.items.items))
-        (expressions.number_of of (Within scope) part.now.dation) format cell)) }
+        (expressions.number_of of (Within scope) part.now.dation) at.format at.cell)) }
+    ensures cells { OnOk result (Becomes numbered.now cells.new.items
+        (λ of. cells.old.items ++ get_cells of scope (map shown_ref part.now.targets.items.items))) }
 {
-    let targets = variables_in(alloc, numbered, scope, part.targets.as_slice())?;
+    let refs = part.targets.as_slice();
+    let targets = targets_in(alloc, numbered, scope, refs, cells)?;
+    add_cells(refs.len(), Kind::Fixed(31), cells)?;
     let device = number_in(numbered, scope, &part.dation);
     let made = Box::new(
         alloc,
         Get {
             targets,
             device,
-            format,
-            cell,
+            format: at.format,
+            cell: at.cell,
         },
     )?;
     Ok(Stmt::Get(made))
 }
 
-pub fn send(
+pub(crate) fn send(
     alloc: Global,
     numbered: &NumberedTable,
     scope: u32,
@@ -330,7 +344,7 @@ pub fn send(
     Ok(Stmt::Send(made))
 }
 
-pub fn take(
+pub(crate) fn take(
     alloc: Global,
     numbered: &NumberedTable,
     scope: u32,

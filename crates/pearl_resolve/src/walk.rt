@@ -263,6 +263,16 @@ pub(crate) fn variable_of(walk: Walk) -> Variable
     }
 }
 
+/// The kind of the values of the variable to which a reference leads.
+pub(crate) fn kind_of(walk: &Walk) -> Kind
+    ensures { (forms : List StructFormOf) (of : spec.Walk) → HoldsWalk forms walk.now of → result ≡ spec.kind_of_shape of.shape }
+{
+    match walk.part {
+        TypeRef::Basic(kind) => kind,
+        TypeRef::Struct(_) => Kind::Fixed(31),
+    }
+}
+
 fn behind(bounds: &[Bound], given: usize) -> &[Bound]
     ensures { result.now ≡ drop given bounds.now }
 {
