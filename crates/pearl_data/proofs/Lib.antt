@@ -1,0 +1,4 @@
+pub mod Formatting
+pub mod Making
+pub mod Walking
+pub mod Filling

@@ -6,3 +6,5 @@ pub mod Presets
 pub mod Devices
 -- which formats a module has: one for each PUT and GET, in the order of the text
 pub mod Formats
+-- walks over the leaves of a variable: the name is made longer on the way down and cut off on the way up
+pub mod Walks

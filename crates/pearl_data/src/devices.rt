@@ -1,0 +1,71 @@
+// The devices of a program.
+
+ghost use Rattle.std.specs.Prelude.{◌≡◌, map, IfOk};
+ghost use Rattle.pearl_names.specs.Lengths.{kind_of_basic as kind_of};
+ghost use Rattle.pearl_data.specs.Devices as spec;
+
+use pearl_names::length::{Lengths, kind_of_basic};
+use pearl_program::table::{Device, Direction};
+use pearl_system::device::{Role, SpecifiedDevice};
+use pearl_tree::declaration::Direction as Written;
+use pearl_tree::typing::Basic;
+use pearl_value::kind::Kind;
+use pearl_value::listing::Listing;
+use std::alloc::{AllocError, Global};
+
+fn direction_of(direction: Written) -> Direction
+    ensures { result ≡ spec.direction_of direction }
+{
+    match direction {
+        Written::In => Direction::In,
+        Written::Out => Direction::Out,
+        Written::InOut => Direction::InOut,
+    }
+}
+
+/// The kind of a type, or FIXED(31) where a rule is broken in it.
+pub fn kind_or_short(lengths: &Lengths, basic: &Basic) -> Kind
+    ensures { result ≡ spec.kind_or_short (kind_of lengths.now basic.now) }
+{
+    match kind_of_basic(lengths, basic) {
+        Some(kind) => kind,
+        None => Kind::Fixed(31),
+    }
+}
+
+fn device_of(lengths: &Lengths, specified: &SpecifiedDevice) -> Device
+    ensures { result ≡ spec.device_of lengths.now specified.now }
+{
+    let number = specified.number;
+    match &specified.role {
+        Role::Interrupt => Device::Interrupt { number },
+        Role::Terminal { direction } => Device::Terminal {
+            number,
+            direction: direction_of(*direction),
+        },
+        Role::Input { basic } => Device::Input {
+            number,
+            kind: kind_or_short(lengths, basic),
+        },
+        Role::Output { basic } => Device::Output {
+            number,
+            kind: kind_or_short(lengths, basic),
+        },
+    }
+}
+
+/// The devices of a program, in the order in which they are specified.
+pub fn program_devices(
+    alloc: Global,
+    lengths: &Lengths,
+    specified: &[SpecifiedDevice],
+) -> Result<Listing<Device>, AllocError>
+    ensures { IfOk result (λ made. made ≡ map (spec.device_of lengths.now) specified.now) }
+{
+    let mut made = Vec::new(alloc);
+    made.reserve_exact(specified.len())?;
+    for one in specified {
+        made.push(device_of(lengths, one))?;
+    }
+    Ok(Listing::new(made))
+}
