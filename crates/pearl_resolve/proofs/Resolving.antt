@@ -1,20 +1,27 @@
 -- What statements become, one after the other and within others.
-use Rattle.std.proofs.Common.{◌≡◌, ℕ, List, [], ◌∷◌, ◌++◌, refl, sym, ap, ◌∙◌, append_assoc, append-nil}
+use Rattle.std.proofs.Common.{◌≡◌, ℕ, ◌+◌, ◌*◌, Option, option_map, List, [], ◌∷◌, ◌++◌, refl, sym, ap, subst, ◌∙◌, append_assoc, append-nil, arith}
+use Rattle.std.specs.List.{sum_by}
 use Rattle.pearl_value.specs.declared.kind.CellKind.{CellKind}
+use Rattle.pearl_tree.specs.declared.name.Name.{Name}
+use Rattle.pearl_tree.specs.declared.typing.Sort.TheVariants as sort
 use Rattle.pearl_tree.specs.ShownExpressions.{ShownExpr}
-use Rattle.pearl_tree.specs.ShownStatements.{ShownStmt, ShownStmts, ShownBranches, ShownOtherwise}
+use Rattle.pearl_tree.specs.ShownStatements.{ShownBodyDecl, ShownStmt, ShownStmts, ShownBranches, ShownOtherwise}
 use Rattle.pearl_tree.specs.ShownStatements as shown
+use Rattle.pearl_names.specs.declared.scope.View.TheVariants.{WhileOf}
+use Rattle.pearl_names.specs.Lengths.{length_at}
+use Rattle.pearl_names.specs.Tables.{Table}
 use Rattle.pearl_program.specs.declared.statement.Branch.{Branch}
 use Rattle.pearl_program.specs.declared.statement.Stmt.{Stmt}
 use Rattle.pearl_program.specs.PlainExpressions.{PlainExpr}
-use Rattle.pearl_program.specs.PlainStatements.{PlainStmt, OfIf, OfCase, PlainStmts, NoStmts, MoreStmts, PlainBranches, NoBranches, MoreBranches, plain_stmt, plain_stmts}
-use Rattle.pearl_resolve.specs.Cells.{cells_in, cells_in_all, cells_in_branches, cells_in_otherwise}
-use Rattle.pearl_resolve.specs.Expressions.{Numbered}
+use Rattle.pearl_program.specs.PlainStatements.{PlainCounter, PlainStmt, OfIf, OfCase, OfRepeat, PlainStmts, NoStmts, MoreStmts, PlainBranches, NoBranches, MoreBranches, plain_stmt, plain_stmts}
+use Rattle.pearl_resolve.specs.Cells.{counter_cells, scope_cells, cells_in, cells_in_all, cells_in_branches, cells_in_otherwise}
+use Rattle.pearl_resolve.specs.Expressions.{Numbered, resolve_expr}
 use Rattle.pearl_resolve.specs.Holding.{Resolves, plain_branches, joined_branches}
-use Rattle.pearl_resolve.specs.Numbers.{At, after, after_all, after_branches, after_otherwise}
-use Rattle.pearl_resolve.specs.Statements.{alone, joined, resolve_stmt, resolve_all, resolve_branches, resolve_otherwise, value_in}
+use Rattle.pearl_resolve.specs.Laying.{cells_of_sense}
+use Rattle.pearl_resolve.specs.Numbers.{At, counts, entered, loop_cells, senses_at, after, after_all, after_branches, after_otherwise}
+use Rattle.pearl_resolve.specs.Statements.{alone, counter_in, declared_renewals, joined, resolve_stmt, resolve_all, resolve_branches, resolve_otherwise, value_in}
 
-joined_none : (made : PlainStmts) → joined made NoStmts ≡ made
+pub joined_none : (made : PlainStmts) → joined made NoStmts ≡ made
 joined_none NoStmts = refl
 joined_none (MoreStmts s rest) = ap (λ t. MoreStmts s t) (joined_none rest)
 
@@ -31,14 +38,29 @@ pub pushed : (made new : List Stmt) (s : Stmt) (meant : PlainStmt) → new ≡ m
     plain_stmts new ≡ joined (plain_stmts made) (alone meant)
 pushed made new s meant more is = ap plain_stmts more ∙ stmts_push made s ∙ ap (λ m. joined (plain_stmts made) (alone m)) is
 
--- one that goes past nothing and has no cells
-pub added : (here : At) (cells : List CellKind) (made new : List Stmt) (s : Stmt) (meant : PlainStmt) → new ≡ made ++ s ∷ [] →
-    plain_stmt s ≡ meant → Resolves here cells cells (plain_stmts new) here [] (joined (plain_stmts made) (alone meant))
-added here cells made new s meant more is = record { goes = refl; adds = sym (append-nil cells); makes = pushed made new s meant more is }
-
 pub none_added : (here : At) (cells : List CellKind) (made : List Stmt) →
     Resolves here cells cells (plain_stmts made) here [] (joined (plain_stmts made) NoStmts)
 none_added here cells made = record { goes = refl; adds = sym (append-nil cells); makes = sym (joined_none (plain_stmts made)) }
+
+-- behind no others
+pub from_none : {now after : At} {cells more own : List CellKind} {new : PlainStmts} (made : List Stmt) (is : PlainStmts) → made ≡ [] →
+    Resolves now cells more new after own (joined (plain_stmts made) is) → Resolves now cells more new after own is
+from_none made is none h = record { goes = h.goes; adds = h.adds; makes = h.makes ∙ ap (λ l. joined (plain_stmts l) is) none }
+
+pub from_no_branches : {now after : At} {cells more own : List CellKind} {new : PlainBranches} (made : List Branch) (is : PlainBranches) → made ≡ [] →
+    Resolves now cells more new after own (joined_branches (plain_branches made) is) → Resolves now cells more new after own is
+from_no_branches made is none h = record { goes = h.goes; adds = h.adds; makes = h.makes ∙ ap (λ l. joined_branches (plain_branches l) is) none }
+
+-- behind PUT and GET
+pub put_goes : (here now : At) → now ≡ record { next = here.next; cell = here.cell + 2 * 0; format = here.format + 1 } →
+    now ≡ record here { format = here.format + 1 }
+put_goes here now is =
+    let none : here.cell + 2 * 0 ≡ here.cell = omega arith in
+    is ∙ (λ i. record { next = here.next; cell = none i; format = here.format + 1 })
+
+pub get_goes : (here now : At) (count targets : ℕ) → now ≡ record { next = here.next; cell = here.cell + 2 * count; format = here.format + 1 } →
+    count ≡ targets → now ≡ record here { cell = here.cell + 2 * targets; format = here.format + 1 }
+get_goes here now count targets is so = is ∙ (λ i. record { next = here.next; cell = here.cell + 2 * so i; format = here.format + 1 })
 
 -- in one scope, for one numbered table
 module _ (of : Numbered) (scope : ℕ) where
@@ -134,3 +156,83 @@ module _ (of : Numbered) (scope : ℕ) where
     makes = pushed made new s _ pushes
         (is ∙ (λ i. OfCase (tests i) (a.makes i) ((b.makes ∙ ap (λ at. resolve_otherwise of scope at otherwise) a.goes) i)));
   }
+
+  -- a statement that shows something else
+  pub shown_as : (here now : At) (cells more : List CellKind) (made new : PlainStmts) (s t : ShownStmt) → s ≡ t →
+      Resolves now cells more new (after of.table here t) (cells_in of scope here t) (joined made (resolve_stmt of scope here t)) →
+      Resolves now cells more new (after of.table here s) (cells_in of scope here s) (joined made (resolve_stmt of scope here s))
+  shown_as here now cells more made new s t is h =
+      subst (λ u. Resolves now cells more new (after of.table here u) (cells_in of scope here u) (joined made (resolve_stmt of scope here u))) (sym is) h
+
+  -- one that goes past nothing and has no cells, and becomes one statement
+  pub added_as : (here : At) (cells : List CellKind) (made new : List Stmt) (one : Stmt) (s t : ShownStmt) → s ≡ t →
+      after of.table here t ≡ here → cells_in of scope here t ≡ [] → new ≡ made ++ one ∷ [] → alone (plain_stmt one) ≡ resolve_stmt of scope here t →
+      Resolves here cells cells (plain_stmts new) (after of.table here s) (cells_in of scope here s) (joined (plain_stmts made) (resolve_stmt of scope here s))
+  added_as here cells made new one s t is goes adds more makes = shown_as here here cells cells (plain_stmts made) (plain_stmts new) s t is (record {
+    goes = sym goes;
+    adds = sym (append-nil cells) ∙ ap (λ l. cells ++ l) (sym adds);
+    makes = pushed made new one _ more refl ∙ ap (joined (plain_stmts made)) makes;
+  })
+
+  -- one that goes on in the text, and becomes one statement
+  pub moved_as : (here now : At) (cells more : List CellKind) (made new : List Stmt) (one : Stmt) (s t : ShownStmt) → s ≡ t →
+      now ≡ after of.table here t → more ≡ cells ++ cells_in of scope here t → new ≡ made ++ one ∷ [] → alone (plain_stmt one) ≡ resolve_stmt of scope here t →
+      Resolves now cells more (plain_stmts new) (after of.table here s) (cells_in of scope here s) (joined (plain_stmts made) (resolve_stmt of scope here s))
+  moved_as here now cells more made new one s t is goes adds pushes makes = shown_as here now cells more (plain_stmts made) (plain_stmts new) s t is (record {
+    goes = goes;
+    adds = adds;
+    makes = pushed made new one _ pushes refl ∙ ap (joined (plain_stmts made)) makes;
+  })
+
+-- within a scope that begins here
+pub entered_is : (table : Table) (hidden own : ℕ) (here inner : At) →
+    inner ≡ record { next = here.next + 1; cell = here.cell + hidden + own; format = here.format } →
+    own ≡ sum_by cells_of_sense (senses_at table here.next) → inner ≡ entered table hidden here
+entered_is table hidden own here inner is counted = is ∙ with_own counted
+  where
+    with_own : {n m : ℕ} → n ≡ m →
+        ◌≡◌ {A = At} (record { next = here.next + 1; cell = here.cell + hidden + n; format = here.format })
+        (record { next = here.next + 1; cell = here.cell + hidden + m; format = here.format })
+    with_own e = λ i. record { next = here.next + 1; cell = here.cell + hidden + e i; format = here.format }
+
+module _ (of : Numbered) (hidden : ℕ) (here : At) where
+  pub body_added : (inner now : At) (cells mid more : List CellKind) (made renewed new : PlainStmts) (declarations : List ShownBodyDecl) (ss : ShownStmts) →
+      mid ≡ cells ++ scope_cells of.table here.next → renewed ≡ joined made (declared_renewals of here.next declarations) →
+      inner ≡ entered of.table hidden here →
+      Resolves now mid more new (after_all of.table inner ss) (cells_in_all of here.next inner ss) (joined renewed (resolve_all of here.next inner ss)) →
+      Resolves now cells more new (after_all of.table (entered of.table hidden here) ss)
+      (scope_cells of.table here.next ++ cells_in_all of here.next (entered of.table hidden here) ss)
+      (joined made (joined (declared_renewals of here.next declarations) (resolve_all of here.next (entered of.table hidden here) ss)))
+  body_added inner now cells mid more made renewed new declarations ss owns renews enters h = record {
+    goes = h.goes ∙ ap (λ at. after_all of.table at ss) enters;
+    adds = h.adds ∙ ap (λ l. l ++ cells_in_all of here.next inner ss) owns
+        ∙ append_assoc cells (scope_cells of.table here.next) _
+        ∙ ap (λ at. cells ++ (scope_cells of.table here.next ++ cells_in_all of here.next at ss)) enters;
+    makes = h.makes ∙ ap (λ m. joined m (resolve_all of here.next inner ss)) renews
+        ∙ joined_joined made (declared_renewals of here.next declarations) _
+        ∙ ap (λ at. joined made (joined (declared_renewals of here.next declarations) (resolve_all of here.next at ss))) enters;
+  }
+
+  pub repeat_added : (scope : ℕ) (now : At) (cells mid more : List CellKind) (made new : List Stmt) (s : Stmt) (counter : Option PlainCounter)
+      (test : Option PlainExpr) (statements : PlainStmts) (control : Option Name) (begin step end condition : Option ShownExpr)
+      (declarations : List ShownBodyDecl) (ss : ShownStmts) (body_place place : ℕ) →
+      hidden ≡ loop_cells control begin step end → counter ≡ counter_in of scope here control begin step end →
+      test ≡ option_map (resolve_expr of (WhileOf here.next)) condition →
+      mid ≡ cells ++ counter_cells (counts control begin step end) (length_at of.table.lengths sort.Fixed place) →
+      Resolves now mid more statements (after_all of.table (entered of.table hidden here) ss)
+      (scope_cells of.table here.next ++ cells_in_all of here.next (entered of.table hidden here) ss)
+      (joined (declared_renewals of here.next declarations) (resolve_all of here.next (entered of.table hidden here) ss)) →
+      plain_stmt s ≡ OfRepeat counter test statements → new ≡ made ++ s ∷ [] →
+      Resolves now cells more (plain_stmts new) (after of.table here (shown.OfRepeat control begin step end condition declarations ss body_place place))
+      (cells_in of scope here (shown.OfRepeat control begin step end condition declarations ss body_place place))
+      (joined (plain_stmts made) (resolve_stmt of scope here (shown.OfRepeat control begin step end condition declarations ss body_place place)))
+  repeat_added scope now cells mid more made new s counter test statements control begin step end condition declarations ss body_place place
+      hides counted tests own h is pushes = record {
+        goes = h.goes ∙ ap (λ n. after_all of.table (entered of.table n here) ss) hides;
+        adds = h.adds ∙ ap (λ l. l ++ (scope_cells of.table here.next ++ cells_in_all of here.next (entered of.table hidden here) ss)) own
+            ∙ append_assoc cells _ _
+            ∙ ap (λ n. cells ++ (counter_cells (counts control begin step end) (length_at of.table.lengths sort.Fixed place) ++
+            (scope_cells of.table here.next ++ cells_in_all of here.next (entered of.table n here) ss))) hides;
+        makes = pushed made new s _ pushes (is ∙ (λ i. OfRepeat (counted i) (tests i)
+            ((h.makes ∙ ap (λ n. joined (declared_renewals of here.next declarations) (resolve_all of here.next (entered of.table n here) ss)) hides) i)));
+      }

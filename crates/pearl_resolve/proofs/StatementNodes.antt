@@ -1,5 +1,5 @@
 -- What statements with statements within them say, told by the lists that their fields hold.
-use Rattle.std.proofs.Common.{◌≡◌, refl, sym, ap, ◌∙◌, [], ◌∷◌, ◌++◌, List, option_map, Box, Global}
+use Rattle.std.proofs.Common.{◌≡◌, refl, sym, ap, ◌∙◌, option_map, Box, Global}
 use mathlib.Core.Former.{Count}
 use Rattle.pearl_program.specs.declared.statement.Stmt.{Stmt, Row_of-Stmt, end_of-Stmt, more_of-Stmt, items-the_row-Stmt, items_shown-the_row-Stmt-0, items_hidden-the_row-Stmt-0}
 use Rattle.pearl_program.specs.declared.statement.Stmt as stmt

@@ -35,8 +35,8 @@ pub(crate) struct At {
     pub format: u32,
 }
 
-// The first routine.
-const FIRST: At = At {
+/// The first routine.
+pub(crate) const FIRST: At = At {
     next: 1,
     cell: 0,
     format: 0,
@@ -102,6 +102,17 @@ fn enter_scope(
     Ok(At {
         next: sum(at.next, 1)?,
         cell,
+        format: at.format,
+    })
+}
+
+/// Within the scope that begins here, where so many cells stand before its own, of which there are so many.
+pub(crate) fn within(at: At, hidden: u32, own: u32) -> Result<At, AllocError>
+    ensures { IfOk result (λ inner. at_in inner ≡ record { next = at.next + 1; cell = at.cell + hidden + own; format = at.format }) }
+{
+    Ok(At {
+        next: sum(at.next, 1)?,
+        cell: sum(sum(at.cell, hidden)?, own)?,
         format: at.format,
     })
 }

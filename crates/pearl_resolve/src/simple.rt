@@ -1,16 +1,14 @@
 // What statements become that have no statements within them.
-#![tactic(auto, using(crate::proofs::StatementParts::part_steps, std::proofs::lemmas::Grind::common_steps))]
 
 ghost use Rattle.std.specs.Prelude.{◌≡◌, [], ◌∷◌, ◌++◌, map, option_map, IfOk, OnOk};
 ghost use Rattle.pearl_names.specs.declared.scope.View.TheVariants.{Within};
 ghost use Rattle.pearl_program.specs.PlainExpressions.{plain_arguments, plain_exprs, plain_variable};
-ghost use Rattle.pearl_program.specs.PlainStatements.{OfActivate, OfAssign, OfCallOf, OfContinue, OfGet, OfPut, OfResume, OfReturn, OfSend, OfTake, plain_stmt};
 ghost use Rattle.pearl_tree.specs.ShownExpressions.{shown_expr, shown_ref};
-ghost use Rattle.pearl_tree.specs.ShownStatements.{shown_once, shown_start};
 ghost use Rattle.pearl_value.specs.declared.kind.CellKind.TheVariants.{Plain};
 ghost use Rattle.pearl_resolve.specs.Cells.{get_cells};
 ghost use Rattle.pearl_resolve.specs.Expressions as expressions;
-ghost use Rattle.pearl_resolve.specs.Holding.{Becomes};
+ghost use Rattle.pearl_resolve.specs.Holding.{Becomes, BecomesStmt, BecomesStmtAt};
+ghost use Rattle.pearl_resolve.specs.Parts.{shown_activate, shown_assign, shown_call, shown_continue, shown_get, shown_on_interrupt, shown_on_semaphores, shown_on_task, shown_put, shown_resume, shown_return, shown_send, shown_take};
 ghost use Rattle.pearl_resolve.specs.Statements as spec;
 
 use crate::cells::add_cells;
@@ -35,8 +33,7 @@ pub(crate) fn assign(
     scope: u32,
     part: &tree::Assign,
 ) -> Result<Stmt, AllocError>
-    ensures { IfOk result (λ s. Becomes numbered.now (plain_stmt s) (λ of. OfAssign
-        (expressions.resolve_variable of (Within scope) (shown_ref part.now.target)) (spec.value_in of scope (shown_expr part.now.value)))) }
+    ensures { IfOk result (BecomesStmt numbered.now scope (shown_assign part.now)) }
 {
     let target = resolve_variable(alloc, numbered, View::Within(scope), &part.target)?;
     let value = value_in(alloc, numbered, scope, &part.value)?;
@@ -75,9 +72,7 @@ pub(crate) fn call_of(
     scope: u32,
     part: &tree::Call,
 ) -> Result<Stmt, AllocError>
-    ensures { IfOk result (λ s. Becomes numbered.now (plain_stmt s) (λ of. OfCallOf (expressions.number_of of (Within scope) part.now.name)
-        (spec.arguments_in of scope (spec.or_no_params (expressions.params_of (expressions.meant of (Within scope) part.now.name)))
-        (map shown_expr part.now.arguments.items.items)))) }
+    ensures { IfOk result (BecomesStmt numbered.now scope (shown_call part.now)) }
 {
     let procedure = number_in(numbered, scope, &part.name);
     let exprs = part.arguments.as_slice();
@@ -98,7 +93,7 @@ pub(crate) fn return_of(
     scope: u32,
     part: &tree::Return,
 ) -> Result<Stmt, AllocError>
-    ensures { IfOk result (λ s. Becomes numbered.now (plain_stmt s) (λ of. OfReturn (option_map (spec.value_in of scope) (option_map shown_expr part.now.value)))) }
+    ensures { IfOk result (BecomesStmt numbered.now scope (shown_return part.now)) }
 {
     let value = value_if(alloc, numbered, View::Within(scope), &part.value)?;
     let made = Box::new(alloc, Return { value })?;
@@ -111,10 +106,7 @@ pub(crate) fn activate(
     scope: u32,
     part: &tree::Activate,
 ) -> Result<Stmt, AllocError>
-    ensures { IfOk result (λ s. Becomes numbered.now (plain_stmt s) (λ of. OfActivate (expressions.number_of of (Within scope) part.now.task)
-        (spec.start_in_if of scope (option_map shown_start part.now.start))
-        (option_map (spec.period_in of scope) (spec.period_of_if (option_map shown_start part.now.start)))
-        (option_map (spec.value_in of scope) (option_map shown_expr part.now.priority)))) }
+    ensures { IfOk result (BecomesStmt numbered.now scope (shown_activate part.now)) }
 {
     let task = number_in(numbered, scope, &part.task);
     let start = start_if(alloc, numbered, scope, &part.start)?;
@@ -138,8 +130,7 @@ pub(crate) fn continue_of(
     scope: u32,
     part: &tree::Continue,
 ) -> Result<Stmt, AllocError>
-    ensures { IfOk result (λ s. Becomes numbered.now (plain_stmt s) (λ of. OfContinue (expressions.number_of of (Within scope) part.now.task)
-        (option_map (spec.once_in of scope) (option_map shown_once part.now.once)))) }
+    ensures { IfOk result (BecomesStmt numbered.now scope (shown_continue part.now)) }
 {
     let task = number_in(numbered, scope, &part.task);
     let once = once_if(alloc, numbered, scope, &part.once)?;
@@ -153,7 +144,7 @@ pub(crate) fn resume(
     scope: u32,
     part: &tree::Resume,
 ) -> Result<Stmt, AllocError>
-    ensures { IfOk result (λ s. Becomes numbered.now (plain_stmt s) (λ of. OfResume (spec.once_in of scope (shown_once part.now.once)))) }
+    ensures { IfOk result (BecomesStmt numbered.now scope (shown_resume part.now)) }
 {
     let once = once_in(alloc, numbered, scope, &part.once)?;
     let made = Box::new(alloc, once)?;
@@ -170,7 +161,7 @@ fn number_if(numbered: &NumberedTable, scope: u32, name: &Option<Name>) -> Optio
 }
 
 pub(crate) fn on_task(numbered: &NumberedTable, scope: u32, part: &tree::OnTask) -> Stmt
-    ensures { Becomes numbered.now (plain_stmt result) (λ of. spec.on_task part.now.word (option_map (expressions.number_of of (Within scope)) part.now.task)) }
+    ensures { BecomesStmt numbered.now scope (shown_on_task part.now) result }
 {
     let task = number_if(numbered, scope, &part.task);
     match part.word {
@@ -181,7 +172,7 @@ pub(crate) fn on_task(numbered: &NumberedTable, scope: u32, part: &tree::OnTask)
 }
 
 pub(crate) fn on_interrupt(numbered: &NumberedTable, scope: u32, part: &tree::OnInterrupt) -> Stmt
-    ensures { Becomes numbered.now (plain_stmt result) (λ of. spec.on_interrupt part.now.word (expressions.number_of of (Within scope) part.now.name)) }
+    ensures { BecomesStmt numbered.now scope (shown_on_interrupt part.now) result }
 {
     let interrupt = number_in(numbered, scope, &part.name);
     match part.word {
@@ -230,7 +221,7 @@ pub(crate) fn on_semaphores(
     scope: u32,
     part: &tree::OnSemas,
 ) -> Result<Stmt, AllocError>
-    ensures { IfOk result (λ s. Becomes numbered.now (plain_stmt s) (λ of. spec.on_semaphores part.now.word (map (expressions.number_of of (Within scope)) part.now.names.items.items))) }
+    ensures { IfOk result (BecomesStmt numbered.now scope (shown_on_semaphores part.now)) }
 {
     let semaphores = semaphores_in(numbered, scope, part.names.as_slice())?;
     let semaphores = Box::new(alloc, semaphores)?;
@@ -257,11 +248,10 @@ pub(crate) fn put(
     alloc: Global,
     numbered: &NumberedTable,
     scope: u32,
-    format: u32,
+    at: At,
     part: &tree::Put,
 ) -> Result<Stmt, AllocError>
-    ensures { IfOk result (λ s. Becomes numbered.now (plain_stmt s) (λ of. OfPut (spec.values_in of scope (map shown_expr part.now.values.items.items))
-        (expressions.number_of of (Within scope) part.now.dation) format)) }
+    ensures { IfOk result (BecomesStmtAt numbered.now scope at (shown_put part.now)) }
 {
     let values = values_in(alloc, numbered, scope, part.values.as_slice())?;
     let device = number_in(numbered, scope, &part.dation);
@@ -270,7 +260,7 @@ pub(crate) fn put(
         Put {
             values,
             device,
-            format,
+            format: at.format,
         },
     )?;
     Ok(Stmt::Put(made))
@@ -307,9 +297,7 @@ pub(crate) fn get(
     part: &tree::Get,
     cells: &mut Vec<CellKind>,
 ) -> Result<Stmt, AllocError>
-    ensures made { IfOk result (λ s. Becomes numbered.now (plain_stmt s) (λ of. OfGet
-        (map (expressions.resolve_variable of (Within scope)) (map shown_ref part.now.targets.items.items))
-        (expressions.number_of of (Within scope) part.now.dation) at.format at.cell)) }
+    ensures made { IfOk result (BecomesStmtAt numbered.now scope at (shown_get part.now)) }
     ensures cells { OnOk result (Becomes numbered.now cells.new.items
         (λ of. cells.old.items ++ get_cells of scope (map shown_ref part.now.targets.items.items))) }
 {
@@ -335,8 +323,7 @@ pub(crate) fn send(
     scope: u32,
     part: &tree::Send,
 ) -> Result<Stmt, AllocError>
-    ensures { IfOk result (λ s. Becomes numbered.now (plain_stmt s) (λ of. OfSend (spec.value_in of scope (shown_expr part.now.value))
-        (expressions.number_of of (Within scope) part.now.dation))) }
+    ensures { IfOk result (BecomesStmt numbered.now scope (shown_send part.now)) }
 {
     let value = value_in(alloc, numbered, scope, &part.value)?;
     let device = number_in(numbered, scope, &part.dation);
@@ -350,8 +337,7 @@ pub(crate) fn take(
     scope: u32,
     part: &tree::Take,
 ) -> Result<Stmt, AllocError>
-    ensures { IfOk result (λ s. Becomes numbered.now (plain_stmt s) (λ of. OfTake (expressions.resolve_variable of (Within scope) (shown_ref part.now.target))
-        (expressions.number_of of (Within scope) part.now.dation))) }
+    ensures { IfOk result (BecomesStmt numbered.now scope (shown_take part.now)) }
 {
     let target = resolve_variable(alloc, numbered, View::Within(scope), &part.target)?;
     let device = number_in(numbered, scope, &part.dation);

@@ -105,7 +105,7 @@ fn own_or_param(ident: bool, number: u32) -> Target
     }
 }
 
-fn kind_or_short(kind: Option<Kind>) -> Kind
+pub(crate) fn kind_or_short(kind: Option<Kind>) -> Kind
     ensures { result ≡ unwrap_or kind (fixed.Fixed 31) }
 {
     match kind {

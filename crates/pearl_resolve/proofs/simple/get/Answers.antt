@@ -9,14 +9,15 @@ use Rattle.pearl_program.specs.declared.statement.Get.{Get}
 use Rattle.pearl_program.specs.PlainExpressions.{plain_variable}
 use Rattle.pearl_program.specs.PlainStatements.{OfGet}
 use Rattle.pearl_resolve.specs.Expressions.{resolve_variable, target_kind}
+use Rattle.pearl_resolve.specs.Statements.{alone}
 use Rattle.pearl_resolve.proofs.simple.get.Goals as goal
 
 pub returns-clause-made : goal.returns-clause-made
-returns-clause-made c = λ of holds.
+returns-clause-made c = λ of holds. ap alone (
     ap (λ (x : Get). OfGet (map plain_variable x.targets.items) x.device x.format x.cell) c.in_ok-made.ensures.ok
     ∙ (λ i. OfGet ((c.in_ok-targets.ensures.variables of holds
     ∙ ap (λ (l : List Ref). map (resolve_variable of (Within c.args.scope)) (map shown_ref l)) c.as_slice-refs.ensures) i)
-    (c.number_in-device.ensures of holds i) c.args.at.format c.args.at.cell)
+    (c.number_in-device.ensures of holds i) c.args.at.format c.args.at.cell))
 
 pub returns-clause-cells : goal.returns-clause-cells
 returns-clause-cells c = λ of holds.
