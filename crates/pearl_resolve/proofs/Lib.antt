@@ -1,9 +1,16 @@
 pub mod Examples
 pub mod Lookups
 pub mod Loops
+pub mod ModuleLeaves
 pub mod ModuleNumbers
 pub mod Numbering
+pub mod PlacingSteps
 pub mod PlainNodes
 pub mod Reached
+pub mod Renewing
+pub mod Resolving
+pub mod RoutineLists
+pub mod ScopeCells
 pub mod Sizes
+pub mod StatementNodes
 pub mod StatementParts

@@ -22,7 +22,7 @@ use Rattle.pearl_tree.specs.ShownStatements.{shown_stmt, ShownStmt, ShownStmts, 
 use Rattle.pearl_tree.specs.ShownModules.{ShownDecl}
 use Rattle.pearl_resolve.specs.Laying.{cells_of_sense}
 use Rattle.pearl_resolve.specs.Holding.{GoesPast}
-use Rattle.pearl_resolve.specs.Numbers.{At, loop_cells, entered, scope_numbers, after, after_all, after_branches, after_otherwise, after_decl, numbers_in_otherwise, numbers_in, numbers_in_all, numbers_in_branches, decl_numbers, decls_numbers, own_number, own_numbers}
+use Rattle.pearl_resolve.specs.Numbers.{At, counts, loop_cells, entered, scope_numbers, after, after_all, after_branches, after_otherwise, after_decl, numbers_in_otherwise, numbers_in, numbers_in_all, numbers_in_branches, decl_numbers, decls_numbers, own_number, own_numbers}
 
 -- what the next name stands for
 pub record Next (forms : List StructForm) (of : List Sense) (i : ℕ) (x : HeldSense) : Type 0 where
@@ -153,6 +153,15 @@ is_there : (o : Option Expr) → is_some o ≡ is_some (option_map shown_expr o)
 is_there None = refl
 is_there (Some e) = refl
 
+-- a loop counts where what it shows counts
+pub counts_shown : (control : Option Name) (begin step end : Option Expr) →
+    counts control begin step end ≡ counts control (option_map shown_expr begin) (option_map shown_expr step) (option_map shown_expr end)
+counts_shown control begin step end = λ i. is_some control || (is_there begin i || (is_there step i || is_there end i))
+
+pub loop_cells_shown : (control : Option Name) (begin step end : Option Expr) →
+    loop_cells control begin step end ≡ loop_cells control (option_map shown_expr begin) (option_map shown_expr step) (option_map shown_expr end)
+loop_cells_shown control begin step end = ap (λ b. if b then 3 else 0) (counts_shown control begin step end)
+
 pub repeat_past : (t : Table) (box : Box Repeat Global) (here now : At) (old new : List (List ℕ)) (hidden : ℕ) →
     hidden ≡ loop_cells box.value.control box.value.begin box.value.step box.value.end →
     BodyPast t hidden here (stmts_shown box.value.body.statements.items.items) now old new →
@@ -160,14 +169,9 @@ pub repeat_past : (t : Table) (box : Box Repeat Global) (here now : At) (old new
 repeat_past t box here now old new hidden is past =
     let part = box.value in
     let same : hidden ≡ loop_cells part.control (option_map shown_expr part.begin) (option_map shown_expr part.step) (option_map shown_expr part.end) =
-    is ∙ shown_cells part.control part.begin part.step part.end in
+    is ∙ loop_cells_shown part.control part.begin part.step part.end in
     subst (λ s. GoesPast now old new (after t here s) (numbers_in t here s)) (sym (repeat_shown box))
     (subst (λ n. BodyPast t n here (stmts_shown part.body.statements.items.items) now old new) same past)
-  where
-    shown_cells : (control : Option Name) (begin step end : Option Expr) →
-        loop_cells control begin step end ≡ loop_cells control (option_map shown_expr begin) (option_map shown_expr step) (option_map shown_expr end)
-    shown_cells control begin step end =
-        λ i. if is_some control || (is_there begin i || (is_there step i || is_there end i)) then 3 else 0
 
 pub begin_past : (t : Table) (box : Box Begin Global) (here now : At) (old new : List (List ℕ)) →
     BodyPast t 0 here (stmts_shown box.value.body.statements.items.items) now old new →

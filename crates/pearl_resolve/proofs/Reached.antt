@@ -20,7 +20,7 @@ use Rattle.pearl_names.specs.Tables.{Form, Parameter, Sense, Variable, Control, 
 use Rattle.pearl_program.specs.declared.expression.Target.{Target}
 use Rattle.pearl_program.specs.declared.expression.Target.TheVariants.{Own}
 use Rattle.pearl_resolve.specs.declared.walk.Walk.{Walk as HeldWalk}
-use Rattle.pearl_resolve.specs.Expressions.{Walk, begun, field_of, form_walk, no_walk, own_or_param, walk_of}
+use Rattle.pearl_resolve.specs.Expressions.{Walk, begun, field_of, form_walk, kind_of_shape, no_walk, own_or_param, walk_of}
 use Rattle.pearl_resolve.specs.Holding.{HoldsWalk}
 
 pub kind_stands : (forms : List StructForm) (kind : Kind) → StandsFor forms (Basic kind) (OfKind kind)
@@ -116,3 +116,14 @@ no_variable forms walk scope number sense (Procedure parameters result) a b c h 
 pub on_ok : {X E P Q : Type 0} (r : Result X E) → (P → Q) → OnOk r P → OnOk r Q
 on_ok (Ok x) f p = f p
 on_ok (Err e) f p = p
+
+-- the kind of what is there
+pub kind_reached : (forms : List StructForm) (of : Kind) (shape : Shape) → StandsFor forms (Basic of) shape → of ≡ kind_of_shape shape
+unfolding StandsFor
+kind_reached forms of (OfKind to) h = h
+kind_reached forms of (OfFields fields) h = absurd h
+
+pub struct_reached : (forms : List StructForm) (number : ℕ) (shape : Shape) → StandsFor forms (Struct number) shape → kind.Fixed 31 ≡ kind_of_shape shape
+unfolding StandsFor
+struct_reached forms number (OfKind to) h = absurd h
+struct_reached forms number (OfFields fields) h = refl

@@ -10,6 +10,10 @@ pub mod Statements
 pub mod Cells
 -- which program a module means
 pub mod Resolve
+-- which thing stands at each number, where things have numbers
+pub mod Placing
+-- what the parts of statements in memory show
+pub mod Parts
 -- what stands in memory of what the definitions say
 pub mod Holding
 -- the place of a device among the others

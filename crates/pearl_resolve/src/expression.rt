@@ -11,13 +11,14 @@ ghost use Rattle.pearl_resolve.specs.Holding.{Becomes, HoldsNumbered, HoldsWalk,
 use crate::literal::literal_of;
 use crate::making::{call, dyadic, handed, monadics_over, read};
 use crate::numbered::NumberedTable;
-use crate::walk::{Walk, limit_of, select, start, variable_of};
+use crate::walk::{Walk, kind_of, limit_of, select, start, variable_of};
 use pearl_names::scope::View;
 use pearl_names::sense::{Parameter, Signature};
 use pearl_program::expression::{Argument, Expr, Variable};
 use pearl_tree::expression::{Expr as Written, Primary, Ref, Selector, Side};
 use pearl_tree::literal::Literal;
 use pearl_tree::name::{Name, Number};
+use pearl_value::kind::Kind;
 use std::alloc::{AllocError, Global};
 
 // Whether the parameter of an argument is one with IDENT.
@@ -174,6 +175,21 @@ pub fn resolve_variable(
 {
     let walk = walk_ref(alloc, numbered, view, reference)?;
     Ok(variable_of(walk))
+}
+
+/// What the target of a GET becomes, and the kind of its values.
+pub(crate) fn resolve_target(
+    alloc: Global,
+    numbered: &NumberedTable,
+    view: View,
+    reference: &Ref,
+) -> Result<(Variable, Kind), AllocError>
+    ensures variable { IfOk result (λ target. Becomes numbered.now (plain_variable target.0) (λ of. spec.resolve_variable of view (shown_ref reference.now))) }
+    ensures kind { IfOk result (λ target. Becomes numbered.now target.1 (λ of. spec.target_kind of view (shown_ref reference.now))) }
+{
+    let walk = walk_ref(alloc, numbered, view, reference)?;
+    let kind = kind_of(&walk);
+    Ok((variable_of(walk), kind))
 }
 
 #[cycle(expression)]

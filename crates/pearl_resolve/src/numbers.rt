@@ -13,6 +13,7 @@ ghost use Rattle.pearl_resolve.specs.Laying as laying;
 ghost use Rattle.pearl_resolve.specs.Numbers as spec;
 ghost use Rattle.pearl_resolve.specs.Resolve.{numbered_of};
 
+use crate::counter::loop_cells;
 use crate::counts::{cells_of_sense, sum};
 use crate::module_names::module_numbers;
 use crate::numbered::{NumberedTable, ScopeNumbers};
@@ -21,7 +22,7 @@ use pearl_names::table::SenseTable;
 use pearl_names::types::StructForm;
 use pearl_system::device::SpecifiedDevice;
 use pearl_tree::parts::Parts;
-use pearl_tree::statement::{Body, Branch, Repeat, Stmt};
+use pearl_tree::statement::{Body, Branch, Stmt};
 use pearl_tree::tree::{Decl, Tree};
 use std::alloc::{AllocError, Global};
 
@@ -34,8 +35,8 @@ pub(crate) struct At {
     pub format: u32,
 }
 
-// The first routine.
-const FIRST: At = At {
+/// The first routine.
+pub(crate) const FIRST: At = At {
     next: 1,
     cell: 0,
     format: 0,
@@ -105,8 +106,19 @@ fn enter_scope(
     })
 }
 
-// A PUT or a GET with so many targets.
-fn past_format(at: At, targets: usize) -> Result<At, AllocError>
+/// Within the scope that begins here, where so many cells stand before its own, of which there are so many.
+pub(crate) fn within(at: At, hidden: u32, own: u32) -> Result<At, AllocError>
+    ensures { IfOk result (λ inner. at_in inner ≡ record { next = at.next + 1; cell = at.cell + hidden + own; format = at.format }) }
+{
+    Ok(At {
+        next: sum(at.next, 1)?,
+        cell: sum(sum(at.cell, hidden)?, own)?,
+        format: at.format,
+    })
+}
+
+/// A PUT or a GET with so many targets.
+pub(crate) fn past_format(at: At, targets: usize) -> Result<At, AllocError>
     ensures { IfOk result (λ after. at_in after ≡ record { next = at.next; cell = at.cell + 2 * targets; format = at.format + 1 }) }
 {
     let targets = match u32::try_from(targets) {
@@ -116,17 +128,6 @@ fn past_format(at: At, targets: usize) -> Result<At, AllocError>
     let cell = sum(at.cell, sum(targets, targets)?)?;
     let format = sum(at.format, 1)?;
     Ok(At { cell, format, ..at })
-}
-
-/// How many cells a loop has before those of its body.
-pub(crate) fn loop_cells(part: &Repeat) -> u32
-    ensures { result ≡ spec.loop_cells part.now.control part.now.begin part.now.step part.now.end }
-{
-    if part.control.is_some() || part.begin.is_some() || part.step.is_some() || part.end.is_some() {
-        3
-    } else {
-        0
-    }
 }
 
 #[cycle(statement)]

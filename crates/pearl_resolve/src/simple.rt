@@ -1,18 +1,20 @@
 // What statements become that have no statements within them.
-#![tactic(auto, using(crate::proofs::StatementParts::part_steps, std::proofs::lemmas::Grind::common_steps))]
 
 ghost use Rattle.std.specs.Prelude.{◌≡◌, [], ◌∷◌, ◌++◌, map, option_map, IfOk, OnOk};
 ghost use Rattle.pearl_names.specs.declared.scope.View.TheVariants.{Within};
 ghost use Rattle.pearl_program.specs.PlainExpressions.{plain_arguments, plain_exprs, plain_variable};
-ghost use Rattle.pearl_program.specs.PlainStatements.{OfActivate, OfAssign, OfCallOf, OfContinue, OfGet, OfPut, OfResume, OfReturn, OfSend, OfTake, plain_stmt};
 ghost use Rattle.pearl_tree.specs.ShownExpressions.{shown_expr, shown_ref};
-ghost use Rattle.pearl_tree.specs.ShownStatements.{shown_once, shown_start};
+ghost use Rattle.pearl_value.specs.declared.kind.CellKind.TheVariants.{Plain};
+ghost use Rattle.pearl_resolve.specs.Cells.{get_cells};
 ghost use Rattle.pearl_resolve.specs.Expressions as expressions;
-ghost use Rattle.pearl_resolve.specs.Holding.{Becomes};
+ghost use Rattle.pearl_resolve.specs.Holding.{Becomes, BecomesStmt, BecomesStmtAt};
+ghost use Rattle.pearl_resolve.specs.Parts.{shown_activate, shown_assign, shown_call, shown_continue, shown_get, shown_on_interrupt, shown_on_semaphores, shown_on_task, shown_put, shown_resume, shown_return, shown_send, shown_take};
 ghost use Rattle.pearl_resolve.specs.Statements as spec;
 
-use crate::expression::{add_exprs, resolve_arguments, resolve_variable};
+use crate::cells::add_cells;
+use crate::expression::{add_exprs, resolve_arguments, resolve_target, resolve_variable};
 use crate::numbered::NumberedTable;
+use crate::numbers::At;
 use crate::schedule::{number_in, once_if, once_in, period_if, start_if, value_if, value_in};
 use arrayvec::ArrayVec;
 use pearl_names::scope::View;
@@ -22,16 +24,16 @@ use pearl_tree::expression::{Expr as Written, Ref};
 use pearl_tree::name::Name;
 use pearl_tree::statement as tree;
 use pearl_tree::statement::{InterruptWord, SemaWord, TaskWord};
+use pearl_value::kind::{CellKind, Kind};
 use std::alloc::{AllocError, Global};
 
-pub fn assign(
+pub(crate) fn assign(
     alloc: Global,
     numbered: &NumberedTable,
     scope: u32,
     part: &tree::Assign,
 ) -> Result<Stmt, AllocError>
-    ensures { IfOk result (λ s. Becomes numbered.now (plain_stmt s) (λ of. OfAssign
-        (expressions.resolve_variable of (Within scope) (shown_ref part.now.target)) (spec.value_in of scope (shown_expr part.now.value)))) }
+    ensures { IfOk result (BecomesStmt numbered.now scope (shown_assign part.now)) }
 {
     let target = resolve_variable(alloc, numbered, View::Within(scope), &part.target)?;
     let value = value_in(alloc, numbered, scope, &part.value)?;
@@ -64,15 +66,13 @@ fn arguments_in(
     }
 }
 
-pub fn call_of(
+pub(crate) fn call_of(
     alloc: Global,
     numbered: &NumberedTable,
     scope: u32,
     part: &tree::Call,
 ) -> Result<Stmt, AllocError>
-    ensures { IfOk result (λ s. Becomes numbered.now (plain_stmt s) (λ of. OfCallOf (expressions.number_of of (Within scope) part.now.name)
-        (spec.arguments_in of scope (spec.or_no_params (expressions.params_of (expressions.meant of (Within scope) part.now.name)))
-        (map shown_expr part.now.arguments.items.items)))) }
+    ensures { IfOk result (BecomesStmt numbered.now scope (shown_call part.now)) }
 {
     let procedure = number_in(numbered, scope, &part.name);
     let exprs = part.arguments.as_slice();
@@ -87,29 +87,26 @@ pub fn call_of(
     Ok(Stmt::Call(call))
 }
 
-pub fn return_of(
+pub(crate) fn return_of(
     alloc: Global,
     numbered: &NumberedTable,
     scope: u32,
     part: &tree::Return,
 ) -> Result<Stmt, AllocError>
-    ensures { IfOk result (λ s. Becomes numbered.now (plain_stmt s) (λ of. OfReturn (option_map (spec.value_in of scope) (option_map shown_expr part.now.value)))) }
+    ensures { IfOk result (BecomesStmt numbered.now scope (shown_return part.now)) }
 {
     let value = value_if(alloc, numbered, View::Within(scope), &part.value)?;
     let made = Box::new(alloc, Return { value })?;
     Ok(Stmt::Return(made))
 }
 
-pub fn activate(
+pub(crate) fn activate(
     alloc: Global,
     numbered: &NumberedTable,
     scope: u32,
     part: &tree::Activate,
 ) -> Result<Stmt, AllocError>
-    ensures { IfOk result (λ s. Becomes numbered.now (plain_stmt s) (λ of. OfActivate (expressions.number_of of (Within scope) part.now.task)
-        (spec.start_in_if of scope (option_map shown_start part.now.start))
-        (option_map (spec.period_in of scope) (spec.period_of_if (option_map shown_start part.now.start)))
-        (option_map (spec.value_in of scope) (option_map shown_expr part.now.priority)))) }
+    ensures { IfOk result (BecomesStmt numbered.now scope (shown_activate part.now)) }
 {
     let task = number_in(numbered, scope, &part.task);
     let start = start_if(alloc, numbered, scope, &part.start)?;
@@ -127,14 +124,13 @@ pub fn activate(
     Ok(Stmt::Activate(made))
 }
 
-pub fn continue_of(
+pub(crate) fn continue_of(
     alloc: Global,
     numbered: &NumberedTable,
     scope: u32,
     part: &tree::Continue,
 ) -> Result<Stmt, AllocError>
-    ensures { IfOk result (λ s. Becomes numbered.now (plain_stmt s) (λ of. OfContinue (expressions.number_of of (Within scope) part.now.task)
-        (option_map (spec.once_in of scope) (option_map shown_once part.now.once)))) }
+    ensures { IfOk result (BecomesStmt numbered.now scope (shown_continue part.now)) }
 {
     let task = number_in(numbered, scope, &part.task);
     let once = once_if(alloc, numbered, scope, &part.once)?;
@@ -142,13 +138,13 @@ pub fn continue_of(
     Ok(Stmt::Continue(made))
 }
 
-pub fn resume(
+pub(crate) fn resume(
     alloc: Global,
     numbered: &NumberedTable,
     scope: u32,
     part: &tree::Resume,
 ) -> Result<Stmt, AllocError>
-    ensures { IfOk result (λ s. Becomes numbered.now (plain_stmt s) (λ of. OfResume (spec.once_in of scope (shown_once part.now.once)))) }
+    ensures { IfOk result (BecomesStmt numbered.now scope (shown_resume part.now)) }
 {
     let once = once_in(alloc, numbered, scope, &part.once)?;
     let made = Box::new(alloc, once)?;
@@ -164,8 +160,8 @@ fn number_if(numbered: &NumberedTable, scope: u32, name: &Option<Name>) -> Optio
     }
 }
 
-pub fn on_task(numbered: &NumberedTable, scope: u32, part: &tree::OnTask) -> Stmt
-    ensures { Becomes numbered.now (plain_stmt result) (λ of. spec.on_task part.now.word (option_map (expressions.number_of of (Within scope)) part.now.task)) }
+pub(crate) fn on_task(numbered: &NumberedTable, scope: u32, part: &tree::OnTask) -> Stmt
+    ensures { BecomesStmt numbered.now scope (shown_on_task part.now) result }
 {
     let task = number_if(numbered, scope, &part.task);
     match part.word {
@@ -175,8 +171,8 @@ pub fn on_task(numbered: &NumberedTable, scope: u32, part: &tree::OnTask) -> Stm
     }
 }
 
-pub fn on_interrupt(numbered: &NumberedTable, scope: u32, part: &tree::OnInterrupt) -> Stmt
-    ensures { Becomes numbered.now (plain_stmt result) (λ of. spec.on_interrupt part.now.word (expressions.number_of of (Within scope) part.now.name)) }
+pub(crate) fn on_interrupt(numbered: &NumberedTable, scope: u32, part: &tree::OnInterrupt) -> Stmt
+    ensures { BecomesStmt numbered.now scope (shown_on_interrupt part.now) result }
 {
     let interrupt = number_in(numbered, scope, &part.name);
     match part.word {
@@ -219,13 +215,13 @@ fn semaphores_in(
     Ok(semaphores)
 }
 
-pub fn on_semaphores(
+pub(crate) fn on_semaphores(
     alloc: Global,
     numbered: &NumberedTable,
     scope: u32,
     part: &tree::OnSemas,
 ) -> Result<Stmt, AllocError>
-    ensures { IfOk result (λ s. Becomes numbered.now (plain_stmt s) (λ of. spec.on_semaphores part.now.word (map (expressions.number_of of (Within scope)) part.now.names.items.items))) }
+    ensures { IfOk result (BecomesStmt numbered.now scope (shown_on_semaphores part.now)) }
 {
     let semaphores = semaphores_in(numbered, scope, part.names.as_slice())?;
     let semaphores = Box::new(alloc, semaphores)?;
@@ -248,15 +244,14 @@ fn values_in(
     Ok(values)
 }
 
-pub fn put(
+pub(crate) fn put(
     alloc: Global,
     numbered: &NumberedTable,
     scope: u32,
-    format: u32,
+    at: At,
     part: &tree::Put,
 ) -> Result<Stmt, AllocError>
-    ensures { IfOk result (λ s. Becomes numbered.now (plain_stmt s) (λ of. OfPut (spec.values_in of scope (map shown_expr part.now.values.items.items))
-        (expressions.number_of of (Within scope) part.now.dation) format)) }
+    ensures { IfOk result (BecomesStmtAt numbered.now scope at (shown_put part.now)) }
 {
     let values = values_in(alloc, numbered, scope, part.values.as_slice())?;
     let device = number_in(numbered, scope, &part.dation);
@@ -265,64 +260,70 @@ pub fn put(
         Put {
             values,
             device,
-            format,
+            format: at.format,
         },
     )?;
     Ok(Stmt::Put(made))
 }
 
-fn variables_in(
+// The targets of a GET, with a cell for the value of each.
+fn targets_in(
     alloc: Global,
     numbered: &NumberedTable,
     scope: u32,
     targets: &[Ref],
+    cells: &mut Vec<CellKind>,
 ) -> Result<Vec<Variable>, AllocError>
-    ensures { IfOk result (λ made. Becomes numbered.now (map plain_variable made.items)
+    ensures variables { IfOk result (λ made. Becomes numbered.now (map plain_variable made.items)
         (λ of. map (expressions.resolve_variable of (Within scope)) (map shown_ref targets.now))) }
+    ensures cells { OnOk result (Becomes numbered.now cells.new.items
+        (λ of. cells.old.items ++ map (λ target. Plain (expressions.target_kind of (Within scope) target)) (map shown_ref targets.now))) }
 {
     let mut variables = Vec::new(alloc);
     variables.reserve_exact(targets.len())?;
     for target in targets {
-        let variable = resolve_variable(alloc, numbered, View::Within(scope), target)?;
+        let (variable, kind) = resolve_target(alloc, numbered, View::Within(scope), target)?;
         variables.push(variable)?;
+        cells.push(CellKind::Plain(kind))?;
     }
     Ok(variables)
 }
 
-pub fn get(
+pub(crate) fn get(
     alloc: Global,
     numbered: &NumberedTable,
     scope: u32,
-    format: u32,
-    cell: u32,
+    at: At,
     part: &tree::Get,
+    cells: &mut Vec<CellKind>,
 ) -> Result<Stmt, AllocError>
-    ensures { IfOk result (λ s. Becomes numbered.now (plain_stmt s) (λ of. OfGet
-        (map (expressions.resolve_variable of (Within scope)) (map shown_ref part.now.targets.items.items))
-        (expressions.number_of of (Within scope) part.now.dation) format cell)) }
+    ensures made { IfOk result (BecomesStmtAt numbered.now scope at (shown_get part.now)) }
+    ensures cells { OnOk result (Becomes numbered.now cells.new.items
+        (λ of. cells.old.items ++ get_cells of scope (map shown_ref part.now.targets.items.items))) }
 {
-    let targets = variables_in(alloc, numbered, scope, part.targets.as_slice())?;
+    let refs = part.targets.as_slice();
+    let targets = targets_in(alloc, numbered, scope, refs, cells)?;
+    add_cells(refs.len(), Kind::Fixed(31), cells)?;
     let device = number_in(numbered, scope, &part.dation);
     let made = Box::new(
         alloc,
         Get {
             targets,
             device,
-            format,
-            cell,
+            format: at.format,
+            cell: at.cell,
         },
     )?;
     Ok(Stmt::Get(made))
 }
 
-pub fn send(
+pub(crate) fn send(
     alloc: Global,
     numbered: &NumberedTable,
     scope: u32,
     part: &tree::Send,
 ) -> Result<Stmt, AllocError>
-    ensures { IfOk result (λ s. Becomes numbered.now (plain_stmt s) (λ of. OfSend (spec.value_in of scope (shown_expr part.now.value))
-        (expressions.number_of of (Within scope) part.now.dation))) }
+    ensures { IfOk result (BecomesStmt numbered.now scope (shown_send part.now)) }
 {
     let value = value_in(alloc, numbered, scope, &part.value)?;
     let device = number_in(numbered, scope, &part.dation);
@@ -330,14 +331,13 @@ pub fn send(
     Ok(Stmt::Send(made))
 }
 
-pub fn take(
+pub(crate) fn take(
     alloc: Global,
     numbered: &NumberedTable,
     scope: u32,
     part: &tree::Take,
 ) -> Result<Stmt, AllocError>
-    ensures { IfOk result (λ s. Becomes numbered.now (plain_stmt s) (λ of. OfTake (expressions.resolve_variable of (Within scope) (shown_ref part.now.target))
-        (expressions.number_of of (Within scope) part.now.dation))) }
+    ensures { IfOk result (BecomesStmt numbered.now scope (shown_take part.now)) }
 {
     let target = resolve_variable(alloc, numbered, View::Within(scope), &part.target)?;
     let device = number_in(numbered, scope, &part.dation);

@@ -105,7 +105,7 @@ fn own_or_param(ident: bool, number: u32) -> Target
     }
 }
 
-fn kind_or_short(kind: Option<Kind>) -> Kind
+pub(crate) fn kind_or_short(kind: Option<Kind>) -> Kind
     ensures { result ≡ unwrap_or kind (fixed.Fixed 31) }
 {
     match kind {
@@ -260,6 +260,16 @@ pub(crate) fn variable_of(walk: Walk) -> Variable
         target: walk.target,
         bounds: walk.bounds,
         subscripts: walk.subscripts,
+    }
+}
+
+/// The kind of the values of the variable to which a reference leads.
+pub(crate) fn kind_of(walk: &Walk) -> Kind
+    ensures { (forms : List StructFormOf) (of : spec.Walk) → HoldsWalk forms walk.now of → result ≡ spec.kind_of_shape of.shape }
+{
+    match walk.part {
+        TypeRef::Basic(kind) => kind,
+        TypeRef::Struct(_) => Kind::Fixed(31),
     }
 }
 

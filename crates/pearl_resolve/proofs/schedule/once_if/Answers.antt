@@ -1,0 +1,5 @@
+use Rattle.std.proofs.Common.{Some, ap}
+use Rattle.pearl_resolve.proofs.schedule.once_if.Goals as goal
+
+pub returns-in_ok-made-in-Some : goal.returns-in_ok-made-in-Some
+returns-in_ok-made-in-Some c = λ of holds. rw c.in-Some.is (ap Some (c.in_ok-made-in-Some.ensures of holds))

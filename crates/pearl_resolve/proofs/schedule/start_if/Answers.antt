@@ -1,0 +1,4 @@
+use Rattle.pearl_resolve.proofs.schedule.start_if.Goals as goal
+
+pub returns-in_ok-made-in-Some : goal.returns-in_ok-made-in-Some
+returns-in_ok-made-in-Some c = λ of holds. rw c.in-Some.is (c.in_ok-made-in-Some.ensures of holds)
