@@ -6,3 +6,4 @@ pub mod Specifications
 pub mod Constants
 pub mod Local
 pub mod Leaves
+pub mod Devices
