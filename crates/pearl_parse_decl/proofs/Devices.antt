@@ -3,7 +3,6 @@ use Rattle.std.proofs.Common.{◌≡◌, ℕ, ◌+◌, ◌<◌, ◌≤◌, List,
 use Rattle.std.specs.Option.{option_map}
 use Rattle.pearl_tree.specs.declared.name.Name.{Name}
 use Rattle.pearl_tree.specs.declared.name.Number.{Number}
-use Rattle.pearl_tree.specs.declared.declaration.Device.{Device}
 use Rattle.pearl_tree.specs.declared.declaration.DeviceWord.{DeviceWord}
 use Rattle.pearl_tree.specs.declared.declaration.DeviceWord.TheVariants as device
 use Rattle.pearl_tree.specs.declared.token.Token.{Token}
