@@ -172,7 +172,7 @@ sized_reaches tokens from stop sort stands near r =
     let at = placed_within others from (omega arith) in
     (basic.Sized sort x at.0, (at.1, local.what tokens others stop alike from near ∙ stands, h))) r
 
-bracketed_number_is_local : IsLocal SpellsBracketedNumber
+pub bracketed_number_is_local : IsLocal SpellsBracketedNumber
 bracketed_number_is_local tokens others k alike from x to h near = bracketed_number_local tokens others k alike from x to h near
 
 pub basic_is_local : IsLocal SpellsBasic

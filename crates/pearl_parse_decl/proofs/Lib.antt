@@ -8,3 +8,4 @@ pub mod Local
 pub mod Leaves
 pub mod LocalLists
 pub mod LocalDeclarations
+pub mod Devices

@@ -247,6 +247,7 @@ pub fn device(tokens: &[Token], from: usize) -> Result<Reading<Device>, Halt>
     ensures ahead { IfOk result (λ reading. stops.IsAhead tokens.now from reading.end reading.stop) }
     ensures refused { IfErr result (λ halt. stops.IsHalted grammar.SpellsDevice tokens.now from halt) }
     ensures memory { IfErr result (λ halt. halt ≢ Halt.NoMemory) }
+    ensures least { IsLeast grammar.SpellsDevice tokens.now from result }
 {
     let name = match name_at(tokens, from) {
         Some(name) => name,

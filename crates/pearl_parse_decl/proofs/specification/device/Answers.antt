@@ -1,6 +1,7 @@
 use Rattle.std.proofs.Common.{◌+◌, refl, sym, ap, ◌∙◌, arith}
 use Rattle.pearl_parse_expr.proofs.Primaries.{clash}
 use Rattle.pearl_parse_decl.specs.Readings.{is_device_word}
+use Rattle.pearl_parse_decl.proofs.Devices.{device_begins, device_named, device_opened, device_reaches, device_open}
 use Rattle.pearl_parse_decl.proofs.Leaves.{bracketed_number_is}
 use Rattle.pearl_parse_decl.proofs.Specifications.{device_head}
 use Rattle.pearl_parse_decl.proofs.specification.device.Goals as goal
@@ -20,3 +21,23 @@ returns-in-Err-clause-refused c = (
   omega (arith, c.in-Err.ensures.held),
   c.in-Err.ensures.held.1,
 )
+
+pub returns-in-None-clause-least : goal.returns-in-None-clause-least
+returns-in-None-clause-least c = device_begins c.args.tokens.now c.args.from c.requires
+
+pub returns-then-not-is_symbol-clause-least : goal.returns-then-not-is_symbol-clause-least
+returns-then-not-is_symbol-clause-least c = device_named c.args.tokens.now c.args.from c.in-Some.name c.in-Some.ensures.some (omega (arith, c.in-Some.ensures.within))
+
+pub returns-in-None-device_word-clause-least : goal.returns-in-None-device_word-clause-least
+returns-in-None-device_word-clause-least c =
+    device_opened c.args.tokens.now c.args.from c.in-Some.name c.in-Some.ensures.some (c.if-not-is_symbol.ensures.stands refl) (omega (arith, c.if-not-is_symbol.ensures.within refl))
+
+pub returns-in-Err-clause-least : goal.returns-in-Err-clause-least
+returns-in-Err-clause-least c =
+    device_reaches c.args.tokens.now c.args.from c.in-Some.name c.in-Some.ensures.some (c.if-not-is_symbol.ensures.stands refl) c.in-Err.stop c.in-Some-device_word.word
+    c.in-Some-device_word.ensures.some (omega (arith, c.in-Err.ensures.held)) c.in-Err.ensures.begun
+
+pub returns-then-not-is_symbol-2-clause-least : goal.returns-then-not-is_symbol-2-clause-least
+returns-then-not-is_symbol-2-clause-least c =
+    device_open c.args.tokens.now c.args.from c.in-Some.name c.in-Some.ensures.some (c.if-not-is_symbol.ensures.stands refl) c.in-Some-device_word.word c.in-Ok.number
+    c.in-Some-device_word.ensures.some c.in-Ok.ensures.spells (omega (arith, c.in-Ok.ensures.within))
