@@ -22,9 +22,9 @@ use pearl_value::listing::Listing;
 use std::alloc::{AllocError, Global};
 
 /// The program that a module means, where these are its names, its specified devices in the order of their sorts and
-/// numbers, and the numbers of its procedures in order of declaration. A number that its place in the program has no
-/// room for counts as want of memory: one above 2^32 - 1, a semaphore's above 65,535, a priority above 255, and a 17th
-/// semaphore of a REQUEST or RELEASE.
+/// numbers, and the numbers of its procedures in order of declaration. What has no room in the program counts as want of
+/// memory: a semaphore's number above 2^16 - 1, a priority or a width above 2^8 - 1, a literal above 2^63 - 1, any other
+/// number above 2^32 - 1, a variable with 2^31 leaves or cells, and the 17th semaphore of a REQUEST or RELEASE.
 pub fn resolve(
     alloc: Global,
     table: SenseTable,
