@@ -28,7 +28,7 @@ use Rattle.pearl_meaning.proofs.Examples.{both, whole, own, literal, only, two, 
 abbrev short : Kind
 short = kind.Fixed 15
 
-abbrev degrees : ℕ → Cell
+abbrev pub degrees : ℕ → Cell
 degrees n = Fixed 15 (pos n)
 
 abbrev second : PlainExpr
@@ -65,7 +65,7 @@ operator = task (codes "operator") 30 (Plain short ∷ Plain (kind.Fixed 31) ∷
 abbrev item : ItemCode → ℕ → Item
 item code width = record { code = code; width = width }
 
-abbrev plant : PlainProg
+abbrev pub plant : PlainProg
 plant = record {
   leaves = record { name = codes "temp"; values = record { kind = short; count = 1; constants = [] } }
       ∷ record { name = codes "limit"; values = record { kind = short; count = 1; constants = degrees 80 ∷ [] } } ∷ [];

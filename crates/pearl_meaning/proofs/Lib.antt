@@ -1,3 +1,5 @@
+-- Everything here is of the whole language: nothing is proved here of the first language's definitions (specs/Store, Expressions,
+-- Statements and Meaning).
 pub mod Examples
 pub mod Uses
 pub mod Turning
@@ -13,3 +15,5 @@ mod ExampleCalls
 mod ExampleTasks
 mod ExampleDevices
 mod ExamplePlant
+mod ExampleEdges
+mod ExampleHearing

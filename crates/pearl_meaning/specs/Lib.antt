@@ -1,10 +1,10 @@
--- what an evaluation over a list of answers gives
+-- what an evaluation over a list of answers gives, in the first language
 pub mod Store
--- what an expression's value is
+-- what an expression's value is, in the first language
 pub mod Expressions
--- what a statement does
+-- what a statement does, in the first language
 pub mod Statements
--- what a task does next after its answers, and how a program runs: the source's task rules
+-- what a task does next after its answers, and how a program runs, in the first language: the source's task rules
 pub mod Meaning
 -- a task's own variables, frame by frame
 pub mod Frames
@@ -28,7 +28,7 @@ pub mod Execution
 pub mod Programs
 -- which answers suit an action, and which answers a task can have since its start
 pub mod Hearing
--- the tables from which a program's run starts, and how it runs over a journal's entries
+-- the tables from which a program's run starts, and how it runs over a journal's entries: today right only for programs whose actions are Read, Write, Put, End and Trap, since the core has no rows for others
 pub mod ProgramRuns
 -- what holds of loops and calls
 pub mod Laws

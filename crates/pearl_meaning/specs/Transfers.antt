@@ -63,7 +63,7 @@ module _ (setting : Setting) where
   abbrev pub write_targets : (from at : ℕ) → List PlainVariable → Does Flow
   write_targets from at [] = gives Normal
   write_targets from at (target ∷ targets) =
-      bind (own_cell at) (λ offset. bind (kept_reference target offset) (λ to. bind (own_cell from) (λ x.
+      bind (own_cell at) (λ found. bind (kept_reference target found) (λ to. bind (own_cell from) (λ x.
       next (write_reference to x) (write_targets (from + 1) (at + 1) targets))))
 
   abbrev pub kinds_of : List PlainVariable → Option (List Kind)
