@@ -1,5 +1,11 @@
 // Objects as plain data, and what is told of them.
 
+ghost use Rattle.std.specs.Prelude.{IfOk};
+ghost use Rattle.std.specs.List.{AllByRecursion};
+ghost use Rattle.pearl_value.specs.declared.kind.Kind.{Kind};
+ghost use Rattle.pearl_value.specs.WellFormed.{IsValue, IsValueOf};
+ghost use Rattle.pearl_instructions.specs.Lawful.{IsInstr};
+
 use arrayvec::ArrayVec;
 use pearl_format::item::{Item, ItemCode};
 use pearl_instructions::instr::{Bounds, Instr, Reading};
@@ -15,18 +21,31 @@ use std::alloc::{AllocError, Global};
 /// An instruction.
 #[derive(Clone, Copy)]
 pub enum Line {
-    /// A literal of FIXED(31).
+    /// The literal 1 of FIXED(31).
     Number,
+    /// A literal of FIXED(31).
+    Value(i32),
     /// A literal of BIT(1).
     Bit,
+    /// So many literals of FIXED(31), one after the other.
+    Numbers(usize),
     Load(u64),
     Store(u64),
     Drop,
-    Conv(Kind),
+    /// To BIT(2).
+    ToBits,
+    /// To FIXED(2).
+    ToFixed,
     Index(&'static [Bounds]),
     LoadAt { first: u64, count: u64 },
+    Read(u64),
+    Write(u64),
     ReadAt(u64),
+    WriteAt(u64),
+    RefSlot(u64),
     RefCell(u64),
+    ReadRef,
+    WriteRef,
     Jump(u64),
     JumpZero(u64),
     Case(&'static [u64]),
@@ -34,11 +53,18 @@ pub enum Line {
     Call(u64),
     Return,
     End,
+    Within(u64),
+    Advance { first: u64, past: u64 },
+    NonZero,
     Dyadic(Dyad),
     Request(&'static [u64]),
+    Try(u64),
+    Suspend(u64),
     Enable(u64),
     Put { device: u64, format: u64 },
     Get(Reading),
+    Take(u64),
+    Send(u64),
 }
 
 /// A shape that is stated for an instruction, the top kind last.
@@ -84,22 +110,45 @@ fn bounds(alloc: Global, list: &[Bounds]) -> Result<Box<Listing<Bounds>>, AllocE
     Ok(Box::new(alloc, Listing::new(copy))?)
 }
 
-fn literal(alloc: Global, cell: Cell) -> Result<Instr, AllocError> {
+fn literal(alloc: Global, cell: Cell) -> Result<Instr, AllocError>
+    requires { IsValue cell }
+    ensures { IfOk result IsInstr }
+{
     Ok(Instr::Const(Box::new(alloc, cell)?))
 }
 
-fn instruction(alloc: Global, line: Line) -> Result<Instr, AllocError> {
+/// A number of FIXED(31).
+pub fn number(value: i32) -> Cell
+    ensures { IsValueOf (Kind.Fixed 31) result }
+{
+    Cell::Fixed {
+        len: 31,
+        value: value as i64,
+    }
+}
+
+fn instruction(alloc: Global, line: Line) -> Result<Instr, AllocError>
+    ensures { IfOk result IsInstr }
+{
     match line {
-        Line::Number => literal(alloc, Cell::Fixed { len: 31, value: 1 }),
+        Line::Number | Line::Numbers(_) => literal(alloc, number(1)),
+        Line::Value(value) => literal(alloc, number(value)),
         Line::Bit => literal(alloc, Cell::Bits { len: 1, value: 1 }),
         Line::Load(cell) => Ok(Instr::Load(cell)),
         Line::Store(cell) => Ok(Instr::Store(cell)),
         Line::Drop => Ok(Instr::Drop),
-        Line::Conv(to) => Ok(Instr::Conv(to)),
+        Line::ToBits => Ok(Instr::Conv(Kind::Bits(2))),
+        Line::ToFixed => Ok(Instr::Conv(Kind::Fixed(2))),
         Line::Index(list) => Ok(Instr::Index(bounds(alloc, list)?)),
         Line::LoadAt { first, count } => Ok(Instr::LoadAt { first, count }),
+        Line::Read(leaf) => Ok(Instr::Read(leaf)),
+        Line::Write(leaf) => Ok(Instr::Write(leaf)),
         Line::ReadAt(leaf) => Ok(Instr::ReadAt(leaf)),
+        Line::WriteAt(leaf) => Ok(Instr::WriteAt(leaf)),
+        Line::RefSlot(leaf) => Ok(Instr::RefSlot(leaf)),
         Line::RefCell(cell) => Ok(Instr::RefCell(cell)),
+        Line::ReadRef => Ok(Instr::ReadRef),
+        Line::WriteRef => Ok(Instr::WriteRef),
         Line::Jump(to) => Ok(Instr::Jump(to)),
         Line::JumpZero(to) => Ok(Instr::JumpZero(to)),
         Line::Case(list) => Ok(Instr::Case(numbers(alloc, list)?)),
@@ -107,18 +156,38 @@ fn instruction(alloc: Global, line: Line) -> Result<Instr, AllocError> {
         Line::Call(procedure) => Ok(Instr::Call(procedure)),
         Line::Return => Ok(Instr::Return),
         Line::End => Ok(Instr::End),
+        Line::Within(first) => Ok(Instr::Within(first)),
+        Line::Advance { first, past } => Ok(Instr::Advance { first, past }),
+        Line::NonZero => Ok(Instr::NonZero),
         Line::Dyadic(operator) => Ok(Instr::Dyadic(operator)),
         Line::Request(list) => Ok(Instr::Request(numbers(alloc, list)?)),
+        Line::Try(semaphore) => Ok(Instr::Try(semaphore)),
+        Line::Suspend(task) => Ok(Instr::Suspend(task)),
         Line::Enable(device) => Ok(Instr::Enable(device)),
         Line::Put { device, format } => Ok(Instr::Put { device, format }),
         Line::Get(reading) => Ok(Instr::Get(Box::new(alloc, reading)?)),
+        Line::Take(device) => Ok(Instr::Take(device)),
+        Line::Send(device) => Ok(Instr::Send(device)),
     }
 }
 
-fn instructions(alloc: Global, lines: &[Line]) -> Result<Listing<Instr>, AllocError> {
+// How many instructions a line stands for.
+fn times(line: Line) -> usize {
+    match line {
+        Line::Numbers(count) => count,
+        _ => 1,
+    }
+}
+
+/// The instructions of a routine.
+pub fn instructions(alloc: Global, lines: &[Line]) -> Result<Listing<Instr>, AllocError>
+    ensures { IfOk result (AllByRecursion IsInstr) }
+{
     let mut list = Vec::new(alloc);
     for line in lines {
-        list.push(instruction(alloc, *line)?)?;
+        for _ in 0..times(*line) {
+            list.push(instruction(alloc, *line)?)?;
+        }
     }
     Ok(Listing::new(list))
 }
@@ -225,7 +294,7 @@ fn items(
     Ok(Listing::new(list))
 }
 
-// One F(3), and 65 of F(1); 1,024 blanks one by one, and one more.
+// One F(3), and 65 of F(1); 1,024 blanks one by one, and one more; 64 of F(1).
 fn formats(alloc: Global) -> Result<Listing<Listing<Item>>, AllocError> {
     let mut list = Vec::new(alloc);
     for (code, width, count) in [
@@ -233,6 +302,7 @@ fn formats(alloc: Global) -> Result<Listing<Listing<Item>>, AllocError> {
         (ItemCode::F, 1, 65),
         (ItemCode::X, 0, 1024),
         (ItemCode::X, 0, 1025),
+        (ItemCode::F, 1, 64),
     ] {
         list.push(items(alloc, code, width, count)?)?;
     }

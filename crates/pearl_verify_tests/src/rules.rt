@@ -80,6 +80,29 @@ static DEVICES_AND_STATED_SHAPES: [Row; 9] = tasks![
     &[], 0, [Line::End], &[Stated { instruction: 1, kinds: &[] }] => Some((0, 1, V1));
 ];
 
+// A leaf, a semaphore, a task and a format behind the last one, and devices that give no values or take none.
+static OTHER_NUMBERS: [Row; 13] = tasks![
+    &[], 1, [Line::Read(0), Line::Drop, Line::End], &[] => None;
+    &[], 1, [Line::Read(1), Line::Drop, Line::End], &[] => Some((0, 0, V1));
+    &[], 1, [Line::Number, Line::Write(1), Line::End], &[] => Some((0, 1, V1));
+    &[], 1, [Line::Try(16), Line::Drop, Line::End], &[] => None;
+    &[], 1, [Line::Try(17), Line::Drop, Line::End], &[] => Some((0, 0, V1));
+    &[], 0, [Line::Request(&[0, 17]), Line::End], &[] => Some((0, 0, V1));
+    &[], 0, [Line::Suspend(0), Line::End], &[] => None;
+    &[], 0, [Line::Suspend(1), Line::End], &[] => Some((0, 0, V1));
+    &[], 0, [Line::Put { device: 0, format: 5 }, Line::End], &[] => Some((0, 0, V1));
+    &[], 1, [Line::Take(2), Line::Drop, Line::End], &[] => None;
+    &[], 1, [Line::Take(3), Line::Drop, Line::End], &[] => Some((0, 0, V1));
+    &[], 1, [Line::Number, Line::Send(3), Line::End], &[] => None;
+    &[], 1, [Line::Number, Line::Send(2), Line::End], &[] => Some((0, 1, V1));
+];
+
+static PROCEDURES: [Row; 2] = callers![
+    &[Proc { result: None, code: routine!(&[], 0, [Line::Return]) }], 0, [Line::Call(0), Line::End] => None;
+    &[Proc { result: None, code: routine!(&[], 0, [Line::Return]) }], 0, [Line::Call(1), Line::End]
+        => Some((1, 0, V1));
+];
+
 static OPERANDS: [Row; 3] = tasks![
     &[], 1, [Line::Number, Line::Drop, Line::End], &[] => None;
     &[], 1, [Line::Drop, Line::End], &[] => Some((0, 0, V2));
@@ -90,8 +113,8 @@ static OPERATORS: [Row; 4] = tasks![
     &[], 2, [Line::Number, Line::Number, Line::Dyadic(Dyad::Add), Line::Drop, Line::End], &[] => None;
     &[], 2, [Line::Number, Line::Bit, Line::Dyadic(Dyad::Add), Line::Drop, Line::End], &[]
         => Some((0, 2, V3));
-    &[], 1, [Line::Bit, Line::Conv(Kind::Bits(2)), Line::Drop, Line::End], &[] => None;
-    &[], 1, [Line::Bit, Line::Conv(Kind::Fixed(2)), Line::Drop, Line::End], &[] => Some((0, 1, V3));
+    &[], 1, [Line::Bit, Line::ToBits, Line::Drop, Line::End], &[] => None;
+    &[], 1, [Line::Bit, Line::ToFixed, Line::Drop, Line::End], &[] => Some((0, 1, V3));
 ];
 
 static EXACT_KINDS: [Row; 4] = tasks![
@@ -102,6 +125,38 @@ static EXACT_KINDS: [Row; 4] = tasks![
         => Some((0, 1, V4));
     &[FIXED, FIXED, SHORT], 4,
         [Line::Number, Line::LoadAt { first: 0, count: 2 }, Line::Drop, Line::End], &[] => None;
+];
+
+// What is sent or put into a leaf or through a reference.
+static EXACT_VALUES: [Row; 5] = tasks![
+    &[], 1, [Line::Number, Line::Write(0), Line::End], &[] => None;
+    &[], 1, [Line::Bit, Line::Write(0), Line::End], &[] => Some((0, 1, V4));
+    &[], 1, [Line::Bit, Line::Send(3), Line::End], &[] => Some((0, 1, V4));
+    &[], 2, [Line::RefSlot(0), Line::Number, Line::WriteRef, Line::End], &[] => None;
+    &[], 2, [Line::RefSlot(0), Line::Bit, Line::WriteRef, Line::End], &[] => Some((0, 2, V4));
+];
+
+// The three cells of a loop are of one kind of FIXED.
+static LOOP_CELLS: [Row; 6] = tasks![
+    &[FIXED, FIXED, FIXED], 4, [Line::Within(0), Line::Drop, Line::End], &[] => None;
+    &[FIXED, FIXED, SHORT], 4, [Line::Within(0), Line::Drop, Line::End], &[] => Some((0, 0, V4));
+    &[BIT, BIT, BIT], 4, [Line::Within(0), Line::Drop, Line::End], &[] => Some((0, 0, V4));
+    &[SHORT, SHORT, SHORT], 3, [Line::Advance { first: 0, past: 1 }, Line::End], &[] => None;
+    &[SHORT, FIXED, SHORT], 3, [Line::Advance { first: 0, past: 1 }, Line::End], &[]
+        => Some((0, 0, V4));
+    &[BIT, BIT, BIT], 3, [Line::Advance { first: 0, past: 1 }, Line::End], &[] => Some((0, 0, V4));
+];
+
+// Arguments stand in the order of the parameters, and a reference is told from its kind.
+static ARGUMENTS: [Row; 4] = callers![
+    &[Proc { result: None, code: routine!(&[BIT, FIXED], 2, [Line::Return]) }],
+        2, [Line::Bit, Line::Number, Line::Call(0), Line::End] => None;
+    &[Proc { result: None, code: routine!(&[FIXED, BIT], 2, [Line::Return]) }],
+        2, [Line::Bit, Line::Number, Line::Call(0), Line::End] => Some((1, 2, V4));
+    &[Proc { result: None, code: routine!(&[REFERENCE], 1, [Line::Return]) }],
+        1, [Line::RefSlot(0), Line::Call(0), Line::End] => None;
+    &[Proc { result: None, code: routine!(&[REFERENCE], 1, [Line::Return]) }],
+        1, [Line::Number, Line::Call(0), Line::End] => Some((1, 1, V4));
 ];
 
 static REFERENCES: [Row; 3] = tasks![
@@ -219,15 +274,29 @@ static FORMATS: [Row; 4] = tasks![
     &[], 0, [Line::Put { device: 0, format: 3 }, Line::End], &[] => Some((0, 0, V12));
 ];
 
+// At most 64 values are written or read at once.
+static COUNTS_OF_VALUES: [Row; 4] = tasks![
+    &[], 64, [Line::Numbers(64), Line::Put { device: 0, format: 4 }, Line::End], &[] => None;
+    &[], 65, [Line::Numbers(65), Line::Put { device: 0, format: 1 }, Line::End], &[] => Some((0, 65, V12));
+    &[FIXED; 64], 64, [Line::Get(Reading { device: 0, format: 4, first: 0 }), Line::End], &[] => None;
+    &[FIXED; 65], 65, [Line::Get(Reading { device: 0, format: 1, first: 0 }), Line::End], &[]
+        => Some((0, 0, V12));
+];
+
 // All rows, by rule.
-fn tables() -> [(&'static str, &'static [Row]); 18] {
+fn tables() -> [(&'static str, &'static [Row]); 24] {
     [
         ("ends", &ENDS),
         ("V1, cells and ranges", &CELLS_AND_RANGES),
         ("V1, devices and stated shapes", &DEVICES_AND_STATED_SHAPES),
+        ("V1, other numbers", &OTHER_NUMBERS),
+        ("V1, procedures", &PROCEDURES),
         ("V2", &OPERANDS),
         ("V3", &OPERATORS),
         ("V4", &EXACT_KINDS),
+        ("V4, values", &EXACT_VALUES),
+        ("V4, loops", &LOOP_CELLS),
+        ("V4, arguments", &ARGUMENTS),
         ("V5", &REFERENCES),
         ("V6, targets", &SHAPES_AT_TARGETS),
         ("V6, deeper", &DEEPER_SHAPES),
@@ -240,6 +309,7 @@ fn tables() -> [(&'static str, &'static [Row]); 18] {
         ("V12, semaphores", &SEMAPHORES),
         ("V12, subscripts", &SUBSCRIPTS),
         ("V12, formats", &FORMATS),
+        ("V12, values", &COUNTS_OF_VALUES),
     ]
 }
 
