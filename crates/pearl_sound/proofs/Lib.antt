@@ -31,6 +31,8 @@ pub mod ModuleRules
 pub mod SimpleStatements
 pub mod KnownKinds
 pub mod RuleNumbers
+pub mod CompleteForms
+pub mod CompleteSenses
 mod WholeModule
 mod LeadingBodies
 mod LeadingLoops

@@ -71,7 +71,7 @@ pub really : (b : Bool) → not b ≡ false → b ≡ true
 really true is = refl
 really false is = absurd (true≢false is)
 
-split_all : {X : Type 0} (P : X → Type 0) (xs ys : List X) → AllByRecursion P (xs ++ ys) → AllByRecursion P xs × AllByRecursion P ys
+pub split_all : {X : Type 0} (P : X → Type 0) (xs ys : List X) → AllByRecursion P (xs ++ ys) → AllByRecursion P xs × AllByRecursion P ys
 split_all P [] ys all = (tt, all)
 split_all P (x ∷ xs) ys all = let more = split_all P xs ys all.1 in ((all.0, more.0), more.1)
 

@@ -39,13 +39,14 @@ use Rattle.pearl_system.specs.declared.device.SpecifiedDevice.{SpecifiedDevice}
 use Rattle.pearl_system.specs.Devices.{device_key, IsDevice}
 use Rattle.pearl_system.specs.Rising.{Lists}
 use Rattle.pearl_system.specs.Rules.{broken}
+use Rattle.pearl_scope.specs.Rules as names
 use Rattle.pearl_resolve.specs.Numbers as numbering
 use Rattle.pearl_resolve.specs.Numbers.{At, Before, senses_at, routine_start, scope_numbers, module_numbers, own_numbers, after_all, after_body, numbers_in_all, body_numbers}
 use Rattle.pearl_resolve.specs.Laying.{leaves_in, filled_leaves, slots, cells_of_sense}
 use Rattle.pearl_resolve.specs.Expressions.{Numbered, number_of, resolve_expr, resolve_arguments, resolve_variable, target_kind}
 use Rattle.pearl_sound.specs.SoundNames.{IsLiteral, HasLiterals, HaveLiterals, SelectorsHaveLiterals, is_control, IsCallee, LeadValues, LeadNames}
 use Rattle.pearl_sound.specs.ModuleNames.{IsModuleName, HasNamesOnce, AreProcedureNumbers, DevicesAreThere}
-use Rattle.pearl_sound.specs.KnownNames.{IsThereIn, IsNamed, HasNames, SelectorsHaveNames}
+use Rattle.pearl_sound.specs.KnownNames.{IsThereIn, IsComplete, IsNamed, HasNames, SelectorsHaveNames}
 use Rattle.pearl_sound.specs.KnownParts.{IsKnown, IsSimple, Returns}
 use Rattle.pearl_resolve.specs.Statements.{resolve_stmt}
 use Rattle.pearl_sound.specs.Sights.{Sight, sights_of}
@@ -298,3 +299,8 @@ RuleGivesNumbers = (tree : ShownTree) (devices : List SpecifiedDevice) (callers 
     IsNumbering callers order → AreNumbers order numbers →
     length numbers ≡ length (procedures_in (numbered_of (table_of tree) devices numbers tree) numbering.first tree.declarations) →
     AreProcedureNumbers tree devices numbers
+
+-- where no rule on names and types is broken, the form or kinds of each name are there
+abbrev pub SensesAreComplete : Type 0
+SensesAreComplete = (tree : ShownTree) → names.broken tree ≡ [] → (scope : ℕ) →
+    AllByRecursion IsComplete (senses_at (table_of tree) scope)
