@@ -33,6 +33,8 @@ pub mod KnownKinds
 pub mod RuleNumbers
 pub mod CompleteForms
 pub mod CompleteSenses
+pub mod NamesKnown
+pub mod AskedKnown
 mod WholeModule
 mod LeadingBodies
 mod LeadingLoops

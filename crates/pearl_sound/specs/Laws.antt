@@ -15,6 +15,7 @@ use Rattle.pearl_names.specs.Lengths.{lengths_set}
 use Rattle.pearl_names.specs.Shapes.{Fields}
 use Rattle.pearl_names.specs.Layout.{Leaf, leaves_of, leaves_of_fields, elements}
 use Rattle.pearl_names.specs.Forms.{Component, component}
+use Rattle.pearl_names.specs.Known.{known_of}
 use Rattle.pearl_names.specs.Scopes.{scopes_in_all}
 use Rattle.pearl_names.specs.declared.scope.View.{View}
 use Rattle.pearl_names.specs.declared.scope.View.TheVariants.{Within}
@@ -31,14 +32,17 @@ use Rattle.pearl_program.specs.Typing.{Around, AreOpen, HasKind, IsVariable}
 use Rattle.pearl_calls.specs.Callers.{Caller}
 use Rattle.pearl_calls.specs.Numberings.{IsNumbering}
 use Rattle.pearl_calls.specs.Numbers.{AreNumbers}
-use Rattle.pearl_scope.specs.Placed.{Placed}
-use Rattle.pearl_check.specs.Asked.{asked_at}
+use Rattle.pearl_scope.specs.Parts.{expr_parts}
+use Rattle.pearl_scope.specs.Placed.{Placed, parts_at}
+use Rattle.pearl_check.specs.Asked.{Asked, asked_at}
 use Rattle.pearl_check.specs.Routines.{RoutineSort}
+use Rattle.pearl_check.specs.Roles.{asked_faults}
 use Rattle.pearl_check.specs.Rules.{all_broken, statement_faults}
 use Rattle.pearl_system.specs.declared.device.SpecifiedDevice.{SpecifiedDevice}
 use Rattle.pearl_system.specs.Devices.{device_key, IsDevice}
 use Rattle.pearl_system.specs.Rising.{Lists}
 use Rattle.pearl_system.specs.Rules.{broken}
+use Rattle.pearl_scope.specs.Rules.{faults_in}
 use Rattle.pearl_scope.specs.Rules as names
 use Rattle.pearl_resolve.specs.Numbers as numbering
 use Rattle.pearl_resolve.specs.Numbers.{At, Before, senses_at, routine_start, scope_numbers, module_numbers, own_numbers, after_all, after_body, numbers_in_all, body_numbers}
@@ -47,7 +51,7 @@ use Rattle.pearl_resolve.specs.Expressions.{Numbered, number_of, resolve_expr, r
 use Rattle.pearl_sound.specs.SoundNames.{IsLiteral, HasLiterals, HaveLiterals, SelectorsHaveLiterals, is_control, IsCallee, LeadValues, LeadNames}
 use Rattle.pearl_sound.specs.ModuleNames.{IsModuleName, HasNamesOnce, AreProcedureNumbers, DevicesAreThere}
 use Rattle.pearl_sound.specs.KnownNames.{IsThereIn, IsComplete, IsNamed, HasNames, SelectorsHaveNames}
-use Rattle.pearl_sound.specs.KnownParts.{IsKnown, IsSimple, Returns}
+use Rattle.pearl_sound.specs.KnownParts.{IsKnown, HasItsNames, AskedLiterals, IsSimple, Returns}
 use Rattle.pearl_resolve.specs.Statements.{resolve_stmt}
 use Rattle.pearl_sound.specs.Sights.{Sight, sights_of}
 use Rattle.pearl_sound.specs.SoundForms.{IsSoundSense}
@@ -304,3 +308,16 @@ RuleGivesNumbers = (tree : ShownTree) (devices : List SpecifiedDevice) (callers 
 abbrev pub SensesAreComplete : Type 0
 SensesAreComplete = (tree : ShownTree) → names.broken tree ≡ [] → (scope : ℕ) →
     AllByRecursion IsComplete (senses_at (table_of tree) scope)
+
+-- where no rule on names and types is broken in a module, and so none in an expression, its names and literals are known, and
+-- so are those of what a statement asks for
+abbrev pub NamesAreKnown : Type 0
+NamesAreKnown = (tree : ShownTree) → names.broken tree ≡ [] →
+    ((view : View) (e : ShownExpr) → faults_in (known_of tree) (expr_parts view e) ≡ [] → HasNames (table_of tree) view e) ×
+    ((types : ℕ) (place : Placed) → faults_in (known_of tree) (parts_at types place) ≡ [] →
+    AllByRecursion (HasItsNames (table_of tree)) (asked_at place))
+
+-- what is asked for is known where its names are, its literals are values, and no rule is broken
+abbrev pub AskedIsKnown : Type 0
+AskedIsKnown = (table : Table) (asked : Asked) → HasItsNames table asked → AskedLiterals table.lengths asked →
+    asked_faults table asked ≡ [] → IsKnown table asked

@@ -1,6 +1,6 @@
 // What holds of scopes, cells, hidden cells and formats, of names and components, and of what expressions and targets become.
 
-ghost use Rattle.pearl_sound.specs.Laws.{CallsAreSound, ComponentsLieInTheirVariables, ExpressionsAreSound, HiddenCellsAreApart, InnerNamesHaveTheirCells, KindsAreKnown, LiteralsAreValues, ModuleDevicesAreThere, ModuleNamesHaveTheirLeaves, ModuleNumbersAreThere, ModuleProceduresAreThere, NamesHaveTheirCells, NamesHaveTheirDevices, NamesLead, NamesLeadInModules, NamesNameOthers, NamesShareNoCells, OwnNamesAreNotHidden, RoutinesAreDivided, RoutinesHaveCells, RuleGivesNumbers, ScopesShareNoCells, SensesAreComplete, SensesAreSound, SimpleStatementsAreSound, StatementsGoPast, StretchesHaveTheirCells, TargetsHaveTheirKind};
+ghost use Rattle.pearl_sound.specs.Laws.{AskedIsKnown, CallsAreSound, ComponentsLieInTheirVariables, ExpressionsAreSound, HiddenCellsAreApart, InnerNamesHaveTheirCells, KindsAreKnown, LiteralsAreValues, ModuleDevicesAreThere, ModuleNamesHaveTheirLeaves, ModuleNumbersAreThere, ModuleProceduresAreThere, NamesAreKnown, NamesHaveTheirCells, NamesHaveTheirDevices, NamesLead, NamesLeadInModules, NamesNameOthers, NamesShareNoCells, OwnNamesAreNotHidden, RoutinesAreDivided, RoutinesHaveCells, RuleGivesNumbers, ScopesShareNoCells, SensesAreComplete, SensesAreSound, SimpleStatementsAreSound, StatementsGoPast, StretchesHaveTheirCells, TargetsHaveTheirKind};
 
 /// Behind some statements the counters stand at what comes behind the scopes, cells and formats of these.
 pub fn statements_go_past()
@@ -143,4 +143,14 @@ pub fn rule_gives_numbers()
 /// In a module that breaks no rule on names and types (S2 to S9) each name has its form or its kinds.
 pub fn senses_are_complete()
     ensures { SensesAreComplete }
+{}
+
+/// In a module that breaks no rule on names and types all names of expressions and statements are known.
+pub fn names_are_known()
+    ensures { NamesAreKnown }
+{}
+
+/// What a statement asks for is known where its names are, its literals are values, and no rule is broken.
+pub fn asked_is_known()
+    ensures { AskedIsKnown }
 {}
