@@ -35,6 +35,8 @@ pub mod CompleteForms
 pub mod CompleteSenses
 pub mod NamesKnown
 pub mod AskedKnown
+pub mod SemaphoreLists
+pub mod SemaphoresApart
 mod WholeModule
 mod LeadingBodies
 mod LeadingLoops

@@ -6,7 +6,8 @@ use Rattle.pearl_value.specs.declared.kind.Kind.{Kind}
 use Rattle.pearl_value.specs.declared.kind.CellKind.{CellKind}
 use Rattle.pearl_format.specs.declared.item.Item.{Item}
 use Rattle.pearl_tree.specs.ShownExpressions.{ShownExpr, ShownExprs, ShownRef}
-use Rattle.pearl_tree.specs.ShownStatements.{ShownStmts}
+use Rattle.pearl_tree.specs.declared.statement.SemaWord.{SemaWord}
+use Rattle.pearl_tree.specs.ShownStatements.{ShownStmts, OfOnSemas}
 use Rattle.pearl_tree.specs.declared.literal.Literal.{Literal}
 use Rattle.pearl_tree.specs.Lawful.{IsLawfulLiteral}
 use Rattle.pearl_tree.specs.ShownLiterals.{ShownConst, shown_literal}
@@ -48,7 +49,7 @@ use Rattle.pearl_resolve.specs.Numbers as numbering
 use Rattle.pearl_resolve.specs.Numbers.{At, Before, senses_at, routine_start, scope_numbers, module_numbers, own_numbers, after_all, after_body, numbers_in_all, body_numbers}
 use Rattle.pearl_resolve.specs.Laying.{leaves_in, filled_leaves, slots, cells_of_sense}
 use Rattle.pearl_resolve.specs.Expressions.{Numbered, number_of, resolve_expr, resolve_arguments, resolve_variable, target_kind}
-use Rattle.pearl_sound.specs.SoundNames.{IsLiteral, HasLiterals, HaveLiterals, SelectorsHaveLiterals, is_control, IsCallee, LeadValues, LeadNames}
+use Rattle.pearl_sound.specs.SoundNames.{IsLiteral, HasLiterals, HaveLiterals, SelectorsHaveLiterals, is_control, IsCallee, LeadValues, LeadNames, HasSemaphoresApart}
 use Rattle.pearl_sound.specs.ModuleNames.{IsModuleName, HasNamesOnce, AreProcedureNumbers, DevicesAreThere}
 use Rattle.pearl_sound.specs.KnownNames.{IsThereIn, IsComplete, IsNamed, HasNames, SelectorsHaveNames}
 use Rattle.pearl_sound.specs.KnownParts.{IsKnown, HasItsNames, AskedLiterals, IsSimple, Returns}
@@ -321,3 +322,17 @@ NamesAreKnown = (tree : ShownTree) → names.broken tree ≡ [] →
 abbrev pub AskedIsKnown : Type 0
 AskedIsKnown = (table : Table) (asked : Asked) → HasItsNames table asked → AskedLiterals table.lengths asked →
     asked_faults table asked ≡ [] → IsKnown table asked
+
+-- two semaphores of a module have two numbers, from wherever their names are seen
+abbrev pub SemaphoresAreApart : Type 0
+SemaphoresAreApart = (tree : ShownTree) (devices : List SpecifiedDevice) (procedures : List ℕ) (scope : ℕ) →
+    HasSemaphoresApart (numbered_of (table_of tree) devices procedures tree) (Within scope)
+
+-- where names lead to what is there, and two semaphores have two numbers, REQUEST and RELEASE become sound, if what they ask
+-- for is known and no rule is broken, and they name a semaphore
+abbrev pub SemaphoreStatementsAreSound : Type 0
+SemaphoreStatementsAreSound = (numbered : Numbered) (sort : RoutineSort) (place : Placed) (at : At) (around : Around) →
+    LeadNames numbered (Within place.spot.scope) around → HasSemaphoresApart numbered (Within place.spot.scope) →
+    (word : SemaWord) (names : List Name) (from : ℕ) → place.statement ≡ OfOnSemas word names from → 0 < length names →
+    AllByRecursion (IsKnown numbered.table) (asked_at place) → statement_faults numbered.table sort place ≡ [] →
+    AreStmts around (resolve_stmt numbered place.spot.scope at place.statement)
