@@ -37,6 +37,8 @@ pub mod NamesKnown
 pub mod AskedKnown
 pub mod SemaphoreLists
 pub mod SemaphoresApart
+pub mod FormatsFit
+pub mod TextTransfers
 mod WholeModule
 mod LeadingBodies
 mod LeadingLoops

@@ -7,7 +7,8 @@ use Rattle.pearl_value.specs.declared.kind.CellKind.{CellKind}
 use Rattle.pearl_format.specs.declared.item.Item.{Item}
 use Rattle.pearl_tree.specs.ShownExpressions.{ShownExpr, ShownExprs, ShownRef}
 use Rattle.pearl_tree.specs.declared.statement.SemaWord.{SemaWord}
-use Rattle.pearl_tree.specs.ShownStatements.{ShownStmts, OfOnSemas}
+use Rattle.pearl_tree.specs.declared.format.Fmt.{Fmt}
+use Rattle.pearl_tree.specs.ShownStatements.{ShownStmts, OfOnSemas, OfPut, OfGet}
 use Rattle.pearl_tree.specs.declared.literal.Literal.{Literal}
 use Rattle.pearl_tree.specs.Lawful.{IsLawfulLiteral}
 use Rattle.pearl_tree.specs.ShownLiterals.{ShownConst, shown_literal}
@@ -28,7 +29,7 @@ use Rattle.pearl_tree.specs.declared.name.Name.{Name}
 use Rattle.pearl_tree.specs.Names.{name_text}
 use Rattle.pearl_program.specs.HiddenCells.{hidden_in_all}
 use Rattle.pearl_program.specs.Sound.{signature_of}
-use Rattle.pearl_program.specs.SoundStatements.{IsCall, AreStmts}
+use Rattle.pearl_program.specs.SoundStatements.{FitsFormat, IsCall, AreStmts}
 use Rattle.pearl_program.specs.Typing.{Around, AreOpen, HasKind, IsVariable}
 use Rattle.pearl_calls.specs.Callers.{Caller}
 use Rattle.pearl_calls.specs.Numberings.{IsNumbering}
@@ -36,6 +37,7 @@ use Rattle.pearl_calls.specs.Numbers.{AreNumbers}
 use Rattle.pearl_scope.specs.Parts.{expr_parts}
 use Rattle.pearl_scope.specs.Placed.{Placed, parts_at}
 use Rattle.pearl_check.specs.Asked.{Asked, asked_at}
+use Rattle.pearl_check.specs.Formats.{format_faults}
 use Rattle.pearl_check.specs.Routines.{RoutineSort}
 use Rattle.pearl_check.specs.Roles.{asked_faults}
 use Rattle.pearl_check.specs.Rules.{all_broken, statement_faults}
@@ -57,8 +59,8 @@ use Rattle.pearl_resolve.specs.Statements.{resolve_stmt}
 use Rattle.pearl_sound.specs.Sights.{Sight, sights_of}
 use Rattle.pearl_sound.specs.SoundForms.{IsSoundSense}
 use Rattle.pearl_sound.specs.Stretches.{Stretch, routine_stretches, IsDivided}
-use Rattle.pearl_resolve.specs.Cells.{sense_cells, cells_in_all, routine_cells}
-use Rattle.pearl_resolve.specs.Resolve.{formats_in_all, resolve_routine, procedures_in, numbered_of, resolve}
+use Rattle.pearl_resolve.specs.Cells.{sense_cells, get_cells, cells_in_all, routine_cells}
+use Rattle.pearl_resolve.specs.Resolve.{item_of, formats_in_all, resolve_routine, procedures_in, numbered_of, resolve}
 
 -- from here to there the text has these scopes, each with the numbers of its names, these cells and these formats
 pub record GoesPast (from to : At) (scopes : ℕ) (numbers : List (List ℕ)) (cells : List CellKind) (formats : List (List Item)) : Type 0 where
@@ -334,5 +336,30 @@ abbrev pub SemaphoreStatementsAreSound : Type 0
 SemaphoreStatementsAreSound = (numbered : Numbered) (sort : RoutineSort) (place : Placed) (at : At) (around : Around) →
     LeadNames numbered (Within place.spot.scope) around → HasSemaphoresApart numbered (Within place.spot.scope) →
     (word : SemaWord) (names : List Name) (from : ℕ) → place.statement ≡ OfOnSemas word names from → 0 < length names →
+    AllByRecursion (IsKnown numbered.table) (asked_at place) → statement_faults numbered.table sort place ≡ [] →
+    AreStmts around (resolve_stmt numbered place.spot.scope at place.statement)
+
+-- a format in which S33 isn't broken, where its values have these kinds, fits them
+abbrev pub FormatsFit : Type 0
+FormatsFit = (from : ℕ) (items : List Fmt) (kinds : List Kind) → format_faults from items (map Some kinds) ≡ [] →
+    FitsFormat (map item_of items) kinds
+
+-- where names lead to what is there, PUT becomes sound, if its format is there, what it asks for is known and no rule is broken
+abbrev pub PutsAreSound : Type 0
+PutsAreSound = (numbered : Numbered) (sort : RoutineSort) (place : Placed) (at : At) (around : Around) →
+    LeadNames numbered (Within place.spot.scope) around →
+    (values : List ShownExpr) (dation : Name) (formats : List Fmt) (from : ℕ) → place.statement ≡ OfPut values dation formats from →
+    slice_get around.formats at.format ≡ Some (map item_of formats) →
+    AllByRecursion (IsKnown numbered.table) (asked_at place) → statement_faults numbered.table sort place ≡ [] →
+    AreStmts around (resolve_stmt numbered place.spot.scope at place.statement)
+
+-- and so does GET, whose cells are there besides
+abbrev pub GetsAreSound : Type 0
+GetsAreSound = (numbered : Numbered) (sort : RoutineSort) (place : Placed) (at : At) (around : Around) →
+    LeadNames numbered (Within place.spot.scope) around →
+    (targets : List ShownRef) (dation : Name) (formats : List Fmt) (from : ℕ) → place.statement ≡ OfGet targets dation formats from →
+    slice_get around.formats at.format ≡ Some (map item_of formats) →
+    take (length (get_cells numbered place.spot.scope targets)) (drop at.cell around.cells) ≡
+    get_cells numbered place.spot.scope targets →
     AllByRecursion (IsKnown numbered.table) (asked_at place) → statement_faults numbered.table sort place ≡ [] →
     AreStmts around (resolve_stmt numbered place.spot.scope at place.statement)

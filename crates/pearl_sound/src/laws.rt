@@ -1,6 +1,6 @@
 // What holds of scopes, cells, hidden cells and formats, of names and components, and of what expressions and targets become.
 
-ghost use Rattle.pearl_sound.specs.Laws.{AskedIsKnown, CallsAreSound, ComponentsLieInTheirVariables, ExpressionsAreSound, HiddenCellsAreApart, InnerNamesHaveTheirCells, KindsAreKnown, LiteralsAreValues, ModuleDevicesAreThere, ModuleNamesHaveTheirLeaves, ModuleNumbersAreThere, ModuleProceduresAreThere, NamesAreKnown, NamesHaveTheirCells, NamesHaveTheirDevices, NamesLead, NamesLeadInModules, NamesNameOthers, NamesShareNoCells, OwnNamesAreNotHidden, RoutinesAreDivided, RoutinesHaveCells, RuleGivesNumbers, ScopesShareNoCells, SemaphoreStatementsAreSound, SemaphoresAreApart, SensesAreComplete, SensesAreSound, SimpleStatementsAreSound, StatementsGoPast, StretchesHaveTheirCells, TargetsHaveTheirKind};
+ghost use Rattle.pearl_sound.specs.Laws.{AskedIsKnown, CallsAreSound, ComponentsLieInTheirVariables, ExpressionsAreSound, FormatsFit, GetsAreSound, HiddenCellsAreApart, InnerNamesHaveTheirCells, KindsAreKnown, LiteralsAreValues, ModuleDevicesAreThere, ModuleNamesHaveTheirLeaves, ModuleNumbersAreThere, ModuleProceduresAreThere, NamesAreKnown, NamesHaveTheirCells, NamesHaveTheirDevices, NamesLead, NamesLeadInModules, NamesNameOthers, NamesShareNoCells, OwnNamesAreNotHidden, PutsAreSound, RoutinesAreDivided, RoutinesHaveCells, RuleGivesNumbers, ScopesShareNoCells, SemaphoreStatementsAreSound, SemaphoresAreApart, SensesAreComplete, SensesAreSound, SimpleStatementsAreSound, StatementsGoPast, StretchesHaveTheirCells, TargetsHaveTheirKind};
 
 /// Behind some statements the counters stand at what comes behind the scopes, cells and formats of these.
 pub fn statements_go_past()
@@ -163,4 +163,19 @@ pub fn semaphores_are_apart()
 /// REQUEST and RELEASE become sound statements, where what they ask for is known and no rule is broken.
 pub fn semaphore_statements_are_sound()
     ensures { SemaphoreStatementsAreSound }
+{}
+
+/// A format in which S33 isn't broken fits its values.
+pub fn formats_fit()
+    ensures { FormatsFit }
+{}
+
+/// PUT becomes a sound statement, where its format is there, what it asks for is known and no rule is broken.
+pub fn puts_are_sound()
+    ensures { PutsAreSound }
+{}
+
+/// GET becomes a sound statement, where its format and cells are there, what it asks for is known and no rule is broken.
+pub fn gets_are_sound()
+    ensures { GetsAreSound }
 {}
