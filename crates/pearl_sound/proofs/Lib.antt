@@ -39,6 +39,7 @@ pub mod SemaphoreLists
 pub mod SemaphoresApart
 pub mod FormatsFit
 pub mod TextTransfers
+pub mod WholeStatements
 mod WholeModule
 mod LeadingBodies
 mod LeadingLoops

@@ -91,7 +91,7 @@ all_kept table (first ∷ rest) known none = (
 )
 
 -- roles
-fits_role : (role : Role) (kind : Kind) (place : ℕ) (middle : List RuleFault) →
+pub fits_role : (role : Role) (kind : Kind) (place : ℕ) (middle : List RuleFault) →
     s23_in role (Some kind) place ++ (middle ++ s29_in role (Some kind) place) ≡ [] → is_for_role role kind ≡ true
 fits_role Plain kind place middle none = refl
 fits_role Condition kind place middle none =

@@ -34,6 +34,7 @@ use Rattle.pearl_program.specs.Typing.{Around, AreOpen, HasKind, IsVariable}
 use Rattle.pearl_calls.specs.Callers.{Caller}
 use Rattle.pearl_calls.specs.Numberings.{IsNumbering}
 use Rattle.pearl_calls.specs.Numbers.{AreNumbers}
+use Rattle.pearl_scope.specs.declared.places.Spot.{Spot}
 use Rattle.pearl_scope.specs.Parts.{expr_parts}
 use Rattle.pearl_scope.specs.Placed.{Placed, parts_at}
 use Rattle.pearl_check.specs.Asked.{Asked, asked_at}
@@ -55,7 +56,8 @@ use Rattle.pearl_sound.specs.SoundNames.{IsLiteral, HasLiterals, HaveLiterals, S
 use Rattle.pearl_sound.specs.ModuleNames.{IsModuleName, HasNamesOnce, AreProcedureNumbers, DevicesAreThere}
 use Rattle.pearl_sound.specs.KnownNames.{IsThereIn, IsComplete, IsNamed, HasNames, SelectorsHaveNames}
 use Rattle.pearl_sound.specs.KnownParts.{IsKnown, HasItsNames, AskedLiterals, IsSimple, Returns}
-use Rattle.pearl_resolve.specs.Statements.{resolve_stmt}
+use Rattle.pearl_resolve.specs.Statements.{resolve_stmt, resolve_all}
+use Rattle.pearl_sound.specs.Ready.{AllStand}
 use Rattle.pearl_sound.specs.Sights.{Sight, sights_of}
 use Rattle.pearl_sound.specs.SoundForms.{IsSoundSense}
 use Rattle.pearl_sound.specs.Stretches.{Stretch, routine_stretches, IsDivided}
@@ -363,3 +365,8 @@ GetsAreSound = (numbered : Numbered) (sort : RoutineSort) (place : Placed) (at :
     get_cells numbered place.spot.scope targets →
     AllByRecursion (IsKnown numbered.table) (asked_at place) → statement_faults numbered.table sort place ≡ [] →
     AreStmts around (resolve_stmt numbered place.spot.scope at place.statement)
+
+-- statements that have all that they need, with all statements within them, become sound ones
+abbrev pub StatementsAreSound : Type 0
+StatementsAreSound = (numbered : Numbered) (sort : RoutineSort) (around : Around) (spot : Spot) (at : At) (statements : ShownStmts) →
+    AllStand numbered sort around spot at statements → AreStmts around (resolve_all numbered spot.scope at statements)

@@ -1,6 +1,6 @@
 // What holds of scopes, cells, hidden cells and formats, of names and components, and of what expressions and targets become.
 
-ghost use Rattle.pearl_sound.specs.Laws.{AskedIsKnown, CallsAreSound, ComponentsLieInTheirVariables, ExpressionsAreSound, FormatsFit, GetsAreSound, HiddenCellsAreApart, InnerNamesHaveTheirCells, KindsAreKnown, LiteralsAreValues, ModuleDevicesAreThere, ModuleNamesHaveTheirLeaves, ModuleNumbersAreThere, ModuleProceduresAreThere, NamesAreKnown, NamesHaveTheirCells, NamesHaveTheirDevices, NamesLead, NamesLeadInModules, NamesNameOthers, NamesShareNoCells, OwnNamesAreNotHidden, PutsAreSound, RoutinesAreDivided, RoutinesHaveCells, RuleGivesNumbers, ScopesShareNoCells, SemaphoreStatementsAreSound, SemaphoresAreApart, SensesAreComplete, SensesAreSound, SimpleStatementsAreSound, StatementsGoPast, StretchesHaveTheirCells, TargetsHaveTheirKind};
+ghost use Rattle.pearl_sound.specs.Laws.{AskedIsKnown, CallsAreSound, ComponentsLieInTheirVariables, ExpressionsAreSound, FormatsFit, GetsAreSound, HiddenCellsAreApart, InnerNamesHaveTheirCells, KindsAreKnown, LiteralsAreValues, ModuleDevicesAreThere, ModuleNamesHaveTheirLeaves, ModuleNumbersAreThere, ModuleProceduresAreThere, NamesAreKnown, NamesHaveTheirCells, NamesHaveTheirDevices, NamesLead, NamesLeadInModules, NamesNameOthers, NamesShareNoCells, OwnNamesAreNotHidden, PutsAreSound, RoutinesAreDivided, RoutinesHaveCells, RuleGivesNumbers, ScopesShareNoCells, SemaphoreStatementsAreSound, SemaphoresAreApart, SensesAreComplete, SensesAreSound, SimpleStatementsAreSound, StatementsAreSound, StatementsGoPast, StretchesHaveTheirCells, TargetsHaveTheirKind};
 
 /// Behind some statements the counters stand at what comes behind the scopes, cells and formats of these.
 pub fn statements_go_past()
@@ -178,4 +178,9 @@ pub fn puts_are_sound()
 /// GET becomes a sound statement, where its format and cells are there, what it asks for is known and no rule is broken.
 pub fn gets_are_sound()
     ensures { GetsAreSound }
+{}
+
+/// Statements that have all that they need, with all statements within them, become sound ones.
+pub fn statements_are_sound()
+    ensures { StatementsAreSound }
 {}
