@@ -27,7 +27,7 @@ use Rattle.pearl_sound.specs.KnownNames.{IsThereIn, HasKnownResult, IsComplete, 
 use Rattle.pearl_sound.proofs.SimpleStatements.{left_none, right_none, not_broken}
 use Rattle.pearl_sound.proofs.SoundParts.{some_one, callee_is}
 
-one_fault : {X : Type 0} (fault : RuleFault) (rest : List RuleFault) → fault ∷ rest ≡ [] → X
+pub one_fault : {X : Type 0} (fault : RuleFault) (rest : List RuleFault) → fault ∷ rest ≡ [] → X
 one_fault fault rest none = let more = ap (λ (faults : List RuleFault). length faults) none in absurd (omega (arith, more))
 
 -- operators
@@ -304,7 +304,7 @@ module _ (table : Table) (view : View) where
         (first_well name callee selector known names.0 (left_none first.faults (beyond table view name rest) none))
         (beyond_none name rest (right_none first.faults (beyond table view name rest) none))
 
-    first_well : (name : Name) (callee : Callee) (selector : ShownSelector) → AllByRecursion (λ (parameter : Parameter). IsThereIn parameter.kind) callee.parameters →
+    pub first_well : (name : Name) (callee : Callee) (selector : ShownSelector) → AllByRecursion (λ (parameter : Parameter). IsThereIn parameter.kind) callee.parameters →
         SelectorHasNames table view selector → (first_applied table view name callee selector).faults ≡ [] →
         (first_applied table view name callee selector).well ≡ true
     first_well name callee (OfSubscripts exprs place) known names none =

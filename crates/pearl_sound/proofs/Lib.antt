@@ -31,6 +31,15 @@ pub mod ModuleRules
 pub mod SimpleStatements
 pub mod KnownKinds
 pub mod RuleNumbers
+pub mod CompleteForms
+pub mod CompleteSenses
+pub mod NamesKnown
+pub mod AskedKnown
+pub mod SemaphoreLists
+pub mod SemaphoresApart
+pub mod FormatsFit
+pub mod TextTransfers
+pub mod WholeStatements
 mod WholeModule
 mod LeadingBodies
 mod LeadingLoops

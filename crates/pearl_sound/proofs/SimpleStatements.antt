@@ -71,7 +71,7 @@ pub really : (b : Bool) → not b ≡ false → b ≡ true
 really true is = refl
 really false is = absurd (true≢false is)
 
-split_all : {X : Type 0} (P : X → Type 0) (xs ys : List X) → AllByRecursion P (xs ++ ys) → AllByRecursion P xs × AllByRecursion P ys
+pub split_all : {X : Type 0} (P : X → Type 0) (xs ys : List X) → AllByRecursion P (xs ++ ys) → AllByRecursion P xs × AllByRecursion P ys
 split_all P [] ys all = (tt, all)
 split_all P (x ∷ xs) ys all = let more = split_all P xs ys all.1 in ((all.0, more.0), more.1)
 
@@ -83,7 +83,7 @@ pub record IsKept (table : Table) (asked : Asked) : Type 0 where
 abbrev pub AreKept : Table → List Asked → Type 0
 AreKept table asked = AllByRecursion (IsKept table) asked
 
-all_kept : (table : Table) (asked : List Asked) → AllByRecursion (IsKnown table) asked → flat_map (asked_faults table) asked ≡ [] → AreKept table asked
+pub all_kept : (table : Table) (asked : List Asked) → AllByRecursion (IsKnown table) asked → flat_map (asked_faults table) asked ≡ [] → AreKept table asked
 all_kept table [] known none = tt
 all_kept table (first ∷ rest) known none = (
   record { known = known.0; none = left_none (asked_faults table first) (flat_map (asked_faults table) rest) none },
@@ -91,7 +91,7 @@ all_kept table (first ∷ rest) known none = (
 )
 
 -- roles
-fits_role : (role : Role) (kind : Kind) (place : ℕ) (middle : List RuleFault) →
+pub fits_role : (role : Role) (kind : Kind) (place : ℕ) (middle : List RuleFault) →
     s23_in role (Some kind) place ++ (middle ++ s29_in role (Some kind) place) ≡ [] → is_for_role role kind ≡ true
 fits_role Plain kind place middle none = refl
 fits_role Condition kind place middle none =
@@ -141,13 +141,13 @@ module _ (numbered : Numbered) (scope : ℕ) (around : Around) (lead : LeadNames
   abbrev table : Table
   table = numbered.table
 
-  record HasRole (role : Role) (e : ShownExpr) : Type 0 where
+  pub record HasRole (role : Role) (e : ShownExpr) : Type 0 where
     pub kind : Kind
     pub is : value_kind table scope e ≡ Some kind
     pub has : HasKind around (value_in numbered scope e) kind
     pub fits : is_for_role role kind ≡ true
 
-  value_sound : (role : Role) (e : ShownExpr) → IsKept table (Subject role scope (OfValue e)) → HasRole role e
+  pub value_sound : (role : Role) (e : ShownExpr) → IsKept table (Subject role scope (OfValue e)) → HasRole role e
   value_sound role e kept =
       let known = kept.known.0 in
       let faults = right_none (part_faults table (Subject role scope (OfValue e))) (role_faults table (Subject role scope (OfValue e))) kept.none in
@@ -173,12 +173,12 @@ module _ (numbered : Numbered) (scope : ℕ) (around : Around) (lead : LeadNames
       let fixed = fixed_kind value.kind value.fits in
       (fixed.0, subst (λ kind. HasKind around (value_in numbered scope e) kind) fixed.1 value.has)
 
-  record HasTarget (target : ShownRef) : Type 0 where
+  pub record HasTarget (target : ShownRef) : Type 0 where
     pub kind : Kind
     pub is : target_kind table scope target ≡ Some kind
     pub variable : IsVariable around (resolve_variable numbered (Within scope) target) kind
 
-  target_kept : (target : ShownRef) → IsKept table (Subject Plain scope (OfTarget target)) → HasTarget target
+  pub target_kept : (target : ShownRef) → IsKept table (Subject Plain scope (OfTarget target)) → HasTarget target
   target_kept target kept =
       let known = kept.known.0 in
       let faults = right_none (part_faults table (Subject Plain scope (OfTarget target))) (role_faults table (Subject Plain scope (OfTarget target))) kept.none in
@@ -190,7 +190,7 @@ module _ (numbered : Numbered) (scope : ℕ) (around : Around) (lead : LeadNames
         variable = target_sound numbered (Within scope) around lead.values target kept.known.1 (no_control (seen table (Within scope) target.name) free) known.0 known.1;
       }
 
-  named_role : (role : NameRole) (name : Name) (kept : IsKept table (Named role scope name)) → is_role role (role_of kept.known.0) ≡ true
+  pub named_role : (role : NameRole) (name : Name) (kept : IsKept table (Named role scope name)) → is_role role (role_of kept.known.0) ≡ true
   named_role role name kept =
       let known = kept.known in
       really (is_role role (role_of known.0)) (ap (is_misnamed role) (sym known.1) ∙
@@ -329,7 +329,7 @@ module _ (numbered : Numbered) (scope : ℕ) (around : Around) (lead : LeadNames
   take_sound name (AlphicDation direction) is known named to none variable has = absurd (true≢false none)
   take_sound name of is known named to none variable has = absurd (true≢false (sym named))
 
-  simple_sound : (sort : RoutineSort) (in_loop : Bool) (at : At) (s : ShownStmt) → IsSimple s → Returns table.lengths sort around.returns → in_loop ≡ around.in_loop →
+  pub simple_sound : (sort : RoutineSort) (in_loop : Bool) (at : At) (s : ShownStmt) → IsSimple s → Returns table.lengths sort around.returns → in_loop ≡ around.in_loop →
       AreKept table (asking.stmt_asked scope at.next s) → s24 table scope s ≡ [] → s26 in_loop s ≡ [] → s27 table scope sort s ≡ [] →
       s32 table scope s ≡ [] → AreStmts around (resolve_stmt numbered scope at s)
   simple_sound sort in_loop at (shown.OfEmpty place) simple returns same kept suit exit back carry = tt

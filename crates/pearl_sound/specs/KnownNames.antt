@@ -1,13 +1,13 @@
 -- When all names and literals of an expression are known: each name has a sense with no rule broken in it, and each literal
 -- a kind.
-use Rattle.std.specs.Prelude.{◌≡◌, List, Option, Some, None}
+use Rattle.std.specs.Prelude.{◌≡◌, Option, Some, None}
 use Rattle.std.specs.List.{AllByRecursion}
 use Rattle.pearl_value.specs.declared.kind.Kind.{Kind}
 use Rattle.pearl_tree.specs.declared.name.Name.{Name}
 use Rattle.pearl_tree.specs.Names.{name_text}
 use Rattle.pearl_tree.specs.ShownExpressions.{ShownExpr, OfOperand, OfDyadic, ShownPrimary, OfLiteral, OfRef, OfGroup, OfNow, OfTry, OfLimit, ShownSelectors, NoSelectors, MoreSelectors, ShownSelector, OfSubscripts, OfComponent, ShownExprs, NoExprs, MoreExprs}
 use Rattle.pearl_names.specs.declared.scope.View.{View}
-use Rattle.pearl_names.specs.Tables.{Form, Parameter, Sense, Variable, OwnParameter, BasicDation, Procedure, Table, sense_from}
+use Rattle.pearl_names.specs.Tables.{Parameter, Sense, Variable, OwnParameter, BasicDation, Procedure, Table, sense_from}
 use Rattle.pearl_check_expr.specs.Literals.{literal_kind}
 
 abbrev pub IsThereIn : {X : Type 0} → Option X → Type 0

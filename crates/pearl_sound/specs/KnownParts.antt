@@ -1,10 +1,11 @@
--- When what a statement asks for is known: each subject has a kind, and each name a sense. And which statements are asked.
+-- When what a statement asks for is known: each subject has a kind, and each name a sense. When its names are. And which
+-- statements are asked.
 use Rattle.std.specs.Prelude.{◌≡◌, ℕ, true, List, Option, Some, None}
 use Rattle.pearl_value.specs.declared.kind.Kind.{Kind}
 use Rattle.pearl_tree.specs.declared.typing.Basic.{Basic}
 use Rattle.pearl_tree.specs.ShownStatements.{ShownStmt, OfIf, OfCase, OfRepeat, OfBegin, OfOnSemas, OfPut, OfGet}
 use Rattle.pearl_names.specs.declared.length.DefaultLength.{DefaultLength}
-use Rattle.pearl_names.specs.declared.scope.View.TheVariants.{Within}
+use Rattle.pearl_names.specs.declared.scope.View.TheVariants.{Within, WhileOf}
 use Rattle.pearl_names.specs.Lengths.{kind_of_basic}
 use Rattle.pearl_names.specs.Tables.{Sense, BasicDation, Table}
 use Rattle.pearl_check_expr.specs.Judged.{called}
@@ -15,6 +16,7 @@ use Rattle.pearl_check.specs.Routines.{RoutineSort, Task, Procedure}
 use Rattle.pearl_check.specs.Views.{seen, subject_kind}
 use Rattle.pearl_resolve.specs.Resolve.{result_kind}
 use Rattle.pearl_sound.specs.SoundNames.{HasLiterals, SelectorsHaveLiterals, HaveLiterals}
+use Rattle.pearl_sound.specs.KnownNames.{IsNamed, HasNames, SelectorsHaveNames, HaveNames}
 
 abbrev pub HasItsLiterals : List DefaultLength → ShownSubject → Type 0
 HasItsLiterals lengths (OfValue expr) = HasLiterals lengths expr
@@ -36,6 +38,23 @@ IsKnownSense sense = Unit {0}
 abbrev pub IsKnown : Table → Asked → Type 0
 IsKnown table (Subject role scope subject) = HasItsKind table scope subject × HasItsLiterals table.lengths subject
 IsKnown table (Named role scope name) = (sense : Sense) × (seen table (Within scope) name ≡ Some sense) × IsKnownSense sense
+
+-- all names and literals of a subject are known
+abbrev pub SubjectHasNames : Table → ℕ → ShownSubject → Type 0
+SubjectHasNames table scope (OfValue expr) = HasNames table (Within scope) expr
+SubjectHasNames table scope (OfWhile expr) = HasNames table (WhileOf scope) expr
+SubjectHasNames table scope (OfTarget target) =
+    IsNamed table (Within scope) target.name × SelectorsHaveNames table (Within scope) target.selectors
+SubjectHasNames table scope (OfCallStatement name arguments) =
+    IsNamed table (Within scope) name × HaveNames table (Within scope) arguments
+
+abbrev pub HasItsNames : Table → Asked → Type 0
+HasItsNames table (Subject role scope subject) = SubjectHasNames table scope subject
+HasItsNames table (Named role scope name) = IsNamed table (Within scope) name
+
+abbrev pub AskedLiterals : List DefaultLength → Asked → Type 0
+AskedLiterals lengths (Subject role scope subject) = HasItsLiterals lengths subject
+AskedLiterals lengths (Named role scope name) = Unit {0}
 
 -- no statement within, no semaphores, and no format
 abbrev pub IsSimple : ShownStmt → Type 0

@@ -6,7 +6,9 @@ use Rattle.pearl_value.specs.declared.kind.Kind.{Kind}
 use Rattle.pearl_value.specs.declared.kind.CellKind.{CellKind}
 use Rattle.pearl_format.specs.declared.item.Item.{Item}
 use Rattle.pearl_tree.specs.ShownExpressions.{ShownExpr, ShownExprs, ShownRef}
-use Rattle.pearl_tree.specs.ShownStatements.{ShownStmts}
+use Rattle.pearl_tree.specs.declared.statement.SemaWord.{SemaWord}
+use Rattle.pearl_tree.specs.declared.format.Fmt.{Fmt}
+use Rattle.pearl_tree.specs.ShownStatements.{ShownStmts, OfOnSemas, OfPut, OfGet}
 use Rattle.pearl_tree.specs.declared.literal.Literal.{Literal}
 use Rattle.pearl_tree.specs.Lawful.{IsLawfulLiteral}
 use Rattle.pearl_tree.specs.ShownLiterals.{ShownConst, shown_literal}
@@ -15,6 +17,7 @@ use Rattle.pearl_names.specs.Lengths.{lengths_set}
 use Rattle.pearl_names.specs.Shapes.{Fields}
 use Rattle.pearl_names.specs.Layout.{Leaf, leaves_of, leaves_of_fields, elements}
 use Rattle.pearl_names.specs.Forms.{Component, component}
+use Rattle.pearl_names.specs.Known.{known_of}
 use Rattle.pearl_names.specs.Scopes.{scopes_in_all}
 use Rattle.pearl_names.specs.declared.scope.View.{View}
 use Rattle.pearl_names.specs.declared.scope.View.TheVariants.{Within}
@@ -26,33 +29,40 @@ use Rattle.pearl_tree.specs.declared.name.Name.{Name}
 use Rattle.pearl_tree.specs.Names.{name_text}
 use Rattle.pearl_program.specs.HiddenCells.{hidden_in_all}
 use Rattle.pearl_program.specs.Sound.{signature_of}
-use Rattle.pearl_program.specs.SoundStatements.{IsCall, AreStmts}
+use Rattle.pearl_program.specs.SoundStatements.{FitsFormat, IsCall, AreStmts}
 use Rattle.pearl_program.specs.Typing.{Around, AreOpen, HasKind, IsVariable}
 use Rattle.pearl_calls.specs.Callers.{Caller}
 use Rattle.pearl_calls.specs.Numberings.{IsNumbering}
 use Rattle.pearl_calls.specs.Numbers.{AreNumbers}
-use Rattle.pearl_scope.specs.Placed.{Placed}
-use Rattle.pearl_check.specs.Asked.{asked_at}
+use Rattle.pearl_scope.specs.declared.places.Spot.{Spot}
+use Rattle.pearl_scope.specs.Parts.{expr_parts}
+use Rattle.pearl_scope.specs.Placed.{Placed, parts_at}
+use Rattle.pearl_check.specs.Asked.{Asked, asked_at}
+use Rattle.pearl_check.specs.Formats.{format_faults}
 use Rattle.pearl_check.specs.Routines.{RoutineSort}
+use Rattle.pearl_check.specs.Roles.{asked_faults}
 use Rattle.pearl_check.specs.Rules.{all_broken, statement_faults}
 use Rattle.pearl_system.specs.declared.device.SpecifiedDevice.{SpecifiedDevice}
 use Rattle.pearl_system.specs.Devices.{device_key, IsDevice}
 use Rattle.pearl_system.specs.Rising.{Lists}
 use Rattle.pearl_system.specs.Rules.{broken}
+use Rattle.pearl_scope.specs.Rules.{faults_in}
+use Rattle.pearl_scope.specs.Rules as names
 use Rattle.pearl_resolve.specs.Numbers as numbering
 use Rattle.pearl_resolve.specs.Numbers.{At, Before, senses_at, routine_start, scope_numbers, module_numbers, own_numbers, after_all, after_body, numbers_in_all, body_numbers}
 use Rattle.pearl_resolve.specs.Laying.{leaves_in, filled_leaves, slots, cells_of_sense}
 use Rattle.pearl_resolve.specs.Expressions.{Numbered, number_of, resolve_expr, resolve_arguments, resolve_variable, target_kind}
-use Rattle.pearl_sound.specs.SoundNames.{IsLiteral, HasLiterals, HaveLiterals, SelectorsHaveLiterals, is_control, IsCallee, LeadValues, LeadNames}
+use Rattle.pearl_sound.specs.SoundNames.{IsLiteral, HasLiterals, HaveLiterals, SelectorsHaveLiterals, is_control, IsCallee, LeadValues, LeadNames, HasSemaphoresApart}
 use Rattle.pearl_sound.specs.ModuleNames.{IsModuleName, HasNamesOnce, AreProcedureNumbers, DevicesAreThere}
-use Rattle.pearl_sound.specs.KnownNames.{IsThereIn, IsNamed, HasNames, SelectorsHaveNames}
-use Rattle.pearl_sound.specs.KnownParts.{IsKnown, IsSimple, Returns}
-use Rattle.pearl_resolve.specs.Statements.{resolve_stmt}
+use Rattle.pearl_sound.specs.KnownNames.{IsThereIn, IsComplete, IsNamed, HasNames, SelectorsHaveNames}
+use Rattle.pearl_sound.specs.KnownParts.{IsKnown, HasItsNames, AskedLiterals, IsSimple, Returns}
+use Rattle.pearl_resolve.specs.Statements.{resolve_stmt, resolve_all}
+use Rattle.pearl_sound.specs.Ready.{AllStand}
 use Rattle.pearl_sound.specs.Sights.{Sight, sights_of}
 use Rattle.pearl_sound.specs.SoundForms.{IsSoundSense}
 use Rattle.pearl_sound.specs.Stretches.{Stretch, routine_stretches, IsDivided}
-use Rattle.pearl_resolve.specs.Cells.{sense_cells, cells_in_all, routine_cells}
-use Rattle.pearl_resolve.specs.Resolve.{formats_in_all, resolve_routine, procedures_in, numbered_of, resolve}
+use Rattle.pearl_resolve.specs.Cells.{sense_cells, get_cells, cells_in_all, routine_cells}
+use Rattle.pearl_resolve.specs.Resolve.{item_of, formats_in_all, resolve_routine, procedures_in, numbered_of, resolve}
 
 -- from here to there the text has these scopes, each with the numbers of its names, these cells and these formats
 pub record GoesPast (from to : At) (scopes : ℕ) (numbers : List (List ℕ)) (cells : List CellKind) (formats : List (List Item)) : Type 0 where
@@ -298,3 +308,65 @@ RuleGivesNumbers = (tree : ShownTree) (devices : List SpecifiedDevice) (callers 
     IsNumbering callers order → AreNumbers order numbers →
     length numbers ≡ length (procedures_in (numbered_of (table_of tree) devices numbers tree) numbering.first tree.declarations) →
     AreProcedureNumbers tree devices numbers
+
+-- where no rule on names and types is broken, the form or kinds of each name are there
+abbrev pub SensesAreComplete : Type 0
+SensesAreComplete = (tree : ShownTree) → names.broken tree ≡ [] → (scope : ℕ) →
+    AllByRecursion IsComplete (senses_at (table_of tree) scope)
+
+-- where no rule on names and types is broken in a module, and so none in an expression, its names and literals are known, and
+-- so are those of what a statement asks for
+abbrev pub NamesAreKnown : Type 0
+NamesAreKnown = (tree : ShownTree) → names.broken tree ≡ [] →
+    ((view : View) (e : ShownExpr) → faults_in (known_of tree) (expr_parts view e) ≡ [] → HasNames (table_of tree) view e) ×
+    ((types : ℕ) (place : Placed) → faults_in (known_of tree) (parts_at types place) ≡ [] →
+    AllByRecursion (HasItsNames (table_of tree)) (asked_at place))
+
+-- what is asked for is known where its names are, its literals are values, and no rule is broken
+abbrev pub AskedIsKnown : Type 0
+AskedIsKnown = (table : Table) (asked : Asked) → HasItsNames table asked → AskedLiterals table.lengths asked →
+    asked_faults table asked ≡ [] → IsKnown table asked
+
+-- two semaphores of a module have two numbers, from wherever their names are seen
+abbrev pub SemaphoresAreApart : Type 0
+SemaphoresAreApart = (tree : ShownTree) (devices : List SpecifiedDevice) (procedures : List ℕ) (scope : ℕ) →
+    HasSemaphoresApart (numbered_of (table_of tree) devices procedures tree) (Within scope)
+
+-- where names lead to what is there, and two semaphores have two numbers, REQUEST and RELEASE become sound, if what they ask
+-- for is known and no rule is broken, and they name a semaphore
+abbrev pub SemaphoreStatementsAreSound : Type 0
+SemaphoreStatementsAreSound = (numbered : Numbered) (sort : RoutineSort) (place : Placed) (at : At) (around : Around) →
+    LeadNames numbered (Within place.spot.scope) around → HasSemaphoresApart numbered (Within place.spot.scope) →
+    (word : SemaWord) (names : List Name) (from : ℕ) → place.statement ≡ OfOnSemas word names from → 0 < length names →
+    AllByRecursion (IsKnown numbered.table) (asked_at place) → statement_faults numbered.table sort place ≡ [] →
+    AreStmts around (resolve_stmt numbered place.spot.scope at place.statement)
+
+-- a format in which S33 isn't broken, where its values have these kinds, fits them
+abbrev pub FormatsFit : Type 0
+FormatsFit = (from : ℕ) (items : List Fmt) (kinds : List Kind) → format_faults from items (map Some kinds) ≡ [] →
+    FitsFormat (map item_of items) kinds
+
+-- where names lead to what is there, PUT becomes sound, if its format is there, what it asks for is known and no rule is broken
+abbrev pub PutsAreSound : Type 0
+PutsAreSound = (numbered : Numbered) (sort : RoutineSort) (place : Placed) (at : At) (around : Around) →
+    LeadNames numbered (Within place.spot.scope) around →
+    (values : List ShownExpr) (dation : Name) (formats : List Fmt) (from : ℕ) → place.statement ≡ OfPut values dation formats from →
+    slice_get around.formats at.format ≡ Some (map item_of formats) →
+    AllByRecursion (IsKnown numbered.table) (asked_at place) → statement_faults numbered.table sort place ≡ [] →
+    AreStmts around (resolve_stmt numbered place.spot.scope at place.statement)
+
+-- and so does GET, whose cells are there besides
+abbrev pub GetsAreSound : Type 0
+GetsAreSound = (numbered : Numbered) (sort : RoutineSort) (place : Placed) (at : At) (around : Around) →
+    LeadNames numbered (Within place.spot.scope) around →
+    (targets : List ShownRef) (dation : Name) (formats : List Fmt) (from : ℕ) → place.statement ≡ OfGet targets dation formats from →
+    slice_get around.formats at.format ≡ Some (map item_of formats) →
+    take (length (get_cells numbered place.spot.scope targets)) (drop at.cell around.cells) ≡
+    get_cells numbered place.spot.scope targets →
+    AllByRecursion (IsKnown numbered.table) (asked_at place) → statement_faults numbered.table sort place ≡ [] →
+    AreStmts around (resolve_stmt numbered place.spot.scope at place.statement)
+
+-- statements that have all that they need, with all statements within them, become sound ones
+abbrev pub StatementsAreSound : Type 0
+StatementsAreSound = (numbered : Numbered) (sort : RoutineSort) (around : Around) (spot : Spot) (at : At) (statements : ShownStmts) →
+    AllStand numbered sort around spot at statements → AreStmts around (resolve_all numbered spot.scope at statements)

@@ -12,5 +12,7 @@ pub mod KnownParts
 pub mod SoundForms
 -- what the cells of a routine are given to, stretch by stretch in the order of the text: the names of a scope, a loop that counts, the targets of a GET
 pub mod Stretches
+-- when a statement has all that it needs, with all statements within it: names lead to what is there, what it asks for is known, no rule is broken, and its format, its cells and the first values of its variables are there
+pub mod Ready
 -- what holds of scopes, cells, hidden cells and formats, of names and components, and of what expressions and targets become
 pub mod Laws

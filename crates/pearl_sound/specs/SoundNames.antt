@@ -142,3 +142,9 @@ pub record LeadNames (numbered : Numbered) (view : View) (around : Around) : Typ
   pub channels : (name : Name) (direction : Direction) (kind : Kind) →
       sense_from numbered.table view (name_text name) ≡ Some (BasicDation direction (Some kind)) →
       IsChannel direction kind (slice_get around.devices (number_of numbered view name))
+
+-- two names of semaphores that have one number are the same
+abbrev pub HasSemaphoresApart : Numbered → View → Type 0
+HasSemaphoresApart numbered view = (one two : Name) → sense_from numbered.table view (name_text one) ≡ Some Semaphore →
+    sense_from numbered.table view (name_text two) ≡ Some Semaphore → number_of numbered view one ≡ number_of numbered view two →
+    name_text one ≡ name_text two

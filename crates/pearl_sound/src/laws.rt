@@ -1,6 +1,6 @@
 // What holds of scopes, cells, hidden cells and formats, of names and components, and of what expressions and targets become.
 
-ghost use Rattle.pearl_sound.specs.Laws.{CallsAreSound, ComponentsLieInTheirVariables, ExpressionsAreSound, HiddenCellsAreApart, InnerNamesHaveTheirCells, KindsAreKnown, LiteralsAreValues, ModuleDevicesAreThere, ModuleNamesHaveTheirLeaves, ModuleNumbersAreThere, ModuleProceduresAreThere, NamesHaveTheirCells, NamesHaveTheirDevices, NamesLead, NamesLeadInModules, NamesNameOthers, NamesShareNoCells, OwnNamesAreNotHidden, RoutinesAreDivided, RoutinesHaveCells, RuleGivesNumbers, ScopesShareNoCells, SensesAreSound, SimpleStatementsAreSound, StatementsGoPast, StretchesHaveTheirCells, TargetsHaveTheirKind};
+ghost use Rattle.pearl_sound.specs.Laws.{AskedIsKnown, CallsAreSound, ComponentsLieInTheirVariables, ExpressionsAreSound, FormatsFit, GetsAreSound, HiddenCellsAreApart, InnerNamesHaveTheirCells, KindsAreKnown, LiteralsAreValues, ModuleDevicesAreThere, ModuleNamesHaveTheirLeaves, ModuleNumbersAreThere, ModuleProceduresAreThere, NamesAreKnown, NamesHaveTheirCells, NamesHaveTheirDevices, NamesLead, NamesLeadInModules, NamesNameOthers, NamesShareNoCells, OwnNamesAreNotHidden, PutsAreSound, RoutinesAreDivided, RoutinesHaveCells, RuleGivesNumbers, ScopesShareNoCells, SemaphoreStatementsAreSound, SemaphoresAreApart, SensesAreComplete, SensesAreSound, SimpleStatementsAreSound, StatementsAreSound, StatementsGoPast, StretchesHaveTheirCells, TargetsHaveTheirKind};
 
 /// Behind some statements the counters stand at what comes behind the scopes, cells and formats of these.
 pub fn statements_go_past()
@@ -138,4 +138,49 @@ pub fn kinds_are_known()
 /// The numbers that the rule gives to procedures are below their count, and no two are the same.
 pub fn rule_gives_numbers()
     ensures { RuleGivesNumbers }
+{}
+
+/// In a module that breaks no rule on names and types (S2 to S9) each name has its form or its kinds.
+pub fn senses_are_complete()
+    ensures { SensesAreComplete }
+{}
+
+/// In a module that breaks no rule on names and types all names of expressions and statements are known.
+pub fn names_are_known()
+    ensures { NamesAreKnown }
+{}
+
+/// What a statement asks for is known where its names are, its literals are values, and no rule is broken.
+pub fn asked_is_known()
+    ensures { AskedIsKnown }
+{}
+
+/// Two semaphores of a module have two numbers.
+pub fn semaphores_are_apart()
+    ensures { SemaphoresAreApart }
+{}
+
+/// REQUEST and RELEASE become sound statements, where what they ask for is known and no rule is broken.
+pub fn semaphore_statements_are_sound()
+    ensures { SemaphoreStatementsAreSound }
+{}
+
+/// A format in which S33 isn't broken fits its values.
+pub fn formats_fit()
+    ensures { FormatsFit }
+{}
+
+/// PUT becomes a sound statement, where its format is there, what it asks for is known and no rule is broken.
+pub fn puts_are_sound()
+    ensures { PutsAreSound }
+{}
+
+/// GET becomes a sound statement, where its format and cells are there, what it asks for is known and no rule is broken.
+pub fn gets_are_sound()
+    ensures { GetsAreSound }
+{}
+
+/// Statements that have all that they need, with all statements within them, become sound ones.
+pub fn statements_are_sound()
+    ensures { StatementsAreSound }
 {}
