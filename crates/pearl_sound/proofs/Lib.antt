@@ -40,6 +40,7 @@ pub mod SemaphoresApart
 pub mod FormatsFit
 pub mod TextTransfers
 pub mod WholeStatements
+pub mod KeptStatements
 mod WholeModule
 mod LeadingBodies
 mod LeadingLoops

@@ -39,7 +39,7 @@ use Rattle.pearl_scope.specs.Parts.{expr_parts}
 use Rattle.pearl_scope.specs.Placed.{Placed, parts_at}
 use Rattle.pearl_check.specs.Asked.{Asked, asked_at}
 use Rattle.pearl_check.specs.Formats.{format_faults}
-use Rattle.pearl_check.specs.Routines.{RoutineSort}
+use Rattle.pearl_check.specs.Routines.{RoutineSort, Routine, routines_of, statements_of}
 use Rattle.pearl_check.specs.Roles.{asked_faults}
 use Rattle.pearl_check.specs.Rules.{all_broken, statement_faults}
 use Rattle.pearl_system.specs.declared.device.SpecifiedDevice.{SpecifiedDevice}
@@ -370,3 +370,11 @@ GetsAreSound = (numbered : Numbered) (sort : RoutineSort) (place : Placed) (at :
 abbrev pub StatementsAreSound : Type 0
 StatementsAreSound = (numbered : Numbered) (sort : RoutineSort) (around : Around) (spot : Spot) (at : At) (statements : ShownStmts) →
     AllStand numbered sort around spot at statements → AreStmts around (resolve_all numbered spot.scope at statements)
+
+-- where a module breaks no static rule, none is broken in any statement of its tasks and procedures, and all names and literals
+-- of what the statement asks for are known
+abbrev pub StatementsAreKept : Type 0
+StatementsAreKept = (tree : ShownTree) → all_broken tree ≡ [] →
+    AllByRecursion (λ (routine : Routine).
+    AllByRecursion (λ place. statement_faults (table_of tree) routine.sort place ≡ []) (statements_of routine) ×
+    AllByRecursion (λ place. AllByRecursion (HasItsNames (table_of tree)) (asked_at place)) (statements_of routine)) (routines_of tree)
