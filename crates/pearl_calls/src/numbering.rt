@@ -38,6 +38,13 @@ impl Numbering {
         self.order.as_slice()
     }
 
+    /// The numbers of the procedures, in the order in which they stand in the list of callers.
+    pub fn numbers(&self) -> &[usize]
+        ensures { AreNumbers self.now result.now }
+    {
+        self.numbers.as_slice()
+    }
+
     /// The procedure that has a number.
     pub fn procedure_at(&self, number: usize) -> Option<usize>
         ensures { result ≡ slice_get self.now number }

@@ -6,9 +6,11 @@ use Rattle.pearl_names.specs.Counts.{cut}
 use Rattle.pearl_names.specs.Tables.{Sense, table_of}
 use Rattle.pearl_scope.specs.Rules as names
 use Rattle.pearl_system.specs.Rules as devices
+use Rattle.pearl_check.specs.Calls.{s28}
 use Rattle.pearl_check.specs.Checks.{sizes_of}
+use Rattle.pearl_check.specs.Routines.{routines_of}
 use Rattle.pearl_check.specs.Rules.{all_broken, first, statements_broken, whole_broken}
-use Rattle.pearl_check.specs.Sizes.{Declared, declared_in, size_of, task_count, procedure_count, semaphore_count, slot_count, passed, counted_sizes}
+use Rattle.pearl_check.specs.Sizes.{Declared, declared_in, weighed_procedures, size_of, task_count, procedure_count, semaphore_count, slot_count, passed, counted_sizes}
 use Rattle.pearl_check.specs.SizeSorts.{cut_sizes, sizes_in}
 use Rattle.pearl_check.proofs.Limits.{within_limit}
 
@@ -30,6 +32,15 @@ counted_none tree none =
     let behind_devices = none_right (devices.broken tree) _ behind_names in
     let whole = none_right (statements_broken (table_of tree) tree) (whole_broken tree) behind_devices in
     none_left (counted_sizes (declared_in (table_of tree))) _ whole
+
+-- of all rules S28 isn't broken either
+pub none_cycles : (tree : ShownTree) → all_broken tree ≡ [] → s28 (weighed_procedures (table_of tree) (routines_of tree)) ≡ []
+none_cycles tree none =
+    let behind_names = none_right (names.broken tree) _ none in
+    let behind_devices = none_right (devices.broken tree) _ behind_names in
+    let whole = none_right (statements_broken (table_of tree) tree) (whole_broken tree) behind_devices in
+    let cycles = none_right (counted_sizes (declared_in (table_of tree))) _ whole in
+    none_left (s28 (weighed_procedures (table_of tree) (routines_of tree))) _ cycles
 
 whole : (added : Sense → ℕ) (limit : ℕ) (declared : List Declared) → limit < 2 ^ 31 → passed added limit 0 declared ≡ [] →
     cut (size_of added declared) ≡ size_of added declared

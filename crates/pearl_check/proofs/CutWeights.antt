@@ -1,5 +1,5 @@
 -- Own weights that are cut off: which procedures call themselves, and which weights are above the limit, stay the same.
-use Rattle.std.proofs.Common.{◌≡◌, ℕ, zero, suc, ◌+◌, ◌<◌, max, Bool, true, false, ◌||◌, nat_lt, nat_eq, List, [], ◌∷◌, ◌++◌, Option, Some, None, option_map, length, map, filter_map, slice_get, refl, ap, sym, subst, ◌∙◌, arith, true≢false}
+use Rattle.std.proofs.Common.{◌≡◌, ℕ, zero, suc, ◌+◌, ◌<◌, max, Bool, true, false, not, ◌&&◌, ◌||◌, nat_lt, nat_eq, List, [], ◌∷◌, ◌++◌, Option, Some, None, option_map, length, map, filter_map, slice_get, refl, ap, sym, subst, ◌∙◌, arith, true≢false}
 use Rattle.std.proofs.lemmas.Bool.Decides.{nat_tests}
 use Rattle.std.proofs.lemmas.List.{length-map}
 use Rattle.std.specs.List.{list_any, cons_option}
@@ -11,6 +11,7 @@ use Rattle.pearl_tree.specs.declared.fault.RuleFault.{RuleFault}
 use Rattle.pearl_tree.specs.Faults.{fault_if}
 use Rattle.pearl_calls.specs.Callers.{Caller, callees}
 use Rattle.pearl_calls.specs.Cycles.{reaches, calls_itself, CallsItself, SomeCallsItself}
+use Rattle.pearl_calls.specs.Numberings.{is_ready, GetNext, IsNumbering}
 use Rattle.pearl_calls.specs.Weights.{greatest, called, weight, whole_weight, capped}
 use Rattle.pearl_names.specs.Counts.{cut}
 use Rattle.pearl_check.specs.Calls.{Weighed, callers_of, cycles_from, s28}
@@ -39,6 +40,34 @@ same_cycles procedures number =
 pub held_callers : (of : List Weighed) → map held_caller of ≡ map cut_caller (callers_of of)
 held_callers [] = refl
 held_callers (weighed ∷ rest) = ap (λ l. held_caller weighed ∷ l) (held_callers rest)
+
+-- NUMBERS
+
+same_ready : (procedures : List Caller) (numbered : List ℕ) (procedure : ℕ) →
+    is_ready (map cut_caller procedures) numbered procedure ≡ is_ready procedures numbered procedure
+same_ready procedures numbered procedure =
+    (λ i. (nat_lt procedure (length-map procedures cut_caller i) && not (list_any (nat_eq procedure) numbered))
+    && not (list_any (λ callee. nat_lt callee (length-map procedures cut_caller i) && not (list_any (nat_eq callee) numbered))
+    (same_callees procedures procedure i)))
+
+same_next : (procedures : List Caller) (numbered order : List ℕ) → GetNext (map cut_caller procedures) numbered order →
+    GetNext procedures numbered order
+same_next procedures numbered [] next = next
+same_next procedures numbered (procedure ∷ order) (gets, next) = (
+  record {
+    ready = sym (same_ready procedures numbered procedure) ∙ gets.ready;
+    first = λ other before. sym (same_ready procedures numbered other) ∙ gets.first other before;
+  },
+  same_next procedures (numbered ++ procedure ∷ []) order next,
+)
+
+pub same_numbering : (of : List Weighed) (order : List ℕ) → IsNumbering (map held_caller of) order → IsNumbering (callers_of of) order
+same_numbering of order held =
+    let cut_off = subst (λ l. IsNumbering l order) (held_callers of) held in
+    record {
+      by_rule = same_next (callers_of of) [] order cut_off.by_rule;
+      whole = λ procedure below. cut_off.whole procedure (subst (λ n. procedure < n) (sym (length-map (callers_of of) cut_caller)) below);
+    }
 
 -- WEIGHTS
 

@@ -1,7 +1,7 @@
 // The first of all rules that a module breaks, and its sizes.
 #![tactic(auto, using(std::proofs::lemmas::Grind::common_steps))]
 
-ghost use Rattle.std.specs.Prelude.{◌≡◌, ◌+◌, ℕ, List, map, nat_lt, IfOk};
+ghost use Rattle.std.specs.Prelude.{◌≡◌, ◌≢◌, ◌↔◌, ◌+◌, ℕ, List, [], map, nat_lt, IfOk, IfSome, IsNone};
 ghost use Rattle.std.specs.List.{flat_map};
 ghost use Rattle.pearl_tree.specs.declared.fault.RuleFault.{RuleFault as RuleFaultOf};
 ghost use Rattle.pearl_tree.specs.Faults.{ListFaults, fault_if};
@@ -11,8 +11,11 @@ ghost use Rattle.pearl_calls.specs.Numberings.{IsNumbering};
 ghost use Rattle.pearl_calls.specs.Weights.{capped, weights_of, whole_weight};
 ghost use Rattle.pearl_names.specs.Holding.{HoldsTable};
 ghost use Rattle.pearl_names.specs.Tables as tables;
+ghost use Rattle.pearl_system.specs.Devices.{IsDevice, device_key};
+ghost use Rattle.pearl_system.specs.Rising.{Lists};
 ghost use Rattle.pearl_check.specs.Calls as calls_spec;
-ghost use Rattle.pearl_check.specs.Checks.{sizes_of};
+ghost use Rattle.pearl_check.specs.Checks.{module_callers, sizes_of};
+ghost use Rattle.pearl_check.specs.Routines as routines_spec;
 ghost use Rattle.pearl_check.specs.Rules as spec;
 ghost use Rattle.pearl_check.specs.Sizes as sizes_spec;
 ghost use Rattle.pearl_check.specs.SizeSorts.{cut_sizes, sizes_in};
@@ -28,6 +31,7 @@ use pearl_calls::numbering::{Numbering, number_procedures};
 use pearl_calls::weight::{weight_of, weights};
 use pearl_names::table::SenseTable;
 use pearl_scope::scopes;
+use pearl_system::device::Devices;
 use pearl_system::system;
 use pearl_tree::fault::{RuleFault, in_order};
 use pearl_tree::rule;
@@ -170,20 +174,23 @@ fn tell_overweight(
 fn tell_weights(
     alloc: Global,
     routines: &Routines,
+    numbering: &Option<Numbering>,
     told: Option<RuleFault>,
 ) -> Result<Option<RuleFault>, NoMemory>
+    requires none { IsNone numbering.now ↔ cycles.SomeCallsItself routines.now.procedures.callers.items }
+    requires rule { IfSome numbering.now (λ order. IsNumbering routines.now.procedures.callers.items order) }
     ensures { IfOk result (λ first. (procedures tasks : List calls_spec.Weighed) →
         HoldsWeighed routines.now.procedures procedures → HoldsWeighed routines.now.tasks tasks →
         first ≡ spec.earlier_of told (spec.first (sizes_spec.weights (calls_spec.s28 procedures) procedures tasks))) }
 {
     let procedures = routines.procedures.callers.as_slice();
-    let Some(numbering) = number_procedures(alloc, procedures)? else {
+    let Some(numbering) = numbering else {
         return Ok(told);
     };
-    let found = weights(alloc, procedures, &numbering)?;
+    let found = weights(alloc, procedures, numbering)?;
     let weights = Weights {
         procedures,
-        numbering: &numbering,
+        numbering,
         weights: found.as_slice(),
     };
     let told = tell_overweight(
@@ -208,11 +215,13 @@ fn told_of(faults: &[RuleFault]) -> Option<RuleFault>
     faults.first().copied()
 }
 
-// What is told of a module, and its sizes, cut off at 2^31.
-#[derive(Clone, Copy)]
-pub(crate) struct Judged {
-    pub(crate) told: Option<RuleFault>,
-    pub(crate) sizes: Sizes,
+// What is told of a module as a whole, its sizes, cut off at 2^31, and the numbers of its procedures, where none calls
+// itself.
+#[derive(Drop)]
+struct Whole {
+    told: Option<RuleFault>,
+    sizes: Sizes,
+    numbering: Option<Numbering>,
 }
 
 fn tell_module(
@@ -220,11 +229,15 @@ fn tell_module(
     table: &SenseTable,
     tree: &Tree,
     told: Option<RuleFault>,
-) -> Result<Judged, NoMemory>
-    ensures told { IfOk result (λ judged. (t : tables.Table) → HoldsTable table.now t →
-        judged.told ≡ spec.earlier_of told (spec.first (spec.module_faults t (shown_tree tree.now)))) }
-    ensures sizes { IfOk result (λ judged. (t : tables.Table) → HoldsTable table.now t →
-        judged.sizes ≡ cut_sizes (sizes_in (sizes_spec.declared_in t))) }
+) -> Result<Whole, NoMemory>
+    ensures told { IfOk result (λ whole. (t : tables.Table) → HoldsTable table.now t →
+        whole.told ≡ spec.earlier_of told (spec.first (spec.module_faults t (shown_tree tree.now)))) }
+    ensures sizes { IfOk result (λ whole. (t : tables.Table) → HoldsTable table.now t →
+        whole.sizes ≡ cut_sizes (sizes_in (sizes_spec.declared_in t))) }
+    ensures none { IfOk result (λ whole. (t : tables.Table) → HoldsTable table.now t → IsNone whole.numbering →
+        calls_spec.s28 (sizes_spec.weighed_procedures t (routines_spec.routines_of (shown_tree tree.now))) ≢ []) }
+    ensures rule { IfOk result (λ whole. (t : tables.Table) → HoldsTable table.now t → IfSome whole.numbering (λ order.
+        IsNumbering (calls_spec.callers_of (sizes_spec.weighed_procedures t (routines_spec.routines_of (shown_tree tree.now)))) order)) }
 {
     let mut faults = Vec::new(alloc);
     let sizes = tell_sizes(table, &mut faults)?;
@@ -232,26 +245,52 @@ fn tell_module(
     let told = earlier(told, told_of(faults.as_slice()));
     let routines = routines_of(alloc, table, tree.declarations.as_slice())?;
     let procedures = &routines.procedures;
+    let numbering = number_procedures(alloc, procedures.callers.as_slice())?;
     let told = tell_cycles(
         alloc,
         procedures.callers.as_slice(),
         procedures.places.as_slice(),
         told,
     )?;
-    let told = tell_weights(alloc, &routines, told)?;
-    Ok(Judged { told, sizes })
+    let told = tell_weights(alloc, &routines, &numbering, told)?;
+    Ok(Whole {
+        told,
+        sizes,
+        numbering,
+    })
 }
 
-/// The first rule that a module breaks, and its sizes.
+// What is told of a module, its sizes, cut off at 2^31, and what its names and devices are.
+#[derive(Drop)]
+pub(crate) struct Judged {
+    pub(crate) told: Option<RuleFault>,
+    pub(crate) sizes: Sizes,
+    pub(crate) table: SenseTable,
+    pub(crate) devices: Devices,
+    pub(crate) numbering: Option<Numbering>,
+}
+
+/// The first rule that a module breaks, with its sizes, names and devices, and the numbers of its procedures where none
+/// calls itself.
 pub(crate) fn judge(alloc: Global, tree: &Tree) -> Result<Judged, NoMemory>
     ensures told { IfOk result (λ judged. judged.told ≡ spec.first (spec.all_broken (shown_tree tree.now))) }
     ensures sizes { IfOk result (λ judged. judged.sizes ≡ cut_sizes (sizes_of (shown_tree tree.now))) }
+    ensures table { IfOk result (λ judged. HoldsTable judged.table (tables.table_of (shown_tree tree.now))) }
+    ensures devices { IfOk result (λ judged. Lists device_key (IsDevice (shown_tree tree.now)) judged.devices) }
+    ensures none { IfOk result (λ judged. IsNone judged.numbering → spec.all_broken (shown_tree tree.now) ≢ []) }
+    ensures rule { IfOk result (λ judged. IfSome judged.numbering (λ order. IsNumbering (module_callers (shown_tree tree.now)) order)) }
 {
     let (table, names) = scopes(alloc, tree)?;
-    let (_, devices) = system(alloc, tree)?;
+    let (devices, faults) = system(alloc, tree)?;
     let statements = statement_faults(alloc, &table, tree)?;
-    let told = earlier(told_of(names.as_slice()), told_of(devices.as_slice()));
+    let told = earlier(told_of(names.as_slice()), told_of(faults.as_slice()));
     let told = earlier(told, told_of(statements.as_slice()));
-    let judged = tell_module(alloc, &table, tree, told)?;
-    Ok(judged)
+    let whole = tell_module(alloc, &table, tree, told)?;
+    Ok(Judged {
+        told: whole.told,
+        sizes: whole.sizes,
+        table,
+        devices,
+        numbering: whole.numbering,
+    })
 }

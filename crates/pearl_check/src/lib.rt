@@ -7,6 +7,7 @@ ghost use Rattle.pearl_tree.specs.ShownModules.{shown_tree};
 ghost use Rattle.pearl_check.specs.Checks as spec;
 ghost use Rattle.pearl_check.specs.Rules.{all_broken};
 
+pub mod accept;
 pub mod asked;
 pub mod callers;
 mod cut;
@@ -27,8 +28,8 @@ pub mod tally;
 mod tell;
 mod views;
 
+use crate::accept::accept;
 use crate::fault::CheckFault;
-use crate::first::judge;
 use crate::sizes::Sizes;
 use pearl_tree::tree::Tree;
 use std::alloc::Global;
@@ -39,9 +40,6 @@ pub fn check(alloc: Global, tree: &Tree) -> Result<Sizes, CheckFault>
     ensures sizes { IfOk result (λ sizes. sizes ≡ spec.sizes_of (shown_tree tree.now)) }
     ensures refused { IfErr result (λ fault. spec.IsRefused (shown_tree tree.now) fault) }
 {
-    let judged = judge(alloc, tree)?;
-    match judged.told {
-        Some(fault) => Err(CheckFault::Refused(fault)),
-        None => Ok(judged.sizes),
-    }
+    let accepted = accept(alloc, tree)?;
+    Ok(accepted.sizes)
 }

@@ -6,6 +6,7 @@ use Rattle.pearl_scope.specs.Rules as names
 use Rattle.pearl_names.specs.Tables.{table_of}
 use Rattle.pearl_system.specs.Rules as devices
 use Rattle.pearl_check.specs.Rules.{earlier_of, first, statements_broken, whole_broken}
+use Rattle.pearl_check.proofs.Accepting.{none_cycles}
 use Rattle.pearl_check.proofs.Firsts.{first-append, earlier_of-assoc}
 use Rattle.pearl_check.proofs.first.judge.Goals as goal
 
@@ -27,7 +28,7 @@ returns-clause-told c =
     let b : c.earlier-told-2.result ≡ earlier_of (earlier_of (first n) (first d)) (first s) =
     c.earlier-told-2.ensures ∙ (λ i. earlier_of ((a ∙ first-append n d) i) (three i)) in
     let w = whole_broken tree in
-    c.in_ok-judged.ensures.told t holds ∙ ap (λ told. earlier_of told (first w)) b
+    c.in_ok-whole.ensures.told t holds ∙ ap (λ told. earlier_of told (first w)) b
     ∙ sym (earlier_of-assoc (earlier_of (first n) (first d)) (first s) (first w))
     ∙ sym (earlier_of-assoc (first n) (first d) (earlier_of (first s) (first w)))
     ∙ ap (λ told. earlier_of (first n) (earlier_of (first d) told)) (sym (first-append s w))
@@ -35,4 +36,12 @@ returns-clause-told c =
     ∙ sym (first-append n (d ++ (s ++ w)))
 
 pub returns-clause-sizes : goal.returns-clause-sizes
-returns-clause-sizes c = c.in_ok-judged.ensures.sizes (table_of (shown_tree c.args.tree.now)) c.in_ok-table.ensures.table
+returns-clause-sizes c = c.in_ok-whole.ensures.sizes (table_of (shown_tree c.args.tree.now)) c.in_ok-table.ensures.table
+
+pub returns-clause-none : goal.returns-clause-none
+returns-clause-none c = λ none broken.
+    let tree = shown_tree c.args.tree.now in
+    c.in_ok-whole.ensures.none (table_of tree) c.in_ok-table.ensures.table none (none_cycles tree broken)
+
+pub returns-clause-rule : goal.returns-clause-rule
+returns-clause-rule c = c.in_ok-whole.ensures.rule (table_of (shown_tree c.args.tree.now)) c.in_ok-table.ensures.table

@@ -1,0 +1,2 @@
+-- which program a module means
+pub mod Programs
