@@ -10,7 +10,7 @@ ghost use Rattle.pearl_tree.specs.ShownModules.{shown_tree};
 ghost use Rattle.pearl_module.specs.Programs.{IsProgramOf};
 
 use pearl_calls::numbering::Numbering;
-use pearl_check::accept::{Accepted, accept};
+use pearl_check::accept::accept;
 use pearl_check::fault::CheckFault;
 use pearl_program::program::Program;
 use pearl_resolve::program::resolve;
@@ -23,17 +23,12 @@ pub fn program_of(alloc: Global, tree: &Tree) -> Result<Program, CheckFault>
     ensures program { IfOk result (λ program. IsProgramOf (shown_tree tree.now) (plain_prog program)) }
     ensures refused { IfErr result (λ fault. IsRefused (shown_tree tree.now) fault) }
 {
-    let Accepted {
-        table,
-        devices,
-        numbering,
-        ..
-    } = accept(alloc, tree)?;
-    let procedures = numbers_of(alloc, &numbering)?;
+    let accepted = accept(alloc, tree)?;
+    let procedures = numbers_of(alloc, &accepted.numbering)?;
     let program = resolve(
         alloc,
-        table,
-        devices.as_slice(),
+        accepted.table,
+        accepted.devices.as_slice(),
         procedures.as_slice(),
         tree,
     )?;
