@@ -41,6 +41,8 @@ pub mod FormatsFit
 pub mod TextTransfers
 pub mod WholeStatements
 pub mod KeptStatements
+pub mod LawfulLiterals
+pub mod NamedSemaphores
 mod WholeModule
 mod LeadingBodies
 mod LeadingLoops
