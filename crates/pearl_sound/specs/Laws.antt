@@ -31,7 +31,7 @@ use Rattle.pearl_names.specs.Tables.{Form, Parameter, Sense, Variable, Control, 
 use Rattle.pearl_tree.specs.declared.name.Name.{Name}
 use Rattle.pearl_tree.specs.Names.{name_text}
 use Rattle.pearl_program.specs.HiddenCells.{hidden_in_all}
-use Rattle.pearl_program.specs.Sound.{signature_of}
+use Rattle.pearl_program.specs.Sound.{signature_of, IsProcedure, IsTask}
 use Rattle.pearl_program.specs.SoundStatements.{FitsFormat, IsCall, AreStmts}
 use Rattle.pearl_program.specs.Typing.{Around, AreOpen, HasKind, IsVariable}
 use Rattle.pearl_calls.specs.Callers.{Caller}
@@ -60,7 +60,7 @@ use Rattle.pearl_sound.specs.ModuleNames.{IsModuleName, HasNamesOnce, AreProcedu
 use Rattle.pearl_sound.specs.KnownNames.{IsThereIn, IsComplete, IsNamed, HasNames, SelectorsHaveNames}
 use Rattle.pearl_sound.specs.KnownParts.{IsKnown, HasItsNames, AskedLiterals, IsSimple, NamesSome, Returns}
 use Rattle.pearl_resolve.specs.Statements.{resolve_stmt, resolve_all}
-use Rattle.pearl_sound.specs.Ready.{AllStand}
+use Rattle.pearl_sound.specs.Ready.{AllStand, RoutineRenewsRight}
 use Rattle.pearl_sound.specs.Sights.{Sight, sights_of}
 use Rattle.pearl_sound.specs.SoundForms.{IsSoundSense}
 use Rattle.pearl_sound.specs.Stretches.{Stretch, routine_stretches, IsDivided}
@@ -394,3 +394,16 @@ abbrev pub SemaphoresAreNamed : Type 0
 SemaphoresAreNamed = (tree : Tree) (tokens : List Token) → Spells tree tokens →
     AllByRecursion (λ (routine : Routine). AllByRecursion (λ (place : Placed). NamesSome place.statement) (statements_of routine))
     (routines_of (shown_tree tree))
+
+-- the procedures and tasks of a module that breaks no static rule are sound in its program, where procedures have numbers of
+-- their own below their count, and what goes into variables of tasks and procedures as first values suits them
+abbrev pub RoutinesAreSound : Type 0
+RoutinesAreSound = (tree : Tree) (tokens : List Token) → Spells tree tokens → IsLawful tree → all_broken (shown_tree tree) ≡ [] →
+    (devices : List SpecifiedDevice) (procedures : List ℕ) → Lists device_key (IsDevice (shown_tree tree)) devices →
+    AreProcedureNumbers (shown_tree tree) devices procedures →
+    AllByRecursion (RoutineRenewsRight (numbered_of (table_of (shown_tree tree)) devices procedures (shown_tree tree)))
+    (routines_of (shown_tree tree)) →
+    AllByRecursion (IsProcedure (resolve (table_of (shown_tree tree)) devices procedures (shown_tree tree)))
+    (resolve (table_of (shown_tree tree)) devices procedures (shown_tree tree)).procedures ×
+    AllByRecursion (IsTask (resolve (table_of (shown_tree tree)) devices procedures (shown_tree tree)))
+    (resolve (table_of (shown_tree tree)) devices procedures (shown_tree tree)).tasks
