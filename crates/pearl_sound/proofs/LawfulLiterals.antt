@@ -38,7 +38,7 @@ use Rattle.pearl_scope.specs.declared.places.Spot.{Spot}
 use Rattle.pearl_scope.specs.Placed.{Placed, placed_stmt, placed_all, placed_branches, placed_otherwise, placed_body}
 use Rattle.pearl_check_expr.specs.Subjects.{OfWhile}
 use Rattle.pearl_check.specs.declared.asked.Role.{Role}
-use Rattle.pearl_check.specs.declared.asked.Role.TheVariants.{Plain, Condition, Count, Moment, Lapse, Priority}
+use Rattle.pearl_check.specs.declared.asked.Role.TheVariants.{Plain, Condition, Count, Lapse, Priority}
 use Rattle.pearl_check.specs.declared.asked.NameRole.TheVariants as name_role
 use Rattle.pearl_check.specs.Asked as asking
 use Rattle.pearl_check.specs.Asked.{Asked, Subject, Named, asked_at}

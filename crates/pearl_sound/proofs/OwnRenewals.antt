@@ -1,5 +1,5 @@
 -- The variables that a scope declares get their first values in cells of their own.
-use Rattle.std.specs.Prelude.{◌≡◌, ℕ, suc, ◌+◌, ◌<◌, Bool, true, false, if◌then◌else◌, List, [], ◌∷◌, ◌++◌, length, map, take, drop, replicate, Option, Some, None, option_map, unwrap_or, slice_get}
+use Rattle.std.specs.Prelude.{◌≡◌, ℕ, suc, ◌+◌, Bool, true, false, if◌then◌else◌, List, [], ◌∷◌, ◌++◌, map, take, drop, Option, Some, None, option_map, unwrap_or, slice_get}
 use Rattle.std.specs.Option.{option_and_then}
 use Rattle.std.specs.List.{AllByRecursion, flat_map}
 use Rattle.std.specs.Str.{bytes_eq}
@@ -7,8 +7,6 @@ use Rattle.std.proofs.Common.{refl, ap, ◌∙◌, sym, subst, arith}
 use Rattle.std.proofs.lemmas.List.{length-map, length-replicate, map-append, take_all}
 use Rattle.std.proofs.lemmas.List.Sums.{sum_by-cons}
 use Rattle.std.proofs.lemmas.Slice.Eq.{bytes_eq-Decides}
-use Rattle.pearl_value.specs.declared.kind.Kind.{Kind}
-use Rattle.pearl_value.specs.declared.kind.CellKind.{CellKind}
 use Rattle.pearl_value.specs.declared.kind.CellKind.TheVariants.{Plain}
 use Rattle.pearl_tree.specs.declared.name.Name.{Name}
 use Rattle.pearl_tree.specs.Names.{name_text, names_of}
@@ -16,7 +14,6 @@ use Rattle.pearl_tree.specs.ShownLiterals.{ShownConst}
 use Rattle.pearl_tree.specs.ShownDeclarations.{ShownItem}
 use Rattle.pearl_tree.specs.ShownStatements.{ShownBodyDecl}
 use Rattle.pearl_tree.specs.ShownModules.{ShownTree}
-use Rattle.pearl_names.specs.declared.meaning.Found.{Found}
 use Rattle.pearl_names.specs.declared.scope.View.TheVariants.{Within}
 use Rattle.pearl_names.specs.FirstNames.{first_index}
 use Rattle.pearl_names.specs.Found.{found_in, found_through, names_in, outer_of}
@@ -24,13 +21,13 @@ use Rattle.pearl_names.specs.Known.{known_of}
 use Rattle.pearl_names.specs.Layout.{Leaf, elements, leaf_slots, slots_of}
 use Rattle.pearl_names.specs.Scopes.{Entry, Scope, scopes_of, entries_as, item_entries, body_decl_entries, body_entries}
 use Rattle.pearl_names.specs.Scopes as scopes
-use Rattle.pearl_names.specs.Sorts.{sorted_names, scope_names}
+use Rattle.pearl_names.specs.Sorts.{sorted_names}
 use Rattle.pearl_names.specs.Tables.{Variable, Control, OwnParameter, NewType, Semaphore, Interrupt, AlphicDation, BasicDation, Task, Procedure, Sense, senses_of, table_of}
 use Rattle.pearl_program.specs.declared.expression.Target.TheVariants as target
 use Rattle.pearl_program.specs.PlainStatements.{PlainStmts, NoStmts, MoreStmts}
-use Rattle.pearl_program.specs.Typing.{Around, AreCells, AreOwn}
+use Rattle.pearl_program.specs.Typing.{Around, AreOwn}
 use Rattle.pearl_program.specs.SoundStatements.{IsIf, AreStmts}
-use Rattle.pearl_resolve.specs.Laying.{leaves_in, leaves_of_sense, slots, left_behind, filled_leaves, cells_of_sense}
+use Rattle.pearl_resolve.specs.Laying.{leaves_in, slots, left_behind, filled_leaves, cells_of_sense}
 use Rattle.pearl_resolve.specs.Numbers.{own_numbers, senses_at}
 use Rattle.pearl_resolve.specs.Expressions.{Numbered, Meant, meant, meant_at, number_at}
 use Rattle.pearl_resolve.specs.Statements.{joined, renewals, variable_renewals, slots_of_meant, names_renewals, items_renewals, declared_renewals}

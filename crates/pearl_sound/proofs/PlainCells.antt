@@ -1,5 +1,5 @@
 -- The cells of a routine: those of its parameters, and behind them cells for values alone.
-use Rattle.std.specs.Prelude.{◌≡◌, ℕ, zero, suc, ◌+◌, ◌≤◌, ◌<◌, ℤ, Bool, true, false, List, [], ◌∷◌, ◌++◌, length, map, take, drop, replicate, Option, Some, None, option_map, unwrap_or, slice_get}
+use Rattle.std.specs.Prelude.{◌≡◌, ℕ, zero, suc, ◌+◌, ◌≤◌, ℤ, Bool, true, false, List, [], ◌∷◌, ◌++◌, length, map, take, drop, replicate, Option, Some, None, option_map, unwrap_or, slice_get}
 use Rattle.std.specs.Option.{option_and_then}
 use Rattle.std.specs.List.{AllByRecursion, flat_map, sum_by}
 use Rattle.std.proofs.Common.{refl, ap, ◌∙◌, sym, subst, arith}
@@ -20,7 +20,6 @@ use Rattle.pearl_tree.specs.ShownDeclarations.{ShownItem, ShownParam}
 use Rattle.pearl_tree.specs.ShownStatements as shown
 use Rattle.pearl_tree.specs.ShownStatements.{ShownBodyDecl, ShownStmt, ShownStmts, ShownBranches, ShownOtherwise}
 use Rattle.pearl_tree.specs.ShownModules.{ShownBody, ShownTree}
-use Rattle.pearl_names.specs.declared.length.DefaultLength.{DefaultLength}
 use Rattle.pearl_names.specs.declared.meaning.Found.{Found}
 use Rattle.pearl_names.specs.declared.scope.View.{View}
 use Rattle.pearl_names.specs.declared.scope.View.TheVariants.{Within}
@@ -32,14 +31,14 @@ use Rattle.pearl_names.specs.Lengths.{length_at, kind_of_basic}
 use Rattle.pearl_names.specs.Scopes.{Entry, Scope, scopes_of, as_stmts, entries_as, item_entries, body_decl_entries, body_entries, param_entries, control_entries, routine_scopes, scopes_in, scopes_in_all, scopes_in_branches, stmt_scopes, all_scopes, branch_scopes, otherwise_scopes}
 use Rattle.pearl_names.specs.Scopes as scopes
 use Rattle.pearl_names.specs.Shapes.{Shape, OfKind, OfFields, Fields, NoField, MoreField}
-use Rattle.pearl_names.specs.Tables.{Sense, Variable, Control, OwnParameter, NewType, Semaphore, Interrupt, AlphicDation, BasicDation, Task, Procedure, Table, sense_at, senses_of, table_of}
+use Rattle.pearl_names.specs.Tables.{Sense, Variable, Control, OwnParameter, NewType, Semaphore, Interrupt, AlphicDation, BasicDation, Task, Procedure, sense_at, senses_of, table_of}
 use Rattle.pearl_names.proofs.Collecting.{length-stmt_scopes, length-all_scopes, length-branch_scopes}
 use Rattle.pearl_program.specs.Sound.{IsCellKind, IsPlain}
 use Rattle.pearl_program.specs.SoundStatements.{IsIf}
 use Rattle.pearl_resolve.specs.Laying.{leaves_in, cells_of_sense}
 use Rattle.pearl_resolve.specs.Numbers.{At, counts, loop_cells, entered, senses_at, in_body, after, after_all, after_branches}
 use Rattle.pearl_resolve.specs.Cells.{param_cell, sense_cells, scope_cells, counter_cells, get_cells, cells_in, cells_in_all, cells_in_branches, cells_in_otherwise, routine_cells}
-use Rattle.pearl_resolve.specs.Expressions.{Numbered, Meant, meant, meant_at, number_at, walk_of, walk_from, Walk, to_field, field_of, kind_of_shape, along, step, target_kind}
+use Rattle.pearl_resolve.specs.Expressions.{Numbered, meant, meant_at, number_at, walk_of, walk_from, Walk, to_field, field_of, kind_of_shape, along, step, target_kind}
 use Rattle.pearl_resolve.specs.Resolve.{names_in_param}
 use Rattle.pearl_sound.specs.SoundForms.{HasBounds, FieldsHaveBounds, HasSoundForm, IsKindIf, IsSoundSense}
 use Rattle.pearl_sound.proofs.ByNumber.{all_at}

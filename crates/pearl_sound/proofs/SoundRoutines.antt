@@ -59,7 +59,7 @@ use Rattle.pearl_sound.proofs.SemaphoresApart.{semaphores_apart}
 use Rattle.pearl_sound.proofs.Sighted.{Surrounds}
 use Rattle.pearl_sound.proofs.SimpleStatements.{left_none, split_all}
 use Rattle.pearl_sound.proofs.SoundForms.{all_append, basic_there}
-use Rattle.pearl_sound.proofs.StatementsStand.{IsWell, Holds, Text, all_stand}
+use Rattle.pearl_sound.proofs.StatementsStand.{IsWell, all_stand}
 use Rattle.pearl_sound.proofs.Stretched.{Lies}
 use Rattle.pearl_sound.proofs.WellRoutines.{IsWellRoutine, routines_well, all_urgent, all_results, all_named, id_is, head_fits}
 use Rattle.pearl_sound.proofs.WholeStatements.{joined_sound, all_sound}

@@ -1,21 +1,16 @@
 -- The statements of a routine have all that they need, where names lead to what is there and no rule is broken.
-use Rattle.std.specs.Prelude.{◌≡◌, ℕ, ◌+◌, Bool, true, false, List, [], ◌∷◌, ◌++◌, length, map, take, drop, replicate, Some, slice_get}
+use Rattle.std.specs.Prelude.{◌≡◌, ℕ, ◌+◌, Bool, true, false, List, [], ◌∷◌, ◌++◌, length, map, take, drop, Some, slice_get}
 use Rattle.std.specs.List.{AllByRecursion, flat_map}
 use Rattle.std.proofs.Common.{refl, ap, ◌∙◌, sym, subst, arith}
 use Rattle.std.proofs.lemmas.List.{take_all}
-use Rattle.pearl_value.specs.declared.kind.Kind.TheVariants.{Fixed}
-use Rattle.pearl_value.specs.declared.kind.CellKind.TheVariants.{Plain}
 use Rattle.pearl_format.specs.declared.item.Item.{Item}
-use Rattle.pearl_tree.specs.declared.name.Name.{Name}
-use Rattle.pearl_tree.specs.declared.format.Fmt.{Fmt}
 use Rattle.pearl_tree.specs.declared.typing.Sort.TheVariants as sorts
-use Rattle.pearl_tree.specs.ShownExpressions.{ShownRef}
 use Rattle.pearl_tree.specs.ShownStatements as shown
 use Rattle.pearl_tree.specs.ShownStatements.{ShownStmt, ShownStmts, ShownBranches, ShownOtherwise}
 use Rattle.pearl_tree.specs.ShownModules.{ShownTree}
-use Rattle.pearl_names.specs.declared.scope.View.TheVariants.{Within, WhileOf}
+use Rattle.pearl_names.specs.declared.scope.View.TheVariants.{Within}
 use Rattle.pearl_names.specs.Lengths.{length_at}
-use Rattle.pearl_names.specs.Scopes.{Scope, scopes_of, control_entries, body_entries, scopes_in, scopes_in_all, scopes_in_branches, stmt_scopes, all_scopes, branch_scopes, otherwise_scopes}
+use Rattle.pearl_names.specs.Scopes.{Scope, control_entries, body_entries, scopes_in, scopes_in_all, scopes_in_branches, stmt_scopes, all_scopes, branch_scopes, otherwise_scopes}
 use Rattle.pearl_names.specs.Tables.{table_of}
 use Rattle.pearl_names.proofs.Collecting.{length-stmt_scopes, length-all_scopes, length-branch_scopes}
 use Rattle.pearl_scope.specs.declared.places.Spot.{Spot}
@@ -24,7 +19,7 @@ use Rattle.pearl_check.specs.Asked.{asked_at}
 use Rattle.pearl_check.specs.Roles.{asked_faults}
 use Rattle.pearl_check.specs.Routines.{RoutineSort}
 use Rattle.pearl_check.specs.Rules.{own_faults, statement_faults}
-use Rattle.pearl_program.specs.Typing.{Around, AreCells}
+use Rattle.pearl_program.specs.Typing.{Around}
 use Rattle.pearl_program.specs.SoundStatements.{within}
 use Rattle.pearl_resolve.specs.Numbers.{At, counts, loop_cells, entered, scope_numbers, after, after_all, after_branches, numbers_in, numbers_in_all, numbers_in_branches, numbers_in_otherwise}
 use Rattle.pearl_resolve.specs.Cells.{counter_cells, get_cells}
