@@ -41,6 +41,13 @@ pub mod FormatsFit
 pub mod TextTransfers
 pub mod WholeStatements
 pub mod KeptStatements
+pub mod LawfulLiterals
+pub mod NamedSemaphores
+pub mod OwnRenewals
+pub mod StatementsStand
+pub mod PlainCells
+pub mod WellRoutines
+pub mod SoundRoutines
 mod WholeModule
 mod LeadingBodies
 mod LeadingLoops

@@ -61,7 +61,7 @@ same_elements : (pairs : List (ℤ × ℤ)) → elements (map bound_of pairs) �
 same_elements [] = refl
 same_elements (pair ∷ rest) = ap (λ n. (unsigned_abs (pair.1 -ℤ pair.0) + 1) * n) (same_elements rest)
 
-narrower : (hidden : List ℕ) (cell count other some : ℕ) → cell ≤ other → other + some ≤ cell + count → AreOpen hidden cell count →
+pub narrower : (hidden : List ℕ) (cell count other some : ℕ) → cell ≤ other → other + some ≤ cell + count → AreOpen hidden cell count →
     AreOpen hidden other some
 narrower [] cell count other some low high free = tt
 narrower (x ∷ rest) cell count other some low high free = (by free.0, narrower rest cell count other some low high free.1)
@@ -103,7 +103,7 @@ part_lies around (target.Own cell) before part behind times field lie leaf slot 
     )
 part_lies around (target.Param cell) before part behind times field lie leaf slot = absurd lie
 
-map_replicate : (n : ℕ) (kind : Kind) → map Plain (replicate n kind) ≡ replicate n (Plain kind)
+pub map_replicate : (n : ℕ) (kind : Kind) → map Plain (replicate n kind) ≡ replicate n (Plain kind)
 map_replicate zero kind = refl
 map_replicate (suc n) kind = ap (λ cells. Plain kind ∷ cells) (map_replicate n kind)
 
@@ -138,7 +138,7 @@ one_there around (target.Own cell) leaf lie =
 one_there around (target.Param cell) leaf lie = absurd lie
 
 -- bounds of components
-component_has : (leaves slot : ℕ) (fields : Fields) (text : List ℕ) (field : Component) → FieldsHaveBounds fields →
+pub component_has : (leaves slot : ℕ) (fields : Fields) (text : List ℕ) (field : Component) → FieldsHaveBounds fields →
     component leaves slot fields text ≡ Some field → AreBounds field.bounds × HasBounds field.shape
 component_has leaves slot NoField text field has is = absurd (none-some field is)
 component_has leaves slot (MoreField name own shape rest) text field has is =

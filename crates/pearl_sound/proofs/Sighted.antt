@@ -185,7 +185,7 @@ module _ (tree : ShownTree) (numbers : List (List ℕ)) (start : ℕ) (all : Lis
     pub cells : around.cells ≡ cells_of all
     pub hidden : around.hidden ≡ hidden_of all
 
-  has_cells : (around : Around) → Surrounds around → (k : ℕ) (names : List ℕ) → slice_get (rows_of of.table all) k ≡ Some names →
+  pub has_cells : (around : Around) → Surrounds around → (k : ℕ) (names : List ℕ) → slice_get (rows_of of.table all) k ≡ Some names →
       (j number : ℕ) (sense : Sense) → slice_get names j ≡ Some number → slice_get (senses_at of.table (start + k)) j ≡ Some sense →
       IsNoControl sense → HasCells around number sense
   has_cells around surrounds k names there j number sense at is own =
@@ -235,7 +235,7 @@ module _ (tree : ShownTree) (numbers : List (List ℕ)) (start : ℕ) (all : Lis
     pub lies : Lies (rows_of of.table all) rows k
     pub scoped : Lies (scopes_of tree) list at.next
 
-  left : {at : At} (a b : List Stretch) (c d : List (List ℕ)) (e f : List Scope) → Standing at (a ++ b) (c ++ d) (e ++ f) → Standing at a c e
+  pub left : {at : At} (a b : List Stretch) (c d : List (List ℕ)) (e f : List Scope) → Standing at (a ++ b) (c ++ d) (e ++ f) → Standing at a c e
   left a b c d e f standing = record {
     place = standing.place;
     stretched = left_lies a b standing.stretched;
@@ -245,7 +245,7 @@ module _ (tree : ShownTree) (numbers : List (List ℕ)) (start : ℕ) (all : Lis
     scoped = left_lies e f standing.scoped;
   }
 
-  right : {at : At} (next : At) (n : ℕ) (a b : List Stretch) (c d : List (List ℕ)) (e f : List Scope) → next.next ≡ at.next + n →
+  pub right : {at : At} (next : At) (n : ℕ) (a b : List Stretch) (c d : List (List ℕ)) (e f : List Scope) → next.next ≡ at.next + n →
       length c ≡ n → length e ≡ n → Standing at (a ++ b) (c ++ d) (e ++ f) → Standing next b d f
   right {at = at} next n a b c d e f past rows list standing =
       let here = standing.here in

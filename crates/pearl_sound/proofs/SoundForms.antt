@@ -107,14 +107,14 @@ first_set Fixed = refl
 first_set Bit = refl
 first_set Char = refl
 
-at_kind : (lengths : List DefaultLength) → AreSet lengths → (of : Sort) (place : ℕ) → IsKind (kind_of_length of (length_at lengths of place))
+pub at_kind : (lengths : List DefaultLength) → AreSet lengths → (of : Sort) (place : ℕ) → IsKind (kind_of_length of (length_at lengths of place))
 at_kind lengths set of place = length_kind of (length_at lengths of place) (last_set lengths (first_length of) of place set (first_set of))
 
 given_kind : (of : Sort) (len : ℕ) (test : Bool) → is_length of len ≡ test → IsKindIf (if test then Some (kind_of_length of len) else None)
 given_kind of len true is = length_kind of len is
 given_kind of len false is = tt
 
-basic_there : (lengths : List DefaultLength) → AreSet lengths → (part : Basic) → IsKindIf (kind_of_basic lengths part)
+pub basic_there : (lengths : List DefaultLength) → AreSet lengths → (part : Basic) → IsKindIf (kind_of_basic lengths part)
 basic_there lengths set (Sized of None place) = at_kind lengths set of place
 basic_there lengths set (Sized of (Some number) place) = given_kind of number.value (is_length of number.value) refl
 basic_there lengths set (Clock place) = tt

@@ -42,7 +42,7 @@ count_kind : (kind : Kind) → is_for_role Count kind ≡ true → (len : ℕ) �
 count_kind (Fixed len) is = (len, refl)
 count_kind kind is = absurd (true≢false (sym is))
 
-joined_sound : (around : Around) (one two : PlainStmts) → AreStmts around one → AreStmts around two → AreStmts around (joined one two)
+pub joined_sound : (around : Around) (one two : PlainStmts) → AreStmts around one → AreStmts around two → AreStmts around (joined one two)
 joined_sound around NoStmts two first second = second
 joined_sound around (MoreStmts s rest) two first second = (first.0, joined_sound around rest two first.1 second)
 

@@ -1,6 +1,6 @@
 -- When what a statement asks for is known: each subject has a kind, and each name a sense. When its names are. And which
 -- statements are asked.
-use Rattle.std.specs.Prelude.{◌≡◌, ℕ, true, List, Option, Some, None}
+use Rattle.std.specs.Prelude.{◌≡◌, ℕ, ◌<◌, true, List, length, Option, Some, None}
 use Rattle.pearl_value.specs.declared.kind.Kind.{Kind}
 use Rattle.pearl_tree.specs.declared.typing.Basic.{Basic}
 use Rattle.pearl_tree.specs.ShownStatements.{ShownStmt, OfIf, OfCase, OfRepeat, OfBegin, OfOnSemas, OfPut, OfGet}
@@ -66,6 +66,11 @@ IsSimple (OfOnSemas word names place) = ⊥
 IsSimple (OfPut values dation formats place) = ⊥
 IsSimple (OfGet targets dation formats place) = ⊥
 IsSimple statement = Unit {0}
+
+-- REQUEST and RELEASE name a semaphore
+abbrev pub NamesSome : ShownStmt → Type 0
+NamesSome (OfOnSemas word names place) = 0 < length names
+NamesSome statement = Unit {0}
 
 abbrev pub HasResult : List DefaultLength → Option Basic → Type 0
 HasResult lengths None = Unit {0}

@@ -10,9 +10,12 @@ use Rattle.pearl_tree.specs.declared.statement.SemaWord.{SemaWord}
 use Rattle.pearl_tree.specs.declared.format.Fmt.{Fmt}
 use Rattle.pearl_tree.specs.ShownStatements.{ShownStmts, OfOnSemas, OfPut, OfGet}
 use Rattle.pearl_tree.specs.declared.literal.Literal.{Literal}
-use Rattle.pearl_tree.specs.Lawful.{IsLawfulLiteral}
+use Rattle.pearl_tree.specs.Lawful.{IsLawfulLiteral, IsLawful}
 use Rattle.pearl_tree.specs.ShownLiterals.{ShownConst, shown_literal}
-use Rattle.pearl_tree.specs.ShownModules.{ShownBody, ShownDecl, ShownTree}
+use Rattle.pearl_tree.specs.ShownModules.{ShownBody, ShownDecl, ShownTree, shown_tree}
+use Rattle.pearl_tree.specs.Modules.{Spells}
+use Rattle.pearl_tree.specs.declared.token.Token.{Token}
+use Rattle.pearl_tree.specs.declared.tree.Tree.{Tree}
 use Rattle.pearl_names.specs.Lengths.{lengths_set}
 use Rattle.pearl_names.specs.Shapes.{Fields}
 use Rattle.pearl_names.specs.Layout.{Leaf, leaves_of, leaves_of_fields, elements}
@@ -28,7 +31,7 @@ use Rattle.pearl_names.specs.Tables.{Form, Parameter, Sense, Variable, Control, 
 use Rattle.pearl_tree.specs.declared.name.Name.{Name}
 use Rattle.pearl_tree.specs.Names.{name_text}
 use Rattle.pearl_program.specs.HiddenCells.{hidden_in_all}
-use Rattle.pearl_program.specs.Sound.{signature_of}
+use Rattle.pearl_program.specs.Sound.{signature_of, IsProcedure, IsTask}
 use Rattle.pearl_program.specs.SoundStatements.{FitsFormat, IsCall, AreStmts}
 use Rattle.pearl_program.specs.Typing.{Around, AreOpen, HasKind, IsVariable}
 use Rattle.pearl_calls.specs.Callers.{Caller}
@@ -55,9 +58,9 @@ use Rattle.pearl_resolve.specs.Expressions.{Numbered, number_of, resolve_expr, r
 use Rattle.pearl_sound.specs.SoundNames.{IsLiteral, HasLiterals, HaveLiterals, SelectorsHaveLiterals, is_control, IsCallee, LeadValues, LeadNames, HasSemaphoresApart}
 use Rattle.pearl_sound.specs.ModuleNames.{IsModuleName, HasNamesOnce, AreProcedureNumbers, DevicesAreThere}
 use Rattle.pearl_sound.specs.KnownNames.{IsThereIn, IsComplete, IsNamed, HasNames, SelectorsHaveNames}
-use Rattle.pearl_sound.specs.KnownParts.{IsKnown, HasItsNames, AskedLiterals, IsSimple, Returns}
+use Rattle.pearl_sound.specs.KnownParts.{IsKnown, HasItsNames, AskedLiterals, IsSimple, NamesSome, Returns}
 use Rattle.pearl_resolve.specs.Statements.{resolve_stmt, resolve_all}
-use Rattle.pearl_sound.specs.Ready.{AllStand}
+use Rattle.pearl_sound.specs.Ready.{AllStand, RoutineRenewsRight}
 use Rattle.pearl_sound.specs.Sights.{Sight, sights_of}
 use Rattle.pearl_sound.specs.SoundForms.{IsSoundSense}
 use Rattle.pearl_sound.specs.Stretches.{Stretch, routine_stretches, IsDivided}
@@ -378,3 +381,29 @@ StatementsAreKept = (tree : ShownTree) → all_broken tree ≡ [] →
     AllByRecursion (λ (routine : Routine).
     AllByRecursion (λ place. statement_faults (table_of tree) routine.sort place ≡ []) (statements_of routine) ×
     AllByRecursion (λ place. AllByRecursion (HasItsNames (table_of tree)) (asked_at place)) (statements_of routine)) (routines_of tree)
+
+-- in a lawful tree the literals of all that its statements ask for are values
+abbrev pub StatementsHaveLiterals : Type 0
+StatementsHaveLiterals = (tree : Tree) → IsLawful tree →
+    AllByRecursion (λ (routine : Routine).
+    AllByRecursion (λ place. AllByRecursion (AskedLiterals (table_of (shown_tree tree)).lengths) (asked_at place)) (statements_of routine))
+    (routines_of (shown_tree tree))
+
+-- in a tree that spells tokens each REQUEST and RELEASE names a semaphore
+abbrev pub SemaphoresAreNamed : Type 0
+SemaphoresAreNamed = (tree : Tree) (tokens : List Token) → Spells tree tokens →
+    AllByRecursion (λ (routine : Routine). AllByRecursion (λ (place : Placed). NamesSome place.statement) (statements_of routine))
+    (routines_of (shown_tree tree))
+
+-- the procedures and tasks of a module that breaks no static rule are sound in its program, where procedures have numbers of
+-- their own below their count, and what goes into variables of tasks and procedures as first values suits them
+abbrev pub RoutinesAreSound : Type 0
+RoutinesAreSound = (tree : Tree) (tokens : List Token) → Spells tree tokens → IsLawful tree → all_broken (shown_tree tree) ≡ [] →
+    (devices : List SpecifiedDevice) (procedures : List ℕ) → Lists device_key (IsDevice (shown_tree tree)) devices →
+    AreProcedureNumbers (shown_tree tree) devices procedures →
+    AllByRecursion (RoutineRenewsRight (numbered_of (table_of (shown_tree tree)) devices procedures (shown_tree tree)))
+    (routines_of (shown_tree tree)) →
+    AllByRecursion (IsProcedure (resolve (table_of (shown_tree tree)) devices procedures (shown_tree tree)))
+    (resolve (table_of (shown_tree tree)) devices procedures (shown_tree tree)).procedures ×
+    AllByRecursion (IsTask (resolve (table_of (shown_tree tree)) devices procedures (shown_tree tree)))
+    (resolve (table_of (shown_tree tree)) devices procedures (shown_tree tree)).tasks

@@ -9,10 +9,12 @@ use Rattle.pearl_names.specs.declared.scope.View.TheVariants.{Within, WhileOf}
 use Rattle.pearl_scope.specs.declared.places.Spot.{Spot}
 use Rattle.pearl_scope.specs.Placed.{Placed}
 use Rattle.pearl_check.specs.Asked.{asked_at}
-use Rattle.pearl_check.specs.Routines.{RoutineSort}
+use Rattle.pearl_check.specs.Routines.{RoutineSort, Routine, statements_of}
 use Rattle.pearl_check.specs.Rules.{statement_faults}
 use Rattle.pearl_program.specs.Typing.{Around, AreCells}
-use Rattle.pearl_program.specs.SoundStatements.{within, AreStmts}
+use Rattle.pearl_program.specs.PlainStatements as plain
+use Rattle.pearl_program.specs.PlainStatements.{PlainStmt, OfRenew, PlainStmts}
+use Rattle.pearl_program.specs.SoundStatements.{AreFirst, within, AreStmts}
 use Rattle.pearl_resolve.specs.Numbers.{At, counts, loop_cells, entered, after, after_all, after_branches}
 use Rattle.pearl_resolve.specs.Cells.{get_cells}
 use Rattle.pearl_resolve.specs.Expressions.{Numbered}
@@ -84,3 +86,28 @@ abbrev mutual
   pub OtherwiseStands : Numbered → RoutineSort → Around → Spot → At → ShownOtherwise → Type 0
   OtherwiseStands numbered sort around spot at NoOtherwise = Unit {0}
   OtherwiseStands numbered sort around spot at (OfOtherwise statements place) = AllStand numbered sort around spot at statements
+
+-- what these statements put into variables as their first values suits them
+abbrev pub IsRightFirst : PlainStmt → Type 0
+IsRightFirst (OfRenew cell values) = AreFirst values
+IsRightFirst statement = Unit {0}
+
+abbrev pub AreRightFirst : PlainStmts → Type 0
+AreRightFirst plain.NoStmts = Unit {0}
+AreRightFirst (plain.MoreStmts statement rest) = IsRightFirst statement × AreRightFirst rest
+
+-- so does what a loop or BEGIN puts into the variables that it declares
+abbrev pub RenewsRight : Numbered → Placed → Type 0
+RenewsRight numbered place = by place.statement
+  where
+    by : ShownStmt → Type 0
+    by (OfRepeat control begin step end condition declarations statements body_place at) =
+        AreRightFirst (declared_renewals numbered place.next declarations)
+    by (OfBegin declarations statements body_place at) = AreRightFirst (declared_renewals numbered place.next declarations)
+    by statement = Unit {0}
+
+-- and what a task or procedure puts into its own
+abbrev pub RoutineRenewsRight : Numbered → Routine → Type 0
+RoutineRenewsRight numbered routine =
+    AreRightFirst (declared_renewals numbered routine.scope routine.body.declarations) ×
+    AllByRecursion (RenewsRight numbered) (statements_of routine)

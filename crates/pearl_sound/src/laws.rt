@@ -1,6 +1,6 @@
 // What holds of scopes, cells, hidden cells and formats, of names and components, and of what expressions and targets become.
 
-ghost use Rattle.pearl_sound.specs.Laws.{AskedIsKnown, CallsAreSound, ComponentsLieInTheirVariables, ExpressionsAreSound, FormatsFit, GetsAreSound, HiddenCellsAreApart, InnerNamesHaveTheirCells, KindsAreKnown, LiteralsAreValues, ModuleDevicesAreThere, ModuleNamesHaveTheirLeaves, ModuleNumbersAreThere, ModuleProceduresAreThere, NamesAreKnown, NamesHaveTheirCells, NamesHaveTheirDevices, NamesLead, NamesLeadInModules, NamesNameOthers, NamesShareNoCells, OwnNamesAreNotHidden, PutsAreSound, RoutinesAreDivided, RoutinesHaveCells, RuleGivesNumbers, ScopesShareNoCells, SemaphoreStatementsAreSound, SemaphoresAreApart, SensesAreComplete, SensesAreSound, SimpleStatementsAreSound, StatementsAreKept, StatementsAreSound, StatementsGoPast, StretchesHaveTheirCells, TargetsHaveTheirKind};
+ghost use Rattle.pearl_sound.specs.Laws.{AskedIsKnown, CallsAreSound, ComponentsLieInTheirVariables, ExpressionsAreSound, FormatsFit, GetsAreSound, HiddenCellsAreApart, InnerNamesHaveTheirCells, KindsAreKnown, LiteralsAreValues, ModuleDevicesAreThere, ModuleNamesHaveTheirLeaves, ModuleNumbersAreThere, ModuleProceduresAreThere, NamesAreKnown, NamesHaveTheirCells, NamesHaveTheirDevices, NamesLead, NamesLeadInModules, NamesNameOthers, NamesShareNoCells, OwnNamesAreNotHidden, PutsAreSound, RoutinesAreDivided, RoutinesAreSound, RoutinesHaveCells, RuleGivesNumbers, ScopesShareNoCells, SemaphoreStatementsAreSound, SemaphoresAreApart, SemaphoresAreNamed, SensesAreComplete, SensesAreSound, SimpleStatementsAreSound, StatementsAreKept, StatementsAreSound, StatementsGoPast, StatementsHaveLiterals, StretchesHaveTheirCells, TargetsHaveTheirKind};
 
 /// Behind some statements the counters stand at what comes behind the scopes, cells and formats of these.
 pub fn statements_go_past()
@@ -188,4 +188,20 @@ pub fn statements_are_sound()
 /// In a module that breaks no static rule none is broken in any statement, and the names of each are known.
 pub fn statements_are_kept()
     ensures { StatementsAreKept }
+{}
+
+/// In a lawful tree the literals of all that its statements ask for are values.
+pub fn statements_have_literals()
+    ensures { StatementsHaveLiterals }
+{}
+
+/// In a tree that spells tokens each REQUEST and RELEASE names a semaphore.
+pub fn semaphores_are_named()
+    ensures { SemaphoresAreNamed }
+{}
+
+/// The procedures and tasks of a lawful module that breaks no static rule are sound in its program, where what goes into
+/// their variables as first values suits these.
+pub fn routines_are_sound()
+    ensures { RoutinesAreSound }
 {}
