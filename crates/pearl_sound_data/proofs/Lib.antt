@@ -13,3 +13,4 @@ pub mod Devices
 pub mod Formats
 pub mod Filling
 pub mod Tables
+pub mod OwnNames
