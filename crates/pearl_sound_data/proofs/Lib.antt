@@ -14,3 +14,4 @@ pub mod Formats
 pub mod Filling
 pub mod Tables
 pub mod OwnNames
+mod Examples
