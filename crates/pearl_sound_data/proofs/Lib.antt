@@ -13,3 +13,5 @@ pub mod Devices
 pub mod Formats
 pub mod Filling
 pub mod Tables
+pub mod OwnNames
+mod Examples

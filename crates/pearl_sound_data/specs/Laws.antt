@@ -1,5 +1,5 @@
 -- What holds of first values, and of the leaves, devices, formats and presets of a program.
-use Rattle.std.specs.Prelude.{◌≡◌, ℕ, List, [], ◌++◌, length, take, drop, Some}
+use Rattle.std.specs.Prelude.{◌≡◌, ℕ, List, [], ◌++◌, length, take, drop, Some, slice_get}
 use Rattle.std.specs.List.{AllByRecursion, flat_map}
 use Rattle.pearl_value.specs.declared.kind.Kind.{Kind}
 use Rattle.pearl_value.specs.Kinds.{IsKind}
@@ -15,6 +15,7 @@ use Rattle.pearl_tree.specs.ShownModules.{ShownTree, shown_tree}
 use Rattle.pearl_names.specs.declared.scope.View.TheVariants.{Within}
 use Rattle.pearl_names.specs.Known.{Known, around}
 use Rattle.pearl_names.specs.Layout.{Leaf, slots_of}
+use Rattle.pearl_names.specs.Scopes.{Entry, Scope, scopes_of, body_entries}
 use Rattle.pearl_names.specs.Tables.{Form, Sense, Variable, form_of, table_of}
 use Rattle.pearl_scope.specs.Parts.{Item}
 use Rattle.pearl_scope.specs.Rules.{slots_of_names, s7}
@@ -31,7 +32,7 @@ use Rattle.pearl_program.specs.Sound as sound
 use Rattle.pearl_program.specs.Sound.{IsLeaf, IsFormat, IsPreset, AreRising}
 use Rattle.pearl_data.specs.Laying.{leaves_in, cells_of_sense, constant_in, left_behind, filled_leaves}
 use Rattle.pearl_resolve.specs.Cells.{sense_cells}
-use Rattle.pearl_resolve.specs.Expressions.{Numbered, Meant, meant}
+use Rattle.pearl_resolve.specs.Expressions.{Numbered, Meant, meant_at, meant}
 use Rattle.pearl_resolve.specs.Statements.{declared_renewals}
 use Rattle.pearl_resolve.specs.Resolve.{resolve}
 use Rattle.pearl_sound_data.specs.Constants.{IsConstant, BodyDeclHasConstants, DeclHasConstants}
@@ -78,6 +79,20 @@ RenewalsAreSound = (tree : ShownTree) (numbers : List (List ℕ)) (around : Arou
     AllByRecursion BodyDeclHasConstants declarations →
     AllByRecursion (BodyDeclHasCells (record { table = table_of tree; numbers = numbers }) around scope) declarations →
     AreStmts around (declared_renewals (record { table = table_of tree; numbers = numbers }) scope declarations)
+
+-- each variable that a scope declares has its cells
+abbrev pub ScopeHasCells : Numbered → Around → (scope : ℕ) → Type 0
+ScopeHasCells numbered around scope =
+    (entry : ℕ) (thing : Meant) → meant_at numbered (record { scope = scope; entry = entry }) ≡ Some thing → IsVariable thing.sense →
+    HasCells around thing
+
+-- the same for the declarations of a body that is the scope of this number, behind parameters or a control variable
+abbrev pub BodyRenewalsAreSound : Type 0
+BodyRenewalsAreSound = (tree : ShownTree) (numbers : List (List ℕ)) (around : Around) (n : ℕ) (scope : Scope) (types : ℕ)
+    (before : List Entry) (declarations : List ShownBodyDecl) → slice_get (scopes_of tree) n ≡ Some scope →
+    scope.entries ≡ before ++ body_entries types declarations → AllByRecursion BodyDeclHasConstants declarations →
+    ScopeHasCells (record { table = table_of tree; numbers = numbers }) around n →
+    AreStmts around (declared_renewals (record { table = table_of tree; numbers = numbers }) n declarations)
 
 -- the devices have numbers from 1 to 99 and kinds with lengths in their ranges, and stand in the order of sorts and numbers
 abbrev pub DevicesAreSound : Type 0

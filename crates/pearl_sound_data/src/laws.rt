@@ -1,6 +1,6 @@
 // What holds of first values, and of the leaves, devices, formats and presets of a program.
 
-ghost use Rattle.pearl_sound_data.specs.Laws.{ConstantsArePut, ConstantsBecomeValues, DevicesAreSound, FormatsAreSound, InitFillsSlots, InitGoesOn, LeavesAreSound, LeavesHaveFirstValues, ModulesHaveConstants, PresetsAreSmall, RenewalsAreSound, TablesAreSound};
+ghost use Rattle.pearl_sound_data.specs.Laws.{BodyRenewalsAreSound, ConstantsArePut, ConstantsBecomeValues, DevicesAreSound, FormatsAreSound, InitFillsSlots, InitGoesOn, LeavesAreSound, LeavesHaveFirstValues, ModulesHaveConstants, PresetsAreSmall, RenewalsAreSound, TablesAreSound};
 
 /// Whatever a constant of INIT is put into, it becomes a value of that kind.
 pub fn constants_become_values()
@@ -20,6 +20,11 @@ pub fn leaves_have_first_values()
 /// What gives the variables of a body their first values is sound, where they have their cells.
 pub fn renewals_are_sound()
     ensures { RenewalsAreSound }
+{}
+
+/// So it is for a body that is a scope of the module, where the variables of that scope have their cells.
+pub fn body_renewals_are_sound()
+    ensures { BodyRenewalsAreSound }
 {}
 
 /// The devices of a program are sound, and stand in order.
