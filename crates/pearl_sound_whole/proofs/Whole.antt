@@ -12,27 +12,28 @@ use Rattle.pearl_system.specs.Devices.{device_key, IsDevice}
 use Rattle.pearl_system.specs.Rising.{Lists}
 use Rattle.pearl_system.specs.Rules as devices_rules
 use Rattle.pearl_check.specs.Rules.{statements_broken, whole_broken, all_broken}
-use Rattle.pearl_program.specs.Sound.{CallSmaller, HasSizes, IsSound}
+use Rattle.pearl_program.specs.Sound.{IsSound}
 use Rattle.pearl_resolve.specs.Resolve.{resolve}
 use Rattle.pearl_sound_data.proofs.ModuleConstants.{module_constants}
 use Rattle.pearl_sound_data.proofs.Tables.{module_tables}
-use Rattle.pearl_sound.specs.ModuleNames.{AreProcedureNumbers}
+use Rattle.pearl_sound.proofs.RuleNumbers.{numbers_given}
 use Rattle.pearl_sound.proofs.SimpleStatements.{left_none}
 use Rattle.pearl_sound.proofs.SoundRoutines.{routines_sound}
+use Rattle.pearl_sound_sizes.specs.ByRule.{AreByRule}
+use Rattle.pearl_sound_sizes.proofs.Sized.{smaller_called, sizes_within}
+use Rattle.pearl_sound_sizes.proofs.Whole.{whole}
 use Rattle.pearl_sound_whole.proofs.RightRenewals.{bodies_right}
 
 pub program_sound : (tree : Tree) (tokens : List Token) → Spells tree tokens → IsLawful tree → all_broken (shown_tree tree) ≡ [] →
-    (devices : List SpecifiedDevice) (procedures : List ℕ) → Lists device_key (IsDevice (shown_tree tree)) devices →
-    AreProcedureNumbers (shown_tree tree) devices procedures →
-    CallSmaller 0 (resolve (table_of (shown_tree tree)) devices procedures (shown_tree tree)).procedures →
-    HasSizes (resolve (table_of (shown_tree tree)) devices procedures (shown_tree tree)) →
-    IsSound (resolve (table_of (shown_tree tree)) devices procedures (shown_tree tree))
-program_sound tree tokens spells lawful none devices procedures lists numbers smaller sizes =
+    (devices : List SpecifiedDevice) (numbers : List ℕ) → Lists device_key (IsDevice (shown_tree tree)) devices →
+    AreByRule (shown_tree tree) numbers → IsSound (resolve (table_of (shown_tree tree)) devices numbers (shown_tree tree))
+program_sound tree tokens spells lawful none devices numbers lists rule =
     let shown = shown_tree tree in
     let others = devices_rules.broken shown ++ (statements_broken (table_of shown) shown ++ whole_broken shown) in
     let constants = module_constants tree lawful (left_none (names.broken shown) others none) in
-    let routines = routines_sound tree tokens spells lawful none devices procedures lists numbers (bodies_right shown devices procedures constants) in
-    let tables = module_tables tree devices procedures lawful none lists in
+    let given = numbers_given shown devices rule.callers rule.order numbers rule.numbering rule.are (whole shown devices numbers rule) in
+    let routines = routines_sound tree tokens spells lawful none devices numbers lists given (bodies_right shown devices numbers constants) in
+    let tables = module_tables tree devices numbers lawful none lists in
     record {
       leaves = tables.leaves;
       semaphores = tables.semaphores;
@@ -40,7 +41,7 @@ program_sound tree tokens spells lawful none devices procedures lists numbers sm
       rising = tables.rising;
       formats = tables.formats;
       procedures = routines.0;
-      order = smaller;
+      order = smaller_called shown devices numbers none rule;
       tasks = routines.1;
-      sizes = sizes;
+      sizes = sizes_within shown devices numbers none lists rule;
     }

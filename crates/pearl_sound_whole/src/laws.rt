@@ -7,8 +7,7 @@ pub fn bodies_renew_right()
     ensures { BodiesRenewRight }
 {}
 
-/// The program of a lawful module that breaks no static rule is sound, where its procedures call smaller ones alone and its
-/// sizes are within their limits.
+/// The program of a lawful module that breaks no static rule is sound.
 pub fn programs_are_sound()
     ensures { ProgramsAreSound }
 {}
