@@ -3,7 +3,9 @@ use Rattle.std.specs.Prelude.{◌≡◌, ℕ, zero, suc, ◌-◌, ℤ, min, Bool
 use Rattle.std.specs.List.{AllByRecursion, flat_map, list_all}
 use Rattle.std.proofs.Common.{refl, ap, ◌∙◌, sym, subst, arith, true≢false}
 use Rattle.std.proofs.Math.Seq.{take-nil, drop-nil}
-use Rattle.std.proofs.lemmas.List.{length-replicate}
+use Rattle.std.proofs.lemmas.List.{length-append, length-replicate}
+use Rattle.std.proofs.lemmas.List.Concat.{flat_map-append}
+use Rattle.std.proofs.lemmas.List.Sums.{sum_by-cons}
 use Rattle.std.proofs.lemmas.Option.{none-some}
 use Rattle.pearl_value.specs.declared.kind.Kind.{Kind}
 use Rattle.pearl_value.specs.declared.cell.Cell.{Cell}
@@ -11,9 +13,11 @@ use Rattle.pearl_value.specs.Blanks.{blank_of}
 use Rattle.pearl_tree.specs.declared.rule.TheConstants as rule
 use Rattle.pearl_tree.specs.declared.literal.Sign.{Sign}
 use Rattle.pearl_tree.specs.declared.literal.Sign.TheVariants.{Plus, Minus}
-use Rattle.pearl_tree.specs.Names.{names_of}
+use Rattle.pearl_tree.specs.Names.{name_text, names_of}
 use Rattle.pearl_tree.specs.ShownLiterals.{ShownLiteral, OfNumber, OfBits, OfText, OfClock, OfDuration, ShownConst}
 use Rattle.pearl_tree.specs.ShownDeclarations.{ShownItem}
+use Rattle.pearl_tree.specs.declared.name.Name.{Name}
+use Rattle.pearl_names.specs.declared.scope.View.TheVariants.{Within}
 use Rattle.pearl_names.specs.Known.{Known, around}
 use Rattle.pearl_names.specs.Layout.{Leaf, elements, leaf_slots, slots_of, leaves_of, leaves_within, is_sound_leaf, item_leaves}
 use Rattle.pearl_names.specs.Shapes.{Shape, shape_of, sound_bounds}
@@ -26,8 +30,12 @@ use Rattle.pearl_scope.specs.Rules.{slots_of_names, missing_of, s7}
 use Rattle.pearl_scope.proofs.Put.{fits_where_put}
 use Rattle.pearl_program.specs.PlainPrograms.{PlainLeaf}
 use Rattle.pearl_program.specs.FirstCells.{last_or, first_cells}
-use Rattle.pearl_data.specs.Laying.{value_of, or_blank, constant_in, values_of_leaf, left_behind, filled_leaves, leaves_in}
+use Rattle.pearl_data.specs.Laying.{value_of, or_blank, constant_in, values_of_leaf, slots, left_behind, filled_leaves, leaves_in}
 use Rattle.pearl_sound_data.specs.Constants.{IsConstant}
+use Rattle.pearl_resolve.specs.Expressions.{Numbered, meant}
+use Rattle.pearl_resolve.specs.Statements.{slots_of_meant}
+use Rattle.pearl_resolve.specs.Resolve.{variable_leaves, names_leaves}
+use Rattle.pearl_sound_data.specs.Laws.{HasLeaves}
 use Rattle.pearl_sound_data.specs.Filling.{filled, IsPut, ArePut}
 use Rattle.pearl_sound_data.proofs.Faults.{right_none, no_fault, neither, both, really}
 
@@ -110,6 +118,35 @@ init_fills name constants (leaf ∷ rest) =
     (λ i. leaf_filled constants leaf i ++ init_fills name behind rest i) ∙
     ap (λ n. filled (leaf_slots leaf) constants ++ filled (slots_of rest) (left_behind n constants)) (sym (length-replicate (elements leaf.bounds) leaf.kind)) ∙
     sym (slots_go_on (leaf_slots leaf) (slots_of rest) constants)
+
+slot_count : (leaves : List Leaf) → length (slots_of leaves) ≡ slots leaves
+slot_count [] = refl
+slot_count (leaf ∷ rest) =
+    let own = length-append (leaf_slots leaf) (slots_of rest) in
+    let each = length-replicate (elements leaf.bounds) leaf.kind in
+    let more = slot_count rest in
+    let sum = sum_by-cons (λ (leaf : Leaf). elements leaf.bounds) leaf rest in
+    omega (arith, own, each, more, sum)
+
+cells_append : (one two : List PlainLeaf) → flat_map (λ (leaf : PlainLeaf). first_cells leaf.values) (one ++ two) ≡
+    flat_map (λ (leaf : PlainLeaf). first_cells leaf.values) one ++ flat_map (λ (leaf : PlainLeaf). first_cells leaf.values) two
+cells_append one two = flat_map-append (λ (leaf : PlainLeaf). first_cells leaf.values) one two
+
+pub names_fill : (numbered : Numbered) (constants : List ShownConst) (names : List Name) (leaves : List Leaf) →
+    AllByRecursion (HasLeaves numbered leaves) names →
+    flat_map (λ (leaf : PlainLeaf). first_cells leaf.values) (names_leaves numbered constants names) ≡ filled (slots_of_names names leaves) constants
+names_fill numbered constants [] leaves all = refl
+names_fill numbered constants (name ∷ rest) leaves all =
+    let found = meant numbered (Within 0) name in
+    let behind = left_behind (slots_of_meant found) constants in
+    let means = all.0.1 in
+    let same : variable_leaves name constants found ≡ filled_leaves (name_text name) constants leaves =
+    ap (variable_leaves name constants) means ∙ ap (filled_leaves (name_text name) constants) all.0.2 in
+    let count : slots_of_meant found ≡ length (slots_of leaves) = ap slots_of_meant means ∙ ap slots all.0.2 ∙ sym (slot_count leaves) in
+    cells_append (variable_leaves name constants found) (names_leaves numbered behind rest) ∙
+    (λ i. flat_map (λ (leaf : PlainLeaf). first_cells leaf.values) (same i) ++ names_fill numbered behind rest leaves all.1 i) ∙
+    (λ i. init_fills (name_text name) constants leaves i ++ filled (slots_of_names rest leaves) (left_behind (count i) constants)) ∙
+    sym (slots_go_on (slots_of leaves) (slots_of_names rest leaves) constants)
 
 -- where a constant fits, it is put
 same_value : (constant : ShownConst) → law.value_of 63 constant ≡ value_of constant

@@ -7,11 +7,9 @@ pub mod ModuleConstants
 pub mod ModuleLeaves
 pub mod LawfulNames
 pub mod LeafNames
-pub mod Renewals
 pub mod Presets
 pub mod Devices
 pub mod Formats
 pub mod Filling
 pub mod Tables
-pub mod OwnNames
 mod Examples

@@ -1,5 +1,5 @@
 -- What holds of first values, and of the leaves, devices, formats and presets of a program.
-use Rattle.std.specs.Prelude.{◌≡◌, ℕ, List, [], ◌++◌, length, take, drop, Some, slice_get}
+use Rattle.std.specs.Prelude.{◌≡◌, ℕ, List, [], ◌++◌, length, Some}
 use Rattle.std.specs.List.{AllByRecursion, flat_map}
 use Rattle.pearl_value.specs.declared.kind.Kind.{Kind}
 use Rattle.pearl_value.specs.Kinds.{IsKind}
@@ -10,13 +10,11 @@ use Rattle.pearl_tree.specs.Lawful.{IsLawful}
 use Rattle.pearl_tree.specs.Names.{names_of}
 use Rattle.pearl_tree.specs.ShownLiterals.{ShownConst}
 use Rattle.pearl_tree.specs.ShownDeclarations.{ShownItem}
-use Rattle.pearl_tree.specs.ShownStatements.{ShownBodyDecl}
 use Rattle.pearl_tree.specs.ShownModules.{ShownTree, shown_tree}
 use Rattle.pearl_names.specs.declared.scope.View.TheVariants.{Within}
 use Rattle.pearl_names.specs.Known.{Known, around}
 use Rattle.pearl_names.specs.Layout.{Leaf, slots_of}
-use Rattle.pearl_names.specs.Scopes.{Entry, Scope, scopes_of, body_entries}
-use Rattle.pearl_names.specs.Tables.{Form, Sense, Variable, form_of, table_of}
+use Rattle.pearl_names.specs.Tables.{Form, form_of, table_of}
 use Rattle.pearl_scope.specs.Parts.{Item}
 use Rattle.pearl_scope.specs.Rules.{slots_of_names, s7}
 use Rattle.pearl_scope.specs.Rules as names
@@ -26,16 +24,13 @@ use Rattle.pearl_system.specs.Rising.{Lists}
 use Rattle.pearl_check.specs.Rules.{statements_broken, all_broken}
 use Rattle.pearl_program.specs.FirstCells.{first_cells}
 use Rattle.pearl_program.specs.PlainPrograms.{PlainLeaf, PlainProg}
-use Rattle.pearl_program.specs.Typing.{Around, AreOpen}
-use Rattle.pearl_program.specs.SoundStatements.{AreFirst, AreStmts}
+use Rattle.pearl_program.specs.SoundStatements.{AreFirst}
 use Rattle.pearl_program.specs.Sound as sound
 use Rattle.pearl_program.specs.Sound.{IsLeaf, IsFormat, IsPreset, AreRising}
-use Rattle.pearl_data.specs.Laying.{leaves_in, cells_of_sense, constant_in, left_behind, filled_leaves}
-use Rattle.pearl_resolve.specs.Cells.{sense_cells}
-use Rattle.pearl_resolve.specs.Expressions.{Numbered, Meant, meant_at, meant}
-use Rattle.pearl_resolve.specs.Statements.{declared_renewals}
-use Rattle.pearl_resolve.specs.Resolve.{resolve}
-use Rattle.pearl_sound_data.specs.Constants.{IsConstant, BodyDeclHasConstants, DeclHasConstants}
+use Rattle.pearl_data.specs.Laying.{leaves_in, leaves_of_sense, constant_in, left_behind, filled_leaves}
+use Rattle.pearl_resolve.specs.Expressions.{Numbered, Meant, meant}
+use Rattle.pearl_resolve.specs.Resolve.{names_leaves, resolve}
+use Rattle.pearl_sound_data.specs.Constants.{IsConstant, DeclHasConstants}
 use Rattle.pearl_sound_data.specs.Filling.{filled, ArePut}
 
 -- whatever a constant is put into, it becomes a value of that kind
@@ -52,47 +47,6 @@ abbrev pub LeavesHaveFirstValues : Type 0
 LeavesHaveFirstValues = (tree : ShownTree) (devices : List SpecifiedDevice) (procedures : List ℕ) →
     AllByRecursion DeclHasConstants tree.declarations →
     AllByRecursion (λ (leaf : PlainLeaf). AreFirst leaf.values) (resolve (table_of tree) devices procedures tree).leaves
-
--- a variable has its cells, and none of them is hidden
-pub record HasCells (around : Around) (thing : Meant) : Type 0 where
-  pub lies : take (cells_of_sense thing.sense) (drop thing.number around.cells) ≡ sense_cells thing.sense
-  pub free : AreOpen around.hidden thing.number (cells_of_sense thing.sense)
-
-abbrev pub IsVariable : Sense → Type 0
-IsVariable (Variable form inv) = Unit {0}
-IsVariable sense = ⊥
-
-abbrev pub NameHasCells : Numbered → Around → (scope : ℕ) → Name → Type 0
-NameHasCells numbered around scope name =
-    (thing : Meant) → meant numbered (Within scope) name ≡ Some thing → IsVariable thing.sense → HasCells around thing
-
-abbrev pub ItemHasCells : Numbered → Around → (scope : ℕ) → ShownItem → Type 0
-ItemHasCells numbered around scope item = AllByRecursion (NameHasCells numbered around scope) (names_of item.names)
-
--- so has each variable that these declare
-abbrev pub BodyDeclHasCells : Numbered → Around → (scope : ℕ) → ShownBodyDecl → Type 0
-BodyDeclHasCells numbered around scope declaration = AllByRecursion (ItemHasCells numbered around scope) declaration.items
-
--- where variables of a body have their cells, and all constants are values, what gives them their first values is sound
-abbrev pub RenewalsAreSound : Type 0
-RenewalsAreSound = (tree : ShownTree) (numbers : List (List ℕ)) (around : Around) (scope : ℕ) (declarations : List ShownBodyDecl) →
-    AllByRecursion BodyDeclHasConstants declarations →
-    AllByRecursion (BodyDeclHasCells (record { table = table_of tree; numbers = numbers }) around scope) declarations →
-    AreStmts around (declared_renewals (record { table = table_of tree; numbers = numbers }) scope declarations)
-
--- each variable that a scope declares has its cells
-abbrev pub ScopeHasCells : Numbered → Around → (scope : ℕ) → Type 0
-ScopeHasCells numbered around scope =
-    (entry : ℕ) (thing : Meant) → meant_at numbered (record { scope = scope; entry = entry }) ≡ Some thing → IsVariable thing.sense →
-    HasCells around thing
-
--- the same for the declarations of a body that is the scope of this number, behind parameters or a control variable
-abbrev pub BodyRenewalsAreSound : Type 0
-BodyRenewalsAreSound = (tree : ShownTree) (numbers : List (List ℕ)) (around : Around) (n : ℕ) (scope : Scope) (types : ℕ)
-    (before : List Entry) (declarations : List ShownBodyDecl) → slice_get (scopes_of tree) n ≡ Some scope →
-    scope.entries ≡ before ++ body_entries types declarations → AllByRecursion BodyDeclHasConstants declarations →
-    ScopeHasCells (record { table = table_of tree; numbers = numbers }) around n →
-    AreStmts around (declared_renewals (record { table = table_of tree; numbers = numbers }) n declarations)
 
 -- the devices have numbers from 1 to 99 and kinds with lengths in their ranges, and stand in the order of sorts and numbers
 abbrev pub DevicesAreSound : Type 0
@@ -133,6 +87,17 @@ TablesAreSound = (tree : Tree) (devices : List SpecifiedDevice) (procedures : Li
 abbrev pub InitFillsSlots : Type 0
 InitFillsSlots = (name : List ℕ) (constants : List ShownConst) (leaves : List Leaf) →
     flat_map (λ (leaf : PlainLeaf). first_cells leaf.values) (filled_leaves name constants leaves) ≡ filled (slots_of leaves) constants
+
+-- a name of the module means a variable with these leaves
+abbrev pub HasLeaves : Numbered → List Leaf → Name → Type 0
+HasLeaves numbered leaves name = (thing : Meant) × (meant numbered (Within 0) name ≡ Some thing) × (leaves_of_sense thing.sense ≡ leaves)
+
+-- so do those of several names that are declared together
+abbrev pub InitFillsNames : Type 0
+InitFillsNames = (numbered : Numbered) (constants : List ShownConst) (names : List Name) (leaves : List Leaf) →
+    AllByRecursion (HasLeaves numbered leaves) names →
+    flat_map (λ (leaf : PlainLeaf). first_cells leaf.values) (names_leaves numbered constants names) ≡
+    filled (slots_of_names names leaves) constants
 
 -- in the slots behind some INIT goes on with what these leave
 abbrev pub InitGoesOn : Type 0

@@ -1,6 +1,6 @@
 // What holds of first values, and of the leaves, devices, formats and presets of a program.
 
-ghost use Rattle.pearl_sound_data.specs.Laws.{BodyRenewalsAreSound, ConstantsArePut, ConstantsBecomeValues, DevicesAreSound, FormatsAreSound, InitFillsSlots, InitGoesOn, LeavesAreSound, LeavesHaveFirstValues, ModulesHaveConstants, PresetsAreSmall, RenewalsAreSound, TablesAreSound};
+ghost use Rattle.pearl_sound_data.specs.Laws.{ConstantsArePut, ConstantsBecomeValues, DevicesAreSound, FormatsAreSound, InitFillsNames, InitFillsSlots, InitGoesOn, LeavesAreSound, LeavesHaveFirstValues, ModulesHaveConstants, PresetsAreSmall, TablesAreSound};
 
 /// Whatever a constant of INIT is put into, it becomes a value of that kind.
 pub fn constants_become_values()
@@ -15,16 +15,6 @@ pub fn modules_have_constants()
 /// Each leaf of a program has first values of its kind.
 pub fn leaves_have_first_values()
     ensures { LeavesHaveFirstValues }
-{}
-
-/// What gives the variables of a body their first values is sound, where they have their cells.
-pub fn renewals_are_sound()
-    ensures { RenewalsAreSound }
-{}
-
-/// So it is for a body that is a scope of the module, where the variables of that scope have their cells.
-pub fn body_renewals_are_sound()
-    ensures { BodyRenewalsAreSound }
 {}
 
 /// The devices of a program are sound, and stand in order.
@@ -55,6 +45,11 @@ pub fn tables_are_sound()
 /// The slots of a variable hold at first what INIT puts into them.
 pub fn init_fills_slots()
     ensures { InitFillsSlots }
+{}
+
+/// So do those of several names that are declared together.
+pub fn init_fills_names()
+    ensures { InitFillsNames }
 {}
 
 /// In the slots behind some INIT goes on with what these leave.
