@@ -1,6 +1,6 @@
 -- Lists of which all elements have a property, the greatest of a list, and two lists of which the elements suit one by one.
 use Rattle.std.specs.Prelude.{◌≡◌, ℕ, zero, suc, ◌≤◌, max, Bool, true, false, not, ◌&&◌, ◌||◌, if◌then◌else◌, List, [], ◌∷◌, ◌++◌, length, filter, Some, slice_get, unwrap_or}
-use Rattle.std.specs.List.{AllByRecursion, flat_map}
+use Rattle.std.specs.List.{AllByRecursion, AllZip, flat_map}
 use Rattle.std.proofs.Common.{refl, ap, sym, subst, arith, true≢false}
 use Rattle.std.proofs.lemmas.Option.{none-some}
 use Rattle.pearl_tree.specs.declared.fault.RuleFault.{RuleFault}
@@ -76,20 +76,15 @@ pub most_within : {X : Type 0} (f : X → ℕ) (limit : ℕ) (xs : List X) → A
 most_within f limit [] all = omega arith
 most_within f limit (x ∷ xs) all = let a = all.0 in let b = most_within f limit xs all.1 in omega (arith, a, b)
 
--- the elements suit one by one
-abbrev pub AreAlike : {X Y : Type 0} → (X → Y → Type 0) → List X → List Y → Type 0
-AreAlike R [] [] = Unit {0}
-AreAlike R (x ∷ xs) (y ∷ ys) = R x y × AreAlike R xs ys
-AreAlike R xs ys = ⊥
-
-pub alike_append : {X Y : Type 0} (R : X → Y → Type 0) (xs xs' : List X) (ys ys' : List Y) → AreAlike R xs ys → AreAlike R xs' ys' →
-    AreAlike R (xs ++ xs') (ys ++ ys')
+-- elements that suit one by one
+pub alike_append : {X Y : Type 0} (R : X → Y → Type 0) (xs xs' : List X) (ys ys' : List Y) → AllZip R xs ys → AllZip R xs' ys' →
+    AllZip R (xs ++ xs') (ys ++ ys')
 alike_append R [] xs' [] ys' one two = two
 alike_append R (x ∷ xs) xs' (y ∷ ys) ys' one two = (one.0, alike_append R xs xs' ys ys' one.1 two)
 alike_append R [] xs' (y ∷ ys) ys' one two = absurd one
 alike_append R (x ∷ xs) xs' [] ys' one two = absurd one
 
-pub alike_length : {X Y : Type 0} (R : X → Y → Type 0) (xs : List X) (ys : List Y) → AreAlike R xs ys → length xs ≡ length ys
+pub alike_length : {X Y : Type 0} (R : X → Y → Type 0) (xs : List X) (ys : List Y) → AllZip R xs ys → length xs ≡ length ys
 alike_length R [] [] alike = refl
 alike_length R (x ∷ xs) (y ∷ ys) alike = ap suc (alike_length R xs ys alike.1)
 alike_length R [] (y ∷ ys) alike = absurd alike
@@ -100,7 +95,7 @@ pub record Suited {X Y : Type 0} (R : X → Y → Type 0) (x : X) (ys : List Y) 
   pub there : slice_get ys i ≡ Some other
   pub suits : R x other
 
-pub alike_at : {X Y : Type 0} (R : X → Y → Type 0) (xs : List X) (ys : List Y) (i : ℕ) (x : X) → AreAlike R xs ys → slice_get xs i ≡ Some x →
+pub alike_at : {X Y : Type 0} (R : X → Y → Type 0) (xs : List X) (ys : List Y) (i : ℕ) (x : X) → AllZip R xs ys → slice_get xs i ≡ Some x →
     Suited R x ys i
 alike_at R [] [] i x alike is = absurd (none-some x is)
 alike_at R (first ∷ xs) (y ∷ ys) zero x alike is = record { other = y; there = refl; suits = subst (λ z. R z y) (some_one is) alike.0 }

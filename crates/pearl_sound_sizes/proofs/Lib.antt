@@ -13,4 +13,5 @@ pub mod Limits
 pub mod Whole
 pub mod Devices
 pub mod Tasks
+pub mod Given
 pub mod Sized

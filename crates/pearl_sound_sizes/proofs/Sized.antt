@@ -1,6 +1,6 @@
 -- The laws of numbers, sizes and tasks.
-use Rattle.std.specs.Prelude.{◌≡◌, ℕ, ◌≤◌, ◌<◌, IsTrue, List, []}
-use Rattle.std.specs.List.{AllByRecursion}
+use Rattle.std.specs.Prelude.{◌≡◌, ℕ, ◌≤◌, ◌<◌, IsTrue, List, [], ◌∷◌, length, filter}
+use Rattle.std.specs.List.{AllByRecursion, AllZip}
 use Rattle.std.proofs.Common.{◌∙◌, sym, arith}
 use Rattle.std.proofs.lemmas.List.{length-map}
 use Rattle.pearl_tree.specs.declared.tree.Tree.{Tree}
@@ -13,20 +13,23 @@ use Rattle.pearl_system.specs.declared.device.SpecifiedDevice.{SpecifiedDevice}
 use Rattle.pearl_system.specs.Devices.{device_key, IsDevice}
 use Rattle.pearl_system.specs.Rising.{Lists}
 use Rattle.pearl_check.specs.Rules.{all_broken}
-use Rattle.pearl_check.specs.Sizes.{task_count, procedure_count, semaphore_count, slot_count}
-use Rattle.pearl_program.specs.PlainPrograms.{PlainTask}
+use Rattle.pearl_check.specs.Routines.{Routine, is_procedure, is_task, routines_of}
+use Rattle.pearl_check.specs.Sizes.{task_count, procedure_count, semaphore_count, slot_count, cells_of}
+use Rattle.pearl_program.specs.PlainPrograms.{PlainProcedure, PlainTask}
 use Rattle.pearl_program.specs.Sound.{CallSmaller, HasSizes, is_id}
 use Rattle.pearl_resolve.specs.Numbers.{first}
 use Rattle.pearl_resolve.specs.Expressions.{Numbered}
-use Rattle.pearl_resolve.specs.Resolve.{device_of, numbered_of, resolve}
+use Rattle.pearl_resolve.specs.Resolve.{device_of, tasks_in, procedures_in, numbered_of, resolve}
 use Rattle.pearl_sound_sizes.specs.ByRule.{AreByRule}
-use Rattle.pearl_sound_sizes.specs.Laws.{HasToldSizes}
+use Rattle.pearl_sound_sizes.specs.Laws.{HasToldSizes, HasCountedCells, WeighsNoMore}
+use Rattle.pearl_sound_sizes.proofs.Bounds.{routine_has_cells}
+use Rattle.pearl_sound_sizes.proofs.Routines.{IsProcedureOf, IsTaskOf, procedures_alike, tasks_alike}
 use Rattle.pearl_sound_sizes.proofs.Counts.{module_size, all_semaphores, all_tasks, all_procedures, all_slots, declared_once}
 use Rattle.pearl_sound_sizes.proofs.Devices.{few_devices}
 use Rattle.pearl_sound_sizes.proofs.Kept.{no_name_broken, no_whole_broken, all_kept}
 use Rattle.pearl_sound_sizes.proofs.Limits.{limits_kept}
 use Rattle.pearl_sound_sizes.proofs.Tasks.{tasks_urgent, tasks_named}
-use Rattle.pearl_sound_sizes.proofs.Whole.{whole, count, call_smaller, procedure_weights, task_weights}
+use Rattle.pearl_sound_sizes.proofs.Whole.{whole, count, call_smaller, procedure_weights, task_weights, procedures_weigh_no_more, tasks_weigh_no_more}
 
 pub smaller_called : (tree : ShownTree) (devices : List SpecifiedDevice) (numbers : List ℕ) → all_broken tree ≡ [] → AreByRule tree numbers →
     CallSmaller 0 (resolve (table_of tree) devices numbers tree).procedures
@@ -69,3 +72,38 @@ pub ids : (tree : Tree) (devices : List SpecifiedDevice) (numbers : List ℕ) �
     AllByRecursion (λ (task : PlainTask). IsTrue (is_id task.name)) (resolve (table_of (shown_tree tree)) devices numbers (shown_tree tree)).tasks
 ids tree devices numbers lawful =
     tasks_named (numbered_of (table_of (shown_tree tree)) devices numbers (shown_tree tree)) first tree.declarations.items.items lawful.declarations
+
+procedure_cells : (numbered : Numbered) (procedures : List PlainProcedure) (routines : List Routine) → AllZip (IsProcedureOf numbered) procedures routines →
+    AllZip (λ (procedure : PlainProcedure) (routine : Routine). length procedure.routine.cells ≡ cells_of numbered.table routine) procedures routines
+procedure_cells numbered [] [] of = tt
+procedure_cells numbered (procedure ∷ procedures) (routine ∷ routines) of =
+    (routine_has_cells numbered procedure.routine routine of.0, procedure_cells numbered procedures routines of.1)
+procedure_cells numbered [] (routine ∷ routines) of = absurd of
+procedure_cells numbered (procedure ∷ procedures) [] of = absurd of
+
+task_cells : (numbered : Numbered) (tasks : List PlainTask) (routines : List Routine) → AllZip (IsTaskOf numbered) tasks routines →
+    AllZip (λ (task : PlainTask) (routine : Routine). length task.routine.cells ≡ cells_of numbered.table routine) tasks routines
+task_cells numbered [] [] of = tt
+task_cells numbered (task ∷ tasks) (routine ∷ routines) of =
+    (routine_has_cells numbered task.routine routine of.0.own, task_cells numbered tasks routines of.1)
+task_cells numbered [] (routine ∷ routines) of = absurd of
+task_cells numbered (task ∷ tasks) [] of = absurd of
+
+pub cells_counted : (tree : ShownTree) (devices : List SpecifiedDevice) (numbers : List ℕ) → HasCountedCells tree devices numbers
+cells_counted tree devices numbers =
+    let numbered : Numbered = numbered_of (table_of tree) devices numbers tree in
+    record {
+      procedures = procedure_cells numbered (procedures_in numbered first tree.declarations) (filter is_procedure (routines_of tree))
+          (procedures_alike numbered first tree.declarations);
+      tasks = task_cells numbered (tasks_in numbered first tree.declarations) (filter is_task (routines_of tree)) (tasks_alike numbered first tree.declarations);
+    }
+
+pub weigh_no_more : (tree : ShownTree) (devices : List SpecifiedDevice) (numbers : List ℕ) → all_broken tree ≡ [] → AreByRule tree numbers →
+    WeighsNoMore tree devices numbers
+weigh_no_more tree devices numbers none by_rule =
+    let limits = limits_kept tree (no_whole_broken tree none) in
+    let kept = all_kept tree none in
+    record {
+      procedures = procedures_weigh_no_more tree devices numbers by_rule kept limits;
+      tasks = tasks_weigh_no_more tree devices numbers by_rule kept limits;
+    }

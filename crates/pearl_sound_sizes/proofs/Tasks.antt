@@ -1,7 +1,7 @@
 -- The tasks of a module: their priorities, and their names.
 use Rattle.std.specs.Prelude.{◌≡◌, ℕ, ◌≤◌, ◌<◌, ◌&&◌, ◌||◌, nat_le, not, Bool, true, false, IsTrue, List, [], ◌∷◌, length, map, filter, Some, None, All}
 use Rattle.std.specs.Char.{is_ascii_alphabetic}
-use Rattle.std.specs.List.{AllByRecursion, list_all}
+use Rattle.std.specs.List.{AllByRecursion, AllZip, list_all}
 use Rattle.std.proofs.Common.{refl, ap, ◌∙◌, sym, arith, inl, inr}
 use Rattle.std.proofs.lemmas.Bool.{leb-true, le-leb}
 use Rattle.std.proofs.lemmas.Bool.Decides.{nat_tests}
@@ -24,7 +24,7 @@ use Rattle.pearl_program.specs.Sound.{is_name_byte, is_id}
 use Rattle.pearl_resolve.specs.Numbers.{At, after_decl, first}
 use Rattle.pearl_resolve.specs.Expressions.{Numbered}
 use Rattle.pearl_resolve.specs.Resolve.{priority_of, decl_tasks, tasks_in, numbered_of, resolve}
-use Rattle.pearl_sound_sizes.proofs.Basics.{not_broken, really, both, all_append, all_filtered, AreAlike}
+use Rattle.pearl_sound_sizes.proofs.Basics.{not_broken, really, both, all_append, all_filtered}
 use Rattle.pearl_sound_sizes.proofs.Kept.{IsKept}
 use Rattle.pearl_sound_sizes.proofs.Routines.{IsTaskOf, tasks_alike}
 
@@ -53,7 +53,7 @@ task_urgent tree numbered task routine of kept =
     let same = of.priority in
     (omega (arith, low, same), omega (arith, high, same))
 
-all_urgent : (tree : ShownTree) (numbered : Numbered) (tasks : List PlainTask) (routines : List Routine) → AreAlike (IsTaskOf numbered) tasks routines →
+all_urgent : (tree : ShownTree) (numbered : Numbered) (tasks : List PlainTask) (routines : List Routine) → AllZip (IsTaskOf numbered) tasks routines →
     AllByRecursion (IsKept tree) routines → AllByRecursion (λ (task : PlainTask). (0 < task.priority) × (task.priority ≤ 255)) tasks
 all_urgent tree numbered [] [] alike kept = tt
 all_urgent tree numbered (task ∷ tasks) (routine ∷ routines) alike kept =

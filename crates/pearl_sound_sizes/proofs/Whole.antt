@@ -1,6 +1,6 @@
 -- A module's procedures by their numbers: each calls smaller ones alone, and weighs no more than the rule says.
 use Rattle.std.specs.Prelude.{◌≡◌, ℕ, zero, suc, ◌+◌, ◌≤◌, ◌<◌, max, nat_eq, Bool, true, false, if◌then◌else◌, List, [], ◌∷◌, ◌++◌, length, map, take, filter, filter_map, Option, Some, None, option_map, unwrap_or, slice_get}
-use Rattle.std.specs.List.{AllByRecursion, IsDistinct, list_any, cons_option}
+use Rattle.std.specs.List.{AllByRecursion, AllZip, IsDistinct, list_any, cons_option}
 use Rattle.std.specs.Str.{bytes_eq}
 use Rattle.std.proofs.Common.{refl, ap, ◌∙◌, sym, subst, arith}
 use Rattle.std.proofs.lemmas.Bool.{eqb-true}
@@ -17,7 +17,7 @@ use Rattle.pearl_calls.proofs.Adding.{add_up}
 use Rattle.pearl_calls.proofs.Following.{callees_first}
 use Rattle.pearl_check.specs.Calls.{Weighed, calls_of, number_of}
 use Rattle.pearl_check.specs.Routines.{Routine, is_procedure, is_task, routines_of}
-use Rattle.pearl_check.specs.Sizes.{caller_of, weighed_of, procedure_names, weighed_procedures}
+use Rattle.pearl_check.specs.Sizes.{caller_of, weighed_of, procedure_names, weighed_procedures, weighed_tasks}
 use Rattle.pearl_program.specs.PlainPrograms.{PlainRoutine, PlainProcedure, PlainTask}
 use Rattle.pearl_program.specs.Sound.{CallSmaller}
 use Rattle.pearl_program.specs.Weights.{greatest_of_all, values, weight, weights_behind, weights_of}
@@ -26,7 +26,7 @@ use Rattle.pearl_resolve.specs.Numbers.{first}
 use Rattle.pearl_resolve.specs.Expressions.{Numbered}
 use Rattle.pearl_resolve.specs.Resolve.{tasks_in, procedures_in, numbered_of, resolve}
 use Rattle.pearl_sound_sizes.specs.ByRule.{module_callers, calls_in, AreByRule}
-use Rattle.pearl_sound_sizes.proofs.Basics.{some_one, all_as, all_filtered, all_at, AreAlike, alike_length, alike_at}
+use Rattle.pearl_sound_sizes.proofs.Basics.{some_one, all_as, all_filtered, all_at, alike_length, alike_at}
 use Rattle.pearl_sound_sizes.proofs.Bounds.{routine_has_cells, routine_needs, IsWithin, routine_calls}
 use Rattle.pearl_sound_sizes.proofs.ByNumber.{something, among, placed, numbers_below, numbers_differ, numbers_whole, order_differs, any_passes, each_passes, same_place, AllFrom, all_numbered, count_numbered}
 use Rattle.pearl_sound_sizes.proofs.Kept.{IsKept}
@@ -46,7 +46,7 @@ from_taken (y ∷ xs) (suc n) (suc m) x is =
     let more = from_taken xs n m x is in record { there = more.there; less = let a = more.less in omega (arith, a) }
 
 -- procedures that have the same calls
-calls_at : (callers : List Caller) (k : ℕ) → callees callers k ≡ unwrap_or (slice_get (calls_in callers) k) []
+pub calls_at : (callers : List Caller) (k : ℕ) → callees callers k ≡ unwrap_or (slice_get (calls_in callers) k) []
 calls_at callers k =
     by (slice_get callers k) ∙ ap (λ found. unwrap_or found []) (sym (slice_get-map (λ (caller : Caller). caller.calls) callers k))
   where
@@ -114,7 +114,7 @@ module _ (tree : ShownTree) (devices : List SpecifiedDevice) (numbers : List ℕ
   abbrev callers : List Caller
   callers = module_callers tree
 
-  alike : AreAlike (IsProcedureOf numbered) procedures routines
+  alike : AllZip (IsProcedureOf numbered) procedures routines
   alike = procedures_alike numbered first tree.declarations
 
   as_many_names : length names ≡ length routines
@@ -294,19 +294,48 @@ module _ (tree : ShownTree) (devices : List SpecifiedDevice) (numbers : List ℕ
       pub procedure_weights : AllByRecursion (λ w. w ≤ 4096) (weights_of (resolve table devices numbers tree).procedures)
       procedure_weights = all_weights.0
 
-      tasks_weigh : (tasks : List PlainTask) (list : List Routine) → AreAlike (IsTaskOf numbered) tasks list → AllByRecursion (IsKept tree) list →
-          AllByRecursion (λ (weighed : Weighed). whole_weight callers weighed.caller ≤ 4096) (map (weighed_of table names) list) →
+      -- the weights of tasks against those that the rule says
+      abbrev TaskWeighsNoMore : PlainTask → Weighed → Type 0
+      TaskWeighsNoMore task weighed =
+          weight (weights_of (resolve table devices numbers tree).procedures) task.routine ≤ whole_weight callers weighed.caller
+
+      tasks_weigh : (tasks : List PlainTask) (list : List Routine) → AllZip (IsTaskOf numbered) tasks list → AllByRecursion (IsKept tree) list →
+          AllZip TaskWeighsNoMore tasks (map (weighed_of table names) list)
+      tasks_weigh [] [] of all = tt
+      tasks_weigh (task ∷ tasks) (routine ∷ list) of all = (
+        routine_weight (weights_of (resolve table devices numbers tree).procedures) all_weights.1 task.routine routine of.0.own all.0,
+        tasks_weigh tasks list of.1 all.1,
+      )
+      tasks_weigh [] (routine ∷ list) of all = absurd of
+      tasks_weigh (task ∷ tasks) [] of all = absurd of
+
+      pub tasks_weigh_no_more : AllZip (λ (task : PlainTask) (weighed : Weighed).
+          weight (weights_of (resolve table devices numbers tree).procedures) task.routine ≤ whole_weight callers weighed.caller)
+          (resolve table devices numbers tree).tasks (weighed_tasks table (routines_of tree))
+      tasks_weigh_no_more =
+          tasks_weigh (tasks_in numbered first tree.declarations) (filter is_task (routines_of tree)) (tasks_alike numbered first tree.declarations)
+          (all_filtered (IsKept tree) is_task (routines_of tree) kept)
+
+      pub procedures_weigh_no_more : (k number : ℕ) (weighed : Weighed) → slice_get numbers k ≡ Some number →
+          slice_get (weighed_procedures table (routines_of tree)) k ≡ Some weighed →
+          unwrap_or (slice_get (weights_of (resolve table devices numbers tree).procedures) number) 0 ≤ whole_weight callers weighed.caller
+      procedures_weigh_no_more k number weighed is there =
+          subst (λ n. unwrap_or (slice_get (weights_of (resolve table devices numbers tree).procedures) n) 0 ≤ whole_weight callers weighed.caller)
+          (ap (λ found. unwrap_or found 0) is)
+          (all_weights.1 k weighed.caller
+          (slice_get-map (λ (weighed : Weighed). weighed.caller) (weighed_procedures table (routines_of tree)) k ∙
+          ap (option_map (λ (weighed : Weighed). weighed.caller)) there))
+
+      all_light : (tasks : List PlainTask) (list : List Weighed) → AllZip TaskWeighsNoMore tasks list →
+          AllByRecursion (λ (weighed : Weighed). whole_weight callers weighed.caller ≤ 4096) list →
           AllByRecursion (λ (task : PlainTask). weight (weights_of (resolve table devices numbers tree).procedures) task.routine ≤ 4096) tasks
-      tasks_weigh [] [] of all low = tt
-      tasks_weigh (task ∷ tasks) (routine ∷ list) of all low =
-          let own = routine_weight (weights_of (resolve table devices numbers tree).procedures) all_weights.1 task.routine routine of.0.own all.0 in
-          let light = low.0 in
-          (omega (arith, own, light), tasks_weigh tasks list of.1 all.1 low.1)
-      tasks_weigh [] (routine ∷ list) of all low = absurd of
-      tasks_weigh (task ∷ tasks) [] of all low = absurd of
+      all_light [] [] all low = tt
+      all_light (task ∷ tasks) (weighed ∷ list) all low =
+          let own = all.0 in let light = low.0 in (omega (arith, own, light), all_light tasks list all.1 low.1)
+      all_light [] (weighed ∷ list) all low = absurd all
+      all_light (task ∷ tasks) [] all low = absurd all
 
       pub task_weights : AllByRecursion (λ (task : PlainTask). weight (weights_of (resolve table devices numbers tree).procedures) task.routine ≤ 4096)
           (resolve table devices numbers tree).tasks
       task_weights =
-          tasks_weigh (tasks_in numbered first tree.declarations) (filter is_task (routines_of tree)) (tasks_alike numbered first tree.declarations)
-          (all_filtered (IsKept tree) is_task (routines_of tree) kept) limits.task_weights
+          all_light (resolve table devices numbers tree).tasks (weighed_tasks table (routines_of tree)) tasks_weigh_no_more limits.task_weights

@@ -1,6 +1,21 @@
 // What holds of the numbers of procedures, of sizes and of tasks in the program of a module.
 
-ghost use Rattle.pearl_sound_sizes.specs.Laws.{NumbersAreWhole, ProceduresCallSmaller, SizesAreTold, SizesAreWithin, TasksAreNamed, TasksAreUrgent};
+ghost use Rattle.pearl_sound_sizes.specs.Laws.{CellsAreCounted, HeldCallersHaveTheirCalls, NoneCallsItself, NumbersAreReadOff, NumbersAreWhole, ProceduresCallSmaller, SizesAreTold, SizesAreWithin, TasksAreNamed, TasksAreUrgent, WeightsAreNoMore};
+
+/// The procedures that are held in memory have the module's calls.
+pub fn held_callers_have_their_calls()
+    ensures { HeldCallersHaveTheirCalls }
+{}
+
+/// In a module that breaks no static rule no procedure calls itself, directly or through others.
+pub fn none_calls_itself()
+    ensures { NoneCallsItself }
+{}
+
+/// What is read off a numbering are the numbers by the rule.
+pub fn numbers_are_read_off()
+    ensures { NumbersAreReadOff }
+{}
 
 /// By the rule there are as many numbers as procedures.
 pub fn numbers_are_whole()
@@ -10,6 +25,16 @@ pub fn numbers_are_whole()
 /// In a module that breaks no static rule, where procedures have the numbers by the rule, each calls only smaller ones.
 pub fn procedures_call_smaller()
     ensures { ProceduresCallSmaller }
+{}
+
+/// Each task or procedure has as many cells as the rule on weights counts.
+pub fn cells_are_counted()
+    ensures { CellsAreCounted }
+{}
+
+/// In a module that breaks no static rule tasks and procedures weigh no more than the rule says.
+pub fn weights_are_no_more()
+    ensures { WeightsAreNoMore }
 {}
 
 /// The program of a module that breaks no static rule has sizes and weights within their limits.
