@@ -1,0 +1,17 @@
+pub mod Basics
+pub mod Measures
+pub mod Scopes
+pub mod MeasuredStatements
+pub mod Cells
+pub mod Called
+pub mod ByNumber
+pub mod Kept
+pub mod Routines
+pub mod Bounds
+pub mod Counts
+pub mod Limits
+pub mod Whole
+pub mod Devices
+pub mod Tasks
+pub mod Given
+pub mod Sized

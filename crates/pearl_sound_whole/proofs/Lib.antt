@@ -1,0 +1,2 @@
+pub mod RightRenewals
+pub mod Whole

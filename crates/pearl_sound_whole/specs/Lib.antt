@@ -1,0 +1,2 @@
+-- that the program of a module is sound
+pub mod Laws
