@@ -92,7 +92,7 @@ InitFillsSlots = (name : List ℕ) (constants : List ShownConst) (leaves : List 
 abbrev pub HasLeaves : Numbered → List Leaf → Name → Type 0
 HasLeaves numbered leaves name = (thing : Meant) × (meant numbered (Within 0) name ≡ Some thing) × (leaves_of_sense thing.sense ≡ leaves)
 
--- so do those of several names that are declared together
+-- the slots of names that are declared together hold what INIT puts into them one after the other
 abbrev pub InitFillsNames : Type 0
 InitFillsNames = (numbered : Numbered) (constants : List ShownConst) (names : List Name) (leaves : List Leaf) →
     AllByRecursion (HasLeaves numbered leaves) names →

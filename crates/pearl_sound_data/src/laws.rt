@@ -47,7 +47,7 @@ pub fn init_fills_slots()
     ensures { InitFillsSlots }
 {}
 
-/// So do those of several names that are declared together.
+/// The slots of names that are declared together hold what INIT puts into them one after the other.
 pub fn init_fills_names()
     ensures { InitFillsNames }
 {}
