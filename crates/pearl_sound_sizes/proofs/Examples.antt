@@ -1,5 +1,5 @@
 -- Where the rule on weights counts more than the program has: UPB v and TRY s are two pieces of a text each, and one value.
-use Rattle.std.specs.Prelude.{◌≡◌, ℕ, ◌-◌, [], length, Option, Some, None, slice_get}
+use Rattle.std.specs.Prelude.{◌≡◌, ◌-◌, [], length, Option, Some, None, slice_get}
 use Rattle.std.proofs.Common.{refl}
 use Rattle.pearl_tree.specs.declared.name.Name.{Name}
 use Rattle.pearl_tree.specs.declared.expression.Side.TheVariants.{Upper}
