@@ -15,3 +15,4 @@ pub mod Devices
 pub mod Tasks
 pub mod Given
 pub mod Sized
+pub mod Examples
