@@ -1,24 +1,31 @@
 // The program of a module that breaks no rule.
 #![tactic(auto)]
 
-ghost use Rattle.std.specs.Prelude.{◌≡◌, [], map, take, IfOk, IfErr};
+ghost use Rattle.std.specs.Prelude.{◌≡◌, List, [], IfOk, IfErr};
 ghost use Rattle.pearl_calls.specs.Numbers.{AreNumbers};
 ghost use Rattle.pearl_check.specs.Checks.{IsRefused};
 ghost use Rattle.pearl_check.specs.Rules.{all_broken};
 ghost use Rattle.pearl_program.specs.PlainPrograms.{plain_prog};
+ghost use Rattle.pearl_tree.specs.declared.token.Token.{Token};
+ghost use Rattle.pearl_tree.specs.Lawful.{IsLawful};
+ghost use Rattle.pearl_tree.specs.Modules.{Spells};
 ghost use Rattle.pearl_tree.specs.ShownModules.{shown_tree};
 ghost use Rattle.pearl_module.specs.Programs.{IsProgramOf};
+
+pub mod laws;
 
 use pearl_calls::numbering::Numbering;
 use pearl_check::accept::accept;
 use pearl_check::fault::CheckFault;
-use pearl_program::program::Program;
+use pearl_program::prog::Prog;
 use pearl_resolve::program::resolve;
 use pearl_tree::tree::Tree;
 use std::alloc::{AllocError, Global};
 
 /// The program that a module means, or the first rule that it breaks.
-pub fn program_of(alloc: Global, tree: &Tree) -> Result<Program, CheckFault>
+pub fn program_of(alloc: Global, tree: &Tree) -> Result<Prog, CheckFault>
+    requires spelled { (tokens : List Token) × Spells tree.now tokens }
+    requires lawful { IsLawful tree.now }
     ensures accepted { IfOk result (λ program. all_broken (shown_tree tree.now) ≡ []) }
     ensures program { IfOk result (λ program. IsProgramOf (shown_tree tree.now) (plain_prog program)) }
     ensures refused { IfErr result (λ fault. IsRefused (shown_tree tree.now) fault) }
@@ -32,7 +39,7 @@ pub fn program_of(alloc: Global, tree: &Tree) -> Result<Program, CheckFault>
         procedures.as_slice(),
         tree,
     )?;
-    Ok(program)
+    Ok(Prog::new(program))
 }
 
 // The numbers of procedures in order of declaration, each in 32 bits.

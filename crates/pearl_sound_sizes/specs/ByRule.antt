@@ -6,19 +6,13 @@ use Rattle.pearl_system.specs.declared.device.SpecifiedDevice.{SpecifiedDevice}
 use Rattle.pearl_calls.specs.Callers.{Caller}
 use Rattle.pearl_calls.specs.Numberings.{IsNumbering}
 use Rattle.pearl_calls.specs.Numbers.{AreNumbers}
-use Rattle.pearl_check.specs.Calls.{callers_of}
-use Rattle.pearl_check.specs.Routines.{routines_of}
-use Rattle.pearl_check.specs.Sizes.{weighed_procedures}
+pub use Rattle.pearl_check.specs.Checks.{module_callers}
 use Rattle.pearl_program.specs.PlainPrograms.{PlainProg}
 use Rattle.pearl_resolve.specs.Resolve.{resolve}
 
 -- with these devices and these numbers of procedures
 abbrev pub program : ShownTree → List SpecifiedDevice → List ℕ → PlainProg
 program tree devices numbers = resolve (table_of tree) devices numbers tree
-
--- the procedures of a module in order of declaration, each with its calls and its own weight
-abbrev pub module_callers : ShownTree → List Caller
-module_callers tree = callers_of (weighed_procedures (table_of tree) (routines_of tree))
 
 abbrev pub calls_in : List Caller → List (List ℕ)
 calls_in callers = map (λ (caller : Caller). caller.calls) callers

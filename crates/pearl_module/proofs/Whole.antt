@@ -22,7 +22,7 @@ use Rattle.pearl_sound.proofs.SoundRoutines.{routines_sound}
 use Rattle.pearl_sound_sizes.specs.ByRule.{AreByRule}
 use Rattle.pearl_sound_sizes.proofs.Sized.{smaller_called, sizes_within}
 use Rattle.pearl_sound_sizes.proofs.Whole.{whole}
-use Rattle.pearl_sound_whole.proofs.RightRenewals.{bodies_right}
+use Rattle.pearl_module.proofs.RightRenewals.{bodies_right}
 
 pub program_sound : (tree : Tree) (tokens : List Token) → Spells tree tokens → IsLawful tree → all_broken (shown_tree tree) ≡ [] →
     (devices : List SpecifiedDevice) (numbers : List ℕ) → Lists device_key (IsDevice (shown_tree tree)) devices →

@@ -1,2 +1,0 @@
--- that the program of a module is sound
-pub mod Laws
