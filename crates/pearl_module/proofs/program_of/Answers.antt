@@ -1,7 +1,8 @@
-use Rattle.std.proofs.Common.{◌≡◌, refl, sym, subst, ◌∙◌}
+use Rattle.std.proofs.Common.{refl, sym, subst, ap, ◌∙◌}
 use Rattle.pearl_tree.specs.ShownModules.{shown_tree}
 use Rattle.pearl_names.specs.Tables.{table_of}
 use Rattle.pearl_check.specs.Checks.{module_callers}
+use Rattle.pearl_program.specs.PlainPrograms.{plain_prog}
 use Rattle.pearl_program.specs.Sound.{IsSound}
 use Rattle.pearl_resolve.specs.Resolve.{resolve}
 use Rattle.pearl_sound_sizes.specs.ByRule.{AreByRule}
@@ -36,6 +37,6 @@ returns-clause-program c =
       by_rule = c.in_ok-accepted.ensures.numbering;
       numbers = c.in_ok-procedures.procedures.items;
       numbered = c.in_ok-procedures.ensures;
-      is = c.in_ok-program.ensures (table_of tree) c.in_ok-accepted.ensures.table
+      is = ap plain_prog c.new.ensures ∙ c.in_ok-program.ensures (table_of tree) c.in_ok-accepted.ensures.table
           ∙ (λ i. resolve (table_of tree) (c.as_slice.ensures i) (c.as_slice-2.ensures.value i) tree);
     }
