@@ -1,5 +1,5 @@
 -- The laws of numbers, sizes and tasks.
-use Rattle.std.specs.Prelude.{◌≡◌, ℕ, ◌≤◌, ◌<◌, IsTrue, List, [], ◌∷◌, length, filter}
+use Rattle.std.specs.Prelude.{◌≡◌, ℕ, ◌≤◌, ◌<◌, IsTrue, List, [], ◌∷◌, length, filter, None}
 use Rattle.std.specs.List.{AllByRecursion, AllZip}
 use Rattle.std.proofs.Common.{◌∙◌, sym, arith}
 use Rattle.std.proofs.lemmas.List.{length-map}
@@ -15,13 +15,13 @@ use Rattle.pearl_system.specs.Rising.{Lists}
 use Rattle.pearl_check.specs.Rules.{all_broken}
 use Rattle.pearl_check.specs.Routines.{Routine, is_procedure, is_task, routines_of}
 use Rattle.pearl_check.specs.Sizes.{task_count, procedure_count, semaphore_count, slot_count, cells_of}
-use Rattle.pearl_program.specs.PlainPrograms.{PlainProcedure, PlainTask}
-use Rattle.pearl_program.specs.Sound.{CallSmaller, HasSizes, is_id}
+use Rattle.pearl_program.specs.PlainPrograms.{PlainProcedure, PlainTask, PlainProg}
+use Rattle.pearl_program.specs.Sound.{IsRoutine, CallSmaller, is_id, IsTask, HasSizes, IsSound}
 use Rattle.pearl_resolve.specs.Numbers.{first}
 use Rattle.pearl_resolve.specs.Expressions.{Numbered}
 use Rattle.pearl_resolve.specs.Resolve.{device_of, tasks_in, procedures_in, numbered_of, resolve}
-use Rattle.pearl_sound_sizes.specs.ByRule.{AreByRule}
-use Rattle.pearl_sound_sizes.specs.Laws.{HasToldSizes, HasCountedCells, WeighsNoMore}
+use Rattle.pearl_sound_sizes.specs.ByRule.{program, AreByRule}
+use Rattle.pearl_sound_sizes.specs.Laws.{HasToldSizes, HasCountedCells, WeighsNoMore, RestIsSound}
 use Rattle.pearl_sound_sizes.proofs.Bounds.{routine_has_cells}
 use Rattle.pearl_sound_sizes.proofs.Routines.{IsProcedureOf, IsTaskOf, procedures_alike, tasks_alike}
 use Rattle.pearl_sound_sizes.proofs.Counts.{module_size, all_semaphores, all_tasks, all_procedures, all_slots, declared_once}
@@ -106,4 +106,28 @@ weigh_no_more tree devices numbers none by_rule =
     record {
       procedures = procedures_weigh_no_more tree devices numbers by_rule kept limits;
       tasks = tasks_weigh_no_more tree devices numbers by_rule kept limits;
+    }
+
+tasks_sound : (p : PlainProg) (tasks : List PlainTask) → AllByRecursion (λ (task : PlainTask). IsTrue (is_id task.name)) tasks →
+    AllByRecursion (λ (task : PlainTask). (0 < task.priority) × (task.priority ≤ 255)) tasks →
+    AllByRecursion (λ (task : PlainTask). IsRoutine p 0 None task.routine) tasks → AllByRecursion (IsTask p) tasks
+tasks_sound p [] names priorities routines = tt
+tasks_sound p (task ∷ rest) names priorities routines =
+    (record { named = names.0; urgent = priorities.0; routine = routines.0 }, tasks_sound p rest names.1 priorities.1 routines.1)
+
+pub rest_sound : (tree : Tree) (devices : List SpecifiedDevice) (numbers : List ℕ) → IsLawful tree → all_broken (shown_tree tree) ≡ [] →
+    Lists device_key (IsDevice (shown_tree tree)) devices → AreByRule (shown_tree tree) numbers →
+    RestIsSound (program (shown_tree tree) devices numbers) → IsSound (program (shown_tree tree) devices numbers)
+rest_sound tree devices numbers lawful none lists by_rule rest =
+    let p = program (shown_tree tree) devices numbers in
+    record {
+      leaves = rest.leaves;
+      semaphores = rest.semaphores;
+      devices = rest.devices;
+      rising = rest.rising;
+      formats = rest.formats;
+      procedures = rest.procedures;
+      order = smaller_called (shown_tree tree) devices numbers none by_rule;
+      tasks = tasks_sound p p.tasks (ids tree devices numbers lawful) (urgent (shown_tree tree) devices numbers none) rest.tasks;
+      sizes = sizes_within (shown_tree tree) devices numbers none lists by_rule;
     }

@@ -1,5 +1,5 @@
 -- What holds of the numbers of procedures, of sizes and of tasks in the program of a module.
-use Rattle.std.specs.Prelude.{◌≡◌, ℕ, ◌≤◌, ◌<◌, IsTrue, List, [], length, filter, Some, unwrap_or, slice_get}
+use Rattle.std.specs.Prelude.{◌≡◌, ℕ, ◌≤◌, ◌<◌, IsTrue, List, [], length, filter, Some, None, unwrap_or, slice_get}
 use Rattle.std.specs.List.{AllByRecursion, AllZip, sum_by}
 use Rattle.pearl_tree.specs.declared.tree.Tree.{Tree}
 use Rattle.pearl_tree.specs.Lawful.{IsLawful}
@@ -20,8 +20,9 @@ use Rattle.pearl_check.specs.Routines.{Routine, is_procedure, is_task, routines_
 use Rattle.pearl_check.specs.Rules.{all_broken}
 use Rattle.pearl_check.specs.Sizes.{cells_of, weighed_procedures, weighed_tasks}
 use Rattle.pearl_check.specs.Weighing.{HoldsWeighed}
-use Rattle.pearl_program.specs.PlainPrograms.{PlainLeaf, PlainRoutine, PlainProcedure, PlainTask}
-use Rattle.pearl_program.specs.Sound.{CallSmaller, HasSizes, is_id}
+use Rattle.pearl_program.specs.PlainPrograms.{PlainLeaf, PlainRoutine, PlainProcedure, PlainTask, PlainProg}
+use Rattle.pearl_program.specs.Sound as sound
+use Rattle.pearl_program.specs.Sound.{IsLeaf, AreRising, IsFormat, IsRoutine, IsProcedure, CallSmaller, is_id, IsPreset, HasSizes, IsSound}
 use Rattle.pearl_program.specs.Weights.{weight, weights_of}
 use Rattle.pearl_resolve.specs.Numbers.{first}
 use Rattle.pearl_resolve.specs.Resolve.{procedures_in, numbered_of}
@@ -108,3 +109,19 @@ abbrev pub TasksAreNamed : Type 0
 TasksAreNamed = (tree : Tree) (devices : List SpecifiedDevice) (numbers : List ℕ) → IsLawful tree →
     AllByRecursion (λ (task : PlainTask). IsTrue (is_id task.name))
     (program (shown_tree tree) devices numbers).tasks
+
+-- what else is asked of a sound program
+pub record RestIsSound (p : PlainProg) : Type 0 where
+  pub leaves : AllByRecursion IsLeaf p.leaves
+  pub semaphores : AllByRecursion IsPreset p.semaphores
+  pub devices : AllByRecursion sound.IsDevice p.devices
+  pub rising : AreRising p.devices
+  pub formats : AllByRecursion IsFormat p.formats
+  pub procedures : AllByRecursion (IsProcedure p) p.procedures
+  pub tasks : AllByRecursion (λ (task : PlainTask). IsRoutine p 0 None task.routine) p.tasks
+
+-- where the tree is lawful and breaks no static rule, and procedures have the numbers by the rule, nothing else is left to ask
+abbrev pub RestMakesSound : Type 0
+RestMakesSound = (tree : Tree) (devices : List SpecifiedDevice) (numbers : List ℕ) → IsLawful tree → all_broken (shown_tree tree) ≡ [] →
+    Lists device_key (IsDevice (shown_tree tree)) devices → AreByRule (shown_tree tree) numbers →
+    RestIsSound (program (shown_tree tree) devices numbers) → IsSound (program (shown_tree tree) devices numbers)

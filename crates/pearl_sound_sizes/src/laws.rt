@@ -1,6 +1,6 @@
 // What holds of the numbers of procedures, of sizes and of tasks in the program of a module.
 
-ghost use Rattle.pearl_sound_sizes.specs.Laws.{CellsAreCounted, HeldCallersHaveTheirCalls, NoneCallsItself, NumbersAreReadOff, NumbersAreWhole, ProceduresCallSmaller, SizesAreTold, SizesAreWithin, TasksAreNamed, TasksAreUrgent, WeightsAreNoMore};
+ghost use Rattle.pearl_sound_sizes.specs.Laws.{CellsAreCounted, HeldCallersHaveTheirCalls, NoneCallsItself, NumbersAreReadOff, NumbersAreWhole, ProceduresCallSmaller, RestMakesSound, SizesAreTold, SizesAreWithin, TasksAreNamed, TasksAreUrgent, WeightsAreNoMore};
 
 /// The procedures that are held in memory have the module's calls.
 pub fn held_callers_have_their_calls()
@@ -55,4 +55,9 @@ pub fn tasks_are_urgent()
 /// The tasks of a lawful tree have ids as names.
 pub fn tasks_are_named()
     ensures { TasksAreNamed }
+{}
+
+/// The program of a lawful tree that breaks no static rule is sound, once its leaves, presets, devices, formats and routines are.
+pub fn rest_makes_sound()
+    ensures { RestMakesSound }
 {}
