@@ -8,7 +8,7 @@ use Rattle.pearl_tree.specs.Standing.{Spelling, what_at, place_at, IsAt}
 use Rattle.pearl_parse_expr.specs.declared.reading.Halt.{Halt}
 use Rattle.pearl_parse_expr.specs.declared.reading.Halt.TheVariants.{Refused, NoMemory}
 use Rattle.pearl_parse_expr.specs.Stops.{IsHalted}
-use Rattle.pearl_parse_expr.specs.Least.{AlikeBefore, LawfulFrom, Reaches, GoesTo, GoesToHalt}
+use Rattle.pearl_parse_expr.specs.Least.{AlikeBefore, LawfulFrom, ReachesIn, GoesIn, HaltsIn, Reaches}
 use Rattle.pearl_parse_expr.proofs.Local as local
 
 -- these tokens before number n, and behind them others
@@ -96,9 +96,9 @@ IsLocal {X} spells =
 
 module _ {X : Type 0} (spells : List Token → Spelling X) (tokens : List Token) where
   -- these tokens, and others behind them
-  pub completed : (from stop : ℕ) (more : List Token) (x : X) → stop ≤ length tokens → 8 * from + length more ≤ 8 * stop + 16 → Lawful more →
-      (AlikeBefore tokens (begun tokens stop more) stop → spells (begun tokens stop more) from x (stop + length more)) → Reaches spells tokens from stop
-  completed from stop more x within few lawful spelled =
+  pub completed_in : (room from stop : ℕ) (more : List Token) (x : X) → stop ≤ length tokens → 8 * from + length more ≤ 8 * stop + room → Lawful more →
+      (AlikeBefore tokens (begun tokens stop more) stop → spells (begun tokens stop more) from x (stop + length more)) → ReachesIn room spells tokens from stop
+  completed_in room from stop more x within few lawful spelled =
       let size : length (begun tokens stop more) ≡ stop + length more = begun_length tokens stop more within in
       record {
         others = begun tokens stop more;
@@ -110,23 +110,31 @@ module _ {X : Type 0} (spells : List Token → Spelling X) (tokens : List Token)
         spelled = subst (λ k. spells (begun tokens stop more) from x k) (sym size) (spelled (begun_alike tokens stop more within));
       }
 
+  pub completed : (from stop : ℕ) (more : List Token) (x : X) → stop ≤ length tokens → 8 * from + length more ≤ 8 * stop + 16 → Lawful more →
+      (AlikeBefore tokens (begun tokens stop more) stop → spells (begun tokens stop more) from x (stop + length more)) → Reaches spells tokens from stop
+  completed = completed_in 16
+
   -- the part that the tokens themselves spell
-  pub reached : IsLocal spells → (from : ℕ) (x : X) (to : ℕ) → spells tokens from x to → from ≤ to → to ≤ length tokens → Reaches spells tokens from to
-  reached local from x to h ahead within =
-      completed from to [] x within (omega arith) none_lawful
+  pub reached : {room : ℕ} → IsLocal spells → (from : ℕ) (x : X) (to : ℕ) → spells tokens from x to → from ≤ to → to ≤ length tokens → ReachesIn room spells tokens from to
+  reached {room} local from x to h ahead within =
+      completed_in room from to [] x within (omega arith) none_lawful
       (λ alike. let same : to ≡ to + 0 = omega arith in
       subst (λ k. spells (begun tokens to []) from x k) same (local tokens (begun tokens to []) to alike from x to h (omega arith)))
 
   -- the part that was read, or another one
-  pub reach_of : IsLocal spells → (from : ℕ) (x : X) (end stop : ℕ) → spells tokens from x end → from ≤ end → end ≤ length tokens →
-      GoesTo spells tokens from end stop → Reaches spells tokens from stop
-  reach_of local from x end stop h ahead within g = by g.goes
+  pub reach_of : {room : ℕ} → IsLocal spells → (from : ℕ) (x : X) (end stop : ℕ) → spells tokens from x end → from ≤ end → end ≤ length tokens →
+      GoesIn room spells tokens from end stop → ReachesIn room spells tokens from stop
+  reach_of {room} local from x end stop h ahead within g = by g.goes
     where
-      by : (stop ≡ end) ⊎ Reaches spells tokens from stop → Reaches spells tokens from stop
-      by (inl same) = subst (λ k. Reaches spells tokens from k) (sym same) (reached local from x end h ahead within)
+      by : (stop ≡ end) ⊎ ReachesIn room spells tokens from stop → ReachesIn room spells tokens from stop
+      by (inl same) = subst (λ k. ReachesIn room spells tokens from k) (sym same) (reached local from x end h ahead within)
       by (inr r) = r
 
-  pub goes : (from end stop : ℕ) → Reaches spells tokens from stop → GoesTo spells tokens from end stop
+  pub more_room : (room more from stop : ℕ) → room ≤ more → ReachesIn room spells tokens from stop → ReachesIn more spells tokens from stop
+  more_room room more from stop below r =
+      record { others = r.others; alike = r.alike; long = r.long; short = omega (arith, r.short); lawful = r.lawful; part = r.part; spelled = r.spelled }
+
+  pub goes : {room : ℕ} → (from end stop : ℕ) → ReachesIn room spells tokens from stop → GoesIn room spells tokens from end stop
   goes from end stop r = record { goes = inr r }
 
 larger : (a b c : ℕ) → c ≡ max a b → (c ≡ a) ⊎ (c ≡ b)
@@ -136,62 +144,67 @@ larger a b c is = by (order a b)
     by (inl e) = inr (omega (arith, is))
     by (inr e) = inl (omega (arith, is))
 
-module _ {X : Type 0} (spells : List Token → Spelling X) (tokens : List Token) (from a b c : ℕ) (is : c ≡ max a b) (first : Reaches spells tokens from a) where
-  pub reaches_max : Reaches spells tokens from b → Reaches spells tokens from c
+module _ {X : Type 0} {room : ℕ} (spells : List Token → Spelling X) (tokens : List Token) (from a b c : ℕ) (is : c ≡ max a b) (first : ReachesIn room spells tokens from a) where
+  pub reaches_max : ReachesIn room spells tokens from b → ReachesIn room spells tokens from c
   reaches_max second = by (larger a b c is)
     where
-      by : (c ≡ a) ⊎ (c ≡ b) → Reaches spells tokens from c
-      by (inl e) = subst (λ k. Reaches spells tokens from k) (sym e) first
-      by (inr e) = subst (λ k. Reaches spells tokens from k) (sym e) second
+      by : (c ≡ a) ⊎ (c ≡ b) → ReachesIn room spells tokens from c
+      by (inl e) = subst (λ k. ReachesIn room spells tokens from k) (sym e) first
+      by (inr e) = subst (λ k. ReachesIn room spells tokens from k) (sym e) second
 
   -- a part that was read to b, where some part goes on as far as a
-  pub goes_max : GoesTo spells tokens from b c
+  pub goes_max : GoesIn room spells tokens from b c
   goes_max = record { goes = by (larger a b c is) }
     where
-      by : (c ≡ a) ⊎ (c ≡ b) → (c ≡ b) ⊎ Reaches spells tokens from c
-      by (inl e) = inr (subst (λ k. Reaches spells tokens from k) (sym e) first)
+      by : (c ≡ a) ⊎ (c ≡ b) → (c ≡ b) ⊎ ReachesIn room spells tokens from c
+      by (inl e) = inr (subst (λ k. ReachesIn room spells tokens from k) (sym e) first)
       by (inr e) = inl e
 
 module _ {X Y : Type 0} (spells : List Token → Spelling X) (whole : List Token → Spelling Y) (tokens : List Token) (from at : ℕ) where
   -- what a part from `at` makes of the tokens before it
-  abbrev pub Ends : ℕ → Type 0
-  Ends stop =
-      (others : List Token) → AlikeBefore tokens others stop → stop ≤ length others → length others + 8 * from ≤ 9 * stop + 16 →
+  abbrev pub EndsIn : ℕ → ℕ → Type 0
+  EndsIn room stop =
+      (others : List Token) → AlikeBefore tokens others stop → stop ≤ length others → length others + 8 * from ≤ 9 * stop + room →
       (x : X) → spells others at x (length others) → (y : Y) × whole others from y (length others)
 
   -- a part that ends with another one
-  pub reaches_as : (stop : ℕ) → from ≤ at → Ends stop → Reaches spells tokens at stop → Reaches whole tokens from stop
-  reaches_as stop before makes r =
-      let short : length r.others + 8 * from ≤ 9 * stop + 16 = omega (arith, r.short) in
+  pub reaches_as_in : (inner room stop : ℕ) → inner + 8 * from ≤ room + 8 * at → EndsIn room stop → ReachesIn inner spells tokens at stop → ReachesIn room whole tokens from stop
+  reaches_as_in inner room stop fits makes r =
+      let short : length r.others + 8 * from ≤ 9 * stop + room = omega (arith, r.short) in
       let made = makes r.others r.alike r.long short r.part r.spelled in
       record { others = r.others; alike = r.alike; long = r.long; short = short; lawful = r.lawful; part = made.0; spelled = made.1 }
 
-  pub goes_as : (end stop : ℕ) → (Reaches spells tokens at stop → Reaches whole tokens from stop) → GoesTo spells tokens at end stop → GoesTo whole tokens from end stop
-  goes_as end stop step g = record { goes = by g.goes }
+  pub reaches_as : (stop : ℕ) → from ≤ at → EndsIn 16 stop → Reaches spells tokens at stop → Reaches whole tokens from stop
+  reaches_as stop before = reaches_as_in 16 16 stop (omega arith)
+
+  pub goes_as : {inner room : ℕ} → (end stop : ℕ) → (ReachesIn inner spells tokens at stop → ReachesIn room whole tokens from stop) → GoesIn inner spells tokens at end stop →
+      GoesIn room whole tokens from end stop
+  goes_as {inner} {room} end stop step g = record { goes = by g.goes }
     where
-      by : (stop ≡ end) ⊎ Reaches spells tokens at stop → (stop ≡ end) ⊎ Reaches whole tokens from stop
+      by : (stop ≡ end) ⊎ ReachesIn inner spells tokens at stop → (stop ≡ end) ⊎ ReachesIn room whole tokens from stop
       by (inl h) = inl h
       by (inr h) = inr (step h)
 
-  pub halts_as : (halt : Halt) → ((stop : ℕ) → at ≤ stop → stop ≤ length tokens → Reaches spells tokens at stop → Reaches whole tokens from stop) →
-      IsHalted spells tokens at halt → GoesToHalt spells tokens at halt → GoesToHalt whole tokens from halt
+  pub halts_as : {inner room : ℕ} → (halt : Halt) → ((stop : ℕ) → at ≤ stop → stop ≤ length tokens → ReachesIn inner spells tokens at stop → ReachesIn room whole tokens from stop) →
+      IsHalted spells tokens at halt → HaltsIn inner spells tokens at halt → HaltsIn room whole tokens from halt
   halts_as NoMemory step h r = tt
   halts_as (Refused stop) step h r = step stop h.1 h.2 r
 
   -- what a part from `at` and one token make of the tokens before them
-  abbrev pub Closes : ℕ → Token → Type 0
-  Closes stop last =
-      (others : List Token) → AlikeBefore tokens others stop → length others + 8 * from ≤ 9 * stop + 16 →
+  abbrev pub ClosesIn : ℕ → ℕ → Token → Type 0
+  ClosesIn room stop last =
+      (others : List Token) → AlikeBefore tokens others stop → length others + 8 * from ≤ 9 * stop + room →
       (m : ℕ) → length others ≡ m + 1 → slice_get others m ≡ Some last → (x : X) → spells others at x m → (y : Y) × whole others from y (m + 1)
 
   -- a part that ends with another one and one token
-  pub reaches_closed : (stop : ℕ) (last : Token) → from < at → IsLawfulWhat last.what → Closes stop last → IsLocal spells → Reaches spells tokens at stop → Reaches whole tokens from stop
-  reaches_closed stop last before known makes local r =
+  pub reaches_closed_in : (inner room stop : ℕ) (last : Token) → inner + 1 + 8 * from ≤ room + 8 * at → IsLawfulWhat last.what → ClosesIn room stop last → IsLocal spells →
+      ReachesIn inner spells tokens at stop → ReachesIn room whole tokens from stop
+  reaches_closed_in inner room stop last fits known makes local r =
       let m = length r.others in
       let others = begun r.others m (last ∷ []) in
       let same : m ≤ length r.others = omega arith in
       let size : length others ≡ m + 1 = begun_length r.others m (last ∷ []) same in
-      let short : length others + 8 * from ≤ 9 * stop + 16 = omega (arith, r.short) in
+      let short : length others + 8 * from ≤ 9 * stop + room = omega (arith, r.short) in
       let kept : AlikeBefore r.others others m = begun_alike r.others m (last ∷ []) same in
       let alike : AlikeBefore tokens others stop = λ j below. r.alike j below ∙ kept j (omega (arith, r.long)) in
       let made = makes others alike short m size (begun_last r.others m last same) r.part (local r.others others m kept at r.part m r.spelled (omega arith)) in
@@ -205,9 +218,12 @@ module _ {X Y : Type 0} (spells : List Token → Spelling X) (whole : List Token
         spelled = subst (λ k. whole others from made.0 k) (sym size) made.1;
       }
 
-pub reached_halt : {X : Type 0} (spells : List Token → Spelling X) (tokens : List Token) (from stop : ℕ) (halt : Halt) → halt ≡ Refused stop →
-    GoesToHalt spells tokens from halt → Reaches spells tokens from stop
-reached_halt spells tokens from stop halt is h = subst (λ halt. GoesToHalt spells tokens from halt) is h
+  pub reaches_closed : (stop : ℕ) (last : Token) → from < at → IsLawfulWhat last.what → ClosesIn 16 stop last → IsLocal spells → Reaches spells tokens at stop → Reaches whole tokens from stop
+  reaches_closed stop last before = reaches_closed_in 16 16 stop last (omega arith)
+
+pub reached_halt : {X : Type 0} {room : ℕ} (spells : List Token → Spelling X) (tokens : List Token) (from stop : ℕ) (halt : Halt) → halt ≡ Refused stop →
+    HaltsIn room spells tokens from halt → ReachesIn room spells tokens from stop
+reached_halt {X} {room} spells tokens from stop halt is h = subst (λ halt. HaltsIn room spells tokens from halt) is h
 
 -- ---- where a token stands
 
