@@ -37,7 +37,6 @@ use Rattle.pearl_sound.specs.SoundNames.{IsTerminal, IsChannel, LeadNames}
 use Rattle.pearl_sound.specs.Stretches.{routine_stretches, scope_stretch, stretches_in_all}
 use Rattle.pearl_sound.proofs.ByNumber.{all_at}
 use Rattle.pearl_sound.proofs.Dividing.{routine_divides}
-use Rattle.pearl_sound.proofs.Going.{all_go}
 use Rattle.pearl_sound.proofs.Leading.{Leads, thing_of}
 use Rattle.pearl_sound.proofs.LocalNames.{IsLocal}
 use Rattle.pearl_sound.proofs.ModuleCounts.{parted, semaphore_there, task_there, leaves_lie}
@@ -45,7 +44,7 @@ use Rattle.pearl_sound.proofs.ModuleEntries.{senses_append, get_at, gone, entry_
 use Rattle.pearl_sound.proofs.ModuleLeaves.{filled_parts}
 use Rattle.pearl_sound.proofs.ModuleProcedures.{callee_there}
 use Rattle.pearl_sound.proofs.Reaching.{part_of, plain_part, reach}
-use Rattle.pearl_sound.proofs.ScopesThere.{head_there, left_lies, right_lies, scope_named, decl_next, decls_lie}
+use Rattle.pearl_sound.proofs.ScopesThere.{head_there, left_lies, right_lies, scope_named, decl_next, decl_rows, decls_lie}
 use Rattle.pearl_sound.proofs.Sighted.{ScopeLeads, seen_in, seen_in_module, view_within, body_local, both_local, Surrounds, scope_leads, all_sighted}
 use Rattle.pearl_sound.proofs.SoundForms.{all_append, senses_sound}
 use Rattle.pearl_sound.proofs.Stretched.{Lies}
@@ -264,23 +263,13 @@ module _ (tree : ShownTree) (devices : List SpecifiedDevice) (procedures : List 
   decl_sighted types at (OfProc name params returns body place) some lies scoped =
       routine_sighted types at params body (Some (result_kind numbered.table.lengths returns)) some lies scoped
 
-  decl_rows : (at : At) (decl : ShownDecl) → length (decl_numbers numbered.table at decl) ≡ scopes_in_decl decl
-  decl_rows at (OfLength sort number place) = refl
-  decl_rows at (OfType name part place) = refl
-  decl_rows at (OfDeclare parts place) = refl
-  decl_rows at (OfSpecify specs place) = refl
-  decl_rows at (OfTask name head body place) =
-      let past = (all_go numbered at.next (in_body numbered.table at) (as_stmts body.statements)).each in omega (arith, past)
-  decl_rows at (OfProc name params returns body place) =
-      let past = (all_go numbered at.next (in_body numbered.table at) (as_stmts body.statements)).each in omega (arith, past)
-
   decls_sighted : (types : ℕ) (at : At) (decls : List ShownDecl) → 0 < at.next → Lies rows (decls_numbers numbered.table at decls) at.next →
       Lies (scopes_of tree) (decls_scopes types at.next decls) at.next → AllByRecursion IsSighted (decls_sights numbered program at decls)
   decls_sighted types at [] some lies scoped = tt
   decls_sighted types at (decl ∷ rest) some lies scoped =
       let next = after_decl numbered.table at decl in
       let past = decl_next numbered at decl in
-      let count = decl_rows at decl in
+      let count = decl_rows numbered at decl in
       all_append IsSighted (decl_sights numbered program at decl) (decls_sights numbered program next rest)
       (decl_sighted types at decl some (left_lies (decl_numbers numbered.table at decl) (decls_numbers numbered.table next rest) lies)
       (left_lies (decl_scopes types at.next decl) (decls_scopes (types + types_in decl) (at.next + scopes_in_decl decl) rest) scoped))

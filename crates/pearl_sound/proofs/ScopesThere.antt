@@ -1,6 +1,6 @@
 -- What the table of a module's names has at the number of a scope.
 use Rattle.std.specs.Prelude.{◌≡◌, ℕ, zero, suc, ◌+◌, List, [], ◌∷◌, ◌++◌, length, Some, option_map, unwrap_or, slice_get}
-use Rattle.std.proofs.Common.{ap, ◌∙◌, sym, subst, arith}
+use Rattle.std.proofs.Common.{refl, ap, ◌∙◌, sym, subst, arith}
 use Rattle.std.proofs.lemmas.List.{append_assoc, length-append}
 use Rattle.std.proofs.lemmas.Option.{none-some, slice_get-map}
 use Rattle.pearl_tree.specs.ShownModules.{ShownDecl, OfLength, OfType, OfDeclare, OfSpecify, OfTask, OfProc, ShownTree}
@@ -9,7 +9,7 @@ use Rattle.pearl_names.specs.Scopes.{Scope, scopes_of, scopes_in_decl, as_stmts,
 use Rattle.pearl_names.specs.Sorts.{scope_names, names_of_scopes}
 use Rattle.pearl_names.specs.Tables.{senses_of, senses_in, table_of}
 use Rattle.pearl_names.proofs.DeclLists.{length-decl_scopes}
-use Rattle.pearl_resolve.specs.Numbers.{At, senses_at, in_body, after_decl}
+use Rattle.pearl_resolve.specs.Numbers.{At, senses_at, in_body, decl_numbers, after_decl}
 use Rattle.pearl_resolve.specs.Expressions.{Numbered}
 use Rattle.pearl_sound.proofs.Going.{all_go}
 use Rattle.pearl_sound.proofs.ModuleEntries.{get_at}
@@ -72,6 +72,16 @@ decl_next numbered at (OfTask name head body place) =
     let past = (all_go numbered at.next (in_body numbered.table at) (as_stmts body.statements)).next in omega (arith, past)
 decl_next numbered at (OfProc name params returns body place) =
     let past = (all_go numbered at.next (in_body numbered.table at) (as_stmts body.statements)).next in omega (arith, past)
+
+pub decl_rows : (numbered : Numbered) (at : At) (decl : ShownDecl) → length (decl_numbers numbered.table at decl) ≡ scopes_in_decl decl
+decl_rows numbered at (OfLength sort number place) = refl
+decl_rows numbered at (OfType name part place) = refl
+decl_rows numbered at (OfDeclare parts place) = refl
+decl_rows numbered at (OfSpecify specs place) = refl
+decl_rows numbered at (OfTask name head body place) =
+    let past = (all_go numbered at.next (in_body numbered.table at) (as_stmts body.statements)).each in omega (arith, past)
+decl_rows numbered at (OfProc name params returns body place) =
+    let past = (all_go numbered at.next (in_body numbered.table at) (as_stmts body.statements)).each in omega (arith, past)
 
 -- the scopes of the declarations behind one
 pub decls_lie : (numbered : Numbered) {whole : List Scope} (types : ℕ) (at : At) (decl : ShownDecl) (rest : List ShownDecl) →

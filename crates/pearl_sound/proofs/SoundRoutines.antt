@@ -54,7 +54,7 @@ use Rattle.pearl_sound.proofs.ModuleRules.{unbroken_lead}
 use Rattle.pearl_sound.proofs.NamedSemaphores.{semaphores_named}
 use Rattle.pearl_sound.proofs.OwnRenewals.{scope_renewed}
 use Rattle.pearl_sound.proofs.PlainCells.{or_fixed, routine_sound_cells}
-use Rattle.pearl_sound.proofs.ScopesThere.{head_there, left_lies, right_lies, decl_next, decls_lie}
+use Rattle.pearl_sound.proofs.ScopesThere.{head_there, left_lies, right_lies, decl_next, decl_rows, decls_lie}
 use Rattle.pearl_sound.proofs.SemaphoresApart.{semaphores_apart}
 use Rattle.pearl_sound.proofs.Sighted.{Surrounds}
 use Rattle.pearl_sound.proofs.SimpleStatements.{left_none, split_all}
@@ -88,16 +88,6 @@ by_number_all P numbers things zero number all = tt
 by_number_all P numbers things (suc count) number all =
     if_there_all P (option_and_then (slice_get things) (position (nat_eq number) numbers)) (by_number numbers things count (number + 1))
     (found_all P things (position (nat_eq number) numbers) all) (by_number_all P numbers things count (number + 1) all)
-
-decl_rows : (numbered : Numbered) (at : At) (decl : ShownDecl) → length (decl_numbers numbered.table at decl) ≡ scopes_in_decl decl
-decl_rows numbered at (OfLength sort number place) = refl
-decl_rows numbered at (OfType name part place) = refl
-decl_rows numbered at (OfDeclare parts place) = refl
-decl_rows numbered at (OfSpecify specs place) = refl
-decl_rows numbered at (OfTask name head body place) =
-    let past = (all_go numbered at.next (in_body numbered.table at) (as_stmts body.statements)).each in omega (arith, past)
-decl_rows numbered at (OfProc name params returns body place) =
-    let past = (all_go numbered at.next (in_body numbered.table at) (as_stmts body.statements)).each in omega (arith, past)
 
 decl_format : (numbered : Numbered) (at : At) (decl : ShownDecl) → at.format + length (decl_formats decl) ≡ (after_decl numbered.table at decl).format
 decl_format numbered at (OfLength sort number place) = omega arith
