@@ -1,5 +1,5 @@
 -- Why a part is not read, where one within it is not, behind others that were read.
-use Rattle.std.proofs.Common.{◌≡◌, ℕ, ◌<◌, ◌≤◌, ◌||◌, true, sym, ap, ◌∙◌, max, Result, Ok, Err, IfOk, IfErr, Bool, List, Option, Some, None, ◌⊎◌, inl, inr, length, subst, arith}
+use Rattle.std.proofs.Common.{refl, ◌≡◌, ℕ, ◌<◌, ◌≤◌, ◌||◌, true, sym, ap, ◌∙◌, max, Result, Ok, Err, IfOk, IfErr, Bool, List, Option, Some, None, ◌⊎◌, inl, inr, length, subst, arith}
 use Rattle.pearl_tree.specs.declared.token.Token.{Token}
 use Rattle.pearl_tree.specs.declared.token.What.{What}
 use Rattle.pearl_tree.specs.Standing.{Spelling, SpellsMaybe, what_at}
@@ -9,7 +9,7 @@ use Rattle.pearl_parse_expr.specs.declared.reading.Halt.TheVariants.{Refused, No
 use Rattle.pearl_parse_expr.specs.Stops.{IsLongest, IsOnly, IsAhead, Stuck, EndsEarly, IsHalted}
 use Rattle.pearl_parse_expr.specs.Least.{Reaches, GoesToHalt, IsLeast}
 use Rattle.pearl_parse_expr.specs.declared.reading.Reading.{Reading}
-use Rattle.pearl_parse_expr.proofs.Reaching.{goes_as, halts_as}
+use Rattle.pearl_parse_expr.proofs.Reaching.{goes_as, halts_as, reaches_max}
 use Rattle.pearl_parse_decl.specs.Readings.{behind, IsPast}
 use Rattle.pearl_parse_expr.proofs.Parts.{shorter, or_first, or_second}
 
@@ -91,6 +91,13 @@ halts_behind spells whole tokens from at stop NoMemory before step h r = tt
 halts_behind spells whole tokens from at stop (Refused k) before step h r =
     let same : k ≡ max k stop = omega (arith, h.1) in
     subst (λ k. Reaches whole tokens from k) same (step k h.1 h.2 r)
+
+-- the same, where some whole goes on as far as those parts were stopped
+pub halts_max : {X Y : Type 0} (spells : List Token → Spelling X) (whole : List Token → Spelling Y) (tokens : List Token) (from at stop : ℕ) (halt : Halt) → Reaches whole tokens from stop →
+    ((k : ℕ) → at ≤ k → k ≤ length tokens → Reaches spells tokens at k → Reaches whole tokens from k) →
+    IsHalted spells tokens at halt → GoesToHalt spells tokens at halt → GoesToHalt whole tokens from (behind halt stop)
+halts_max spells whole tokens from at stop NoMemory before step h r = tt
+halts_max spells whole tokens from at stop (Refused k) before step h r = reaches_max whole tokens from k stop (max k stop) refl (step k h.1 h.2 r) before
 
 -- a part that is told as another one is
 pub least_as : {X Y Z : Type 0} (spells : List Token → Spelling X) (whole : List Token → Spelling Y) (tokens : List Token) (from : ℕ) (result : Result (Reading Z) Halt) →

@@ -42,7 +42,8 @@ use Rattle.pearl_parse_decl.proofs.Behind.{ends_as}
 use Rattle.pearl_parse_expr.proofs.Ids.{x_name, x_token, x_lawful, letter_token, letter_lawful}
 use Rattle.pearl_parse_expr.proofs.Local as local
 use Rattle.pearl_parse_expr.proofs.Reaching.{IsLocal, Lawful, begun, completed, reached, reaches_as, reaches_closed, one_lawful, none_lawful, placed_within, token_of, what_stands, place_stands}
-use Rattle.pearl_parse_decl.proofs.Local.{bracketed_number_local, int_local, sign_local, basic_local}
+use Rattle.pearl_parse_decl.proofs.LocalLists.{local_of, maybe_keeps, bracketed_number_keeps}
+use Rattle.pearl_parse_decl.proofs.LocalDeclarations.{sign_keeps, int_keeps, basic_keeps}
 
 -- ---- tokens that stand where some are missing
 
@@ -154,7 +155,7 @@ pub bound_reaches : (tokens : List Token) (from m stop : ℕ) (first : Int) → 
 bound_reaches tokens from m stop first h before near r =
     reaches_as (λ tokens. SpellsMaybe (SpellsUpper tokens)) SpellsBound tokens from m stop before
     (λ others alike long short x g.
-    let read = int_local tokens others stop alike from first m h near in
+    let read = (int_keeps tokens others stop alike from first m h near).1 in
     (record { first = first; second = x; place = first.place }, (m, read.1, read, g))) r
 
 -- ---- basic types
@@ -173,10 +174,10 @@ sized_reaches tokens from stop sort stands near r =
     (basic.Sized sort x at.0, (at.1, local.what tokens others stop alike from near ∙ stands, h))) r
 
 pub bracketed_number_is_local : IsLocal SpellsBracketedNumber
-bracketed_number_is_local tokens others k alike from x to h near = bracketed_number_local tokens others k alike from x to h near
+bracketed_number_is_local = local_of 3 SpellsBracketedNumber bracketed_number_keeps
 
 pub basic_is_local : IsLocal SpellsBasic
-basic_is_local tokens others k alike from x to h near = basic_local tokens others k alike from x to h near
+basic_is_local = local_of 1 SpellsBasic basic_keeps
 
 pub class_begins : (tokens : List Token) (from : ℕ) → from ≤ length tokens → Reaches SpellsClass tokens from from
 class_begins tokens from within =
@@ -198,7 +199,7 @@ const_reaches tokens from m stop sign h before near r =
     reaches_as SpellsLiteral SpellsConst tokens from m stop before
     (λ others alike long short x g.
     let at = placed_within others from (omega (arith, literal_after others m x (length others) g)) in
-    (record { sign = sign; literal = x; place = at.0 }, (m, at.1, sign_local tokens others stop alike from sign m h near, g))) r
+    (record { sign = sign; literal = x; place = at.0 }, (m, at.1, (maybe_keeps tokens others stop alike 1 SpellsSign (sign_keeps tokens others stop alike) from sign m h near).1, g))) r
 
 -- ---- items of formats
 

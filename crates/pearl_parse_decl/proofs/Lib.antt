@@ -4,8 +4,10 @@ pub mod Types
 pub mod Items
 pub mod Specifications
 pub mod Constants
-pub mod Local
 pub mod Leaves
 pub mod LocalLists
 pub mod LocalDeclarations
 pub mod Devices
+pub mod ListReach
+pub mod TypeReach
+pub mod DeclReach

@@ -82,7 +82,7 @@ module _ (tokens others : List Token) (k : ℕ) (alike : AlikeBefore tokens othe
   pub own_ref_keeps : Keeps tokens others k 1 SpellsOwnRef
   own_ref_keeps = ref_keeps limit.OWN_BRACKETS_MAX
 
-  sign_keeps : Keeps tokens others k 1 SpellsSign
+  pub sign_keeps : Keeps tokens others k 1 SpellsSign
   sign_keeps from sign.Plus to h near = (omega (arith, h.1), (what from (omega (arith, h.1)) ∙ h.0, h.1))
   sign_keeps from sign.Minus to h near = (omega (arith, h.1), (what from (omega (arith, h.1)) ∙ h.0, h.1))
 

@@ -7,6 +7,7 @@ use Rattle.pearl_tree.specs.Standing.{Spelling, what_at, IsNumber, SpellsEach, S
 use Rattle.pearl_parse_expr.specs.Least.{AlikeBefore}
 use Rattle.pearl_parse_expr.proofs.Local as local
 use Rattle.pearl_parse_expr.proofs.Reaching.{IsLocal}
+use Rattle.pearl_parse_decl.specs.Readings.{IsSelfContained}
 
 -- a part that ends at k at the latest is spelled by others too, and is n tokens long at least
 abbrev pub Keeps : {X : Type 0} → List Token → List Token → ℕ → ℕ → (List Token → Spelling X) → Type 0
@@ -22,6 +23,11 @@ local_of n spells kept tokens others k alike from x to h near = (kept tokens oth
 pub after_of : {X : Type 0} (n : ℕ) (spells : List Token → Spelling X) → Kept n spells →
     (tokens : List Token) (from : ℕ) (x : X) (to : ℕ) → spells tokens from x to → from + n ≤ to
 after_of n spells kept tokens from x to h = (kept tokens tokens to (λ j below. refl) from x to h (omega arith)).0
+
+pub contained_of : {X : Type 0} (n : ℕ) (spells : List Token → Spelling X) → 1 ≤ n → Kept n spells → IsSelfContained spells
+contained_of n spells few kept tokens others k alike from x to h near =
+    let part = kept tokens others k alike from x to h near in
+    (omega (arith, part.0), part.1)
 
 module _ (tokens others : List Token) (k : ℕ) (alike : AlikeBefore tokens others k) where
   what : (j : ℕ) → j < k → what_at others j ≡ what_at tokens j

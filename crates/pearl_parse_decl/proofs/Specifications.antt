@@ -1,15 +1,16 @@
 -- Devices and dations, by their words.
-use Rattle.std.proofs.Common.{◌≡◌, ℕ, ◌+◌, ◌≤◌, Bool, true, false, List, ◌⊎◌, ap, subst}
+use Rattle.std.proofs.Common.{◌≡◌, ℕ, ◌+◌, ◌≤◌, Bool, true, false, List, ◌⊎◌, ap, subst, arith}
 use Rattle.pearl_tree.specs.declared.name.Names.{Names}
 use Rattle.pearl_tree.specs.declared.declaration.Class.{Class}
 use Rattle.pearl_tree.specs.declared.declaration.DeviceWord.{DeviceWord}
 use Rattle.pearl_tree.specs.declared.declaration.DeviceWord.TheVariants as device
+use Rattle.pearl_tree.specs.declared.declaration.Direction.{Direction}
 use Rattle.pearl_tree.specs.declared.declaration.Spec.{Spec}
 use Rattle.pearl_tree.specs.declared.declaration.Spec.TheVariants as spec
 use Rattle.pearl_tree.specs.declared.token.Token.{Token}
-use Rattle.pearl_tree.specs.Standing.{what_at}
+use Rattle.pearl_tree.specs.Standing.{what_at, HasWord}
 use Rattle.pearl_tree.specs.Types.{SpellsNames}
-use Rattle.pearl_tree.specs.Declarations.{IsDeviceWord, SpellsClass, SpellsControl, SpellsSpec}
+use Rattle.pearl_tree.specs.Declarations.{IsDeviceWord, SpellsClass, SpellsControl, SpellsSpec, direction_word}
 use Rattle.pearl_tables.specs.declared.word_code.TheConstants as w
 use Rattle.pearl_parse_expr.specs.Stops.{EndsEarly, is_name, is_word}
 use Rattle.pearl_parse_decl.specs.Readings.{by_bracket, extends_spec, is_device_word}
@@ -28,6 +29,20 @@ module _ (others : List Token) where
       absurd (clash _ dation (subst (λ k. is_word w.DATION (what_at others k) ≡ false) (only names h.0 h.2) (ap (is_word w.DATION) h.3)))
   only_dation from end dation only (spec.Dation names direction class control place) to h =
       (class, h.1, control, subst (λ k. SpellsClass others (k + 2) class h.1) (only names h.0 h.3) h.6, h.7)
+
+  pub only_direction : (from end : ℕ) → is_word w.DATION (what_at others end) ≡ true →
+      ((x : Names) (to : ℕ) → SpellsNames others from x to → to ≡ end) → (x : Spec) (to : ℕ) → SpellsSpec others from x to →
+      (direction : Direction) × HasWord others (end + 1) (direction_word direction)
+  only_direction from end dation only (spec.Interrupt names place) to h =
+      absurd (clash _ dation (subst (λ k. is_word w.DATION (what_at others k) ≡ false) (only names h.0 h.2) (ap (is_word w.DATION) h.3)))
+  only_direction from end dation only (spec.Dation names direction class control place) to h =
+      (direction, subst (λ k. HasWord others (k + 1) (direction_word direction)) (only names h.0 h.3) h.5)
+
+  pub only_interrupt : (from end : ℕ) → is_word w.INTERRUPT (what_at others end) ≡ true →
+      ((x : Names) (to : ℕ) → SpellsNames others from x to → to ≡ end) → (x : Spec) (to : ℕ) → SpellsSpec others from x to → to ≡ end + 1
+  only_interrupt from end interrupt only (spec.Interrupt names place) to h = omega (arith, only names h.0 h.2, h.4)
+  only_interrupt from end interrupt only (spec.Dation names direction class control place) to h =
+      absurd (clash _ interrupt (subst (λ k. is_word w.INTERRUPT (what_at others k) ≡ false) (only names h.0 h.3) (ap (is_word w.INTERRUPT) h.4)))
 
   no_control : (b : ℕ) (control : Bool) (to : ℕ) → SpellsControl others b control to → by_bracket (what_at others b) ≡ true → to ≡ b
   no_control b false to h bracket = h

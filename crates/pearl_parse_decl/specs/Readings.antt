@@ -1,12 +1,14 @@
 -- With which tokens a part goes on that could end before them, and what is told of a part that is not read.
-use Rattle.std.specs.Prelude.{ℕ, ◌≤◌, ◌||◌, max, Bool, false, List, length, Option}
+use Rattle.std.specs.Prelude.{ℕ, ◌+◌, ◌≤◌, ◌||◌, max, Bool, false, List, length, Option}
 use Rattle.pearl_tree.specs.declared.token.What.{What}
 use Rattle.pearl_tree.specs.declared.token.Token.{Token}
+use Rattle.pearl_tree.specs.Standing.{Spelling}
 use Rattle.pearl_tables.specs.declared.symbol.TheConstants as s
 use Rattle.pearl_tables.specs.declared.word_code.TheConstants as w
 use Rattle.pearl_parse_expr.specs.declared.reading.Halt.{Halt}
 use Rattle.pearl_parse_expr.specs.declared.reading.Halt.TheVariants.{Refused, NoMemory}
 use Rattle.pearl_parse_expr.specs.Stops.{is_name, is_symbol, is_word}
+use Rattle.pearl_parse_expr.specs.Least.{AlikeBefore, ReachesIn}
 
 -- a part that has one end
 abbrev pub never : Option What → Bool
@@ -63,3 +65,13 @@ behind (Refused at) stop = Refused (max at stop)
 abbrev pub IsPast : ℕ → Halt → Type 0
 IsPast at NoMemory = Unit {0}
 IsPast at (Refused stop) = at ≤ stop
+
+-- a part is not empty, and whether tokens spell it depends on those before its end alone
+abbrev pub IsSelfContained : {X : Type 0} → (List Token → Spelling X) → Type 0
+IsSelfContained {X} spells =
+    (tokens others : List Token) (k : ℕ) → AlikeBefore tokens others k → (from : ℕ) (x : X) (to : ℕ) → spells tokens from x to →
+    to ≤ k → (from + 1 ≤ to) × spells others from x to
+
+-- wherever a part may begin, a few tokens make one
+abbrev pub BeginsAnywhere : {X : Type 0} → (List Token → Spelling X) → Type 0
+BeginsAnywhere spells = (tokens : List Token) (from : ℕ) → from ≤ length tokens → ReachesIn 9 spells tokens from from

@@ -5,6 +5,7 @@ ghost use Rattle.pearl_tree.specs.Standing.{SpellsMaybe};
 ghost use Rattle.pearl_tree.specs.Expressions as grammar;
 ghost use Rattle.pearl_parse_expr.specs.Stops as stops;
 ghost use Rattle.pearl_parse_expr.specs.Least.{IsLeast};
+ghost use Rattle.pearl_parse_expr.proofs.PartsBegin as parts;
 ghost use Rattle.pearl_parse_decl.specs.Readings as spec;
 
 use crate::list::{Readable, behind};
@@ -77,6 +78,8 @@ impl Readable for Const {
     fn read(alloc: Global, tokens: &[Token], from: usize) -> Result<Reading<Const>, Halt> {
         constant(alloc, tokens, from)
     }
+
+    ghost begins = { parts.consts_begin };
 
     ghost stops_at_comma = { refl };
 

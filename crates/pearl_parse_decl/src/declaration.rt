@@ -62,6 +62,7 @@ pub fn type_of(alloc: Global, tokens: &[Token], from: usize) -> Result<Reading<D
     ensures longest { IfOk result (λ reading. stops.IsOnly modules.SpellsDecl tokens.now from reading.end reading.stop) }
     ensures ahead { IfOk result (λ reading. stops.IsAhead tokens.now from reading.end reading.stop) }
     ensures refused { IfErr result (λ halt. stops.IsHalted modules.SpellsDecl tokens.now from halt) }
+    ensures least { IsLeast modules.SpellsDecl tokens.now from result }
 {
     let name = match name_at(tokens, from + 1) {
         Some(name) => name,
@@ -93,6 +94,7 @@ pub fn declare(alloc: Global, tokens: &[Token], from: usize) -> Result<Reading<D
     ensures longest { IfOk result (λ reading. stops.IsOnly modules.SpellsDecl tokens.now from reading.end reading.stop) }
     ensures ahead { IfOk result (λ reading. stops.IsAhead tokens.now from reading.end reading.stop) }
     ensures refused { IfErr result (λ halt. stops.IsHalted modules.SpellsDecl tokens.now from halt) }
+    ensures least { IsLeast modules.SpellsDecl tokens.now from result }
 {
     let parts = match list::<Declared>(alloc, tokens, from + 1) {
         Ok(parts) => parts,
@@ -119,6 +121,7 @@ pub fn specify(alloc: Global, tokens: &[Token], from: usize) -> Result<Reading<D
     ensures longest { IfOk result (λ reading. stops.IsOnly modules.SpellsDecl tokens.now from reading.end reading.stop) }
     ensures ahead { IfOk result (λ reading. stops.IsAhead tokens.now from reading.end reading.stop) }
     ensures refused { IfErr result (λ halt. stops.IsHalted modules.SpellsDecl tokens.now from halt) }
+    ensures least { IsLeast modules.SpellsDecl tokens.now from result }
 {
     let parts = match list::<Spec>(alloc, tokens, from + 1) {
         Ok(parts) => parts,

@@ -5,6 +5,7 @@ ghost use Rattle.pearl_tree.specs.Expressions.{SpellsWhole, SpellsOwnRef};
 ghost use Rattle.pearl_tree.specs.declared.limit.TheConstants as limit;
 ghost use Rattle.pearl_parse_expr.specs.Stops as stops;
 ghost use Rattle.pearl_parse_expr.specs.Least.{IsLeast};
+ghost use Rattle.pearl_parse_expr.proofs.PartsBegin as parts;
 
 use crate::list::Readable;
 use pearl_parse_expr::expression::{expression_at_depth, reference};
@@ -50,6 +51,8 @@ impl Readable for Expr {
         expression(alloc, tokens, from)
     }
 
+    ghost begins = { parts.exprs_begin };
+
     ghost stops_at_comma = { refl };
 
     ghost stops_at_bracket = { refl };
@@ -63,6 +66,8 @@ impl Readable for Ref {
     fn read(alloc: Global, tokens: &[Token], from: usize) -> Result<Reading<Ref>, Halt> {
         own_reference(alloc, tokens, from)
     }
+
+    ghost begins = { parts.refs_begin };
 
     ghost stops_at_comma = { refl };
 

@@ -8,6 +8,7 @@ ghost use Rattle.pearl_tree.specs.declared.format.WideCode.{WideCode};
 ghost use Rattle.pearl_parse_expr.specs.declared.reading.Halt.{Halt};
 ghost use Rattle.pearl_parse_expr.specs.Stops as stops;
 ghost use Rattle.pearl_parse_expr.specs.Least.{IsLeast};
+ghost use Rattle.pearl_parse_expr.proofs.PartsBegin as parts;
 ghost use Rattle.pearl_parse_decl.specs.Readings as spec;
 
 use crate::list::Readable;
@@ -122,6 +123,8 @@ impl Readable for Fmt {
     fn read(_alloc: Global, tokens: &[Token], from: usize) -> Result<Reading<Fmt>, Halt> {
         fmt(tokens, from)
     }
+
+    ghost begins = { parts.fmts_begin };
 
     ghost stops_at_comma = { refl };
 

@@ -6,6 +6,8 @@ ghost use Rattle.pearl_tree.specs.Types as types;
 ghost use Rattle.pearl_tree.specs.Declarations as grammar;
 ghost use Rattle.pearl_tables.specs.declared.word_code.TheConstants as w;
 ghost use Rattle.pearl_parse_expr.specs.Stops as stops;
+ghost use Rattle.pearl_parse_expr.specs.Least.{GoesIn, IsLeast};
+ghost use Rattle.pearl_parse_expr.proofs.PartsBegin as parts;
 ghost use Rattle.pearl_parse_decl.specs.Readings as spec;
 
 use crate::flag::flag;
@@ -34,10 +36,12 @@ fn item_behind(
     requires spells { types.SpellsNames tokens.now from names.part names.end }
     requires longest { stops.IsOnly types.SpellsNames tokens.now from names.end names.stop }
     requires ahead { stops.IsAhead tokens.now from names.end names.stop }
+    requires least { GoesIn 9 types.SpellsNames tokens.now from names.end names.stop }
     ensures spells { IfOk result (λ reading. grammar.SpellsItem tokens.now from reading.part reading.end) }
     ensures longest { IfOk result (λ reading. stops.IsLongest grammar.SpellsItem spec.extends_item tokens.now from reading.end reading.stop) }
     ensures ahead { IfOk result (λ reading. stops.IsAhead tokens.now from reading.end reading.stop) }
     ensures refused { IfErr result (λ halt. stops.IsHalted grammar.SpellsItem tokens.now from halt) }
+    ensures least { IsLeast grammar.SpellsItem tokens.now from result }
     ensures far { IfOk result (λ reading. names.stop ≤ reading.stop) }
     ensures past { IfErr result (λ halt. spec.IsPast names.stop halt) }
 {
@@ -76,6 +80,7 @@ pub fn item(alloc: Global, tokens: &[Token], from: usize) -> Result<Reading<Item
     ensures longest { IfOk result (λ reading. stops.IsLongest grammar.SpellsItem spec.extends_item tokens.now from reading.end reading.stop) }
     ensures ahead { IfOk result (λ reading. stops.IsAhead tokens.now from reading.end reading.stop) }
     ensures refused { IfErr result (λ halt. stops.IsHalted grammar.SpellsItem tokens.now from halt) }
+    ensures least { IsLeast grammar.SpellsItem tokens.now from result }
 {
     match names(alloc, tokens, from) {
         Ok(names) => item_behind(alloc, tokens, from, names),
@@ -94,10 +99,12 @@ fn sema_behind(
     requires spells { types.SpellsNames tokens.now from names.part names.end }
     requires longest { stops.IsOnly types.SpellsNames tokens.now from names.end names.stop }
     requires ahead { stops.IsAhead tokens.now from names.end names.stop }
+    requires least { GoesIn 9 types.SpellsNames tokens.now from names.end names.stop }
     ensures spells { IfOk result (λ reading. grammar.SpellsSema tokens.now from reading.part reading.end) }
     ensures longest { IfOk result (λ reading. stops.IsLongest grammar.SpellsSema spec.extends_sema tokens.now from reading.end reading.stop) }
     ensures ahead { IfOk result (λ reading. stops.IsAhead tokens.now from reading.end reading.stop) }
     ensures refused { IfErr result (λ halt. stops.IsHalted grammar.SpellsSema tokens.now from halt) }
+    ensures least { IsLeast grammar.SpellsSema tokens.now from result }
     ensures far { IfOk result (λ reading. names.stop ≤ reading.stop) }
     ensures past { IfErr result (λ halt. spec.IsPast names.stop halt) }
 {
@@ -126,6 +133,7 @@ pub fn declared(alloc: Global, tokens: &[Token], from: usize) -> Result<Reading<
     ensures longest { IfOk result (λ reading. stops.IsLongest grammar.SpellsDeclared spec.extends_declared tokens.now from reading.end reading.stop) }
     ensures ahead { IfOk result (λ reading. stops.IsAhead tokens.now from reading.end reading.stop) }
     ensures refused { IfErr result (λ halt. stops.IsHalted grammar.SpellsDeclared tokens.now from halt) }
+    ensures least { IsLeast grammar.SpellsDeclared tokens.now from result }
 {
     let names = match names(alloc, tokens, from) {
         Ok(names) => names,
@@ -160,6 +168,8 @@ impl Readable for Item {
         item(alloc, tokens, from)
     }
 
+    ghost begins = { parts.items_begin };
+
     ghost stops_at_comma = { refl };
 
     ghost stops_at_bracket = { refl };
@@ -173,6 +183,8 @@ impl Readable for Declared {
     fn read(alloc: Global, tokens: &[Token], from: usize) -> Result<Reading<Declared>, Halt> {
         declared(alloc, tokens, from)
     }
+
+    ghost begins = { parts.declared_begin };
 
     ghost stops_at_comma = { refl };
 

@@ -8,6 +8,7 @@ ghost use Rattle.pearl_tree.specs.Standing.{Spelling, HasWord, HasSymbol, Spells
 ghost use Rattle.pearl_tables.specs.declared.symbol.TheConstants as s;
 ghost use Rattle.pearl_parse_expr.specs.declared.reading.Halt.{Halt};
 ghost use Rattle.pearl_parse_expr.specs.Stops as stops;
+ghost use Rattle.pearl_parse_expr.specs.Least.{IsLeast, IsLeastIn};
 ghost use Rattle.pearl_parse_decl.specs.Readings as spec;
 
 use pearl_parse_expr::reading::{Halt, Reading, append};
@@ -30,7 +31,12 @@ pub trait Readable: Drop {
         ensures spells { IfOk result (λ reading. spelling tokens.now from reading.part reading.end) }
         ensures longest { IfOk result (λ reading. stops.IsLongest spelling extends tokens.now from reading.end reading.stop) }
         ensures ahead { IfOk result (λ reading. stops.IsAhead tokens.now from reading.end reading.stop) }
-        ensures refused { IfErr result (λ halt. stops.IsHalted spelling tokens.now from halt) };
+        ensures refused { IfErr result (λ halt. stops.IsHalted spelling tokens.now from halt) }
+        ensures least { IsLeast spelling tokens.now from result }
+        ensures contained { spec.IsSelfContained spelling };
+
+    // Of each kind a list in brackets may stand anywhere.
+    ghost begins: { spec.BeginsAnywhere (λ tokens. SpellsBracketed tokens (spelling tokens)) };
 
     // Behind a part a comma or a closing bracket may stand.
     ghost stops_at_comma: { extends (Some (what.Symbol s.COMMA)) ≡ false };
@@ -60,6 +66,8 @@ pub fn list<P: Readable>(
     ensures longest { IfOk result (λ reading. stops.IsLongest (λ tokens. SpellsList tokens (P.spelling tokens)) (spec.by_comma P.extends) tokens.now from reading.end reading.stop) }
     ensures ahead { IfOk result (λ reading. stops.IsAhead tokens.now from reading.end reading.stop) }
     ensures refused { IfErr result (λ halt. stops.IsHalted (λ tokens. SpellsList tokens (P.spelling tokens)) tokens.now from halt) }
+    ensures least { IsLeast (λ tokens. SpellsList tokens (P.spelling tokens)) tokens.now from result }
+    ensures contained { spec.IsSelfContained P.spelling }
 {
     let first = match P::read(alloc, tokens, from) {
         Ok(first) => first,
@@ -106,6 +114,7 @@ pub fn bracketed<P: Readable>(
     ensures longest { IfOk result (λ reading. stops.IsOnly (λ tokens. SpellsBracketed tokens (P.spelling tokens)) tokens.now from reading.end reading.stop) }
     ensures ahead { IfOk result (λ reading. stops.IsAhead tokens.now from reading.end reading.stop) }
     ensures refused { IfErr result (λ halt. stops.IsHalted (λ tokens. SpellsBracketed tokens (P.spelling tokens)) tokens.now from halt) }
+    ensures least { IsLeastIn 9 (λ tokens. SpellsBracketed tokens (P.spelling tokens)) tokens.now from result }
 {
     if !is_symbol(tokens, from, LEFT_ROUND) {
         return Err(Halt::Refused(from));
@@ -135,6 +144,7 @@ pub fn maybe_bracketed<P: Readable>(
     ensures longest { IfOk result (λ reading. stops.IsLongest (λ tokens. SpellsMaybeBracketed tokens (P.spelling tokens)) spec.by_bracket tokens.now from reading.end reading.stop) }
     ensures ahead { IfOk result (λ reading. spec.IsWithin tokens.now from reading.end reading.stop) }
     ensures refused { IfErr result (λ halt. halt ≡ Halt.NoMemory) }
+    ensures least { IsLeastIn 9 (λ tokens. SpellsMaybeBracketed tokens (P.spelling tokens)) tokens.now from result }
 {
     match bracketed(alloc, tokens, from) {
         Ok(list) => Ok(list),
@@ -161,6 +171,7 @@ pub fn maybe_headed<P: Readable>(
     ensures longest { IfOk result (λ reading. stops.IsLongest (λ tokens. SpellsMaybeHeaded tokens word (P.spelling tokens)) (stops.is_word word) tokens.now from reading.end reading.stop) }
     ensures ahead { IfOk result (λ reading. spec.IsWithin tokens.now from reading.end reading.stop) }
     ensures refused { IfErr result (λ halt. halt ≡ Halt.NoMemory) }
+    ensures least { IsLeastIn 9 (λ tokens. SpellsMaybeHeaded tokens word (P.spelling tokens)) tokens.now from result }
 {
     if !is_word(tokens, from, word) {
         return Ok(Reading {

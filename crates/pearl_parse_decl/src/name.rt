@@ -5,7 +5,8 @@ ghost use Rattle.pearl_tree.specs.Standing.{what_at, HasSymbol, SpellsName, Spel
 ghost use Rattle.pearl_tree.specs.Types as grammar;
 ghost use Rattle.pearl_parse_expr.specs.declared.reading.Halt.{Halt};
 ghost use Rattle.pearl_parse_expr.specs.Stops as stops;
-ghost use Rattle.pearl_parse_expr.specs.Least.{Reaches, GoesTo, IsLeast};
+ghost use Rattle.pearl_parse_expr.specs.Least.{Reaches, GoesTo, IsLeast, IsLeastIn};
+ghost use Rattle.pearl_parse_expr.proofs.PartsBegin as parts;
 ghost use Rattle.pearl_parse_decl.specs.Readings as spec;
 
 use crate::list::{Readable, bracketed};
@@ -66,6 +67,8 @@ impl Readable for Name {
         name(tokens, from)
     }
 
+    ghost begins = { parts.names_begin };
+
     ghost stops_at_comma = { refl };
 
     ghost stops_at_bracket = { refl };
@@ -79,6 +82,8 @@ impl Readable for Number {
     fn read(_alloc: Global, tokens: &[Token], from: usize) -> Result<Reading<Number>, Halt> {
         number(tokens, from)
     }
+
+    ghost begins = { parts.numbers_begin };
 
     ghost stops_at_comma = { refl };
 
@@ -138,6 +143,7 @@ pub fn names(alloc: Global, tokens: &[Token], from: usize) -> Result<Reading<Nam
     ensures longest { IfOk result (λ reading. stops.IsOnly grammar.SpellsNames tokens.now from reading.end reading.stop) }
     ensures ahead { IfOk result (λ reading. stops.IsAhead tokens.now from reading.end reading.stop) }
     ensures refused { IfErr result (λ halt. stops.IsHalted grammar.SpellsNames tokens.now from halt) }
+    ensures least { IsLeastIn 9 grammar.SpellsNames tokens.now from result }
 {
     match name_at(tokens, from) {
         Some(name) => Ok(Reading {

@@ -8,7 +8,8 @@ ghost use Rattle.pearl_tree.specs.declared.declaration.Direction.{Direction};
 ghost use Rattle.pearl_tables.specs.declared.word_code.TheConstants as w;
 ghost use Rattle.pearl_parse_expr.specs.declared.reading.Halt.{Halt};
 ghost use Rattle.pearl_parse_expr.specs.Stops as stops;
-ghost use Rattle.pearl_parse_expr.specs.Least.{IsLeast};
+ghost use Rattle.pearl_parse_expr.specs.Least.{GoesIn, GoesTo, IsLeast};
+ghost use Rattle.pearl_parse_expr.proofs.PartsBegin as parts;
 ghost use Rattle.pearl_parse_decl.specs.Readings as spec;
 
 use crate::list::{Readable, behind};
@@ -105,6 +106,7 @@ fn control(tokens: &[Token], from: usize) -> Reading<bool>
     ensures spells { grammar.SpellsControl tokens.now from result.part result.end }
     ensures longest { stops.IsLongest grammar.SpellsControl stops.is_name tokens.now from result.end result.stop }
     ensures ahead { spec.IsWithin tokens.now from result.end result.stop }
+    ensures least { GoesTo grammar.SpellsControl tokens.now from result.end result.stop }
 {
     if !is_control(tokens, from) {
         return Reading {
@@ -151,11 +153,13 @@ fn dation_behind(
     requires spells { types.SpellsNames tokens.now from names.part names.end }
     requires longest { stops.IsOnly types.SpellsNames tokens.now from names.end names.stop }
     requires ahead { stops.IsAhead tokens.now from names.end names.stop }
+    requires least { GoesIn 9 types.SpellsNames tokens.now from names.end names.stop }
     requires word { HasWord tokens.now names.end w.DATION }
     ensures spells { IfOk result (λ reading. grammar.SpellsSpec tokens.now from reading.part reading.end) }
     ensures longest { IfOk result (λ reading. stops.IsLongest grammar.SpellsSpec spec.extends_spec tokens.now from reading.end reading.stop) }
     ensures ahead { IfOk result (λ reading. stops.IsAhead tokens.now from reading.end reading.stop) }
     ensures refused { IfErr result (λ halt. stops.IsHalted grammar.SpellsSpec tokens.now from halt) }
+    ensures least { IsLeast grammar.SpellsSpec tokens.now from result }
     ensures memory { IfErr result (λ halt. halt ≢ Halt.NoMemory) }
 {
     let direction = match direction_at(tokens, names.end + 1) {
@@ -188,6 +192,7 @@ pub fn specified(alloc: Global, tokens: &[Token], from: usize) -> Result<Reading
     ensures longest { IfOk result (λ reading. stops.IsLongest grammar.SpellsSpec spec.extends_spec tokens.now from reading.end reading.stop) }
     ensures ahead { IfOk result (λ reading. stops.IsAhead tokens.now from reading.end reading.stop) }
     ensures refused { IfErr result (λ halt. stops.IsHalted grammar.SpellsSpec tokens.now from halt) }
+    ensures least { IsLeast grammar.SpellsSpec tokens.now from result }
 {
     let names = match names(alloc, tokens, from) {
         Ok(names) => names,
@@ -217,6 +222,8 @@ impl Readable for Spec {
     fn read(alloc: Global, tokens: &[Token], from: usize) -> Result<Reading<Spec>, Halt> {
         specified(alloc, tokens, from)
     }
+
+    ghost begins = { parts.specs_begin };
 
     ghost stops_at_comma = { refl };
 

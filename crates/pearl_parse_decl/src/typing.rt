@@ -9,7 +9,8 @@ ghost use Rattle.pearl_tables.specs.declared.symbol.TheConstants as s;
 ghost use Rattle.pearl_tables.specs.declared.word_code.TheConstants as w;
 ghost use Rattle.pearl_parse_expr.specs.declared.reading.Halt.{Halt};
 ghost use Rattle.pearl_parse_expr.specs.Stops as stops;
-ghost use Rattle.pearl_parse_expr.specs.Least.{Reaches, GoesTo, IsLeast};
+ghost use Rattle.pearl_parse_expr.specs.Least.{Reaches, GoesTo, IsLeast, IsLeastIn};
+ghost use Rattle.pearl_parse_expr.proofs.PartsBegin as parts;
 ghost use Rattle.pearl_parse_decl.specs.Readings as spec;
 
 use crate::list::{Readable, behind, maybe_bracketed};
@@ -127,6 +128,8 @@ impl Readable for Bound {
         bound(tokens, from)
     }
 
+    ghost begins = { parts.bounds_begin };
+
     ghost stops_at_comma = { refl };
 
     ghost stops_at_bracket = { refl };
@@ -139,6 +142,7 @@ pub fn bounds(alloc: Global, tokens: &[Token], from: usize) -> Result<Reading<Pa
     ensures longest { IfOk result (λ reading. stops.IsLongest grammar.SpellsBounds spec.by_bracket tokens.now from reading.end reading.stop) }
     ensures ahead { IfOk result (λ reading. spec.IsWithin tokens.now from reading.end reading.stop) }
     ensures refused { IfErr result (λ halt. halt ≡ Halt.NoMemory) }
+    ensures least { IsLeastIn 9 grammar.SpellsBounds tokens.now from result }
 {
     match maybe_bracketed(alloc, tokens, from) {
         Ok(list) => Ok(Reading {
@@ -224,6 +228,7 @@ pub fn typing(
     ensures longest { IfOk result (λ reading. stops.IsLongest (λ tokens. grammar.SpellsTyping tokens depth) spec.by_bracket tokens.now from reading.end reading.stop) }
     ensures ahead { IfOk result (λ reading. stops.IsAhead tokens.now from reading.end reading.stop) }
     ensures refused { IfErr result (λ halt. stops.IsHalted (λ tokens. grammar.SpellsTyping tokens depth) tokens.now from halt) }
+    ensures least { IsLeast (λ tokens. grammar.SpellsTyping tokens depth) tokens.now from result }
 {
     if is_word(tokens, from, STRUCT) {
         return structure(alloc, tokens, from, depth);
@@ -258,6 +263,7 @@ fn structure(
     ensures longest { IfOk result (λ reading. stops.IsLongest (λ tokens. grammar.SpellsTyping tokens depth) spec.by_bracket tokens.now from reading.end reading.stop) }
     ensures ahead { IfOk result (λ reading. stops.IsAhead tokens.now from reading.end reading.stop) }
     ensures refused { IfErr result (λ halt. stops.IsHalted (λ tokens. grammar.SpellsTyping tokens depth) tokens.now from halt) }
+    ensures least { IsLeast (λ tokens. grammar.SpellsTyping tokens depth) tokens.now from result }
 {
     if depth == 0 {
         return Err(Halt::Refused(from));
@@ -294,6 +300,7 @@ fn fields(
     ensures longest { IfOk result (λ reading. stops.IsLongest (λ tokens. SpellsList tokens (grammar.SpellsField tokens depth)) (spec.by_comma spec.by_bracket) tokens.now from reading.end reading.stop) }
     ensures ahead { IfOk result (λ reading. stops.IsAhead tokens.now from reading.end reading.stop) }
     ensures refused { IfErr result (λ halt. stops.IsHalted (λ tokens. SpellsList tokens (grammar.SpellsField tokens depth)) tokens.now from halt) }
+    ensures least { IsLeast (λ tokens. SpellsList tokens (grammar.SpellsField tokens depth)) tokens.now from result }
 {
     let first = match field(alloc, tokens, from, depth) {
         Ok(first) => first,
@@ -336,6 +343,7 @@ fn field(alloc: Global, tokens: &[Token], from: usize, depth: u8) -> Result<Read
     ensures longest { IfOk result (λ reading. stops.IsLongest (λ tokens. grammar.SpellsField tokens depth) spec.by_bracket tokens.now from reading.end reading.stop) }
     ensures ahead { IfOk result (λ reading. stops.IsAhead tokens.now from reading.end reading.stop) }
     ensures refused { IfErr result (λ halt. stops.IsHalted (λ tokens. grammar.SpellsField tokens depth) tokens.now from halt) }
+    ensures least { IsLeast (λ tokens. grammar.SpellsField tokens depth) tokens.now from result }
 {
     let names = match names(alloc, tokens, from) {
         Ok(names) => names,

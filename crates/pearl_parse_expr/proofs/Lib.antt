@@ -13,3 +13,4 @@ pub mod Ids
 pub mod Trees
 pub mod Leaves
 pub mod Joining
+pub mod PartsBegin

@@ -1,10 +1,13 @@
 use Rattle.std.proofs.Common.{◌≡◌, ◌≤◌, ◌⊎◌, sym, ap, subst, ◌∙◌, arith}
+use Rattle.pearl_tree.specs.Types.{SpellsNames}
 use Rattle.pearl_tree.specs.Declarations as grammar
 use Rattle.pearl_tables.specs.declared.word_code.TheConstants as w
 use Rattle.pearl_parse_expr.specs.Stops as stops
 use Rattle.pearl_parse_expr.proofs.Parts.{shorter, or_first, or_second}
+use Rattle.pearl_parse_expr.proofs.Reaching.{goes_as, halts_as}
 use Rattle.pearl_parse_decl.specs.Readings.{extends_item, extends_sema, extends_declared}
 use Rattle.pearl_parse_decl.proofs.Behind.{halted_past, ends_as}
+use Rattle.pearl_parse_decl.proofs.DeclReach.{item_names, declared_item, declared_sema}
 use Rattle.pearl_parse_decl.proofs.Items.{only_sema, only_item}
 use Rattle.pearl_parse_decl.proofs.item.declared.Goals as goal
 
@@ -55,3 +58,30 @@ returns-in-Err-item_behind-clause-refused c =
     (λ x to h. c.in-Ok.ensures.longest others agree x to h) x to h in
     (read.0, read.1, read.2))
     c.in-Err-item_behind.ensures.refused
+
+pub returns-in-Err-clause-least : goal.returns-in-Err-clause-least
+returns-in-Err-clause-least c =
+    halts_as SpellsNames grammar.SpellsDeclared c.args.tokens.now c.args.from c.args.from c.in-Err.halt
+    (λ stop near within r. declared_item c.args.tokens.now c.args.from stop (item_names c.args.tokens.now c.args.from stop r)) c.in-Err.ensures.refused c.in-Err.ensures.least
+
+pub returns-in-Ok-sema_behind-clause-least : goal.returns-in-Ok-sema_behind-clause-least
+returns-in-Ok-sema_behind-clause-least c =
+    let sema = c.in-Ok-sema_behind.sema in
+    goes_as grammar.SpellsSema grammar.SpellsDeclared c.args.tokens.now c.args.from c.args.from sema.end sema.stop (λ r. declared_sema c.args.tokens.now c.args.from sema.stop r)
+    c.in-Ok-sema_behind.ensures.least
+
+pub returns-in-Err-sema_behind-clause-least : goal.returns-in-Err-sema_behind-clause-least
+returns-in-Err-sema_behind-clause-least c =
+    halts_as grammar.SpellsSema grammar.SpellsDeclared c.args.tokens.now c.args.from c.args.from c.in-Err-sema_behind.halt
+    (λ stop near within r. declared_sema c.args.tokens.now c.args.from stop r) c.in-Err-sema_behind.ensures.refused c.in-Err-sema_behind.ensures.least
+
+pub returns-in-Ok-item_behind-clause-least : goal.returns-in-Ok-item_behind-clause-least
+returns-in-Ok-item_behind-clause-least c =
+    let item = c.in-Ok-item_behind.item in
+    goes_as grammar.SpellsItem grammar.SpellsDeclared c.args.tokens.now c.args.from c.args.from item.end item.stop (λ r. declared_item c.args.tokens.now c.args.from item.stop r)
+    c.in-Ok-item_behind.ensures.least
+
+pub returns-in-Err-item_behind-clause-least : goal.returns-in-Err-item_behind-clause-least
+returns-in-Err-item_behind-clause-least c =
+    halts_as grammar.SpellsItem grammar.SpellsDeclared c.args.tokens.now c.args.from c.args.from c.in-Err-item_behind.halt
+    (λ stop near within r. declared_item c.args.tokens.now c.args.from stop r) c.in-Err-item_behind.ensures.refused c.in-Err-item_behind.ensures.least

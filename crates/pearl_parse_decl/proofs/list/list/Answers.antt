@@ -2,6 +2,8 @@ use Rattle.std.proofs.Common.{◌+◌, ◌<◌, ◌≤◌, [], ◌∷◌, ◌++�
 use Rattle.pearl_tree.specs.Standing.{SpellsList}
 use Rattle.pearl_parse_expr.proofs.Lists.{list_one_more}
 use Rattle.pearl_parse_expr.proofs.Halts.{stuck_of}
+use Rattle.pearl_parse_expr.proofs.Reaching.{goes, halts_as, reached_halt, reaches_max}
+use Rattle.pearl_parse_decl.proofs.ListReach.{list_goes, list_goes_on, part_reach}
 use Rattle.pearl_parse_decl.proofs.Lists.{list_begins, list_next, list_ends, list_is_stuck}
 use Rattle.pearl_parse_decl.proofs.list.list.Goals as goal
 
@@ -14,6 +16,9 @@ each-init g c =
           (first.end, c.in-Ok.ensures.spells, refl);
       goes = list_begins g.P.Readable.spelling g.P.Readable.extends g.met.P.Readable.stops_at_comma c.args.tokens.now c.args.from first.end first.stop c.in-Ok.ensures.longest;
       ahead = c.in-Ok.ensures.ahead;
+      reach = list_goes g.P.Readable.spelling c.in-Ok.ensures.contained c.args.tokens.now c.args.from first.stop
+          (part_reach g.P.Readable.spelling c.in-Ok.ensures.contained c.args.tokens.now c.args.from first.stop first.part first.end c.in-Ok.ensures.spells
+          (omega (arith, c.in-Ok.ensures.ahead)) (omega (arith, c.in-Ok.ensures.ahead)) c.in-Ok.ensures.least);
     }
 
 pub each-preserved : goal.each-preserved
@@ -31,6 +36,10 @@ each-preserved g c =
           (list_one_more tokens (g.P.Readable.spelling tokens) c.each.list.items c.args.from c.each.end next.end next.part c.each.invariant.spells comma read.spells);
       goes = list_next g.P.Readable.spelling g.P.Readable.extends g.met.P.Readable.stops_at_comma tokens c.args.from c.each.end c.each.stop next.end next.stop c.max-stop.result c.each.invariant.goes near ahead below reach comma read.longest;
       ahead = (omega (arith, c.each.invariant.ahead, read.ahead), omega (arith, read.ahead), omega (arith, c.each.invariant.ahead, read.ahead, c.max-stop.ensures));
+      reach = reaches_max (λ tokens. SpellsList tokens (g.P.Readable.spelling tokens)) tokens c.args.from c.each.stop next.stop c.max-stop.result c.max-stop.ensures c.each.invariant.reach
+          (list_goes_on g.P.Readable.spelling read.contained tokens c.args.from next.stop c.each.list.items c.each.end c.each.invariant.spells comma
+          (omega (arith, c.each.invariant.ahead)) (omega (arith, read.ahead))
+          (part_reach g.P.Readable.spelling read.contained tokens (c.each.end + 1) next.stop next.part next.end read.spells (omega (arith, read.ahead)) (omega (arith, read.ahead)) read.least));
     }
 
 pub returns-in-Refused-clause-longest : goal.returns-in-Refused-clause-longest
@@ -44,3 +53,24 @@ pub returns-clause-longest : goal.returns-clause-longest
 returns-clause-longest g c =
     let near : c.each.end ≤ c.each.stop = omega (arith, c.each.invariant.ahead) in
     list_ends g.P.Readable.spelling g.P.Readable.extends c.args.tokens.now c.args.from c.each.end c.each.stop c.each.invariant.goes near (sym c.each-test.ensures.value)
+
+pub returns-in-Err-clause-least : goal.returns-in-Err-clause-least
+returns-in-Err-clause-least g c =
+    halts_as g.P.Readable.spelling (λ tokens. SpellsList tokens (g.P.Readable.spelling tokens)) c.args.tokens.now c.args.from c.args.from c.in-Err.halt
+    (λ stop near within r. list_goes g.P.Readable.spelling c.in-Err.ensures.contained c.args.tokens.now c.args.from stop r)
+    c.in-Err.ensures.refused c.in-Err.ensures.least
+
+pub returns-in-Refused-clause-least : goal.returns-in-Refused-clause-least
+returns-in-Refused-clause-least g c =
+    let tokens = c.args.tokens.now in
+    let at = c.in-Refused.at in
+    let stuck = stuck_of g.P.Readable.spelling tokens (c.each.end + 1) at c.in-Err-read.halt c.in-Refused.is c.in-Err-read.ensures.refused in
+    let near : c.each.end < at = omega (arith, stuck.1) in
+    let reach = reached_halt g.P.Readable.spelling tokens (c.each.end + 1) at c.in-Err-read.halt c.in-Refused.is c.in-Err-read.ensures.least in
+    goes (λ tokens. SpellsList tokens (g.P.Readable.spelling tokens)) tokens c.args.from c.each.end c.max.result
+    (reaches_max (λ tokens. SpellsList tokens (g.P.Readable.spelling tokens)) tokens c.args.from c.each.stop at c.max.result c.max.ensures c.each.invariant.reach
+    (list_goes_on g.P.Readable.spelling c.in-Err-read.ensures.contained tokens c.args.from at c.each.list.items c.each.end c.each.invariant.spells (c.each-test.ensures.stands refl)
+    (omega (arith, c.each.invariant.ahead)) near reach))
+
+pub returns-clause-least : goal.returns-clause-least
+returns-clause-least g c = goes (λ tokens. SpellsList tokens (g.P.Readable.spelling tokens)) c.args.tokens.now c.args.from c.each.end c.each.stop c.each.invariant.reach

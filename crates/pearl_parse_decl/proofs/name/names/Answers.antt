@@ -1,8 +1,10 @@
-use Rattle.std.proofs.Common.{◌≤◌, refl, sym, ap, ◌∙◌, arith}
+use Rattle.std.proofs.Common.{rules, ◌≤◌, refl, sym, ap, ◌∙◌, arith}
 use Rattle.pearl_tree.specs.Standing.{SpellsName, SpellsBracketed}
 use Rattle.pearl_tree.specs.Types.{SpellsNames}
 use Rattle.pearl_parse_expr.specs.Stops.{is_name}
 use Rattle.pearl_parse_expr.proofs.Halts.{halted}
+use Rattle.pearl_parse_expr.proofs.Reaching.{goes_as, halts_as}
+use Rattle.pearl_parse_decl.proofs.TypeReach.{names_reach}
 use Rattle.pearl_parse_decl.proofs.Types.{only_several}
 use Rattle.pearl_parse_decl.proofs.name.names.Goals as goal
 
@@ -19,3 +21,14 @@ returns-in-Err-clause-refused c =
     let read = only_several others c.args.from (ap is_name (sym (agree c.args.from near)) ∙ c.in-None.ensures.none refl) x to h in
     (read.0, to, read.1))
     c.in-Err.ensures.refused
+
+pub returns-in-Ok-clause-least : goal.returns-in-Ok-clause-least
+returns-in-Ok-clause-least c =
+    let list = c.in-Ok.list in
+    goes_as (λ tokens. SpellsBracketed tokens (SpellsName tokens)) SpellsNames c.args.tokens.now c.args.from c.args.from list.end list.stop
+    (λ r. names_reach c.args.tokens.now c.args.from list.stop (search rules) (omega (arith, c.in-Ok.ensures.ahead)) r) c.in-Ok.ensures.least
+
+pub returns-in-Err-clause-least : goal.returns-in-Err-clause-least
+returns-in-Err-clause-least c =
+    halts_as (λ tokens. SpellsBracketed tokens (SpellsName tokens)) SpellsNames c.args.tokens.now c.args.from c.args.from c.in-Err.halt
+    (λ stop near within r. names_reach c.args.tokens.now c.args.from stop (search rules) within r) c.in-Err.ensures.refused c.in-Err.ensures.least

@@ -1,4 +1,4 @@
-use Rattle.std.proofs.Common.{◌+◌, ◌-◌, ◌<◌, ◌≤◌, length, [], ◌∷◌, ◌++◌, inl, refl, sym, ap, subst, ◌∙◌, arith}
+use Rattle.std.proofs.Common.{rules, ◌+◌, ◌-◌, ◌<◌, ◌≤◌, length, [], ◌∷◌, ◌++◌, inl, refl, sym, ap, subst, ◌∙◌, arith}
 use Rattle.pearl_tree.specs.Standing.{SpellsList}
 use Rattle.pearl_tree.specs.Types as grammar
 use Rattle.pearl_tables.specs.declared.word_code.TheConstants as w
@@ -6,11 +6,16 @@ use Rattle.pearl_tables.specs.declared.symbol.TheConstants as s
 use Rattle.pearl_tree.proofs.TypeLists.{spells_struct}
 use Rattle.pearl_parse_expr.specs.Stops as stops
 use Rattle.pearl_parse_expr.proofs.Lists.{list_one_more}
+use Rattle.pearl_parse_expr.specs.Least.{HaltsIn}
 use Rattle.pearl_parse_expr.proofs.Halts.{halted, stuck_of}
+use Rattle.pearl_parse_expr.proofs.Reaching.{goes, goes_as, goes_max, halts_as, reach_of, reached_halt, reaches_max}
 use Rattle.pearl_parse_expr.proofs.Primaries.{clash, word_within}
 use Rattle.pearl_parse_expr.proofs.Parts.{shorter}
 use Rattle.pearl_parse_decl.specs.Readings.{by_bracket}
-use Rattle.pearl_parse_decl.proofs.Behind.{halted_behind}
+use Rattle.pearl_parse_decl.proofs.Behind.{halted_behind, halts_max}
+use Rattle.pearl_parse_decl.proofs.Leaves.{basic_begins}
+use Rattle.pearl_parse_decl.proofs.ListReach.{no_memory_least, list_goes, list_goes_on, list_reach, part_reach}
+use Rattle.pearl_parse_decl.proofs.TypeReach.{field_is_contained, field_names, field_before, field_reaches, typing_is_local, typing_basic, struct_begins, struct_reaches}
 use Rattle.pearl_parse_decl.proofs.Lists.{list_begins, list_next, list_ends, list_is_stuck, first_of}
 use Rattle.pearl_parse_decl.proofs.Types.{only_basic, only_struct, only_name, struct_is_longest, struct_is_open, field_typing}
 use Rattle.pearl_parse_decl.proofs.typing.+typing.Goals as goal
@@ -66,6 +71,9 @@ fields-each-init t c =
           (first.end, c.in-Ok.ensures.spells, refl);
       goes = list_begins (λ tokens. grammar.SpellsField tokens c.args.depth) by_bracket refl c.args.tokens.now c.args.from first.end first.stop c.in-Ok.ensures.longest;
       ahead = c.in-Ok.ensures.ahead;
+      reach = list_goes (λ tokens. grammar.SpellsField tokens c.args.depth) (field_is_contained c.args.depth) c.args.tokens.now c.args.from first.stop
+          (part_reach (λ tokens. grammar.SpellsField tokens c.args.depth) (field_is_contained c.args.depth) c.args.tokens.now c.args.from first.stop first.part first.end c.in-Ok.ensures.spells
+          (omega (arith, c.in-Ok.ensures.ahead)) (omega (arith, c.in-Ok.ensures.ahead)) c.in-Ok.ensures.least);
     }
 
 pub fields-each-preserved : goal.fields-each-preserved
@@ -84,6 +92,10 @@ fields-each-preserved t c =
           (list_one_more tokens (grammar.SpellsField tokens depth) c.each.list.items c.args.from c.each.end next.end next.part c.each.invariant.spells comma read.spells);
       goes = list_next (λ tokens. grammar.SpellsField tokens depth) by_bracket refl tokens c.args.from c.each.end c.each.stop next.end next.stop c.max-stop.result c.each.invariant.goes near ahead below reach comma read.longest;
       ahead = (omega (arith, c.each.invariant.ahead, read.ahead), omega (arith, read.ahead), omega (arith, c.each.invariant.ahead, read.ahead, c.max-stop.ensures));
+      reach = reaches_max (λ tokens. SpellsList tokens (grammar.SpellsField tokens depth)) tokens c.args.from c.each.stop next.stop c.max-stop.result c.max-stop.ensures c.each.invariant.reach
+          (list_goes_on (λ tokens. grammar.SpellsField tokens depth) (field_is_contained depth) tokens c.args.from next.stop c.each.list.items c.each.end c.each.invariant.spells comma
+          (omega (arith, c.each.invariant.ahead)) (omega (arith, read.ahead))
+          (part_reach (λ tokens. grammar.SpellsField tokens depth) (field_is_contained depth) tokens (c.each.end + 1) next.stop next.part next.end read.spells (omega (arith, read.ahead)) (omega (arith, read.ahead)) read.least));
     }
 
 pub fields-returns-in-Refused-clause-longest : goal.fields-returns-in-Refused-clause-longest
@@ -177,3 +189,112 @@ typing-returns-in-Err-clause-refused t c =
     let read = only_basic others c.args.depth c.args.from (ap stops.is_name here ∙ c.in-None.ensures.none refl) (ap (stops.is_word w.STRUCT) here ∙ sym c.if-is_word.ensures.value) x to h in
     (read.0, to, read.1))
     c.in-Err.ensures.refused
+
+-- ---- how far some part goes on
+
+pub fields-returns-in-Err-clause-least : goal.fields-returns-in-Err-clause-least
+fields-returns-in-Err-clause-least t c =
+    halts_as (λ tokens. grammar.SpellsField tokens c.args.depth) (λ tokens. SpellsList tokens (grammar.SpellsField tokens c.args.depth)) c.args.tokens.now c.args.from c.args.from c.in-Err.halt
+    (λ stop near within r. list_goes (λ tokens. grammar.SpellsField tokens c.args.depth) (field_is_contained c.args.depth) c.args.tokens.now c.args.from stop r)
+    c.in-Err.ensures.refused c.in-Err.ensures.least
+
+pub fields-returns-in-Refused-clause-least : goal.fields-returns-in-Refused-clause-least
+fields-returns-in-Refused-clause-least t c =
+    let tokens = c.args.tokens.now in
+    let depth = c.args.depth in
+    let at = c.in-Refused.at in
+    let stuck = stuck_of (λ tokens. grammar.SpellsField tokens depth) tokens (c.each.end + 1) at c.in-Err-field.halt c.in-Refused.is c.in-Err-field.ensures.refused in
+    let near : c.each.end < at = omega (arith, stuck.1) in
+    let further = reached_halt (λ tokens. grammar.SpellsField tokens depth) tokens (c.each.end + 1) at c.in-Err-field.halt c.in-Refused.is c.in-Err-field.ensures.least in
+    goes (λ tokens. SpellsList tokens (grammar.SpellsField tokens depth)) tokens c.args.from c.each.end c.max.result
+    (reaches_max (λ tokens. SpellsList tokens (grammar.SpellsField tokens depth)) tokens c.args.from c.each.stop at c.max.result c.max.ensures c.each.invariant.reach
+    (list_goes_on (λ tokens. grammar.SpellsField tokens depth) (field_is_contained depth) tokens c.args.from at c.each.list.items c.each.end c.each.invariant.spells (c.each-test.ensures.stands refl)
+    (omega (arith, c.each.invariant.ahead)) near further))
+
+pub fields-returns-clause-least : goal.fields-returns-clause-least
+fields-returns-clause-least t c =
+    goes (λ tokens. SpellsList tokens (grammar.SpellsField tokens c.args.depth)) c.args.tokens.now c.args.from c.each.end c.each.stop c.each.invariant.reach
+
+pub field-returns-in-Err-clause-least : goal.field-returns-in-Err-clause-least
+field-returns-in-Err-clause-least t c =
+    halts_as grammar.SpellsNames (λ tokens. grammar.SpellsField tokens c.args.depth) c.args.tokens.now c.args.from c.args.from c.in-Err.halt
+    (λ stop near within r. field_names c.args.tokens.now c.args.depth c.args.from stop r) c.in-Err.ensures.refused c.in-Err.ensures.least
+
+pub field-returns-in-Err-bounds-clause-least : goal.field-returns-in-Err-bounds-clause-least
+field-returns-in-Err-bounds-clause-least t c =
+    no_memory_least 16 (λ tokens. grammar.SpellsField tokens c.args.depth) c.args.tokens.now c.args.from c.in-Err-bounds.halt c.in-Err-bounds.ensures.refused
+
+pub field-returns-in-Err-typing-clause-least : goal.field-returns-in-Err-typing-clause-least
+field-returns-in-Err-typing-clause-least t c =
+    let tokens = c.args.tokens.now in
+    let depth = c.args.depth in
+    let names = c.in-Ok.names in
+    let bounds = c.in-Ok-bounds.bounds in
+    let before = field_before tokens depth c.args.from names.end bounds.end names.stop bounds.stop c.max-stop.result names.part bounds.part c.in-Ok.ensures.spells c.in-Ok.ensures.ahead
+    c.in-Ok.ensures.least c.in-Ok-bounds.ensures.spells c.in-Ok-bounds.ensures.ahead c.in-Ok-bounds.ensures.least c.max-stop.ensures in
+    subst (λ halt. HaltsIn 16 (λ tokens. grammar.SpellsField tokens depth) tokens c.args.from halt) (sym c.behind.ensures.same)
+    (halts_max (λ tokens. grammar.SpellsTyping tokens depth) (λ tokens. grammar.SpellsField tokens depth) tokens c.args.from bounds.end c.max-stop.result c.in-Err-typing.halt before
+    (λ k near within r. field_reaches tokens depth c.args.from names.part names.end c.in-Ok.ensures.spells bounds.part bounds.end k c.in-Ok-bounds.ensures.spells near r)
+    c.in-Err-typing.ensures.refused c.in-Err-typing.ensures.least)
+
+pub field-returns-clause-least : goal.field-returns-clause-least
+field-returns-clause-least t c =
+    let tokens = c.args.tokens.now in
+    let depth = c.args.depth in
+    let names = c.in-Ok.names in
+    let bounds = c.in-Ok-bounds.bounds in
+    let typing = c.in-Ok-typing.typing in
+    let before = field_before tokens depth c.args.from names.end bounds.end names.stop bounds.stop c.max-stop.result names.part bounds.part c.in-Ok.ensures.spells c.in-Ok.ensures.ahead
+    c.in-Ok.ensures.least c.in-Ok-bounds.ensures.spells c.in-Ok-bounds.ensures.ahead c.in-Ok-bounds.ensures.least c.max-stop.ensures in
+    let near : bounds.end ≤ typing.stop = omega (arith, c.in-Ok-typing.ensures.ahead) in
+    let last = reach_of (λ tokens. grammar.SpellsTyping tokens depth) tokens (typing_is_local depth) bounds.end typing.part typing.end typing.stop c.in-Ok-typing.ensures.spells
+    (omega (arith, c.in-Ok-typing.ensures.ahead)) (omega (arith, c.in-Ok-typing.ensures.ahead)) c.in-Ok-typing.ensures.least in
+    goes (λ tokens. grammar.SpellsField tokens depth) tokens c.args.from typing.end c.max.result
+    (reaches_max (λ tokens. grammar.SpellsField tokens depth) tokens c.args.from typing.stop c.max-stop.result c.max.result c.max.ensures
+    (field_reaches tokens depth c.args.from names.part names.end c.in-Ok.ensures.spells bounds.part bounds.end typing.stop c.in-Ok-bounds.ensures.spells near last) before)
+
+pub structure-returns-then-depth-eq0-clause-least : goal.structure-returns-then-depth-eq0-clause-least
+structure-returns-then-depth-eq0-clause-least t c =
+    typing_basic c.args.tokens.now c.args.depth c.args.from c.args.from (basic_begins c.args.tokens.now c.args.from c.requires.within)
+
+pub structure-returns-then-not-is_symbol-clause-least : goal.structure-returns-then-not-is_symbol-clause-least
+structure-returns-then-not-is_symbol-clause-least t c =
+    struct_begins c.args.tokens.now c.args.depth c.args.from c.requires.word (omega (arith, c.if-depth-eq0.false)) (omega (arith, word_within c.args.tokens.now c.args.from w.STRUCT c.requires.word))
+
+pub structure-returns-in-Err-clause-least : goal.structure-returns-in-Err-clause-least
+structure-returns-in-Err-clause-least t c =
+    halts_as (λ tokens. SpellsList tokens (grammar.SpellsField tokens (c.args.depth - 1))) (λ tokens. grammar.SpellsTyping tokens c.args.depth) c.args.tokens.now c.args.from (c.args.from + 2) c.in-Err.halt
+    (λ stop near within r.
+    struct_reaches c.args.tokens.now c.args.depth c.args.from c.requires.word (omega (arith, c.if-depth-eq0.false)) stop (search rules) within (c.if-not-is_symbol.ensures.stands refl) (omega arith) r)
+    c.in-Err.ensures.refused c.in-Err.ensures.least
+
+pub structure-returns-then-not-is_symbol-2-clause-least : goal.structure-returns-then-not-is_symbol-2-clause-least
+structure-returns-then-not-is_symbol-2-clause-least t c =
+    let tokens = c.args.tokens.now in
+    let depth = c.args.depth in
+    let inner = c.in-Ok.inner in
+    let read = c.in-Ok.ensures in
+    struct_reaches tokens depth c.args.from c.requires.word (omega (arith, c.if-depth-eq0.false)) inner.stop (search rules) (omega (arith, read.ahead)) (c.if-not-is_symbol.ensures.stands refl) (omega (arith, read.ahead))
+    (list_reach (λ tokens. grammar.SpellsField tokens (depth - 1)) (field_is_contained (depth - 1)) tokens (c.args.from + 2) inner.stop inner.part.items inner.end read.spells
+    (omega (arith, read.ahead)) (omega (arith, read.ahead)) read.least)
+
+pub structure-returns-clause-least : goal.structure-returns-clause-least
+structure-returns-clause-least t c =
+    let tokens = c.args.tokens.now in
+    let depth = c.args.depth in
+    let inner = c.in-Ok.inner in
+    let read = c.in-Ok.ensures in
+    goes_max (λ tokens. grammar.SpellsTyping tokens depth) tokens c.args.from inner.stop (inner.end + 1) c.max.result c.max.ensures
+    (struct_reaches tokens depth c.args.from c.requires.word (omega (arith, c.if-depth-eq0.false)) inner.stop (search rules) (omega (arith, read.ahead)) (c.if-not-is_symbol.ensures.stands refl) (omega (arith, read.ahead))
+    (list_reach (λ tokens. grammar.SpellsField tokens (depth - 1)) (field_is_contained (depth - 1)) tokens (c.args.from + 2) inner.stop inner.part.items inner.end read.spells
+    (omega (arith, read.ahead)) (omega (arith, read.ahead)) read.least))
+
+pub typing-returns-in-Ok-clause-least : goal.typing-returns-in-Ok-clause-least
+typing-returns-in-Ok-clause-least t c =
+    goes_as grammar.SpellsBasic (λ tokens. grammar.SpellsTyping tokens c.args.depth) c.args.tokens.now c.args.from c.args.from c.in-Ok.basic.end c.in-Ok.basic.stop
+    (λ r. typing_basic c.args.tokens.now c.args.depth c.args.from c.in-Ok.basic.stop r) c.in-Ok.ensures.least
+
+pub typing-returns-in-Err-clause-least : goal.typing-returns-in-Err-clause-least
+typing-returns-in-Err-clause-least t c =
+    halts_as grammar.SpellsBasic (λ tokens. grammar.SpellsTyping tokens c.args.depth) c.args.tokens.now c.args.from c.args.from c.in-Err.halt
+    (λ stop near within r. typing_basic c.args.tokens.now c.args.depth c.args.from stop r) c.in-Err.ensures.refused c.in-Err.ensures.least

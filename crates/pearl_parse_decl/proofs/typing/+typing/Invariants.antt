@@ -2,6 +2,7 @@ use Rattle.std.proofs.Common.{◌+◌, ◌-◌, ◌*◌, length}
 use Rattle.pearl_tree.specs.Standing.{SpellsList}
 use Rattle.pearl_tree.specs.Types.{SpellsField}
 use Rattle.pearl_parse_expr.specs.Stops.{IsAhead}
+use Rattle.pearl_parse_expr.specs.Least.{Reaches}
 use Rattle.pearl_parse_decl.specs.Readings.{by_bracket}
 use Rattle.pearl_parse_decl.proofs.Lists.{ListGoes}
 use Rattle.pearl_parse_decl.proofs.typing.+typing.Given as goal
@@ -23,6 +24,7 @@ invariant-fields-each l = record {
   spells : SpellsList l.tokens (SpellsField l.tokens l.depth) l.from l.list.items l.end;
   goes : ListGoes (λ tokens. SpellsField tokens l.depth) by_bracket l.tokens l.from l.end l.stop;
   ahead : IsAhead l.tokens l.from l.end l.stop;
+  reach : Reaches (λ tokens. SpellsList tokens (SpellsField tokens l.depth)) l.tokens l.from l.stop;
 }
 
 abbrev pub decreases-fields-each : goal.decreases-fields-each

@@ -1,0 +1,5 @@
+use Rattle.pearl_parse_decl.proofs.LocalDeclarations.{own_ref_keeps}
+use Rattle.pearl_parse_decl.proofs.expression.RefReadable.read.Goals as goal
+
+pub returns-clause-contained : goal.returns-clause-contained
+returns-clause-contained c = own_ref_keeps

@@ -1,0 +1,5 @@
+use Rattle.pearl_parse_decl.proofs.LocalDeclarations.{fmt_keeps}
+use Rattle.pearl_parse_decl.proofs.format.FmtReadable.read.Goals as goal
+
+pub returns-clause-contained : goal.returns-clause-contained
+returns-clause-contained c = fmt_keeps

@@ -1,0 +1,8 @@
+use Rattle.std.proofs.Common.{arith}
+use Rattle.pearl_tree.specs.Declarations.{SpellsItem}
+use Rattle.pearl_parse_decl.proofs.LocalLists.{contained_of}
+use Rattle.pearl_parse_decl.proofs.LocalDeclarations.{item_keeps}
+use Rattle.pearl_parse_decl.proofs.item.ItemReadable.read.Goals as goal
+
+pub returns-clause-contained : goal.returns-clause-contained
+returns-clause-contained c = contained_of 2 SpellsItem (omega arith) item_keeps

@@ -1,0 +1,8 @@
+use Rattle.std.proofs.Common.{arith}
+use Rattle.pearl_tree.specs.Declarations.{SpellsSpec}
+use Rattle.pearl_parse_decl.proofs.LocalLists.{contained_of}
+use Rattle.pearl_parse_decl.proofs.LocalDeclarations.{spec_keeps}
+use Rattle.pearl_parse_decl.proofs.specification.SpecReadable.read.Goals as goal
+
+pub returns-clause-contained : goal.returns-clause-contained
+returns-clause-contained c = contained_of 2 SpellsSpec (omega arith) spec_keeps
