@@ -34,3 +34,4 @@ pub mod States
 pub mod CallLeast
 pub mod ScheduleLeast
 pub mod LoopLeast
+pub mod TransferLeast

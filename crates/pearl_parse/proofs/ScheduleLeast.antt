@@ -1,15 +1,13 @@
 -- Periods, activations and what begins at some time: what completes them behind their first parts.
-use Rattle.std.proofs.Common.{◌≡◌, ℕ, ◌+◌, ◌<◌, ◌≤◌, ◌^◌, max, Bool, false, List, length, Option, Some, None, refl, sym, ap, subst, ◌∙◌, arith}
+use Rattle.std.proofs.Common.{◌≡◌, ℕ, ◌+◌, ◌<◌, ◌≤◌, ◌^◌, Bool, List, length, Option, Some, None, refl, sym, ap, subst, ◌∙◌, arith}
 use Rattle.pearl_tree.specs.declared.name.Name.{Name}
 use Rattle.pearl_tree.specs.declared.expression.Expr.{Expr}
-use Rattle.pearl_tree.specs.declared.statement.PeriodEnd.{PeriodEnd}
 use Rattle.pearl_tree.specs.declared.statement.PeriodEnd.TheVariants.{Until, During}
 use Rattle.pearl_tree.specs.declared.statement.Period.{Period}
-use Rattle.pearl_tree.specs.declared.statement.Stmt.{Stmt}
 use Rattle.pearl_tree.specs.declared.token.What.TheVariants as what
 use Rattle.pearl_tree.specs.declared.token.Token.{Token}
-use Rattle.pearl_tree.specs.Standing.{Spelling, what_at, HasWord, HasSymbol, IsName, SpellsName, SpellsMaybe}
-use Rattle.pearl_tree.specs.Statements.{SpellsAfter, SpellsPeriodEnd, SpellsPeriod, SpellsStmt}
+use Rattle.pearl_tree.specs.Standing.{Spelling, what_at, HasWord, HasSymbol, IsName, SpellsName}
+use Rattle.pearl_tree.specs.Statements.{SpellsPeriodEnd, SpellsPeriod}
 use Rattle.pearl_tables.specs.declared.symbol.TheConstants as s
 use Rattle.pearl_tables.specs.declared.word_code.TheConstants as w
 use Rattle.pearl_parse_expr.specs.declared.reading.Halt.{Halt}
@@ -29,7 +27,7 @@ use Rattle.pearl_parse.proofs.Made.{semicolon, activate_made, continue_made}
 use Rattle.pearl_parse.proofs.ScheduleMade.{After, activation, continuation, resumption, period_made, timed_activation_made, timed_continuation_made, timed_resumption_made, when_activation_made, when_continuation_made, when_resumption_made, periodic_made}
 use Rattle.pearl_parse.proofs.Tails.{semicolon_fills, activation_fills, continuation_fills, resumption_fills}
 use Rattle.pearl_parse.proofs.LeafLeast.{by_rule}
-use Rattle.pearl_parse.proofs.States.{State, first, without, past_word, past_name, past_part, halt_part, halt_token, raised, told_as, halts_behind_as, some_reaches}
+use Rattle.pearl_parse.proofs.States.{State, first, past_word, past_name, past_part, halt_part, halt_token, raised, told_as, halts_behind_as, some_reaches}
 
 -- ---- the end of a period
 

@@ -81,6 +81,20 @@ module _ {X : Type 0} (room : ℕ) (whole : List Token → Spelling X) (tokens :
     small = a.small;
   }
 
+  -- where some whole is known to go on as far as `new`
+  pub elsewhere : (rest : Rest) (at stop new : ℕ) → At rest at stop → ReachesIn room whole tokens from new → new ≤ length tokens → low ≤ new → At rest at new
+  elsewhere rest at stop new a r within above = record {
+    own = new;
+    told = inr r;
+    is = omega arith;
+    comes = a.comes;
+    near = a.near;
+    inside = a.inside;
+    reach = within;
+    few = a.few;
+    small = a.small;
+  }
+
   -- behind one token
   pub past_token : (first : List Token → ℕ → Type 0) (rest : Rest) (at stop next : ℕ) → next ≡ at + 1 → At (Behind first rest) at stop →
       ((others : List Token) → AlikeBefore tokens others (at + 1) → first others at) → at < length tokens → At rest next stop

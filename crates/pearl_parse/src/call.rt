@@ -9,6 +9,7 @@ ghost use Rattle.pearl_tables.specs.declared.symbol.TheConstants as s;
 ghost use Rattle.pearl_parse_expr.specs.Stops.{IsOnly, IsAhead, IsHalted, is_name, is_symbol};
 ghost use Rattle.pearl_parse.specs.Stops as spec;
 ghost use Rattle.pearl_parse.specs.Calls as calls;
+ghost use Rattle.pearl_parse.specs.Reached.{IsLeastBehind};
 ghost use Rattle.pearl_parse_expr.specs.Least.{IsLeastIn};
 
 use crate::step::{expr, name, symbol};
@@ -104,6 +105,7 @@ fn arguments(
     ensures only { IfOk result (λ reading. IsOnly calls.SpellsArguments tokens.now from reading.end reading.stop) }
     ensures bounds { IfOk result (λ reading. spec.StopsWithin tokens.now (from + 1) least_stop reading.end reading.stop) }
     ensures refused { IfErr result (λ halt. spec.IsStopped calls.SpellsArguments tokens.now from least_stop halt) }
+    ensures least { IsLeastBehind 24 calls.SpellsArguments tokens.now from least_stop result }
 {
     if !is_symbol(tokens, from, LEFT_ROUND) {
         symbol(tokens, from, least_stop, SEMICOLON)?;
@@ -138,6 +140,7 @@ pub fn call(alloc: Global, tokens: &[Token], from: usize) -> Result<Reading<Stmt
     ensures only { IfOk result (λ reading. (depth : ℕ) → IsOnly (λ tokens. SpellsStmt tokens depth) tokens.now from reading.end reading.stop) }
     ensures ahead { IfOk result (λ reading. IsAhead tokens.now from reading.end reading.stop) }
     ensures refused { IfErr result (λ halt. (depth : ℕ) → IsHalted (λ tokens. SpellsStmt tokens depth) tokens.now from halt) }
+    ensures least { (depth : ℕ) → IsLeastIn 24 (λ tokens. SpellsStmt tokens depth) tokens.now from result }
 {
     let called = name(tokens, from + 1, from)?;
     let arguments = arguments(alloc, tokens, from + 2, from)?;
@@ -174,6 +177,7 @@ pub fn named(alloc: Global, tokens: &[Token], from: usize) -> Result<Reading<Stm
     ensures only { IfOk result (λ reading. (depth : ℕ) → IsOnly (λ tokens. SpellsStmt tokens depth) tokens.now from reading.end reading.stop) }
     ensures ahead { IfOk result (λ reading. IsAhead tokens.now from reading.end reading.stop) }
     ensures refused { IfErr result (λ halt. (depth : ℕ) → IsHalted (λ tokens. SpellsStmt tokens depth) tokens.now from halt) }
+    ensures least { (depth : ℕ) → IsLeastIn 24 (λ tokens. SpellsStmt tokens depth) tokens.now from result }
 {
     let target = own_reference(alloc, tokens, from)?;
     if becomes(tokens, target.end) {

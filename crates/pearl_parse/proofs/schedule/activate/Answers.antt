@@ -88,7 +88,7 @@ returns-in_err-symbol-clause-least c =
     let priority = c.in_ok-priority.priority in
     let read = c.in_ok-priority.ensures in
     let at_close = past_part 16 SpellsActivation tokens from low 1 8 (Maybe (After w.PRIO)) semicolon (maybe_after_is_local w.PRIO) semicolon_fills (omega arith) (from + 2) low (omega arith) at_priority
-        priority.part priority.end priority.stop read.spells (omega (arith, read.bounds)) (omega (arith, read.bounds)) read.least in
+    priority.part priority.end priority.stop read.spells (omega (arith, read.bounds)) (omega (arith, read.bounds)) read.least in
     handed_behind 16 SpellsActivation tokens from low _ c.in_err-symbol.field-0.0 c.from_residual-in_err-symbol.result c.from_residual-in_err-symbol.ensures (λ e is. is)
     (halt_token 16 SpellsActivation tokens from low 1 semicolon semicolon_fills (omega arith) (is_symbol s.SEMICOLON) priority.end priority.stop c.in_err-symbol.field-0.0 at_close c.in_err-symbol.ensures.missing)
 
@@ -103,6 +103,6 @@ returns-clause-least c =
     let priority = c.in_ok-priority.priority in
     let read = c.in_ok-priority.ensures in
     let at_close = past_part 16 SpellsActivation tokens from low 1 8 (Maybe (After w.PRIO)) semicolon (maybe_after_is_local w.PRIO) semicolon_fills (omega arith) (from + 2) low (omega arith) at_priority
-        priority.part priority.end priority.stop read.spells (omega (arith, read.bounds)) (omega (arith, read.bounds)) read.least in
+    priority.part priority.end priority.stop read.spells (omega (arith, read.bounds)) (omega (arith, read.bounds)) read.least in
     done 16 SpellsActivation tokens from low (priority.end + 1) priority.stop c.max.result
     (past_symbol 16 SpellsActivation tokens from low s.SEMICOLON Ends priority.end priority.stop (priority.end + 1) (omega arith) at_close c.in_ok-symbol.ensures.stands c.in_ok-symbol.ensures.within) (omega (arith, c.max.ensures))

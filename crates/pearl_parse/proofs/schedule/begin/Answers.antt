@@ -1,4 +1,4 @@
-use Rattle.std.proofs.Common.{ap, ◌<◌, ◌^◌, length, rules, ◌+◌, arith}
+use Rattle.std.proofs.Common.{ap, ◌<◌, ◌^◌, length, rules, arith}
 use Rattle.pearl_parse_expr.specs.Stops.{extends_expression}
 use Rattle.pearl_parse.specs.Schedules.{SpellsOptionalPeriod, SpellsActivation, SpellsBegun, SpellsAnyBegun}
 use Rattle.pearl_parse.proofs.Steps.{Ends, err_told, past, past_only, no_part_behind, Then}

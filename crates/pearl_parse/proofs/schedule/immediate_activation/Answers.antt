@@ -1,4 +1,4 @@
-use Rattle.std.proofs.Common.{◌<◌, ◌^◌, length, rules, ◌+◌, arith}
+use Rattle.std.proofs.Common.{◌<◌, ◌^◌, length, rules, arith}
 use Rattle.pearl_parse.specs.Schedules.{SpellsActivation}
 use Rattle.pearl_parse.proofs.Steps.{Ends, err_told, past_only, no_part, Then}
 use Rattle.pearl_parse.proofs.LeafRests.{Spelled}

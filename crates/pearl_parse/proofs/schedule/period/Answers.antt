@@ -1,4 +1,4 @@
-use Rattle.std.proofs.Common.{◌<◌, ◌^◌, length, rules, ◌+◌, arith}
+use Rattle.std.proofs.Common.{◌<◌, ◌^◌, length, rules, arith}
 use Rattle.pearl_parse.proofs.Steps.{err_told, Ends, Then}
 use Rattle.pearl_parse.proofs.ScheduleRests.{period_stopped}
 use Rattle.pearl_tree.specs.Statements.{SpellsPeriodEnd, SpellsPeriod}

@@ -1,4 +1,4 @@
-use Rattle.std.proofs.Common.{ap, ◌<◌, ◌^◌, length, rules, ◌+◌, arith}
+use Rattle.std.proofs.Common.{ap, ◌<◌, ◌^◌, length, rules, arith}
 use Rattle.pearl_parse_expr.specs.Stops.{extends_expression}
 use Rattle.pearl_parse.specs.Schedules.{SpellsLongPeriod, SpellsActivation}
 use Rattle.pearl_parse.proofs.Steps.{Ends, err_told, past, past_only, no_part, Then}
@@ -59,7 +59,7 @@ returns-in_err-activation-clause-least c = λ depth.
     let period = c.in_ok-period.period in
     let read = c.in_ok-period.ensures in
     let at = past_part 24 (Spelled depth) tokens from 0 3 16 SpellsPeriod (Then SpellsActivation Ends) period_is_local activation_part_fills (omega arith) from from (omega arith) begun
-        period.part period.end period.stop read.spells (omega (arith, read.bounds)) (omega (arith, read.bounds)) read.least in
+    period.part period.end period.stop read.spells (omega (arith, read.bounds)) (omega (arith, read.bounds)) read.least in
     statement_halts tokens depth from _ c.in_err-activation.field-0.0 c.from_residual-in_err-activation.result c.from_residual-in_err-activation.ensures (λ e is. is)
     (halt_part 24 (Spelled depth) tokens from 0 0 16 SpellsActivation Ends activation_is_local ends_fill (omega arith) period.end period.stop (omega (arith, read.bounds)) at c.in_err-activation.field-0.0 c.in_err-activation.ensures.least)
 
@@ -72,7 +72,7 @@ returns-clause-least c = λ depth.
     let period = c.in_ok-period.period in
     let read = c.in_ok-period.ensures in
     let at = past_part 24 (Spelled depth) tokens from 0 3 16 SpellsPeriod (Then SpellsActivation Ends) period_is_local activation_part_fills (omega arith) from from (omega arith) begun
-        period.part period.end period.stop read.spells (omega (arith, read.bounds)) (omega (arith, read.bounds)) read.least in
+    period.part period.end period.stop read.spells (omega (arith, read.bounds)) (omega (arith, read.bounds)) read.least in
     let activation = c.in_ok-activation.activation in
     let last = c.in_ok-activation.ensures in
     ended tokens depth from activation.end activation.stop activation.stop
