@@ -8,7 +8,7 @@ use Rattle.pearl_tree.specs.Declarations.{SpellsSpec}
 use Rattle.pearl_tree.specs.Modules.{SpellsModuleName, SpellsSystem, SpellsDecl, SpellsTree}
 use Rattle.pearl_tables.specs.declared.symbol.TheConstants as s
 use Rattle.pearl_tables.specs.declared.word_code.TheConstants as w
-use Rattle.pearl_parse.specs.Reached.{ReachesIn}
+use Rattle.pearl_parse_expr.specs.Least.{ReachesIn}
 use Rattle.pearl_parse.proofs.Steps.{Rest, Then}
 use Rattle.pearl_parse.proofs.LeafRests.{Spelled}
 use Rattle.pearl_parse.proofs.Comes.{Fills, BehindWord, BehindSymbol, Maybe, fills_as, fills_word, fills_name, come_made, state_reaches}

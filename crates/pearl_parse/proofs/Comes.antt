@@ -7,11 +7,10 @@ use Rattle.pearl_tree.specs.declared.name.Name.{Name}
 use Rattle.pearl_tree.specs.declared.token.What.TheVariants as what
 use Rattle.pearl_tree.specs.declared.token.Token.{Token}
 use Rattle.pearl_tree.specs.Standing.{Spelling, what_at, HasWord, HasSymbol, IsName, SpellsName, SpellsMaybe}
-use Rattle.pearl_parse_expr.specs.Least.{AlikeBefore, LawfulFrom, Reaches, GoesTo}
+use Rattle.pearl_parse_expr.specs.Least.{AlikeBefore, LawfulFrom, ReachesIn}
 use Rattle.pearl_parse_expr.proofs.Local as local
 use Rattle.pearl_parse_expr.proofs.Ids.{x_name, x_token, x_lawful}
 use Rattle.pearl_parse_expr.proofs.Reaching.{begun, begun_alike, order, IsLocal, token_of}
-use Rattle.pearl_parse.specs.Reached.{ReachesIn, GoesIn}
 use Rattle.pearl_parse.proofs.Steps.{Rest, Ends, Then}
 
 -- tokens that are these before number k, and at most n lawful ones behind, which make this rest
@@ -209,33 +208,3 @@ module _ {X : Type 0} (whole : List Token → Spelling X) (tokens : List Token) 
       (state_reaches room n rest end fills few small_room (omega arith) (omega arith) size (come_past spells rest at end y is_local ahead h comes))
   read_reaches room n inner spells rest at end stop y is_local fills fits few small_room before ahead near within size comes h (inr r) =
       part_reaches room n inner spells rest at stop is_local fills fits small_room (omega arith) within size comes r
-
-module _ {X : Type 0} (spells : List Token → Spelling X) (tokens : List Token) (from stop : ℕ) where
-  pub in_room : Reaches spells tokens from stop → ReachesIn 16 spells tokens from stop
-  in_room r = record {
-    others = r.others;
-    alike = r.alike;
-    long = r.long;
-    short = r.short;
-    lawful = r.lawful;
-    part = r.part;
-    spelled = r.spelled;
-  }
-
-  pub with_more_room : (room more : ℕ) → room ≤ more → ReachesIn room spells tokens from stop → ReachesIn more spells tokens from stop
-  with_more_room room more below r = record {
-    others = r.others;
-    alike = r.alike;
-    long = r.long;
-    short = omega (arith, r.short);
-    lawful = r.lawful;
-    part = r.part;
-    spelled = r.spelled;
-  }
-
-  pub goes_in : (end : ℕ) → GoesTo spells tokens from end stop → GoesIn 16 spells tokens from end stop
-  goes_in end g = by g.goes
-    where
-      by : (stop ≡ end) ⊎ Reaches spells tokens from stop → GoesIn 16 spells tokens from end stop
-      by (inl same) = inl same
-      by (inr r) = inr (in_room r)

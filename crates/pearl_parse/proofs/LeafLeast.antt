@@ -1,128 +1,141 @@
--- Statements without others in them: some statement goes on as far as each state of their readers.
-use Rattle.std.proofs.Common.{◌≡◌, ℕ, ◌+◌, ◌<◌, ◌≤◌, ◌^◌, max, List, length, Option, subst, arith}
+-- Statements without others in them: what completes them behind their first tokens.
+use Rattle.std.proofs.Common.{◌≡◌, ℕ, ◌+◌, ◌<◌, ◌≤◌, ◌^◌, max, List, length, Result, arith}
+use Rattle.std.specs.Result.{IsErr, IsErrAnd}
 use Rattle.pearl_tree.specs.declared.name.Name.{Name}
 use Rattle.pearl_tree.specs.declared.expression.Expr.{Expr}
 use Rattle.pearl_tree.specs.declared.expression.Ref.{Ref}
 use Rattle.pearl_tree.specs.declared.statement.TaskWord.{TaskWord}
+use Rattle.pearl_tree.specs.declared.statement.SemaWord.{SemaWord}
 use Rattle.pearl_tree.specs.declared.statement.InterruptWord.{InterruptWord}
 use Rattle.pearl_tree.specs.declared.token.Token.{Token}
-use Rattle.pearl_tree.specs.Standing.{HasWord, IsName, SpellsName, SpellsMaybe}
+use Rattle.pearl_tree.specs.Standing.{HasWord, HasSymbol, IsName, SpellsName}
 use Rattle.pearl_tree.specs.Expressions.{SpellsWhole, SpellsOwnRef}
-use Rattle.pearl_tree.specs.Statements.{HasBecomes, task_word, interrupt_word}
+use Rattle.pearl_tree.specs.Statements.{SpellsStmt, HasBecomes, SpellsValue, task_word, sema_word, interrupt_word}
+use Rattle.pearl_tables.specs.declared.symbol.TheConstants as s
 use Rattle.pearl_tables.specs.declared.word_code.TheConstants as w
+use Rattle.pearl_parse_expr.specs.declared.reading.Halt.{Halt}
+use Rattle.pearl_parse_expr.specs.declared.reading.Reading.{Reading as Read}
+use Rattle.pearl_parse_expr.specs.Stops.{is_symbol, is_name, is_word}
+use Rattle.pearl_parse_expr.specs.Least.{GoesIn, IsLeastIn}
 use Rattle.pearl_parse_decl.proofs.LocalLists.{local_of, maybe_keeps, name_keeps}
 use Rattle.pearl_parse_decl.proofs.LocalDeclarations.{whole_keeps, own_ref_keeps}
 use Rattle.pearl_parse_expr.proofs.Reaching.{IsLocal}
-use Rattle.pearl_parse.specs.Reached.{ReachesIn, GoesIn}
-use Rattle.pearl_parse.proofs.Steps.{Then}
+use Rattle.pearl_parse.specs.Stops.{IsMissing, SpellsBefore, SpellsNameList, SpellsStation}
+use Rattle.pearl_parse.specs.Reached.{GoesBehind, HaltsBehind}
+use Rattle.pearl_parse.specs.Calls.{SpellsArguments}
+use Rattle.pearl_parse.proofs.Steps.{Rest, Ends, Then}
 use Rattle.pearl_parse.proofs.LeafRests.{Spelled}
-use Rattle.pearl_parse.proofs.Comes.{Behind, Maybe, Comes, come_past, come_word, come_name, state_reaches, part_reaches, read_reaches}
+use Rattle.pearl_parse.proofs.Comes.{Fills, Behind, BehindWord, Maybe, Makes}
+use Rattle.pearl_parse.proofs.Made as made
 use Rattle.pearl_parse.proofs.Made.{semicolon, station}
-use Rattle.pearl_parse.proofs.StatementComes.{exit_comes, task_comes, interrupt_comes, send_comes, take_comes, assignment_comes}
-use Rattle.pearl_parse.proofs.Tails.{semicolon_fills, name_fills, to_fills, from_fills, assignment_fills}
+use Rattle.pearl_parse.proofs.Tails.{semicolon_fills, name_fills, to_fills, from_fills}
+use Rattle.pearl_parse.proofs.States.{State, first, past_word, past_symbol, past_name, past_part, past_first, halt_token, done, goes_in_told, handed_in}
 
-expr_is_local : IsLocal SpellsWhole
+pub expr_is_local : IsLocal SpellsWhole
 expr_is_local = local_of 1 SpellsWhole whole_keeps
 
-module _ (tokens : List Token) (depth from : ℕ) (few : length tokens < 2 ^ 55) (here : HasWord tokens from w.SEND) where
-  abbrev Goes : ℕ → Type 0
-  Goes stop = ReachesIn 16 (Spelled depth) tokens from stop
-
-  pub send_value : (own : ℕ) → from + 1 ≤ own → own ≤ length tokens → ReachesIn 16 SpellsWhole tokens (from + 1) own → Goes own
-  send_value own near within r =
-      part_reaches (Spelled depth) tokens from 16 3 16 SpellsWhole (station w.TO) (from + 1) own expr_is_local to_fills (omega arith) (omega arith) near within few (send_comes tokens depth from here) r
-
-  module _ (x : Expr) (end : ℕ) (read : SpellsWhole tokens (from + 1) x end) (ahead : from + 1 ≤ end) (within : end ≤ length tokens) where
-    behind : Comes (Spelled depth) tokens from (station w.TO) end
-    behind = come_past (Spelled depth) tokens from SpellsWhole (station w.TO) (from + 1) end x expr_is_local ahead read (send_comes tokens depth from here)
-
-    pub send_told : (own stop : ℕ) → end ≤ own → stop ≤ length tokens → GoesIn 16 SpellsWhole tokens (from + 1) end own → stop ≡ max own from → Goes stop
-    send_told own stop near inside g is =
-        let same : own ≡ stop = omega (arith, is) in
-        subst Goes same
-        (read_reaches (Spelled depth) tokens from 16 3 16 SpellsWhole (station w.TO) (from + 1) end own x expr_is_local to_fills (omega arith) (omega arith) (omega arith) (omega arith) ahead near (omega (arith, is)) few
-        (send_comes tokens depth from here) read g)
-
-    pub send_to : Goes end
-    send_to = state_reaches (Spelled depth) tokens from 16 3 (station w.TO) end to_fills (omega arith) (omega arith) (omega arith) within few behind
-
-    module _ (to : HasWord tokens end w.TO) where
-      at_name : Comes (Spelled depth) tokens from (Then SpellsName semicolon) (end + 1)
-      at_name = come_word (Spelled depth) tokens from w.TO (Then SpellsName semicolon) end to behind
-
-      pub send_name : end + 1 ≤ length tokens → Goes (end + 1)
-      send_name inside = state_reaches (Spelled depth) tokens from 16 2 (Then SpellsName semicolon) (end + 1) name_fills (omega arith) (omega arith) (omega arith) inside few at_name
-
-      pub send_close : (name : Name) → IsName tokens (end + 1) name → end + 1 + 1 ≤ length tokens → Goes (end + 1 + 1)
-      send_close name stands inside =
-          state_reaches (Spelled depth) tokens from 16 1 semicolon (end + 1 + 1) semicolon_fills (omega arith) (omega arith) (omega arith) inside few
-          (come_name (Spelled depth) tokens from name semicolon (end + 1) stands at_name)
-
-name_is_local : IsLocal (Maybe SpellsName)
-name_is_local = local_of 0 (Maybe SpellsName) (λ tokens others k alike. maybe_keeps tokens others k alike 1 SpellsName (name_keeps tokens others k alike))
-
-ref_is_local : IsLocal SpellsOwnRef
+pub ref_is_local : IsLocal SpellsOwnRef
 ref_is_local = local_of 1 SpellsOwnRef own_ref_keeps
 
-module _ (tokens : List Token) (depth from : ℕ) (few : length tokens < 2 ^ 55) where
-  -- EXIT, and no semicolon
-  pub exit_close : HasWord tokens from w.EXIT → from + 1 ≤ length tokens → ReachesIn 16 (Spelled depth) tokens from (from + 1)
-  exit_close here inside =
-      state_reaches (Spelled depth) tokens from 16 1 semicolon (from + 1) semicolon_fills (omega arith) (omega arith) (omega arith) inside few (exit_comes tokens depth from here)
+pub maybe_name_is_local : IsLocal (Maybe SpellsName)
+maybe_name_is_local = local_of 0 (Maybe SpellsName) (λ tokens others k alike. maybe_keeps tokens others k alike 1 SpellsName (name_keeps tokens others k alike))
 
-  -- SUSPEND, TERMINATE or PREVENT, an id or none, and no semicolon
-  pub task_close : (word : TaskWord) → HasWord tokens from (task_word word) → (x : Option Name) (end : ℕ) → SpellsMaybe (SpellsName tokens) (from + 1) x end → from + 1 ≤ end →
-      end ≤ length tokens → ReachesIn 16 (Spelled depth) tokens from end
-  task_close word here x end read ahead inside =
-      state_reaches (Spelled depth) tokens from 16 1 semicolon end semicolon_fills (omega arith) (omega arith) (omega arith) inside few
-      (come_past (Spelled depth) tokens from (Maybe SpellsName) semicolon (from + 1) end x name_is_local ahead read (task_comes tokens depth from word here))
+module _ (tokens : List Token) (depth from : ℕ) (inside : from < length tokens) (few : length tokens < 2 ^ 55) where
+  abbrev pub Statement : Rest → ℕ → ℕ → Type 0
+  Statement = State 24 (Spelled depth) tokens from 0
 
-  module _ (word : InterruptWord) (here : HasWord tokens from (interrupt_word word)) where
-    -- ENABLE, DISABLE or TRIGGER, and no id
-    pub interrupt_name : from + 1 ≤ length tokens → ReachesIn 16 (Spelled depth) tokens from (from + 1)
-    interrupt_name inside =
-        state_reaches (Spelled depth) tokens from 16 2 (Then SpellsName semicolon) (from + 1) name_fills (omega arith) (omega arith) (omega arith) inside few
-        (interrupt_comes tokens depth from word here)
+  pub by_rule : (rest : Rest) → Makes (Spelled depth) rest → Statement rest from from
+  by_rule rest makes = first 24 (Spelled depth) tokens from 0 rest from from makes (omega arith) (omega arith) (omega arith) (omega arith) few
 
-    -- the id, and no semicolon
-    pub interrupt_close : (name : Name) → IsName tokens (from + 1) name → from + 1 + 1 ≤ length tokens → ReachesIn 16 (Spelled depth) tokens from (from + 1 + 1)
-    interrupt_close name stands inside =
-        state_reaches (Spelled depth) tokens from 16 1 semicolon (from + 1 + 1) semicolon_fills (omega arith) (omega arith) (omega arith) inside few
-        (come_name (Spelled depth) tokens from name semicolon (from + 1) stands (interrupt_comes tokens depth from word here))
+  by_word : (word : ℕ) (rest : Rest) → Makes (Spelled depth) (BehindWord word rest) → HasWord tokens from word → Statement rest (from + 1) from
+  by_word word rest makes here =
+      past_word 24 (Spelled depth) tokens from 0 word rest from from (from + 1) (omega arith) (by_rule (BehindWord word rest) makes) here inside
 
--- TAKE ref FROM id ";"
-module _ (tokens : List Token) (depth from : ℕ) (few : length tokens < 2 ^ 55) (here : HasWord tokens from w.TAKE) where
-  pub take_target : (own : ℕ) → from + 1 ≤ own → own ≤ length tokens → ReachesIn 16 SpellsOwnRef tokens (from + 1) own → ReachesIn 16 (Spelled depth) tokens from own
-  take_target own near within r =
-      part_reaches (Spelled depth) tokens from 16 3 16 SpellsOwnRef (station w.FROM) (from + 1) own ref_is_local from_fills (omega arith) (omega arith) near within few (take_comes tokens depth from here) r
+  pub exit_begun : HasWord tokens from w.EXIT → Statement semicolon (from + 1) from
+  exit_begun = by_word w.EXIT semicolon (made.exit_made depth)
 
-  module _ (x : Ref) (end : ℕ) (read : SpellsOwnRef tokens (from + 1) x end) (ahead : from + 1 ≤ end) (within : end ≤ length tokens) where
-    behind_target : Comes (Spelled depth) tokens from (station w.FROM) end
-    behind_target = come_past (Spelled depth) tokens from SpellsOwnRef (station w.FROM) (from + 1) end x ref_is_local ahead read (take_comes tokens depth from here)
+  pub task_begun : (word : TaskWord) → HasWord tokens from (task_word word) → Statement (Then (Maybe SpellsName) semicolon) (from + 1) from
+  task_begun word = by_word (task_word word) (Then (Maybe SpellsName) semicolon) (made.task_made depth word)
 
-    pub take_told : (stop : ℕ) → end ≤ stop → stop ≤ length tokens → GoesIn 16 SpellsOwnRef tokens (from + 1) end stop → ReachesIn 16 (Spelled depth) tokens from stop
-    take_told stop near inside g =
-        read_reaches (Spelled depth) tokens from 16 3 16 SpellsOwnRef (station w.FROM) (from + 1) end stop x ref_is_local from_fills (omega arith) (omega arith) (omega arith) (omega arith) ahead near inside few
-        (take_comes tokens depth from here) read g
+  pub semas_begun : (word : SemaWord) → HasWord tokens from (sema_word word) → Statement (Then SpellsNameList semicolon) (from + 1) from
+  semas_begun word = by_word (sema_word word) (Then SpellsNameList semicolon) (made.semas_made depth word)
 
-    pub take_from : ReachesIn 16 (Spelled depth) tokens from end
-    take_from = state_reaches (Spelled depth) tokens from 16 3 (station w.FROM) end from_fills (omega arith) (omega arith) (omega arith) within few behind_target
+  pub interrupt_begun : (word : InterruptWord) → HasWord tokens from (interrupt_word word) → Statement (Then SpellsName semicolon) (from + 1) from
+  interrupt_begun word = by_word (interrupt_word word) (Then SpellsName semicolon) (made.interrupt_made depth word)
 
-    module _ (stands : HasWord tokens end w.FROM) where
-      at_station : Comes (Spelled depth) tokens from (Then SpellsName semicolon) (end + 1)
-      at_station = come_word (Spelled depth) tokens from w.FROM (Then SpellsName semicolon) end stands behind_target
+  pub return_begun : HasWord tokens from w.RETURN → Statement (Then (Maybe SpellsValue) semicolon) (from + 1) from
+  return_begun = by_word w.RETURN (Then (Maybe SpellsValue) semicolon) (made.return_made depth)
 
-      pub take_name : end + 1 ≤ length tokens → ReachesIn 16 (Spelled depth) tokens from (end + 1)
-      take_name inside = state_reaches (Spelled depth) tokens from 16 2 (Then SpellsName semicolon) (end + 1) name_fills (omega arith) (omega arith) (omega arith) inside few at_station
+  pub call_begun : HasWord tokens from w.CALL → Statement (Then SpellsName (Then SpellsArguments Ends)) (from + 1) from
+  call_begun = by_word w.CALL (Then SpellsName (Then SpellsArguments Ends)) (made.call_made depth)
 
-      pub take_close : (name : Name) → IsName tokens (end + 1) name → end + 1 + 1 ≤ length tokens → ReachesIn 16 (Spelled depth) tokens from (end + 1 + 1)
-      take_close name is inside =
-          state_reaches (Spelled depth) tokens from 16 1 semicolon (end + 1 + 1) semicolon_fills (omega arith) (omega arith) (omega arith) inside few
-          (come_name (Spelled depth) tokens from name semicolon (end + 1) is at_station)
+  pub named_call_begun : Statement (Then SpellsName (Then SpellsArguments Ends)) from from
+  named_call_begun = by_rule (Then SpellsName (Then SpellsArguments Ends)) (made.named_call_made depth)
 
--- id selectors, and no `:=`: the target is the first part, so the statement needs more room than it
-pub assignment_target : (tokens : List Token) (depth from own : ℕ) → length tokens < 2 ^ 55 → from ≤ own → own ≤ length tokens → ReachesIn 16 SpellsOwnRef tokens from own →
-    ReachesIn 24 (Spelled depth) tokens from own
-assignment_target tokens depth from own few near within r =
-    part_reaches (Spelled depth) tokens from 24 3 16 SpellsOwnRef (Behind HasBecomes (Then SpellsWhole semicolon)) from own ref_is_local assignment_fills (omega arith) (omega arith) near within few
-    (assignment_comes tokens depth from) r
+  pub assignment_begun : Statement (Then SpellsOwnRef (Behind HasBecomes (Then SpellsWhole semicolon))) from from
+  assignment_begun = by_rule (Then SpellsOwnRef (Behind HasBecomes (Then SpellsWhole semicolon))) (made.assignment_made depth)
+
+  pub send_begun : HasWord tokens from w.SEND → Statement (Then SpellsWhole (station w.TO)) (from + 1) from
+  send_begun = by_word w.SEND (Then SpellsWhole (station w.TO)) (made.send_made depth)
+
+  pub take_begun : HasWord tokens from w.TAKE → Statement (Then SpellsOwnRef (station w.FROM)) (from + 1) from
+  take_begun = by_word w.TAKE (Then SpellsOwnRef (station w.FROM)) (made.take_made depth)
+
+  pub put_begun : HasWord tokens from w.PUT → Statement (Then (SpellsBefore w.TO SpellsWhole) (Then SpellsStation Ends)) (from + 1) from
+  put_begun = by_word w.PUT (Then (SpellsBefore w.TO SpellsWhole) (Then SpellsStation Ends)) (made.put_made depth)
+
+  pub get_begun : HasWord tokens from w.GET → Statement (Then (SpellsBefore w.FROM SpellsOwnRef) (Then SpellsStation Ends)) (from + 1) from
+  get_begun = by_word w.GET (Then (SpellsBefore w.FROM SpellsOwnRef) (Then SpellsStation Ends)) (made.get_made depth)
+
+module _ (tokens : List Token) (depth from : ℕ) (inside : from < length tokens) (few : length tokens < 2 ^ 55) where
+  -- SEND expr, and what stands behind it
+  pub send_past : HasWord tokens from w.SEND → (x : Expr) (end stop : ℕ) → SpellsWhole tokens (from + 1) x end → from + 1 ≤ end → stop ≤ length tokens →
+      GoesBehind 16 SpellsWhole tokens (from + 1) from end stop → State 24 (Spelled depth) tokens from 0 (station w.TO) end stop
+  send_past here x end stop h ahead within told =
+      past_part 24 (Spelled depth) tokens from 0 3 16 SpellsWhole (station w.TO) expr_is_local to_fills (omega arith) (from + 1) from (omega arith)
+      (send_begun tokens depth from inside few here) x end stop h ahead within told
+
+  -- TAKE ref, and what stands behind it
+  pub take_past : HasWord tokens from w.TAKE → (x : Ref) (end stop : ℕ) → SpellsOwnRef tokens (from + 1) x end → from + 1 ≤ end → end ≤ stop → stop ≤ length tokens →
+      GoesIn 16 SpellsOwnRef tokens (from + 1) end stop → State 24 (Spelled depth) tokens from 0 (station w.FROM) end stop
+  take_past here x end stop h ahead near within g =
+      past_first 24 (Spelled depth) tokens from 0 3 16 SpellsOwnRef (station w.FROM) ref_is_local from_fills (omega arith) (from + 1) from (omega arith)
+      (take_begun tokens depth from inside few here) x end stop h ahead within (omega arith) near g
+
+-- ---- how they end
+
+module _ (tokens : List Token) (depth from : ℕ) where
+  abbrev Reading : Rest → ℕ → ℕ → Type 0
+  Reading = State 24 (Spelled depth) tokens from 0
+
+  pub semicolon_missing : (at stop : ℕ) (halt : Halt) → Reading semicolon at stop → IsMissing tokens (is_symbol s.SEMICOLON) at stop halt → HaltsBehind 24 (Spelled depth) tokens from 0 halt
+  semicolon_missing at stop halt a h =
+      halt_token 24 (Spelled depth) tokens from 0 1 semicolon semicolon_fills (omega arith) (is_symbol s.SEMICOLON) at stop halt a h
+
+  pub ended : (at stop new : ℕ) → Reading Ends at stop → new ≡ max stop at → GoesIn 24 (Spelled depth) tokens from at new
+  ended at stop new a is =
+      goes_in_told 24 (Spelled depth) tokens from 0 (omega arith) at new (omega (arith, a.near)) (done 24 (Spelled depth) tokens from 0 at stop new a is)
+
+  pub semicolon_read : (at stop next new : ℕ) → next ≡ at + 1 → Reading semicolon at stop → HasSymbol tokens at s.SEMICOLON → at < length tokens → new ≡ max stop next →
+      GoesIn 24 (Spelled depth) tokens from next new
+  semicolon_read at stop next new follows a here within is =
+      ended next stop new (past_symbol 24 (Spelled depth) tokens from 0 s.SEMICOLON Ends at stop next follows a here within) is
+
+  -- id ";"
+  pub name_missing : (at stop : ℕ) (halt : Halt) → Reading (Then SpellsName semicolon) at stop → IsMissing tokens is_name at stop halt → HaltsBehind 24 (Spelled depth) tokens from 0 halt
+  name_missing at stop halt a h = halt_token 24 (Spelled depth) tokens from 0 2 (Then SpellsName semicolon) name_fills (omega arith) is_name at stop halt a h
+
+  pub behind_name : (name : Name) (at stop next : ℕ) → next ≡ at + 1 → Reading (Then SpellsName semicolon) at stop → IsName tokens at name → at < length tokens → Reading semicolon next stop
+  behind_name name = past_name 24 (Spelled depth) tokens from 0 name semicolon
+
+  -- word id ";"
+  pub station_missing : (word : ℕ) (at stop : ℕ) (halt : Halt) → Fills 3 (station word) → Reading (station word) at stop → IsMissing tokens (is_word word) at stop halt → HaltsBehind 24 (Spelled depth) tokens from 0 halt
+  station_missing word at stop halt fills a h = halt_token 24 (Spelled depth) tokens from 0 3 (station word) fills (omega arith) (is_word word) at stop halt a h
+
+  pub behind_station : (word : ℕ) (at stop next : ℕ) → next ≡ at + 1 → Reading (station word) at stop → HasWord tokens at word → at < length tokens → Reading (Then SpellsName semicolon) next stop
+  behind_station word = past_word 24 (Spelled depth) tokens from 0 word (Then SpellsName semicolon)
+
+  -- what `?` hands on
+  pub statement_halts : {Y : Type 0} (Q : Halt → Type 0) (told : Halt) (result : Result (Read Y) Halt) → IsErr result × IsErrAnd result Q → ((e : Halt) → Q e → e ≡ told) →
+      HaltsBehind 24 (Spelled depth) tokens from 0 told → IsLeastIn 24 (λ tokens. SpellsStmt tokens depth) tokens from result
+  statement_halts Q told result h step halts = handed_in 24 (Spelled depth) tokens from 0 Q told result h step (omega arith) halts

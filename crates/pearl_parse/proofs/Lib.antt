@@ -27,9 +27,11 @@ pub mod ScheduleMade
 pub mod NestedMade
 pub mod ModulesMade
 pub mod Tails
-pub mod StatementComes
-pub mod ModuleComes
-pub mod Telling
 pub mod LeafLeast
 pub mod ListReach
 pub mod Beginnings
+pub mod States
+pub mod CallLeast
+pub mod ScheduleLeast
+pub mod LoopLeast
+pub mod TransferLeast

@@ -3,12 +3,11 @@ use Rattle.std.proofs.Common.{ℕ, ◌+◌, ◌*◌, ◌<◌, ◌≤◌, List, [
 use Rattle.pearl_tree.specs.declared.token.Token.{Token}
 use Rattle.pearl_tree.specs.Standing.{Spelling, HasSymbol, SpellsEach, SpellsSome, SpellsList}
 use Rattle.pearl_tables.specs.declared.symbol.TheConstants as s
-use Rattle.pearl_parse_expr.specs.Least.{AlikeBefore}
+use Rattle.pearl_parse_expr.specs.Least.{AlikeBefore, ReachesIn}
 use Rattle.pearl_parse_expr.proofs.Local as local
 use Rattle.pearl_parse_expr.proofs.Lists.{each_one_more, list_one_more}
 use Rattle.pearl_parse_decl.proofs.LocalLists.{Kept}
 use Rattle.pearl_parse_decl.proofs.LocalLists as lists
-use Rattle.pearl_parse.specs.Reached.{ReachesIn}
 
 -- a whole that ends with a part, and has no more room in front of it
 pub ends_as : {X Y : Type 0} (room inner : ℕ) (spells : List Token → Spelling X) (whole : List Token → Spelling Y) (tokens : List Token) (from at stop : ℕ) →

@@ -14,7 +14,7 @@ use Rattle.pearl_tree.specs.Declarations.{SpellsDeclared, SpellsSpec, SpellsPara
 use Rattle.pearl_tree.specs.Modules.{SpellsTaskHead, SpellsReturns, SpellsBlock, SpellsDecl, SpellsModuleName, SpellsSystem, SpellsTree}
 use Rattle.pearl_tables.specs.declared.symbol.TheConstants as s
 use Rattle.pearl_tables.specs.declared.word_code.TheConstants as w
-use Rattle.pearl_parse.specs.Reached.{ReachesIn}
+use Rattle.pearl_parse_expr.specs.Least.{ReachesIn}
 use Rattle.pearl_parse_expr.proofs.Reaching.{placed, placed_within}
 use Rattle.pearl_parse_expr.proofs.Trees.{parts_of}
 use Rattle.pearl_parse_decl.proofs.LocalLists.{after_of, each_long, list_long, maybe_bracketed_long}

@@ -14,5 +14,5 @@ pub mod Firsts
 pub mod Modules
 -- why tokens have no tree, and where that is told
 pub mod Refusals
--- that some part goes on as far as a stop, by no more tokens than there is room for
+-- how far some part goes on, where that is told no earlier than what stands before it was stopped
 pub mod Reached

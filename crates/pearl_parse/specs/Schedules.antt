@@ -51,6 +51,9 @@ abbrev pub HasBegun : List Token → ℕ → Option Period → Name → Option E
 HasBegun tokens from period task priority to =
     (m : ℕ) × SpellsMaybe (SpellsPeriod tokens) from period m × SpellsActivation tokens m (task, priority) to
 
+abbrev pub SpellsAnyBegun : List Token → Spelling (Option Period × (Name × Option Expr))
+SpellsAnyBegun tokens from part to = HasBegun tokens from part.0 part.1.0 part.1.1 to
+
 -- AFTER, or AT
 abbrev pub time_word : Bool → ℕ
 time_word true = w.AFTER

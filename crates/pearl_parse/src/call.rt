@@ -9,6 +9,8 @@ ghost use Rattle.pearl_tables.specs.declared.symbol.TheConstants as s;
 ghost use Rattle.pearl_parse_expr.specs.Stops.{IsOnly, IsAhead, IsHalted, is_name, is_symbol};
 ghost use Rattle.pearl_parse.specs.Stops as spec;
 ghost use Rattle.pearl_parse.specs.Calls as calls;
+ghost use Rattle.pearl_parse.specs.Reached.{IsLeastBehind};
+ghost use Rattle.pearl_parse_expr.specs.Least.{IsLeastIn};
 
 use crate::step::{expr, name, symbol};
 use pearl_parse_decl::expression::own_reference;
@@ -30,6 +32,7 @@ fn value(alloc: Global, tokens: &[Token], from: usize) -> Result<Reading<Expr>, 
     ensures only { IfOk result (λ reading. IsOnly SpellsValue tokens.now from reading.end reading.stop) }
     ensures ahead { IfOk result (λ reading. IsAhead tokens.now from reading.end reading.stop) }
     ensures refused { IfErr result (λ halt. IsHalted SpellsValue tokens.now from halt) }
+    ensures least { IsLeastIn 16 SpellsValue tokens.now from result }
 {
     let value = expr(alloc, tokens, from + 1, from)?;
     symbol(tokens, value.end, value.stop, RIGHT_ROUND)?;
@@ -47,6 +50,7 @@ fn maybe_value(alloc: Global, tokens: &[Token], from: usize) -> Result<Reading<O
     ensures only { IfOk result (λ reading. IsOnly calls.SpellsOptionalValue tokens.now from reading.end reading.stop) }
     ensures bounds { IfOk result (λ reading. spec.StopsWithin tokens.now from from reading.end reading.stop) }
     ensures refused { IfErr result (λ halt. IsHalted calls.SpellsOptionalValue tokens.now from halt) }
+    ensures least { IsLeastIn 16 (λ tokens. SpellsMaybe (SpellsValue tokens)) tokens.now from result }
 {
     if !is_symbol(tokens, from, LEFT_ROUND) {
         return Ok(Reading {
@@ -73,6 +77,7 @@ pub fn return_(alloc: Global, tokens: &[Token], from: usize) -> Result<Reading<S
     ensures only { IfOk result (λ reading. (depth : ℕ) → IsOnly (λ tokens. SpellsStmt tokens depth) tokens.now from reading.end reading.stop) }
     ensures ahead { IfOk result (λ reading. IsAhead tokens.now from reading.end reading.stop) }
     ensures refused { IfErr result (λ halt. (depth : ℕ) → IsHalted (λ tokens. SpellsStmt tokens depth) tokens.now from halt) }
+    ensures least { (depth : ℕ) → IsLeastIn 24 (λ tokens. SpellsStmt tokens depth) tokens.now from result }
 {
     let value = maybe_value(alloc, tokens, from + 1)?;
     symbol(tokens, value.end, value.stop, SEMICOLON)?;
@@ -100,6 +105,7 @@ fn arguments(
     ensures only { IfOk result (λ reading. IsOnly calls.SpellsArguments tokens.now from reading.end reading.stop) }
     ensures bounds { IfOk result (λ reading. spec.StopsWithin tokens.now (from + 1) least_stop reading.end reading.stop) }
     ensures refused { IfErr result (λ halt. spec.IsStopped calls.SpellsArguments tokens.now from least_stop halt) }
+    ensures least { IsLeastBehind 24 calls.SpellsArguments tokens.now from least_stop result }
 {
     if !is_symbol(tokens, from, LEFT_ROUND) {
         symbol(tokens, from, least_stop, SEMICOLON)?;
@@ -134,6 +140,7 @@ pub fn call(alloc: Global, tokens: &[Token], from: usize) -> Result<Reading<Stmt
     ensures only { IfOk result (λ reading. (depth : ℕ) → IsOnly (λ tokens. SpellsStmt tokens depth) tokens.now from reading.end reading.stop) }
     ensures ahead { IfOk result (λ reading. IsAhead tokens.now from reading.end reading.stop) }
     ensures refused { IfErr result (λ halt. (depth : ℕ) → IsHalted (λ tokens. SpellsStmt tokens depth) tokens.now from halt) }
+    ensures least { (depth : ℕ) → IsLeastIn 24 (λ tokens. SpellsStmt tokens depth) tokens.now from result }
 {
     let called = name(tokens, from + 1, from)?;
     let arguments = arguments(alloc, tokens, from + 2, from)?;
@@ -170,6 +177,7 @@ pub fn named(alloc: Global, tokens: &[Token], from: usize) -> Result<Reading<Stm
     ensures only { IfOk result (λ reading. (depth : ℕ) → IsOnly (λ tokens. SpellsStmt tokens depth) tokens.now from reading.end reading.stop) }
     ensures ahead { IfOk result (λ reading. IsAhead tokens.now from reading.end reading.stop) }
     ensures refused { IfErr result (λ halt. (depth : ℕ) → IsHalted (λ tokens. SpellsStmt tokens depth) tokens.now from halt) }
+    ensures least { (depth : ℕ) → IsLeastIn 24 (λ tokens. SpellsStmt tokens depth) tokens.now from result }
 {
     let target = own_reference(alloc, tokens, from)?;
     if becomes(tokens, target.end) {

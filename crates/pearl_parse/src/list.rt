@@ -5,6 +5,8 @@ ghost use Rattle.pearl_tree.specs.declared.token.Token.{Token};
 ghost use Rattle.pearl_tree.specs.declared.token.What.TheVariants as what;
 ghost use Rattle.pearl_tree.specs.Standing.{HasWord};
 ghost use Rattle.pearl_parse_expr.specs.Stops.{IsOnly, IsAhead, IsHalted};
+ghost use Rattle.pearl_tree.specs.Tokens.{IsLawfulWhat};
+ghost use Rattle.pearl_parse_expr.specs.Least.{IsLeastIn};
 ghost use Rattle.pearl_parse.specs.Stops as spec;
 
 use pearl_parse_decl::list::{Readable, list};
@@ -27,6 +29,7 @@ pub fn before<P: Readable>(
     ensures only { IfOk result (λ reading. IsOnly (spec.SpellsBefore word P.spelling) tokens.now from reading.end reading.stop) }
     ensures ahead { IfOk result (λ reading. IsAhead tokens.now from reading.end reading.stop) }
     ensures refused { IfErr result (λ halt. IsHalted (spec.SpellsBefore word P.spelling) tokens.now from halt) }
+    ensures least { IsLawfulWhat (what.Word word) → IsLeastIn 24 (spec.SpellsBefore word P.spelling) tokens.now from result }
 {
     if is_word(tokens, from, word) {
         return Ok(Reading {

@@ -6,6 +6,7 @@ ghost use Rattle.pearl_tree.specs.Statements.{SpellsFor};
 ghost use Rattle.pearl_parse_expr.specs.declared.reading.Halt.{Halt};
 ghost use Rattle.pearl_parse_expr.specs.Stops.{IsOnly, IsAhead, IsHalted};
 ghost use Rattle.pearl_parse.specs.Stops as spec;
+ghost use Rattle.pearl_parse_expr.specs.Least.{IsLeastIn};
 ghost use Rattle.pearl_parse.specs.Bodies as bodies;
 
 use crate::step::{maybe_after, name, word};
@@ -34,6 +35,7 @@ fn control(tokens: &[Token], from: usize) -> Result<Reading<Option<Name>>, Halt>
     ensures only { IfOk result (λ reading. IsOnly bodies.SpellsOptionalFor tokens.now from reading.end reading.stop) }
     ensures bounds { IfOk result (λ reading. spec.StopsWithin tokens.now from from reading.end reading.stop) }
     ensures refused { IfErr result (λ halt. IsHalted bodies.SpellsOptionalFor tokens.now from halt) }
+    ensures least { IsLeastIn 8 (λ tokens. SpellsMaybe (SpellsFor tokens)) tokens.now from result }
     ensures memory { IfErr result (λ halt. halt ≢ Halt.NoMemory) }
 {
     if !is_word(tokens, from, FOR) {
@@ -58,6 +60,7 @@ pub fn loop_heads(alloc: Global, tokens: &[Token], from: usize) -> Result<Readin
     ensures only { IfOk result (λ reading. IsOnly bodies.SpellsHeads tokens.now from reading.end reading.stop) }
     ensures ahead { IfOk result (λ reading. IsAhead tokens.now from reading.end reading.stop) }
     ensures refused { IfErr result (λ halt. IsHalted bodies.SpellsHeads tokens.now from halt) }
+    ensures least { IsLeastIn 16 bodies.SpellsHeads tokens.now from result }
 {
     let control = control(tokens, from)?;
     let begin = maybe_after(alloc, tokens, control.end, control.stop, FROM)?;

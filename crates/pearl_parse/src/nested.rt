@@ -7,7 +7,11 @@ ghost use Rattle.pearl_tables.specs.declared.symbol.TheConstants as s;
 ghost use Rattle.pearl_parse_expr.specs.declared.reading.Halt.{Halt};
 ghost use Rattle.pearl_parse_expr.specs.Stops.{IsOnly, IsAhead, IsHalted};
 ghost use Rattle.pearl_parse.specs.Stops as spec;
+ghost use Rattle.pearl_tree.specs.declared.token.What.TheVariants as what;
+ghost use Rattle.pearl_tree.specs.Tokens.{IsLawfulWhat};
+ghost use Rattle.pearl_parse_expr.specs.Least.{IsLeastIn};
 ghost use Rattle.pearl_parse.specs.Bodies as bodies;
+ghost use Rattle.pearl_parse.specs.Reached.{HaltsBehind};
 
 use crate::step::{after, symbol, word as word_here};
 use pearl_parse_expr::reading::{Halt, Reading};
@@ -25,6 +29,7 @@ pub fn condition(alloc: Global, tokens: &[Token], from: usize) -> Result<Reading
     ensures only { IfOk result (λ reading. IsOnly bodies.SpellsCondition tokens.now from reading.end reading.stop) }
     ensures ahead { IfOk result (λ reading. IsAhead tokens.now from reading.end reading.stop) }
     ensures refused { IfErr result (λ halt. IsHalted bodies.SpellsCondition tokens.now from halt) }
+    ensures least { IsLeastIn 16 bodies.SpellsCondition tokens.now from result }
 {
     let condition = after(alloc, tokens, from, from, IF)?;
     word_here(tokens, condition.end, condition.stop, THEN)?;
@@ -42,6 +47,7 @@ pub fn closing(tokens: &[Token], from: usize, least_stop: usize, word: u8) -> Re
     ensures stands { OnOk result (HasWord tokens.now from word × HasSymbol tokens.now (from + 1) s.SEMICOLON) }
     ensures within { OnOk result (from + 2 ≤ length tokens.now) }
     ensures refused { IfErr result (λ halt. spec.IsStopped (bodies.SpellsClosing word) tokens.now from least_stop halt) }
+    ensures least { IsLawfulWhat (what.Word word) → IfErr result (λ halt. HaltsBehind 8 (bodies.SpellsClosing word) tokens.now from least_stop halt) }
     ensures memory { IfErr result (λ halt. halt ≢ Halt.NoMemory) }
 {
     word_here(tokens, from, least_stop, word)?;

@@ -8,6 +8,8 @@ ghost use Rattle.pearl_parse_expr.specs.declared.reading.Halt.{Halt};
 ghost use Rattle.pearl_parse_expr.specs.Stops.{IsLongest, IsOnly, IsAhead, IsHalted, extends_expression};
 ghost use Rattle.pearl_parse.specs.Stops as spec;
 ghost use Rattle.pearl_parse.specs.Schedules as schedules;
+ghost use Rattle.pearl_parse_expr.specs.Least.{IsLeastIn};
+ghost use Rattle.pearl_parse.specs.Reached.{IsLeastBehind};
 
 use crate::step::{after, maybe_after, name, symbol, word};
 use pearl_parse_expr::reading::{Halt, Reading, boxed};
@@ -34,6 +36,7 @@ fn maybe_end(
     ensures longest { IfOk result (λ reading. IsLongest schedules.SpellsOptionalEnd extends_expression tokens.now from reading.end reading.stop) }
     ensures bounds { IfOk result (λ reading. spec.StopsWithin tokens.now from least_stop reading.end reading.stop) }
     ensures refused { IfErr result (λ halt. spec.IsStopped schedules.SpellsOptionalEnd tokens.now from least_stop halt) }
+    ensures least { IsLeastBehind 8 (λ tokens. SpellsMaybe (SpellsPeriodEnd tokens)) tokens.now from least_stop result }
 {
     if is_word(tokens, from, UNTIL) {
         return match after(alloc, tokens, from, least_stop, UNTIL) {
@@ -82,6 +85,7 @@ fn period(
     ensures longest { IfOk result (λ reading. IsLongest schedules.SpellsLongPeriod extends_expression tokens.now from reading.end reading.stop) }
     ensures bounds { IfOk result (λ reading. spec.StopsWithin tokens.now (from + 1) least_stop reading.end reading.stop) }
     ensures refused { IfErr result (λ halt. spec.IsStopped schedules.SpellsLongPeriod tokens.now from least_stop halt) }
+    ensures least { IsLeastBehind 16 SpellsPeriod tokens.now from least_stop result }
 {
     let duration = after(alloc, tokens, from, least_stop, ALL)?;
     let end = maybe_end(alloc, tokens, duration.end, duration.stop)?;
@@ -116,6 +120,7 @@ pub fn activate(
     ensures only { IfOk result (λ reading. IsOnly schedules.SpellsActivation tokens.now from reading.end reading.stop) }
     ensures bounds { IfOk result (λ reading. spec.StopsWithin tokens.now (from + 1) least_stop reading.end reading.stop) }
     ensures refused { IfErr result (λ halt. spec.IsStopped schedules.SpellsActivation tokens.now from least_stop halt) }
+    ensures least { IsLeastBehind 16 schedules.SpellsActivation tokens.now from least_stop result }
 {
     word(tokens, from, least_stop, ACTIVATE)?;
     let task = name(tokens, from + 1, least_stop)?;
@@ -144,6 +149,7 @@ fn maybe_period(
     ensures longest { IfOk result (λ reading. IsLongest schedules.SpellsOptionalPeriod extends_expression tokens.now from reading.end reading.stop) }
     ensures bounds { IfOk result (λ reading. spec.StopsWithin tokens.now from least_stop reading.end reading.stop) }
     ensures refused { IfErr result (λ halt. spec.IsStopped schedules.SpellsOptionalPeriod tokens.now from least_stop halt) }
+    ensures least { IsLeastBehind 16 (λ tokens. SpellsMaybe (SpellsPeriod tokens)) tokens.now from least_stop result }
 {
     if !is_word(tokens, from, ALL) {
         return Ok(Reading {
@@ -182,6 +188,7 @@ pub fn begin(
     ensures only { IfOk result (λ reading. IsOnly schedules.SpellsBegun tokens.now from reading.end reading.stop) }
     ensures bounds { IfOk result (λ reading. spec.StopsWithin tokens.now (from + 1) least_stop reading.end reading.stop) }
     ensures refused { IfErr result (λ halt. spec.IsStopped schedules.SpellsBegun tokens.now from least_stop halt) }
+    ensures least { IsLeastBehind 24 schedules.SpellsAnyBegun tokens.now from least_stop result }
 {
     let period = maybe_period(alloc, tokens, from, least_stop)?;
     let activation = activate(alloc, tokens, period.end, period.stop)?;
@@ -207,6 +214,7 @@ pub fn immediate_activation(
     ensures only { IfOk result (λ reading. (depth : ℕ) → IsOnly (λ tokens. SpellsStmt tokens depth) tokens.now from reading.end reading.stop) }
     ensures ahead { IfOk result (λ reading. IsAhead tokens.now from reading.end reading.stop) }
     ensures refused { IfErr result (λ halt. (depth : ℕ) → IsHalted (λ tokens. SpellsStmt tokens depth) tokens.now from halt) }
+    ensures least { (depth : ℕ) → IsLeastIn 24 (λ tokens. SpellsStmt tokens depth) tokens.now from result }
 {
     let activation = activate(alloc, tokens, from, from)?;
     let activate = Activate {
@@ -234,6 +242,7 @@ pub fn immediate_continuation(
     ensures only { IfOk result (λ reading. (depth : ℕ) → IsOnly (λ tokens. SpellsStmt tokens depth) tokens.now from reading.end reading.stop) }
     ensures ahead { IfOk result (λ reading. IsAhead tokens.now from reading.end reading.stop) }
     ensures refused { IfErr result (λ halt. (depth : ℕ) → IsHalted (λ tokens. SpellsStmt tokens depth) tokens.now from halt) }
+    ensures least { (depth : ℕ) → IsLeastIn 24 (λ tokens. SpellsStmt tokens depth) tokens.now from result }
 {
     let task = name(tokens, from + 1, from)?;
     symbol(tokens, from + 2, from, SEMICOLON)?;
@@ -257,6 +266,7 @@ pub fn periodic(alloc: Global, tokens: &[Token], from: usize) -> Result<Reading<
     ensures only { IfOk result (λ reading. (depth : ℕ) → IsOnly (λ tokens. SpellsStmt tokens depth) tokens.now from reading.end reading.stop) }
     ensures ahead { IfOk result (λ reading. IsAhead tokens.now from reading.end reading.stop) }
     ensures refused { IfErr result (λ halt. (depth : ℕ) → IsHalted (λ tokens. SpellsStmt tokens depth) tokens.now from halt) }
+    ensures least { (depth : ℕ) → IsLeastIn 24 (λ tokens. SpellsStmt tokens depth) tokens.now from result }
 {
     let period = period(alloc, tokens, from, from)?;
     let activation = activate(alloc, tokens, period.end, period.stop)?;

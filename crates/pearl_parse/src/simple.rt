@@ -5,6 +5,7 @@ ghost use Rattle.pearl_tree.specs.Standing.{HasSymbol};
 ghost use Rattle.pearl_tree.specs.Statements.{SpellsStmt};
 ghost use Rattle.pearl_tables.specs.declared.symbol.TheConstants as s;
 ghost use Rattle.pearl_parse_expr.specs.Stops.{IsOnly, IsAhead, IsHalted};
+ghost use Rattle.pearl_parse_expr.specs.Least.{GoesIn, IsLeastIn};
 ghost use Rattle.pearl_parse.specs.Firsts.{BeginsSimple};
 
 use crate::call::{call, named, return_};
@@ -27,6 +28,7 @@ fn empty(tokens: &[Token], from: usize) -> Reading<Stmt>
     ensures spells { (depth : ℕ) → SpellsStmt tokens.now depth from result.part result.end }
     ensures only { (depth : ℕ) → IsOnly (λ tokens. SpellsStmt tokens depth) tokens.now from result.end result.stop }
     ensures ahead { IsAhead tokens.now from result.end result.stop }
+    ensures least { (depth : ℕ) → GoesIn 24 (λ tokens. SpellsStmt tokens depth) tokens.now from result.end result.stop }
 {
     Reading {
         part: Stmt::Empty {
@@ -50,6 +52,7 @@ pub fn simple(
     ensures only { IfOk result (λ reading. (depth : ℕ) → IsOnly (λ tokens. SpellsStmt tokens depth) tokens.now from reading.end reading.stop) }
     ensures ahead { IfOk result (λ reading. IsAhead tokens.now from reading.end reading.stop) }
     ensures refused { IfErr result (λ halt. (depth : ℕ) → IsHalted (λ tokens. SpellsStmt tokens depth) tokens.now from halt) }
+    ensures least { (depth : ℕ) → IsLeastIn 24 (λ tokens. SpellsStmt tokens depth) tokens.now from result }
 {
     match first {
         Simple::Empty => Ok(empty(tokens, from)),

@@ -7,6 +7,7 @@ ghost use Rattle.pearl_tree.specs.Expressions.{SpellsWhole};
 ghost use Rattle.pearl_tree.specs.Statements.{SpellsAfter};
 ghost use Rattle.pearl_parse_expr.specs.Stops.{IsLongest, IsOnly, extends_expression, is_word, is_symbol, is_name};
 ghost use Rattle.pearl_parse.specs.Stops as spec;
+ghost use Rattle.pearl_parse.specs.Reached.{IsLeastBehind};
 
 use pearl_parse_expr::expression::expression_at_depth;
 use pearl_parse_expr::reading::{Halt, Reading};
@@ -66,6 +67,7 @@ pub fn expr(
     ensures longest { IfOk result (λ reading. IsLongest SpellsWhole extends_expression tokens.now from reading.end reading.stop) }
     ensures bounds { IfOk result (λ reading. spec.StopsWithin tokens.now (from + 1) least_stop reading.end reading.stop) }
     ensures refused { IfErr result (λ halt. spec.IsStopped SpellsWhole tokens.now from least_stop halt) }
+    ensures least { IsLeastBehind 16 SpellsWhole tokens.now from least_stop result }
 {
     match expression_at_depth(alloc, tokens, from, BRACKETS_MAX) {
         Ok(read) => Ok(Reading {
@@ -86,6 +88,7 @@ pub fn maybe_name(tokens: &[Token], from: usize) -> Reading<Option<Name>>
     ensures spells { SpellsMaybe (SpellsName tokens.now) from result.part result.end }
     ensures only { IsOnly (spec.SpellsOptional is_name SpellsName) tokens.now from result.end result.stop }
     ensures bounds { spec.StopsWithin tokens.now from from result.end result.stop }
+    ensures close { result.stop ≡ result.end }
 {
     match name_at(tokens, from) {
         Some(name) => Reading {
@@ -116,6 +119,7 @@ pub fn after(
     ensures longest { IfOk result (λ reading. IsLongest (λ tokens. SpellsAfter tokens word) extends_expression tokens.now from reading.end reading.stop) }
     ensures bounds { IfOk result (λ reading. spec.StopsWithin tokens.now (from + 1) least_stop reading.end reading.stop) }
     ensures refused { IfErr result (λ halt. spec.IsStopped (λ tokens. SpellsAfter tokens word) tokens.now from least_stop halt) }
+    ensures least { IsLeastBehind 8 (λ tokens. SpellsAfter tokens word) tokens.now from least_stop result }
 {
     match expr(alloc, tokens, from + 1, least_stop) {
         Ok(read) => Ok(read),
@@ -137,6 +141,7 @@ pub fn maybe_after(
     ensures longest { IfOk result (λ reading. IsLongest (spec.SpellsOptional (is_word word) (λ tokens. SpellsAfter tokens word)) extends_expression tokens.now from reading.end reading.stop) }
     ensures bounds { IfOk result (λ reading. spec.StopsWithin tokens.now from least_stop reading.end reading.stop) }
     ensures refused { IfErr result (λ halt. spec.IsStopped (spec.SpellsOptional (is_word word) (λ tokens. SpellsAfter tokens word)) tokens.now from least_stop halt) }
+    ensures least { IsLeastBehind 8 (λ tokens. SpellsMaybe (SpellsAfter tokens word)) tokens.now from least_stop result }
 {
     if !is_word(tokens, from, word) {
         return Ok(Reading {

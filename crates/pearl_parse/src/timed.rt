@@ -5,6 +5,7 @@ ghost use Rattle.pearl_tree.specs.declared.token.Token.{Token};
 ghost use Rattle.pearl_tree.specs.Standing.{IsAt, HasWord, SpellsMaybe};
 ghost use Rattle.pearl_tree.specs.Statements.{SpellsAfter, SpellsPeriod, SpellsStart, SpellsOnce, SpellsStmt};
 ghost use Rattle.pearl_parse_expr.specs.Stops.{IsOnly, IsAhead, IsHalted};
+ghost use Rattle.pearl_parse_expr.specs.Least.{IsLeastIn};
 ghost use Rattle.pearl_parse.specs.Schedules as schedules;
 
 use crate::schedule::begin;
@@ -68,6 +69,7 @@ pub fn timed(
     ensures only { IfOk result (λ reading. (depth : ℕ) → IsOnly (λ tokens. SpellsStmt tokens depth) tokens.now from reading.end reading.stop) }
     ensures ahead { IfOk result (λ reading. IsAhead tokens.now from reading.end reading.stop) }
     ensures refused { IfErr result (λ halt. (depth : ℕ) → IsHalted (λ tokens. SpellsStmt tokens depth) tokens.now from halt) }
+    ensures least { (depth : ℕ) → IsLeastIn 24 (λ tokens. SpellsStmt tokens depth) tokens.now from result }
 {
     let time = after(alloc, tokens, from, from, time_word(later))?;
     let place = place_at(tokens, from);

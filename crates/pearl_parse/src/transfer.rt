@@ -7,6 +7,8 @@ ghost use Rattle.pearl_tree.specs.Statements.{SpellsStmt, sema_word};
 ghost use Rattle.pearl_tables.specs.declared.word_code.TheConstants as w;
 ghost use Rattle.pearl_parse_expr.specs.Stops.{IsLongest, IsOnly, IsAhead, IsHalted};
 ghost use Rattle.pearl_parse_decl.specs.Readings.{by_comma, never};
+ghost use Rattle.pearl_parse_expr.specs.Least.{IsLeast, IsLeastIn};
+ghost use Rattle.pearl_parse.specs.Reached.{IsLeastBehind};
 ghost use Rattle.pearl_parse.specs.Stops as spec;
 
 use crate::list::before;
@@ -30,6 +32,7 @@ fn name_list(alloc: Global, tokens: &[Token], from: usize) -> Result<Reading<Vec
     ensures longest { IfOk result (λ reading. IsLongest spec.SpellsNameList (by_comma never) tokens.now from reading.end reading.stop) }
     ensures ahead { IfOk result (λ reading. IsAhead tokens.now from reading.end reading.stop) }
     ensures refused { IfErr result (λ halt. IsHalted spec.SpellsNameList tokens.now from halt) }
+    ensures least { IsLeast spec.SpellsNameList tokens.now from result }
 {
     list(alloc, tokens, from)
 }
@@ -47,6 +50,7 @@ pub fn on_semas(
     ensures only { IfOk result (λ reading. (depth : ℕ) → IsOnly (λ tokens. SpellsStmt tokens depth) tokens.now from reading.end reading.stop) }
     ensures ahead { IfOk result (λ reading. IsAhead tokens.now from reading.end reading.stop) }
     ensures refused { IfErr result (λ halt. (depth : ℕ) → IsHalted (λ tokens. SpellsStmt tokens depth) tokens.now from halt) }
+    ensures least { (depth : ℕ) → IsLeastIn 24 (λ tokens. SpellsStmt tokens depth) tokens.now from result }
 {
     let names = name_list(alloc, tokens, from + 1)?;
     symbol(tokens, names.end, names.stop, SEMICOLON)?;
@@ -75,6 +79,7 @@ fn formats(
     ensures only { IfOk result (λ reading. IsOnly spec.SpellsFormats tokens.now from reading.end reading.stop) }
     ensures bounds { IfOk result (λ reading. spec.StopsWithin tokens.now (from + 1) least_stop reading.end reading.stop) }
     ensures refused { IfErr result (λ halt. spec.IsStopped spec.SpellsFormats tokens.now from least_stop halt) }
+    ensures least { IsLeastBehind 24 spec.SpellsFormats tokens.now from least_stop result }
 {
     match list(alloc, tokens, from) {
         Ok(list) => {
@@ -114,6 +119,7 @@ fn station(
     ensures only { IfOk result (λ reading. IsOnly spec.SpellsStation tokens.now from reading.end reading.stop) }
     ensures bounds { IfOk result (λ reading. spec.StopsWithin tokens.now (from + 1) least_stop reading.end reading.stop) }
     ensures refused { IfErr result (λ halt. spec.IsStopped spec.SpellsStation tokens.now from least_stop halt) }
+    ensures least { IsLeastBehind 24 spec.SpellsStation tokens.now from least_stop result }
 {
     let dation = name(tokens, from, least_stop)?;
     word_here(tokens, from + 1, least_stop, BY)?;
@@ -136,6 +142,7 @@ pub fn put(alloc: Global, tokens: &[Token], from: usize) -> Result<Reading<Stmt>
     ensures only { IfOk result (λ reading. (depth : ℕ) → IsOnly (λ tokens. SpellsStmt tokens depth) tokens.now from reading.end reading.stop) }
     ensures ahead { IfOk result (λ reading. IsAhead tokens.now from reading.end reading.stop) }
     ensures refused { IfErr result (λ halt. (depth : ℕ) → IsHalted (λ tokens. SpellsStmt tokens depth) tokens.now from halt) }
+    ensures least { (depth : ℕ) → IsLeastIn 24 (λ tokens. SpellsStmt tokens depth) tokens.now from result }
 {
     let values = before(alloc, tokens, from + 1, TO)?;
     let station = station(alloc, tokens, values.end, values.stop)?;
@@ -160,6 +167,7 @@ pub fn get(alloc: Global, tokens: &[Token], from: usize) -> Result<Reading<Stmt>
     ensures only { IfOk result (λ reading. (depth : ℕ) → IsOnly (λ tokens. SpellsStmt tokens depth) tokens.now from reading.end reading.stop) }
     ensures ahead { IfOk result (λ reading. IsAhead tokens.now from reading.end reading.stop) }
     ensures refused { IfErr result (λ halt. (depth : ℕ) → IsHalted (λ tokens. SpellsStmt tokens depth) tokens.now from halt) }
+    ensures least { (depth : ℕ) → IsLeastIn 24 (λ tokens. SpellsStmt tokens depth) tokens.now from result }
 {
     let targets = before(alloc, tokens, from + 1, FROM)?;
     let station = station(alloc, tokens, targets.end, targets.stop)?;

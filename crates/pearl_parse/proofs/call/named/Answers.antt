@@ -1,4 +1,4 @@
-use Rattle.std.proofs.Common.{◌+◌, ap, sym, arith}
+use Rattle.std.proofs.Common.{◌+◌, ap, sym, ◌<◌, ◌^◌, length, rules, refl, arith}
 use Rattle.pearl_tree.specs.Expressions.{SpellsWhole}
 use Rattle.pearl_tables.specs.declared.symbol.TheConstants as s
 use Rattle.pearl_parse_expr.specs.Stops.{extends_expression, is_symbol}
@@ -6,6 +6,12 @@ use Rattle.pearl_parse.specs.Calls.{SpellsArguments}
 use Rattle.pearl_parse.proofs.Steps.{Ends, err_told, past, past_only, missing, no_part, ends}
 use Rattle.pearl_parse.proofs.LeafRests.{Spelled, exit_rest}
 use Rattle.pearl_parse.proofs.CallRests.{assign_goes, named_call_goes, no_named}
+use Rattle.pearl_parse.proofs.Comes.{ends_fill}
+use Rattle.pearl_parse.proofs.Made.{semicolon}
+use Rattle.pearl_parse.proofs.Tails.{semicolon_fills}
+use Rattle.pearl_parse.proofs.CallLeast.{arguments_are_local, no_target_least, value_begins, arguments_begin}
+use Rattle.pearl_parse.proofs.LeafLeast.{expr_is_local, semicolon_missing, semicolon_read, ended, statement_halts}
+use Rattle.pearl_parse.proofs.States.{past_part, halt_part}
 use Rattle.pearl_parse.proofs.call.named.Goals as goal
 
 pub returns-in_err-target-clause-refused : goal.returns-in_err-target-clause-refused
@@ -72,3 +78,76 @@ returns-clause-only c = λ depth.
     let last = c.in_ok-arguments.ensures in
     past_only (Spelled depth) tokens from SpellsArguments Ends (from + 1) target.stop arguments.end arguments.stop
     (named_call_goes tokens depth from target.end target.stop c.requires.name (omega (arith, read.ahead)) (omega (arith, read.ahead)) read.named (sym c.if-becomes.ensures.value)) last.bounds.2 last.only
+
+pub returns-in_err-target-clause-least : goal.returns-in_err-target-clause-least
+returns-in_err-target-clause-least c = λ depth.
+    let tokens = c.args.tokens.now in
+    let from = c.args.from in
+    let few : length tokens < 2 ^ 55 = search rules in
+    statement_halts tokens depth from _ c.in_err-target.field-0.0 c.from_residual.result c.from_residual.ensures (λ e is. is)
+    (no_target_least tokens depth from c.requires.within few c.in_err-target.field-0.0 c.in_err-target.ensures.refused c.in_err-target.ensures.least)
+
+pub returns-in_err-value-clause-least : goal.returns-in_err-value-clause-least
+returns-in_err-value-clause-least c = λ depth.
+    let tokens = c.args.tokens.now in
+    let from = c.args.from in
+    let few : length tokens < 2 ^ 55 = search rules in
+    let target = c.in_ok-target.target in
+    let read = c.in_ok-target.ensures in
+    let at_value = value_begins tokens depth from c.requires.within few target.part target.end target.stop read.spells (omega (arith, read.ahead)) (omega (arith, read.ahead)) (omega (arith, read.ahead)) read.least (c.if-becomes.ensures.stands refl) (c.if-becomes.ensures.within refl) in
+    statement_halts tokens depth from _ c.in_err-value.field-0.0 c.from_residual-in_err-value.result c.from_residual-in_err-value.ensures (λ e is. is)
+    (halt_part 24 (Spelled depth) tokens from 0 1 16 SpellsWhole semicolon expr_is_local semicolon_fills (omega arith) (target.end + 1) target.stop (omega (arith, read.ahead)) at_value c.in_err-value.field-0.0 c.in_err-value.ensures.least)
+
+pub returns-in_err-symbol-clause-least : goal.returns-in_err-symbol-clause-least
+returns-in_err-symbol-clause-least c = λ depth.
+    let tokens = c.args.tokens.now in
+    let from = c.args.from in
+    let few : length tokens < 2 ^ 55 = search rules in
+    let target = c.in_ok-target.target in
+    let read = c.in_ok-target.ensures in
+    let at_value = value_begins tokens depth from c.requires.within few target.part target.end target.stop read.spells (omega (arith, read.ahead)) (omega (arith, read.ahead)) (omega (arith, read.ahead)) read.least (c.if-becomes.ensures.stands refl) (c.if-becomes.ensures.within refl) in
+    let value = c.in_ok-value.value in
+    let next = c.in_ok-value.ensures in
+    let at_close = past_part 24 (Spelled depth) tokens from 0 1 16 SpellsWhole semicolon expr_is_local semicolon_fills (omega arith) (target.end + 1) target.stop (omega (arith, read.ahead)) at_value
+    value.part value.end value.stop next.spells (omega (arith, next.bounds)) (omega (arith, next.bounds)) next.least in
+    statement_halts tokens depth from _ c.in_err-symbol.field-0.0 c.from_residual-in_err-symbol.result c.from_residual-in_err-symbol.ensures (λ e is. is)
+    (semicolon_missing tokens depth from value.end value.stop c.in_err-symbol.field-0.0 at_close c.in_err-symbol.ensures.missing)
+
+pub returns-then-becomes-clause-least : goal.returns-then-becomes-clause-least
+returns-then-becomes-clause-least c = λ depth.
+    let tokens = c.args.tokens.now in
+    let from = c.args.from in
+    let few : length tokens < 2 ^ 55 = search rules in
+    let target = c.in_ok-target.target in
+    let read = c.in_ok-target.ensures in
+    let at_value = value_begins tokens depth from c.requires.within few target.part target.end target.stop read.spells (omega (arith, read.ahead)) (omega (arith, read.ahead)) (omega (arith, read.ahead)) read.least (c.if-becomes.ensures.stands refl) (c.if-becomes.ensures.within refl) in
+    let value = c.in_ok-value.value in
+    let next = c.in_ok-value.ensures in
+    let at_close = past_part 24 (Spelled depth) tokens from 0 1 16 SpellsWhole semicolon expr_is_local semicolon_fills (omega arith) (target.end + 1) target.stop (omega (arith, read.ahead)) at_value
+    value.part value.end value.stop next.spells (omega (arith, next.bounds)) (omega (arith, next.bounds)) next.least in
+    semicolon_read tokens depth from value.end value.stop (value.end + 1) c.max.result (omega arith) at_close c.in_ok-symbol.ensures.stands c.in_ok-symbol.ensures.within (omega (arith, c.max.ensures))
+
+pub returns-in_err-arguments-clause-least : goal.returns-in_err-arguments-clause-least
+returns-in_err-arguments-clause-least c = λ depth.
+    let tokens = c.args.tokens.now in
+    let from = c.args.from in
+    let few : length tokens < 2 ^ 55 = search rules in
+    let target = c.in_ok-target.target in
+    let read = c.in_ok-target.ensures in
+    let at = arguments_begin tokens depth from c.requires.within few target.part target.end target.stop read.spells (omega (arith, read.ahead)) (omega (arith, read.ahead)) (omega (arith, read.ahead)) read.least c.in_ok-called.called c.in_ok-called.ensures.stands in
+    statement_halts tokens depth from _ c.in_err-arguments.field-0.0 c.from_residual-in_err-arguments.result c.from_residual-in_err-arguments.ensures (λ e is. is)
+    (halt_part 24 (Spelled depth) tokens from 0 0 24 SpellsArguments Ends arguments_are_local ends_fill (omega arith) (from + 1) target.stop (omega arith) at c.in_err-arguments.field-0.0 c.in_err-arguments.ensures.least)
+
+pub returns-clause-least : goal.returns-clause-least
+returns-clause-least c = λ depth.
+    let tokens = c.args.tokens.now in
+    let from = c.args.from in
+    let few : length tokens < 2 ^ 55 = search rules in
+    let target = c.in_ok-target.target in
+    let read = c.in_ok-target.ensures in
+    let at = arguments_begin tokens depth from c.requires.within few target.part target.end target.stop read.spells (omega (arith, read.ahead)) (omega (arith, read.ahead)) (omega (arith, read.ahead)) read.least c.in_ok-called.called c.in_ok-called.ensures.stands in
+    let arguments = c.in_ok-arguments.arguments in
+    let last = c.in_ok-arguments.ensures in
+    ended tokens depth from arguments.end arguments.stop arguments.stop
+    (past_part 24 (Spelled depth) tokens from 0 0 24 SpellsArguments Ends arguments_are_local ends_fill (omega arith) (from + 1) target.stop (omega arith) at arguments.part.items arguments.end arguments.stop last.spells
+    (omega (arith, last.bounds)) (omega (arith, last.bounds)) last.least) (omega (arith, last.bounds))

@@ -1,8 +1,9 @@
-use Rattle.std.proofs.Common.{◌+◌, ap, arith}
+use Rattle.std.proofs.Common.{◌+◌, ap, ◌<◌, ◌^◌, length, rules, arith}
 use Rattle.pearl_tables.specs.declared.symbol.TheConstants as s
 use Rattle.pearl_parse_expr.specs.Stops.{is_symbol}
 use Rattle.pearl_parse.proofs.Steps.{err_told, missing_is_refused, missing, ends}
 use Rattle.pearl_parse.proofs.LeafRests.{Spelled, exit_rest, exit_goes}
+use Rattle.pearl_parse.proofs.LeafLeast.{exit_begun, semicolon_missing, statement_halts}
 use Rattle.pearl_parse.proofs.leaf.exit.Goals as goal
 
 pub returns-in_err-symbol-clause-refused : goal.returns-in_err-symbol-clause-refused
@@ -23,3 +24,11 @@ pub returns-in_err-symbol-clause-memory : goal.returns-in_err-symbol-clause-memo
 returns-in_err-symbol-clause-memory c =
     err_told _ _ c.in_err-symbol.field-0.0 c.from_residual.result c.from_residual.ensures (λ e is. is)
     (missing_is_refused c.args.tokens.now (is_symbol s.SEMICOLON) (c.args.from + 1) c.args.from c.in_err-symbol.field-0.0 c.in_err-symbol.ensures.missing)
+
+pub returns-in_err-symbol-clause-least : goal.returns-in_err-symbol-clause-least
+returns-in_err-symbol-clause-least c = λ depth.
+    let tokens = c.args.tokens.now in
+    let from = c.args.from in
+    let few : length tokens < 2 ^ 55 = search rules in
+    statement_halts tokens depth from _ c.in_err-symbol.field-0.0 c.from_residual.result c.from_residual.ensures (λ e is. is)
+    (semicolon_missing tokens depth from (from + 1) from c.in_err-symbol.field-0.0 (exit_begun tokens depth from c.requires.within few c.requires.word) c.in_err-symbol.ensures.missing)

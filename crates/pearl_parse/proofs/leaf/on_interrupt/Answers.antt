@@ -1,9 +1,10 @@
-use Rattle.std.proofs.Common.{◌+◌, ap, subst, arith}
+use Rattle.std.proofs.Common.{◌+◌, ap, subst, ◌<◌, ◌^◌, length, rules, arith}
 use Rattle.pearl_tree.specs.Standing.{HasSymbol}
 use Rattle.pearl_tables.specs.declared.symbol.TheConstants as s
 use Rattle.pearl_parse_expr.specs.Stops.{is_symbol, is_name}
 use Rattle.pearl_parse.proofs.Steps.{err_told, missing, ends}
 use Rattle.pearl_parse.proofs.LeafRests.{Spelled, interrupt_rest, interrupt_goes}
+use Rattle.pearl_parse.proofs.LeafLeast.{interrupt_begun, name_missing, behind_name, semicolon_missing, statement_halts}
 use Rattle.pearl_parse.proofs.leaf.on_interrupt.Goals as goal
 
 pub returns-in_err-interrupt-clause-refused : goal.returns-in_err-interrupt-clause-refused
@@ -27,3 +28,21 @@ returns-clause-only c = λ depth.
     let tokens = c.args.tokens.now in
     let from = c.args.from in
     ends (Spelled depth) tokens from interrupt_rest (from + 1) from (from + 3) (from + 3) (interrupt_goes tokens depth from c.args.word c.requires.word) (omega arith) (λ others to h. omega (arith, h.2))
+
+pub returns-in_err-interrupt-clause-least : goal.returns-in_err-interrupt-clause-least
+returns-in_err-interrupt-clause-least c = λ depth.
+    let tokens = c.args.tokens.now in
+    let from = c.args.from in
+    let few : length tokens < 2 ^ 55 = search rules in
+    statement_halts tokens depth from _ c.in_err-interrupt.field-0.0 c.from_residual.result c.from_residual.ensures (λ e is. is)
+    (name_missing tokens depth from (from + 1) from c.in_err-interrupt.field-0.0 (interrupt_begun tokens depth from c.requires.within few c.args.word c.requires.word) c.in_err-interrupt.ensures.missing)
+
+pub returns-in_err-symbol-clause-least : goal.returns-in_err-symbol-clause-least
+returns-in_err-symbol-clause-least c = λ depth.
+    let tokens = c.args.tokens.now in
+    let from = c.args.from in
+    let few : length tokens < 2 ^ 55 = search rules in
+    let begun = interrupt_begun tokens depth from c.requires.within few c.args.word c.requires.word in
+    statement_halts tokens depth from _ c.in_err-symbol.field-0.0 c.from_residual-in_err-symbol.result c.from_residual-in_err-symbol.ensures (λ e is. is)
+    (semicolon_missing tokens depth from (from + 2) from c.in_err-symbol.field-0.0
+    (behind_name tokens depth from c.in_ok-interrupt.interrupt (from + 1) from (from + 2) (omega arith) begun c.in_ok-interrupt.ensures.stands c.in_ok-interrupt.ensures.within) c.in_err-symbol.ensures.missing)

@@ -1,9 +1,11 @@
-use Rattle.std.proofs.Common.{◌+◌, ap, arith}
+use Rattle.std.proofs.Common.{◌+◌, ap, ◌<◌, ◌^◌, length, rules, ◌≤◌, arith}
 use Rattle.pearl_tables.specs.declared.word_code.TheConstants as w
 use Rattle.pearl_parse_expr.specs.Stops.{extends_expression, is_word}
 use Rattle.pearl_parse.specs.Bodies.{SpellsOptionalFor, SpellsHeads}
-use Rattle.pearl_parse.proofs.Steps.{err_told, past, past_only, missing, no_first, no_part, ends}
+use Rattle.pearl_parse.proofs.Steps.{err_told, past, past_only, missing, no_first, no_part, ends, Ends}
 use Rattle.pearl_parse.proofs.LoopRests.{Optional, from_rest, by_rest, to_rest, while_rest, repeat_word, avoids_by, avoids_to, avoids_while, avoids_repeat, heads_goes}
+use Rattle.pearl_parse.proofs.LoopLeast.{repeat_word as repeat_behind, repeat_fills, control_halts, past_control, from_halts, by_halts, to_halts, while_halts, past_from, past_by, past_to, past_while}
+use Rattle.pearl_parse.proofs.States.{past_word, halt_token, done, goes_in_told, handed_in}
 use Rattle.pearl_parse.proofs.loops.loop_heads.Goals as goal
 
 pub returns-in_err-control-clause-refused : goal.returns-in_err-control-clause-refused
@@ -94,3 +96,126 @@ returns-clause-only c =
     let go_3 = past SpellsHeads tokens from (Optional w.TO) extends_expression while_rest step.end step.stop end.end end.stop go_2 (omega (arith, c.in_ok-end.ensures.bounds)) c.in_ok-end.ensures.longest avoids_while in
     let go_4 = past SpellsHeads tokens from (Optional w.WHILE) extends_expression repeat_word end.end end.stop condition.end condition.stop go_3 (omega (arith, c.in_ok-condition.ensures.bounds)) c.in_ok-condition.ensures.longest avoids_repeat in
     ends SpellsHeads tokens from repeat_word condition.end condition.stop c.max.result (condition.end + 1) go_4 (omega (arith, c.max.ensures)) (λ others to h. h.1)
+
+pub returns-in_err-control-clause-least : goal.returns-in_err-control-clause-least
+returns-in_err-control-clause-least c =
+    let tokens = c.args.tokens.now in
+    let from = c.args.from in
+    let few : length tokens < 2 ^ 55 = search rules in
+    handed_in 16 SpellsHeads tokens from 0 _ c.in_err-control.field-0.0 c.from_residual.result c.from_residual.ensures (λ e is. is) (omega arith)
+    (control_halts tokens from (omega (arith, c.requires)) few SpellsOptionalFor c.in_err-control.field-0.0 c.in_err-control.ensures.refused c.in_err-control.ensures.least)
+
+pub returns-in_err-begin-clause-least : goal.returns-in_err-begin-clause-least
+returns-in_err-begin-clause-least c =
+    let tokens = c.args.tokens.now in
+    let from = c.args.from in
+    let few : length tokens < 2 ^ 55 = search rules in
+    let within : from ≤ length tokens = omega (arith, c.requires) in
+    let control = c.in_ok-control.control in
+    let read = c.in_ok-control.ensures in
+    let at = past_control tokens from within few control.part control.end control.stop read.spells (omega (arith, read.bounds)) (omega (arith, read.bounds)) (omega (arith, read.bounds)) read.least in
+    handed_in 16 SpellsHeads tokens from 0 _ c.in_err-begin.field-0.0 c.from_residual-in_err-begin.result c.from_residual-in_err-begin.ensures (λ e is. is) (omega arith)
+    (from_halts tokens from control.end control.stop at c.in_err-begin.field-0.0 c.in_err-begin.ensures.least)
+
+pub returns-in_err-step-clause-least : goal.returns-in_err-step-clause-least
+returns-in_err-step-clause-least c =
+    let tokens = c.args.tokens.now in
+    let from = c.args.from in
+    let few : length tokens < 2 ^ 55 = search rules in
+    let within : from ≤ length tokens = omega (arith, c.requires) in
+    let control = c.in_ok-control.control in
+    let read = c.in_ok-control.ensures in
+    let at = past_control tokens from within few control.part control.end control.stop read.spells (omega (arith, read.bounds)) (omega (arith, read.bounds)) (omega (arith, read.bounds)) read.least in
+    let begin = c.in_ok-begin.begin in
+    let read_begin = c.in_ok-begin.ensures in
+    let at_begin = past_from tokens from control.end control.stop at begin.part begin.end begin.stop read_begin.spells (omega (arith, read_begin.bounds)) (omega (arith, read_begin.bounds)) read_begin.least in
+    handed_in 16 SpellsHeads tokens from 0 _ c.in_err-step.field-0.0 c.from_residual-in_err-step.result c.from_residual-in_err-step.ensures (λ e is. is) (omega arith)
+    (by_halts tokens from begin.end begin.stop at_begin c.in_err-step.field-0.0 c.in_err-step.ensures.least)
+
+pub returns-in_err-end-clause-least : goal.returns-in_err-end-clause-least
+returns-in_err-end-clause-least c =
+    let tokens = c.args.tokens.now in
+    let from = c.args.from in
+    let few : length tokens < 2 ^ 55 = search rules in
+    let within : from ≤ length tokens = omega (arith, c.requires) in
+    let control = c.in_ok-control.control in
+    let read = c.in_ok-control.ensures in
+    let at = past_control tokens from within few control.part control.end control.stop read.spells (omega (arith, read.bounds)) (omega (arith, read.bounds)) (omega (arith, read.bounds)) read.least in
+    let begin = c.in_ok-begin.begin in
+    let read_begin = c.in_ok-begin.ensures in
+    let at_begin = past_from tokens from control.end control.stop at begin.part begin.end begin.stop read_begin.spells (omega (arith, read_begin.bounds)) (omega (arith, read_begin.bounds)) read_begin.least in
+    let step = c.in_ok-step.step in
+    let read_step = c.in_ok-step.ensures in
+    let at_step = past_by tokens from begin.end begin.stop at_begin step.part step.end step.stop read_step.spells (omega (arith, read_step.bounds)) (omega (arith, read_step.bounds)) read_step.least in
+    handed_in 16 SpellsHeads tokens from 0 _ c.in_err-end.field-0.0 c.from_residual-in_err-end.result c.from_residual-in_err-end.ensures (λ e is. is) (omega arith)
+    (to_halts tokens from step.end step.stop at_step c.in_err-end.field-0.0 c.in_err-end.ensures.least)
+
+pub returns-in_err-condition-clause-least : goal.returns-in_err-condition-clause-least
+returns-in_err-condition-clause-least c =
+    let tokens = c.args.tokens.now in
+    let from = c.args.from in
+    let few : length tokens < 2 ^ 55 = search rules in
+    let within : from ≤ length tokens = omega (arith, c.requires) in
+    let control = c.in_ok-control.control in
+    let read = c.in_ok-control.ensures in
+    let at = past_control tokens from within few control.part control.end control.stop read.spells (omega (arith, read.bounds)) (omega (arith, read.bounds)) (omega (arith, read.bounds)) read.least in
+    let begin = c.in_ok-begin.begin in
+    let read_begin = c.in_ok-begin.ensures in
+    let at_begin = past_from tokens from control.end control.stop at begin.part begin.end begin.stop read_begin.spells (omega (arith, read_begin.bounds)) (omega (arith, read_begin.bounds)) read_begin.least in
+    let step = c.in_ok-step.step in
+    let read_step = c.in_ok-step.ensures in
+    let at_step = past_by tokens from begin.end begin.stop at_begin step.part step.end step.stop read_step.spells (omega (arith, read_step.bounds)) (omega (arith, read_step.bounds)) read_step.least in
+    let end = c.in_ok-end.end in
+    let read_end = c.in_ok-end.ensures in
+    let at_end = past_to tokens from step.end step.stop at_step end.part end.end end.stop read_end.spells (omega (arith, read_end.bounds)) (omega (arith, read_end.bounds)) read_end.least in
+    handed_in 16 SpellsHeads tokens from 0 _ c.in_err-condition.field-0.0 c.from_residual-in_err-condition.result c.from_residual-in_err-condition.ensures (λ e is. is) (omega arith)
+    (while_halts tokens from end.end end.stop at_end c.in_err-condition.field-0.0 c.in_err-condition.ensures.least)
+
+pub returns-in_err-word-clause-least : goal.returns-in_err-word-clause-least
+returns-in_err-word-clause-least c =
+    let tokens = c.args.tokens.now in
+    let from = c.args.from in
+    let few : length tokens < 2 ^ 55 = search rules in
+    let within : from ≤ length tokens = omega (arith, c.requires) in
+    let control = c.in_ok-control.control in
+    let read = c.in_ok-control.ensures in
+    let at = past_control tokens from within few control.part control.end control.stop read.spells (omega (arith, read.bounds)) (omega (arith, read.bounds)) (omega (arith, read.bounds)) read.least in
+    let begin = c.in_ok-begin.begin in
+    let read_begin = c.in_ok-begin.ensures in
+    let at_begin = past_from tokens from control.end control.stop at begin.part begin.end begin.stop read_begin.spells (omega (arith, read_begin.bounds)) (omega (arith, read_begin.bounds)) read_begin.least in
+    let step = c.in_ok-step.step in
+    let read_step = c.in_ok-step.ensures in
+    let at_step = past_by tokens from begin.end begin.stop at_begin step.part step.end step.stop read_step.spells (omega (arith, read_step.bounds)) (omega (arith, read_step.bounds)) read_step.least in
+    let end = c.in_ok-end.end in
+    let read_end = c.in_ok-end.ensures in
+    let at_end = past_to tokens from step.end step.stop at_step end.part end.end end.stop read_end.spells (omega (arith, read_end.bounds)) (omega (arith, read_end.bounds)) read_end.least in
+    let condition = c.in_ok-condition.condition in
+    let read_condition = c.in_ok-condition.ensures in
+    let at_condition = past_while tokens from end.end end.stop at_end condition.part condition.end condition.stop read_condition.spells (omega (arith, read_condition.bounds)) (omega (arith, read_condition.bounds)) read_condition.least in
+    handed_in 16 SpellsHeads tokens from 0 _ c.in_err-word.field-0.0 c.from_residual-in_err-word.result c.from_residual-in_err-word.ensures (λ e is. is) (omega arith)
+    (halt_token 16 SpellsHeads tokens from 0 1 repeat_behind repeat_fills (omega arith) (is_word w.REPEAT) condition.end condition.stop c.in_err-word.field-0.0 at_condition c.in_err-word.ensures.missing)
+
+pub returns-clause-least : goal.returns-clause-least
+returns-clause-least c =
+    let tokens = c.args.tokens.now in
+    let from = c.args.from in
+    let few : length tokens < 2 ^ 55 = search rules in
+    let within : from ≤ length tokens = omega (arith, c.requires) in
+    let control = c.in_ok-control.control in
+    let read = c.in_ok-control.ensures in
+    let at = past_control tokens from within few control.part control.end control.stop read.spells (omega (arith, read.bounds)) (omega (arith, read.bounds)) (omega (arith, read.bounds)) read.least in
+    let begin = c.in_ok-begin.begin in
+    let read_begin = c.in_ok-begin.ensures in
+    let at_begin = past_from tokens from control.end control.stop at begin.part begin.end begin.stop read_begin.spells (omega (arith, read_begin.bounds)) (omega (arith, read_begin.bounds)) read_begin.least in
+    let step = c.in_ok-step.step in
+    let read_step = c.in_ok-step.ensures in
+    let at_step = past_by tokens from begin.end begin.stop at_begin step.part step.end step.stop read_step.spells (omega (arith, read_step.bounds)) (omega (arith, read_step.bounds)) read_step.least in
+    let end = c.in_ok-end.end in
+    let read_end = c.in_ok-end.ensures in
+    let at_end = past_to tokens from step.end step.stop at_step end.part end.end end.stop read_end.spells (omega (arith, read_end.bounds)) (omega (arith, read_end.bounds)) read_end.least in
+    let condition = c.in_ok-condition.condition in
+    let read_condition = c.in_ok-condition.ensures in
+    let at_condition = past_while tokens from end.end end.stop at_end condition.part condition.end condition.stop read_condition.spells (omega (arith, read_condition.bounds)) (omega (arith, read_condition.bounds)) read_condition.least in
+    goes_in_told 16 SpellsHeads tokens from 0 (omega arith) (condition.end + 1) c.max.result (omega (arith, at_condition.near))
+    (done 16 SpellsHeads tokens from 0 (condition.end + 1) condition.stop c.max.result
+    (past_word 16 SpellsHeads tokens from 0 w.REPEAT Ends condition.end condition.stop (condition.end + 1) (omega arith) at_condition c.in_ok-word.ensures.stands c.in_ok-word.ensures.within) (omega (arith, c.max.ensures)))

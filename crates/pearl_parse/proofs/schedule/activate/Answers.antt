@@ -1,10 +1,19 @@
-use Rattle.std.proofs.Common.{◌+◌, ap, arith}
+use Rattle.std.proofs.Common.{◌+◌, ap, ◌<◌, ◌^◌, length, rules, arith}
 use Rattle.pearl_tables.specs.declared.symbol.TheConstants as s
-use Rattle.pearl_parse_expr.specs.Stops.{extends_expression, is_symbol}
+use Rattle.pearl_parse_expr.specs.Stops.{extends_expression, is_symbol, is_word, is_name}
 use Rattle.pearl_parse.specs.Schedules.{SpellsOptionalPriority, SpellsActivation}
-use Rattle.pearl_parse.proofs.Steps.{err_told, past, missing_behind, no_part_behind, ends}
+use Rattle.pearl_parse.proofs.Steps.{err_told, past, missing_behind, no_part_behind, ends, Ends, Then}
 use Rattle.pearl_parse.proofs.LeafRests.{exit_rest}
 use Rattle.pearl_parse.proofs.ScheduleRests.{activation_goes}
+use Rattle.pearl_tree.specs.Standing.{SpellsName}
+use Rattle.pearl_tables.specs.declared.word_code.TheConstants as w
+use Rattle.pearl_tables.specs.declared.symbol.TheConstants as s
+use Rattle.pearl_parse.proofs.Comes.{Maybe}
+use Rattle.pearl_parse.proofs.Made.{semicolon}
+use Rattle.pearl_parse.proofs.ScheduleMade.{After, activation}
+use Rattle.pearl_parse.proofs.Tails.{semicolon_fills, activation_fills}
+use Rattle.pearl_parse.proofs.ScheduleLeast.{maybe_after_is_local, activated_fills, activation_first, activation_named}
+use Rattle.pearl_parse.proofs.States.{halt_part, halt_token, past_part, past_name, past_symbol, done, handed_behind}
 use Rattle.pearl_parse.proofs.schedule.activate.Goals as goal
 
 pub returns-in_err-priority-clause-refused : goal.returns-in_err-priority-clause-refused
@@ -36,3 +45,64 @@ returns-clause-only c =
     let read = c.in_ok-priority.ensures in
     let go = past SpellsActivation tokens from SpellsOptionalPriority extends_expression exit_rest (from + 2) least_stop priority.end priority.stop (activation_goes tokens from least_stop) read.bounds.2 read.longest (λ others at to h. ap extends_expression h.0) in
     ends SpellsActivation tokens from exit_rest priority.end priority.stop c.max.result (priority.end + 1) go (omega (arith, c.max.ensures)) (λ others to h. h.1)
+
+pub returns-in_err-word-clause-least : goal.returns-in_err-word-clause-least
+returns-in_err-word-clause-least c =
+    let tokens = c.args.tokens.now in
+    let from = c.args.from in
+    let low = c.args.least_stop in
+    let few : length tokens < 2 ^ 55 = search rules in
+    handed_behind 16 SpellsActivation tokens from low _ c.in_err-word.field-0.0 c.from_residual.result c.from_residual.ensures (λ e is. is)
+    (halt_token 16 SpellsActivation tokens from low 3 activation activation_fills (omega arith) (is_word w.ACTIVATE) from low c.in_err-word.field-0.0 (activation_first tokens from low (omega (arith, c.requires.from)) few) c.in_err-word.ensures.missing)
+
+pub returns-in_err-task-clause-least : goal.returns-in_err-task-clause-least
+returns-in_err-task-clause-least c =
+    let tokens = c.args.tokens.now in
+    let from = c.args.from in
+    let low = c.args.least_stop in
+    let few : length tokens < 2 ^ 55 = search rules in
+    let at_name = activation_named tokens from low (omega (arith, c.in_ok-word.ensures.within)) few c.in_ok-word.ensures.stands c.in_ok-word.ensures.within in
+    handed_behind 16 SpellsActivation tokens from low _ c.in_err-task.field-0.0 c.from_residual-in_err-task.result c.from_residual-in_err-task.ensures (λ e is. is)
+    (halt_token 16 SpellsActivation tokens from low 2 (Then SpellsName (Then (Maybe (After w.PRIO)) semicolon)) activated_fills (omega arith) is_name (from + 1) low c.in_err-task.field-0.0 at_name c.in_err-task.ensures.missing)
+
+pub returns-in_err-priority-clause-least : goal.returns-in_err-priority-clause-least
+returns-in_err-priority-clause-least c =
+    let tokens = c.args.tokens.now in
+    let from = c.args.from in
+    let low = c.args.least_stop in
+    let few : length tokens < 2 ^ 55 = search rules in
+    let at_name = activation_named tokens from low (omega (arith, c.in_ok-word.ensures.within)) few c.in_ok-word.ensures.stands c.in_ok-word.ensures.within in
+    let at_priority = past_name 16 SpellsActivation tokens from low c.in_ok-task.task (Then (Maybe (After w.PRIO)) semicolon) (from + 1) low (from + 2) (omega arith) at_name c.in_ok-task.ensures.stands c.in_ok-task.ensures.within in
+    handed_behind 16 SpellsActivation tokens from low _ c.in_err-priority.field-0.0 c.from_residual-in_err-priority.result c.from_residual-in_err-priority.ensures (λ e is. is)
+    (halt_part 16 SpellsActivation tokens from low 1 8 (Maybe (After w.PRIO)) semicolon (maybe_after_is_local w.PRIO) semicolon_fills (omega arith) (from + 2) low (omega arith) at_priority
+    c.in_err-priority.field-0.0 c.in_err-priority.ensures.least)
+
+pub returns-in_err-symbol-clause-least : goal.returns-in_err-symbol-clause-least
+returns-in_err-symbol-clause-least c =
+    let tokens = c.args.tokens.now in
+    let from = c.args.from in
+    let low = c.args.least_stop in
+    let few : length tokens < 2 ^ 55 = search rules in
+    let at_name = activation_named tokens from low (omega (arith, c.in_ok-word.ensures.within)) few c.in_ok-word.ensures.stands c.in_ok-word.ensures.within in
+    let at_priority = past_name 16 SpellsActivation tokens from low c.in_ok-task.task (Then (Maybe (After w.PRIO)) semicolon) (from + 1) low (from + 2) (omega arith) at_name c.in_ok-task.ensures.stands c.in_ok-task.ensures.within in
+    let priority = c.in_ok-priority.priority in
+    let read = c.in_ok-priority.ensures in
+    let at_close = past_part 16 SpellsActivation tokens from low 1 8 (Maybe (After w.PRIO)) semicolon (maybe_after_is_local w.PRIO) semicolon_fills (omega arith) (from + 2) low (omega arith) at_priority
+    priority.part priority.end priority.stop read.spells (omega (arith, read.bounds)) (omega (arith, read.bounds)) read.least in
+    handed_behind 16 SpellsActivation tokens from low _ c.in_err-symbol.field-0.0 c.from_residual-in_err-symbol.result c.from_residual-in_err-symbol.ensures (λ e is. is)
+    (halt_token 16 SpellsActivation tokens from low 1 semicolon semicolon_fills (omega arith) (is_symbol s.SEMICOLON) priority.end priority.stop c.in_err-symbol.field-0.0 at_close c.in_err-symbol.ensures.missing)
+
+pub returns-clause-least : goal.returns-clause-least
+returns-clause-least c =
+    let tokens = c.args.tokens.now in
+    let from = c.args.from in
+    let low = c.args.least_stop in
+    let few : length tokens < 2 ^ 55 = search rules in
+    let at_name = activation_named tokens from low (omega (arith, c.in_ok-word.ensures.within)) few c.in_ok-word.ensures.stands c.in_ok-word.ensures.within in
+    let at_priority = past_name 16 SpellsActivation tokens from low c.in_ok-task.task (Then (Maybe (After w.PRIO)) semicolon) (from + 1) low (from + 2) (omega arith) at_name c.in_ok-task.ensures.stands c.in_ok-task.ensures.within in
+    let priority = c.in_ok-priority.priority in
+    let read = c.in_ok-priority.ensures in
+    let at_close = past_part 16 SpellsActivation tokens from low 1 8 (Maybe (After w.PRIO)) semicolon (maybe_after_is_local w.PRIO) semicolon_fills (omega arith) (from + 2) low (omega arith) at_priority
+    priority.part priority.end priority.stop read.spells (omega (arith, read.bounds)) (omega (arith, read.bounds)) read.least in
+    done 16 SpellsActivation tokens from low (priority.end + 1) priority.stop c.max.result
+    (past_symbol 16 SpellsActivation tokens from low s.SEMICOLON Ends priority.end priority.stop (priority.end + 1) (omega arith) at_close c.in_ok-symbol.ensures.stands c.in_ok-symbol.ensures.within) (omega (arith, c.max.ensures))

@@ -1,0 +1,23 @@
+use Rattle.std.proofs.Common.{arith}
+use Rattle.pearl_parse.proofs.Comes.{Maybe}
+use Rattle.pearl_parse.proofs.ScheduleMade.{After}
+use Rattle.pearl_parse.proofs.States.{some_reaches, told_none, told_as, halts_behind_as}
+use Rattle.pearl_parse.proofs.step.maybe_after.Goals as goal
+
+pub returns-then-not-is_word-clause-least : goal.returns-then-not-is_word-clause-least
+returns-then-not-is_word-clause-least c =
+    told_none 8 (Maybe (After c.args.word)) c.args.tokens.now c.args.from c.args.least_stop c.max.result (omega (arith, c.max.ensures))
+
+pub returns-in-Ok-clause-least : goal.returns-in-Ok-clause-least
+returns-in-Ok-clause-least c =
+    let tokens = c.args.tokens.now in
+    let from = c.args.from in
+    told_as 8 8 (After c.args.word) (Maybe (After c.args.word)) tokens from from (omega arith) (some_reaches 8 (After c.args.word) tokens from) c.args.least_stop c.in-Ok.read.end c.in-Ok.read.stop
+    (omega (arith, c.in-Ok.ensures.bounds)) c.in-Ok.ensures.least
+
+pub returns-in-Err-clause-least : goal.returns-in-Err-clause-least
+returns-in-Err-clause-least c =
+    let tokens = c.args.tokens.now in
+    let from = c.args.from in
+    halts_behind_as 8 8 (After c.args.word) (Maybe (After c.args.word)) tokens from from (omega arith) (some_reaches 8 (After c.args.word) tokens from) c.args.least_stop c.in-Err.halt
+    c.in-Err.ensures.least
