@@ -1,3 +1,4 @@
+pub mod Adding
 pub mod Examples
 pub mod Lookups
 pub mod Loops

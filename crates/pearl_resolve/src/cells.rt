@@ -15,8 +15,8 @@ ghost use Rattle.pearl_resolve.specs.Laying.{cells_of_sense, leaves_of_sense, sl
 ghost use Rattle.pearl_resolve.specs.Numbers.{counts as does_count, senses_at};
 
 use crate::counter::counts;
-use crate::counts::sum;
 use crate::walk::kind_or_short;
+use pearl_data::counts::sum;
 use pearl_data::leaves::add_leaves;
 use pearl_names::length::Lengths;
 use pearl_names::sense::{Parameter, Sense};

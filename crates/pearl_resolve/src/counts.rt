@@ -1,34 +1,26 @@
 // How many leaves and cells variables have.
 
-ghost use Rattle.std.specs.Prelude.{◌≡◌, ◌+◌, ◌*◌, ℕ, Option, length, IfOk};
-ghost use Rattle.pearl_names.specs.Counts.{cut};
+ghost use Rattle.std.specs.Prelude.{◌≡◌, ◌+◌, ◌*◌, Option, length, IfOk};
 ghost use Rattle.pearl_names.specs.Holding.{HoldsForm, HoldsSense};
 ghost use Rattle.pearl_names.specs.Tables as tables;
 ghost use Rattle.pearl_resolve.specs.Laying as spec;
 
+use pearl_data::counts::{sum, whole};
 use pearl_names::layout::form_counts;
 use pearl_names::sense::{Form, Sense};
 use pearl_names::types::StructForm;
 use std::alloc::AllocError;
 
-/// A count that is not cut off. Too large a one counts as want of memory.
-pub(crate) fn whole(count: u32) -> Result<u32, AllocError>
-    ensures { IfOk result (λ found. (n : ℕ) → count ≡ cut n → found ≡ n) }
+/// The number that lies so far behind another. Too large a one counts as want of memory.
+pub(crate) fn further_on(number: u32, distance: u64) -> Result<u32, AllocError>
+    ensures { IfOk result (λ after. after ≡ number + distance) }
 {
-    if count < 1 << 31 {
-        Ok(count)
-    } else {
-        Err(AllocError)
-    }
-}
-
-/// A sum of numbers. Too large a one counts as want of memory.
-pub(crate) fn sum(a: u32, b: u32) -> Result<u32, AllocError>
-    ensures { IfOk result (λ sum. sum ≡ a + b) }
-{
-    match a.checked_add(b) {
-        Some(sum) => Ok(sum),
-        None => Err(AllocError),
+    match u32::try_from(distance) {
+        Ok(distance) => {
+            let after = sum(number, distance)?;
+            Ok(after)
+        }
+        Err(_) => Err(AllocError),
     }
 }
 

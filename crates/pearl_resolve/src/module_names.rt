@@ -8,8 +8,9 @@ ghost use Rattle.pearl_resolve.specs.Devices.{before_device};
 ghost use Rattle.pearl_resolve.specs.Holding.{before_in};
 ghost use Rattle.pearl_resolve.specs.Numbers as spec;
 
-use crate::counts::{leaves_of_sense, sum};
+use crate::counts::leaves_of_sense;
 use crate::numbered::number_or_zero;
+use pearl_data::counts::sum;
 use pearl_names::scope::SortedName;
 use pearl_names::sense::Sense;
 use pearl_names::types::StructForm;

@@ -14,9 +14,10 @@ ghost use Rattle.pearl_resolve.specs.Numbers as spec;
 ghost use Rattle.pearl_resolve.specs.Resolve.{numbered_of};
 
 use crate::counter::loop_cells;
-use crate::counts::{cells_of_sense, sum};
+use crate::counts::cells_of_sense;
 use crate::module_names::module_numbers;
 use crate::numbered::{NumberedTable, ScopeNumbers};
+use pearl_data::counts::sum;
 use pearl_names::sense::Sense;
 use pearl_names::table::SenseTable;
 use pearl_names::types::StructForm;

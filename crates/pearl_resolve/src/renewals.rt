@@ -12,8 +12,8 @@ ghost use Rattle.pearl_resolve.specs.Expressions.{meant, meant_at};
 ghost use Rattle.pearl_resolve.specs.Holding.{Becomes};
 ghost use Rattle.pearl_resolve.specs.Statements as spec;
 
-use crate::counts::sum;
 use crate::numbered::NumberedTable;
+use pearl_data::counts::sum;
 use pearl_data::leaves::add_leaves;
 use pearl_data::values::left_behind;
 use pearl_names::meaning::Found;

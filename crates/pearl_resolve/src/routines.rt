@@ -10,11 +10,11 @@ ghost use Rattle.pearl_resolve.specs.Holding.{AddsRoutines, Becomes, HoldsNumber
 ghost use Rattle.pearl_resolve.specs.Numbers as numbers;
 ghost use Rattle.pearl_resolve.specs.Resolve as spec;
 
-use crate::counts::sum;
 use crate::numbered::NumberedTable;
 use crate::numbers::{At, FIRST};
 use crate::statements::add_body;
 use crate::walk::kind_or_short;
+use pearl_data::counts::sum;
 use pearl_names::length::{Lengths, kind_of_basic};
 use pearl_program::program::{Procedure, Routine, Task};
 use pearl_tree::declaration::{Param, Prio};

@@ -1,10 +1,12 @@
 // What statements become, with the cells that they have and how far the text has come behind them.
 
-ghost use Rattle.std.specs.Prelude.{map, IfOk};
+ghost use Rattle.std.specs.Prelude.{◌≡◌, ◌++◌, ◌∷◌, [], List, Ok, map, IfOk};
+ghost use Rattle.pearl_value.specs.declared.kind.CellKind.{CellKind as CellKindOf};
+ghost use Rattle.pearl_program.specs.declared.statement.Stmt.{Stmt as StmtOf};
 ghost use Rattle.pearl_names.specs.Listed.{branches_shown, otherwise_shown, stmts_shown};
 ghost use Rattle.pearl_tree.specs.ShownStatements.{shown_body_decl, shown_stmt};
 ghost use Rattle.pearl_resolve.specs.Holding.{AddsBody, AddsBranches, AddsOtherwise, AddsStmt, AddsStmts};
-ghost use Rattle.pearl_resolve.specs.Parts.{shown_case, shown_if, shown_repeat};
+ghost use Rattle.pearl_resolve.specs.Parts.{shown_case, shown_get, shown_if, shown_put, shown_repeat};
 
 use crate::cells::{add_counter_cells, add_scope_cells};
 use crate::counter::{counter_in, loop_cells};
@@ -20,9 +22,50 @@ use crate::simple::{
 use pearl_names::scope::View;
 use pearl_program::statement::{Branch, Stmt};
 use pearl_tree::parts::Parts;
-use pearl_tree::statement as tree;
+use pearl_tree::statement::{self as tree, Stmt as Written};
 use pearl_value::kind::CellKind;
 use std::alloc::{AllocError, Global};
+
+// Adds a statement behind others, once it is made.
+fn add_made(at: At, made: Result<Stmt, AllocError>, into: &mut Vec<Stmt>) -> Result<At, AllocError>
+    ensures { IfOk result (λ after. (s : StmtOf) × (made ≡ Ok s) × (after ≡ at) × (into.new.items ≡ into.old.items ++ s ∷ [])) }
+{
+    into.push(made?)?;
+    Ok(at)
+}
+
+fn add_put(
+    alloc: Global,
+    numbered: &NumberedTable,
+    scope: u32,
+    at: At,
+    part: &tree::Put,
+    into: &mut Vec<Stmt>,
+) -> Result<At, AllocError>
+    ensures { IfOk result (λ after. (cells : List CellKindOf) → AddsStmt numbered.now scope at (shown_put part.now) after
+        cells cells into.old.items into.new.items) }
+{
+    let made = put(alloc, numbered, scope, at, part)?;
+    into.push(made)?;
+    past_format(at, 0)
+}
+
+fn add_get(
+    alloc: Global,
+    numbered: &NumberedTable,
+    scope: u32,
+    at: At,
+    part: &tree::Get,
+    cells: &mut Vec<CellKind>,
+    into: &mut Vec<Stmt>,
+) -> Result<At, AllocError>
+    ensures { IfOk result (λ after. AddsStmt numbered.now scope at (shown_get part.now) after
+        cells.old.items cells.new.items into.old.items into.new.items) }
+{
+    let made = get(alloc, numbered, scope, at, part, cells)?;
+    into.push(made)?;
+    past_format(at, part.targets.as_slice().len())
+}
 
 /// Adds what a statement becomes behind others, with its cells.
 #[cycle(statement)]
@@ -39,94 +82,25 @@ pub(crate) fn add_stmt(
         cells.old.items cells.new.items into.old.items into.new.items) }
 {
     match stmt {
-        tree::Stmt::If(part) => {
-            let at = add_if(alloc, numbered, scope, at, part, cells, into)?;
-            Ok(at)
-        }
-        tree::Stmt::Case(part) => {
-            let at = add_case(alloc, numbered, scope, at, part, cells, into)?;
-            Ok(at)
-        }
-        tree::Stmt::Repeat(part) => {
-            let at = add_repeat(alloc, numbered, scope, at, part, cells, into)?;
-            Ok(at)
-        }
-        tree::Stmt::Begin(part) => {
-            let at = add_body(alloc, numbered, 0, at, &part.body, cells, into)?;
-            Ok(at)
-        }
-        tree::Stmt::Put(part) => {
-            let made = put(alloc, numbered, scope, at, part)?;
-            into.push(made)?;
-            let at = past_format(at, 0)?;
-            Ok(at)
-        }
-        tree::Stmt::Get(part) => {
-            let made = get(alloc, numbered, scope, at, part, cells)?;
-            into.push(made)?;
-            let at = past_format(at, part.targets.as_slice().len())?;
-            Ok(at)
-        }
-        tree::Stmt::Empty { .. } => Ok(at),
-        tree::Stmt::Assign(part) => {
-            let made = assign(alloc, numbered, scope, part)?;
-            into.push(made)?;
-            Ok(at)
-        }
-        tree::Stmt::Call(part) => {
-            let made = call_of(alloc, numbered, scope, part)?;
-            into.push(made)?;
-            Ok(at)
-        }
-        tree::Stmt::Exit { .. } => {
-            into.push(Stmt::Exit)?;
-            Ok(at)
-        }
-        tree::Stmt::Return(part) => {
-            let made = return_of(alloc, numbered, scope, part)?;
-            into.push(made)?;
-            Ok(at)
-        }
-        tree::Stmt::Activate(part) => {
-            let made = activate(alloc, numbered, scope, part)?;
-            into.push(made)?;
-            Ok(at)
-        }
-        tree::Stmt::Continue(part) => {
-            let made = continue_of(alloc, numbered, scope, part)?;
-            into.push(made)?;
-            Ok(at)
-        }
-        tree::Stmt::Resume(part) => {
-            let made = resume(alloc, numbered, scope, part)?;
-            into.push(made)?;
-            Ok(at)
-        }
-        tree::Stmt::OnTask(part) => {
-            let made = on_task(numbered, scope, part);
-            into.push(made)?;
-            Ok(at)
-        }
-        tree::Stmt::OnSemas(part) => {
-            let made = on_semaphores(alloc, numbered, scope, part)?;
-            into.push(made)?;
-            Ok(at)
-        }
-        tree::Stmt::OnInterrupt(part) => {
-            let made = on_interrupt(numbered, scope, part);
-            into.push(made)?;
-            Ok(at)
-        }
-        tree::Stmt::Send(part) => {
-            let made = send(alloc, numbered, scope, part)?;
-            into.push(made)?;
-            Ok(at)
-        }
-        tree::Stmt::Take(part) => {
-            let made = take(alloc, numbered, scope, part)?;
-            into.push(made)?;
-            Ok(at)
-        }
+        Written::If(part) => add_if(alloc, numbered, scope, at, part, cells, into),
+        Written::Case(part) => add_case(alloc, numbered, scope, at, part, cells, into),
+        Written::Repeat(part) => add_repeat(alloc, numbered, scope, at, part, cells, into),
+        Written::Begin(part) => add_body(alloc, numbered, 0, at, &part.body, cells, into),
+        Written::Put(part) => add_put(alloc, numbered, scope, at, part, into),
+        Written::Get(part) => add_get(alloc, numbered, scope, at, part, cells, into),
+        Written::Empty { .. } => Ok(at),
+        Written::Assign(part) => add_made(at, assign(alloc, numbered, scope, part), into),
+        Written::Call(part) => add_made(at, call_of(alloc, numbered, scope, part), into),
+        Written::Exit { .. } => add_made(at, Ok(Stmt::Exit), into),
+        Written::Return(part) => add_made(at, return_of(alloc, numbered, scope, part), into),
+        Written::Activate(part) => add_made(at, activate(alloc, numbered, scope, part), into),
+        Written::Continue(part) => add_made(at, continue_of(alloc, numbered, scope, part), into),
+        Written::Resume(part) => add_made(at, resume(alloc, numbered, scope, part), into),
+        Written::OnTask(part) => add_made(at, Ok(on_task(numbered, scope, part)), into),
+        Written::OnSemas(part) => add_made(at, on_semaphores(alloc, numbered, scope, part), into),
+        Written::OnInterrupt(part) => add_made(at, Ok(on_interrupt(numbered, scope, part)), into),
+        Written::Send(part) => add_made(at, send(alloc, numbered, scope, part), into),
+        Written::Take(part) => add_made(at, take(alloc, numbered, scope, part), into),
     }
 }
 

@@ -17,8 +17,9 @@ ghost use Rattle.pearl_resolve.specs.Expressions as spec;
 ghost use Rattle.pearl_resolve.specs.Holding.{HoldsWalk, Walks};
 
 use crate::bounds::{add_bounds, elements};
-use crate::counts::whole;
+use crate::counts::{further_on, product};
 use crate::numbered::NumberedTable;
+use pearl_data::counts::whole;
 use pearl_names::meaning::Found;
 use pearl_names::scope::View;
 use pearl_names::sense::{Bounds, Form, Parameter, Sense};
@@ -182,18 +183,9 @@ fn further(number: u32, times: u64, count: u32) -> Result<u32, AllocError>
     ensures { IfOk result (λ after. (n : ℕ) → count ≡ cut n → after ≡ number + times * n) }
 {
     let count = whole(count)?;
-    let past = match times.checked_mul(u64::from(count)) {
-        Some(past) => past,
-        None => return Err(AllocError),
-    };
-    let after = match past.checked_add(u64::from(number)) {
-        Some(after) => after,
-        None => return Err(AllocError),
-    };
-    match u32::try_from(after) {
-        Ok(after) => Ok(after),
-        Err(_) => Err(AllocError),
-    }
+    let distance = product(times, u64::from(count))?;
+    let after = further_on(number, distance)?;
+    Ok(after)
 }
 
 fn moved(target: Target, bounds: &[Bound], field: FieldForm) -> Result<Target, AllocError>

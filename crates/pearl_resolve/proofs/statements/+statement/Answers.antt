@@ -17,110 +17,95 @@ use Rattle.pearl_resolve.specs.Parts.{shown_activate, shown_assign, shown_begin,
 use Rattle.pearl_resolve.specs.Statements as spec
 use Rattle.pearl_resolve.proofs.Numbering.{counts_shown, loop_cells_shown}
 use Rattle.pearl_resolve.proofs.PlainNodes.{one_left}
-use Rattle.pearl_resolve.proofs.Resolving.{Going, GoingBranches, added_as, body_added, branches_all, branches_more, case_added, entered_is, from_no_branches, from_none, get_goes, going_all, going_more, if_added, moved_as, none_added, put_goes, repeat_added, shown_as}
+use Rattle.pearl_resolve.proofs.Adding.{ok_added, ok_kept, ok_shown}
+use Rattle.pearl_resolve.proofs.Resolving.{Going, GoingBranches, body_added, branches_all, branches_more, case_added, entered_is, from_no_branches, from_none, going_all, going_more, if_added, none_added, repeat_added}
 use Rattle.pearl_resolve.proofs.statements.«+statement».Goals as goal
 
-pub add_stmt-returns-in_ok-at-in-If : goal.add_stmt-returns-in_ok-at-in-If
-add_stmt-returns-in_ok-at-in-If t c = λ of holds.
-    shown_as of c.args.scope (at_in c.args.at) _ _ _ _ _ _ _
-    (ap shown_stmt c.in-If.is ∙ if_shown c.in-If.part ∙ ap shown_if (sym c.deref.ensures))
-    (c.in_ok-at-in-If.ensures of holds)
+pub add_stmt-returns-in-If : goal.add_stmt-returns-in-If
+add_stmt-returns-in-If t c = ok_shown c.args.numbered.now c.args.scope c.args.at _ _ _ _ _ _ _
+    (ap shown_stmt c.in-If.is ∙ if_shown c.in-If.part ∙ ap shown_if (sym c.deref.ensures)) c.add_if.ensures
 
-pub add_stmt-returns-in_ok-at-in-Case : goal.add_stmt-returns-in_ok-at-in-Case
-add_stmt-returns-in_ok-at-in-Case t c = λ of holds.
-    shown_as of c.args.scope (at_in c.args.at) _ _ _ _ _ _ _
-    (ap shown_stmt c.in-Case.is ∙ case_shown c.in-Case.part ∙ ap shown_case (sym c.deref-in-Case.ensures))
-    (c.in_ok-at-in-Case.ensures of holds)
+pub add_stmt-returns-in-Case : goal.add_stmt-returns-in-Case
+add_stmt-returns-in-Case t c = ok_shown c.args.numbered.now c.args.scope c.args.at _ _ _ _ _ _ _
+    (ap shown_stmt c.in-Case.is ∙ case_shown c.in-Case.part ∙ ap shown_case (sym c.deref-in-Case.ensures)) c.add_case.ensures
 
-pub add_stmt-returns-in_ok-at-in-Repeat : goal.add_stmt-returns-in_ok-at-in-Repeat
-add_stmt-returns-in_ok-at-in-Repeat t c = λ of holds.
-    shown_as of c.args.scope (at_in c.args.at) _ _ _ _ _ _ _
-    (ap shown_stmt c.in-Repeat.is ∙ repeat_shown c.in-Repeat.part ∙ ap shown_repeat (sym c.deref-in-Repeat.ensures))
-    (c.in_ok-at-in-Repeat.ensures of holds)
+pub add_stmt-returns-in-Repeat : goal.add_stmt-returns-in-Repeat
+add_stmt-returns-in-Repeat t c = ok_shown c.args.numbered.now c.args.scope c.args.at _ _ _ _ _ _ _
+    (ap shown_stmt c.in-Repeat.is ∙ repeat_shown c.in-Repeat.part ∙ ap shown_repeat (sym c.deref-in-Repeat.ensures)) c.add_repeat.ensures
 
-pub add_stmt-returns-in_ok-at-in-Begin : goal.add_stmt-returns-in_ok-at-in-Begin
-add_stmt-returns-in_ok-at-in-Begin t c = λ of holds.
-    shown_as of c.args.scope (at_in c.args.at) _ _ _ _ _ _ _
-    (ap shown_stmt c.in-Begin.is ∙ begin_shown c.in-Begin.part ∙ ap shown_begin (sym c.deref-in-Begin.ensures))
-    (c.in_ok-at-in-Begin.ensures of holds)
+pub add_stmt-returns-in-Begin : goal.add_stmt-returns-in-Begin
+add_stmt-returns-in-Begin t c = ok_shown c.args.numbered.now c.args.scope c.args.at _ _ _ _ _ _ _
+    (ap shown_stmt c.in-Begin.is ∙ begin_shown c.in-Begin.part ∙ ap shown_begin (sym c.deref-in-Begin.ensures)) c.add_body.ensures
+
+pub add_stmt-returns-in-Put : goal.add_stmt-returns-in-Put
+add_stmt-returns-in-Put t c = ok_kept c.args.numbered.now c.args.scope c.args.at c.args.cells.now.items c.args.into.now.items _ _ _ c.add_put.result
+    (ap shown_stmt c.in-Put.is ∙ ap shown_put (sym c.deref-in-Put.ensures)) c.add_put.ensures
+
+pub add_stmt-returns-in-Get : goal.add_stmt-returns-in-Get
+add_stmt-returns-in-Get t c = ok_shown c.args.numbered.now c.args.scope c.args.at _ _ _ _ _ _ _
+    (ap shown_stmt c.in-Get.is ∙ ap shown_get (sym c.deref-in-Get.ensures)) c.add_get.ensures
 
 pub add_stmt-returns-in-Empty : goal.add_stmt-returns-in-Empty
 add_stmt-returns-in-Empty t c = λ of holds. rw c.in-Empty.is (none_added (at_in c.args.at) c.args.cells.now.items c.args.into.now.items)
 
-pub add_stmt-returns-in_ok-push-in-Exit : goal.add_stmt-returns-in_ok-push-in-Exit
-add_stmt-returns-in_ok-push-in-Exit t c = λ of holds.
-    added_as of c.args.scope (at_in c.args.at) c.args.cells.now.items c.args.into.now.items _ _ _ _ (ap shown_stmt c.in-Exit.is) refl refl c.in_ok-push-in-Exit.ensures.items refl
+pub add_stmt-returns-in-Exit : goal.add_stmt-returns-in-Exit
+add_stmt-returns-in-Exit t c = ok_added c.args.numbered.now c.args.scope c.args.at c.args.cells.now.items c.args.into.now.items
+    c.add_made-in-Exit.new.into.items _ _ _ c.add_made-in-Exit.result (ap shown_stmt c.in-Exit.is) (λ of. refl) (λ of. refl) (λ of holds at. refl) c.add_made-in-Exit.ensures
 
-pub add_stmt-returns-in_ok-push-in-Assign : goal.add_stmt-returns-in_ok-push-in-Assign
-add_stmt-returns-in_ok-push-in-Assign t c = λ of holds.
-    added_as of c.args.scope (at_in c.args.at) c.args.cells.now.items c.args.into.now.items _ _ _ (shown_assign c.deref-in-Assign.result.now)
-    (ap shown_stmt c.in-Assign.is ∙ ap shown_assign (sym c.deref-in-Assign.ensures)) refl refl c.in_ok-push-in-Assign.ensures.items (c.in_ok-made-in-Assign.ensures of holds (at_in c.args.at))
+pub add_stmt-returns-in-Assign : goal.add_stmt-returns-in-Assign
+add_stmt-returns-in-Assign t c = ok_added c.args.numbered.now c.args.scope c.args.at c.args.cells.now.items c.args.into.now.items
+    c.add_made.new.into.items _ (shown_assign c.deref-in-Assign.result.now) _ c.add_made.result
+    (ap shown_stmt c.in-Assign.is ∙ ap shown_assign (sym c.deref-in-Assign.ensures)) (λ of. refl) (λ of. refl) c.assign.ensures c.add_made.ensures
 
-pub add_stmt-returns-in_ok-push-in-Call : goal.add_stmt-returns-in_ok-push-in-Call
-add_stmt-returns-in_ok-push-in-Call t c = λ of holds.
-    added_as of c.args.scope (at_in c.args.at) c.args.cells.now.items c.args.into.now.items _ _ _ (shown_call c.deref-in-Call.result.now)
-    (ap shown_stmt c.in-Call.is ∙ ap shown_call (sym c.deref-in-Call.ensures)) refl refl c.in_ok-push-in-Call.ensures.items (c.in_ok-made-in-Call.ensures of holds (at_in c.args.at))
+pub add_stmt-returns-in-Call : goal.add_stmt-returns-in-Call
+add_stmt-returns-in-Call t c = ok_added c.args.numbered.now c.args.scope c.args.at c.args.cells.now.items c.args.into.now.items
+    c.add_made-in-Call.new.into.items _ (shown_call c.deref-in-Call.result.now) _ c.add_made-in-Call.result
+    (ap shown_stmt c.in-Call.is ∙ ap shown_call (sym c.deref-in-Call.ensures)) (λ of. refl) (λ of. refl) c.call_of.ensures c.add_made-in-Call.ensures
 
-pub add_stmt-returns-in_ok-push-in-Return : goal.add_stmt-returns-in_ok-push-in-Return
-add_stmt-returns-in_ok-push-in-Return t c = λ of holds.
-    added_as of c.args.scope (at_in c.args.at) c.args.cells.now.items c.args.into.now.items _ _ _ (shown_return c.deref-in-Return.result.now)
-    (ap shown_stmt c.in-Return.is ∙ ap shown_return (sym c.deref-in-Return.ensures)) refl refl c.in_ok-push-in-Return.ensures.items (c.in_ok-made-in-Return.ensures of holds (at_in c.args.at))
+pub add_stmt-returns-in-Return : goal.add_stmt-returns-in-Return
+add_stmt-returns-in-Return t c = ok_added c.args.numbered.now c.args.scope c.args.at c.args.cells.now.items c.args.into.now.items
+    c.add_made-in-Return.new.into.items _ (shown_return c.deref-in-Return.result.now) _ c.add_made-in-Return.result
+    (ap shown_stmt c.in-Return.is ∙ ap shown_return (sym c.deref-in-Return.ensures)) (λ of. refl) (λ of. refl) c.return_of.ensures c.add_made-in-Return.ensures
 
-pub add_stmt-returns-in_ok-push-in-Activate : goal.add_stmt-returns-in_ok-push-in-Activate
-add_stmt-returns-in_ok-push-in-Activate t c = λ of holds.
-    added_as of c.args.scope (at_in c.args.at) c.args.cells.now.items c.args.into.now.items _ _ _ (shown_activate c.deref-in-Activate.result.now)
-    (ap shown_stmt c.in-Activate.is ∙ ap shown_activate (sym c.deref-in-Activate.ensures)) refl refl c.in_ok-push-in-Activate.ensures.items (c.in_ok-made-in-Activate.ensures of holds (at_in c.args.at))
+pub add_stmt-returns-in-Activate : goal.add_stmt-returns-in-Activate
+add_stmt-returns-in-Activate t c = ok_added c.args.numbered.now c.args.scope c.args.at c.args.cells.now.items c.args.into.now.items
+    c.add_made-in-Activate.new.into.items _ (shown_activate c.deref-in-Activate.result.now) _ c.add_made-in-Activate.result
+    (ap shown_stmt c.in-Activate.is ∙ ap shown_activate (sym c.deref-in-Activate.ensures)) (λ of. refl) (λ of. refl) c.activate.ensures c.add_made-in-Activate.ensures
 
-pub add_stmt-returns-in_ok-push-in-Continue : goal.add_stmt-returns-in_ok-push-in-Continue
-add_stmt-returns-in_ok-push-in-Continue t c = λ of holds.
-    added_as of c.args.scope (at_in c.args.at) c.args.cells.now.items c.args.into.now.items _ _ _ (shown_continue c.deref-in-Continue.result.now)
-    (ap shown_stmt c.in-Continue.is ∙ ap shown_continue (sym c.deref-in-Continue.ensures)) refl refl c.in_ok-push-in-Continue.ensures.items (c.in_ok-made-in-Continue.ensures of holds (at_in c.args.at))
+pub add_stmt-returns-in-Continue : goal.add_stmt-returns-in-Continue
+add_stmt-returns-in-Continue t c = ok_added c.args.numbered.now c.args.scope c.args.at c.args.cells.now.items c.args.into.now.items
+    c.add_made-in-Continue.new.into.items _ (shown_continue c.deref-in-Continue.result.now) _ c.add_made-in-Continue.result
+    (ap shown_stmt c.in-Continue.is ∙ ap shown_continue (sym c.deref-in-Continue.ensures)) (λ of. refl) (λ of. refl) c.continue_of.ensures c.add_made-in-Continue.ensures
 
-pub add_stmt-returns-in_ok-push-in-Resume : goal.add_stmt-returns-in_ok-push-in-Resume
-add_stmt-returns-in_ok-push-in-Resume t c = λ of holds.
-    added_as of c.args.scope (at_in c.args.at) c.args.cells.now.items c.args.into.now.items _ _ _ (shown_resume c.deref-in-Resume.result.now)
-    (ap shown_stmt c.in-Resume.is ∙ ap shown_resume (sym c.deref-in-Resume.ensures)) refl refl c.in_ok-push-in-Resume.ensures.items (c.in_ok-made-in-Resume.ensures of holds (at_in c.args.at))
+pub add_stmt-returns-in-Resume : goal.add_stmt-returns-in-Resume
+add_stmt-returns-in-Resume t c = ok_added c.args.numbered.now c.args.scope c.args.at c.args.cells.now.items c.args.into.now.items
+    c.add_made-in-Resume.new.into.items _ (shown_resume c.deref-in-Resume.result.now) _ c.add_made-in-Resume.result
+    (ap shown_stmt c.in-Resume.is ∙ ap shown_resume (sym c.deref-in-Resume.ensures)) (λ of. refl) (λ of. refl) c.resume.ensures c.add_made-in-Resume.ensures
 
-pub add_stmt-returns-in_ok-push-in-OnTask : goal.add_stmt-returns-in_ok-push-in-OnTask
-add_stmt-returns-in_ok-push-in-OnTask t c = λ of holds.
-    added_as of c.args.scope (at_in c.args.at) c.args.cells.now.items c.args.into.now.items _ _ _ (shown_on_task c.deref-in-OnTask.result.now)
-    (ap shown_stmt c.in-OnTask.is ∙ ap shown_on_task (sym c.deref-in-OnTask.ensures)) refl refl c.in_ok-push-in-OnTask.ensures.items (c.on_task-made.ensures of holds (at_in c.args.at))
+pub add_stmt-returns-in-OnTask : goal.add_stmt-returns-in-OnTask
+add_stmt-returns-in-OnTask t c = ok_added c.args.numbered.now c.args.scope c.args.at c.args.cells.now.items c.args.into.now.items
+    c.add_made-in-OnTask.new.into.items _ (shown_on_task c.deref-in-OnTask.result.now) _ c.add_made-in-OnTask.result
+    (ap shown_stmt c.in-OnTask.is ∙ ap shown_on_task (sym c.deref-in-OnTask.ensures)) (λ of. refl) (λ of. refl) c.on_task.ensures c.add_made-in-OnTask.ensures
 
-pub add_stmt-returns-in_ok-push-in-OnSemas : goal.add_stmt-returns-in_ok-push-in-OnSemas
-add_stmt-returns-in_ok-push-in-OnSemas t c = λ of holds.
-    added_as of c.args.scope (at_in c.args.at) c.args.cells.now.items c.args.into.now.items _ _ _ (shown_on_semaphores c.deref-in-OnSemas.result.now)
-    (ap shown_stmt c.in-OnSemas.is ∙ ap shown_on_semaphores (sym c.deref-in-OnSemas.ensures)) refl refl c.in_ok-push-in-OnSemas.ensures.items (c.in_ok-made-in-OnSemas.ensures of holds (at_in c.args.at))
+pub add_stmt-returns-in-OnSemas : goal.add_stmt-returns-in-OnSemas
+add_stmt-returns-in-OnSemas t c = ok_added c.args.numbered.now c.args.scope c.args.at c.args.cells.now.items c.args.into.now.items
+    c.add_made-in-OnSemas.new.into.items _ (shown_on_semaphores c.deref-in-OnSemas.result.now) _ c.add_made-in-OnSemas.result
+    (ap shown_stmt c.in-OnSemas.is ∙ ap shown_on_semaphores (sym c.deref-in-OnSemas.ensures)) (λ of. refl) (λ of. refl) c.on_semaphores.ensures c.add_made-in-OnSemas.ensures
 
-pub add_stmt-returns-in_ok-push-in-OnInterrupt : goal.add_stmt-returns-in_ok-push-in-OnInterrupt
-add_stmt-returns-in_ok-push-in-OnInterrupt t c = λ of holds.
-    added_as of c.args.scope (at_in c.args.at) c.args.cells.now.items c.args.into.now.items _ _ _ (shown_on_interrupt c.deref-in-OnInterrupt.result.now)
-    (ap shown_stmt c.in-OnInterrupt.is ∙ ap shown_on_interrupt (sym c.deref-in-OnInterrupt.ensures)) refl refl c.in_ok-push-in-OnInterrupt.ensures.items (c.on_interrupt-made.ensures of holds (at_in c.args.at))
+pub add_stmt-returns-in-OnInterrupt : goal.add_stmt-returns-in-OnInterrupt
+add_stmt-returns-in-OnInterrupt t c = ok_added c.args.numbered.now c.args.scope c.args.at c.args.cells.now.items c.args.into.now.items
+    c.add_made-in-OnInterrupt.new.into.items _ (shown_on_interrupt c.deref-in-OnInterrupt.result.now) _ c.add_made-in-OnInterrupt.result
+    (ap shown_stmt c.in-OnInterrupt.is ∙ ap shown_on_interrupt (sym c.deref-in-OnInterrupt.ensures)) (λ of. refl) (λ of. refl) c.on_interrupt.ensures c.add_made-in-OnInterrupt.ensures
 
-pub add_stmt-returns-in_ok-push-in-Send : goal.add_stmt-returns-in_ok-push-in-Send
-add_stmt-returns-in_ok-push-in-Send t c = λ of holds.
-    added_as of c.args.scope (at_in c.args.at) c.args.cells.now.items c.args.into.now.items _ _ _ (shown_send c.deref-in-Send.result.now)
-    (ap shown_stmt c.in-Send.is ∙ ap shown_send (sym c.deref-in-Send.ensures)) refl refl c.in_ok-push-in-Send.ensures.items (c.in_ok-made-in-Send.ensures of holds (at_in c.args.at))
+pub add_stmt-returns-in-Send : goal.add_stmt-returns-in-Send
+add_stmt-returns-in-Send t c = ok_added c.args.numbered.now c.args.scope c.args.at c.args.cells.now.items c.args.into.now.items
+    c.add_made-in-Send.new.into.items _ (shown_send c.deref-in-Send.result.now) _ c.add_made-in-Send.result
+    (ap shown_stmt c.in-Send.is ∙ ap shown_send (sym c.deref-in-Send.ensures)) (λ of. refl) (λ of. refl) c.send.ensures c.add_made-in-Send.ensures
 
-pub add_stmt-returns-in_ok-push-in-Take : goal.add_stmt-returns-in_ok-push-in-Take
-add_stmt-returns-in_ok-push-in-Take t c = λ of holds.
-    added_as of c.args.scope (at_in c.args.at) c.args.cells.now.items c.args.into.now.items _ _ _ (shown_take c.deref-in-Take.result.now)
-    (ap shown_stmt c.in-Take.is ∙ ap shown_take (sym c.deref-in-Take.ensures)) refl refl c.in_ok-push-in-Take.ensures.items (c.in_ok-made-in-Take.ensures of holds (at_in c.args.at))
-
-pub add_stmt-returns-in_ok-at-in-Put : goal.add_stmt-returns-in_ok-at-in-Put
-add_stmt-returns-in_ok-at-in-Put t c = λ of holds.
-    moved_as of c.args.scope (at_in c.args.at) _ c.args.cells.now.items c.args.cells.now.items c.args.into.now.items _ _ _ (shown_put c.deref-in-Put.result.now)
-    (ap shown_stmt c.in-Put.is ∙ ap shown_put (sym c.deref-in-Put.ensures)) (put_goes (at_in c.args.at) _ c.in_ok-at-in-Put.ensures)
-    (sym (append-nil c.args.cells.now.items)) c.in_ok-push-in-Put.ensures.items (c.in_ok-made-in-Put.ensures of holds)
-
-pub add_stmt-returns-in_ok-at-in-Get : goal.add_stmt-returns-in_ok-at-in-Get
-add_stmt-returns-in_ok-at-in-Get t c = λ of holds.
-    let count = ap length c.as_slice.ensures
-    ∙ ap (λ (p : Get). length p.targets.items.items) (c.deref-in-Get-2.ensures ∙ sym c.deref-in-Get.ensures)
-    ∙ sym (length-map c.deref-in-Get.result.now.targets.items.items shown_ref) in
-    moved_as of c.args.scope (at_in c.args.at) _ c.args.cells.now.items _ c.args.into.now.items _ _ _ (shown_get c.deref-in-Get.result.now)
-    (ap shown_stmt c.in-Get.is ∙ ap shown_get (sym c.deref-in-Get.ensures))
-    (get_goes (at_in c.args.at) _ _ _ c.in_ok-at-in-Get.ensures count)
-    (c.in_ok-made-in-Get.ensures.cells of holds) c.in_ok-push-in-Get.ensures.items (c.in_ok-made-in-Get.ensures.made of holds)
+pub add_stmt-returns-in-Take : goal.add_stmt-returns-in-Take
+add_stmt-returns-in-Take t c = ok_added c.args.numbered.now c.args.scope c.args.at c.args.cells.now.items c.args.into.now.items
+    c.add_made-in-Take.new.into.items _ (shown_take c.deref-in-Take.result.now) _ c.add_made-in-Take.result
+    (ap shown_stmt c.in-Take.is ∙ ap shown_take (sym c.deref-in-Take.ensures)) (λ of. refl) (λ of. refl) c.take.ensures c.add_made-in-Take.ensures
 
 pub add_if-returns : goal.add_if-returns
 add_if-returns t c = λ of holds.
