@@ -1,0 +1,4 @@
+// The code of expressions, and that it does what they mean.
+#![tactic(auto)]
+
+pub mod laws;
