@@ -15,18 +15,17 @@ pub record End (X : Type 0) : Type 1 where
   pub stack : X → Store → List Frame
   pub Of : X → Type 0
 
--- A value was given, over some of the answers. To whatever action the code comes from the end on, over the answers that are left, to that
--- it comes from here.
-pub record Arrives (o : Object) (c : Context) {X : Type 0} (end : End X) (from : List Frame) (rest : List Answer)
-    (x : X) (store : Store) (left : List Answer) : Type 0 where
+-- what holds where the code of a part ends with a value: it is one of those values, the store fits, and no answer has come in
+pub record Arrived (o : Object) (c : Context) {X : Type 0} (end : End X) (rest : List Answer) (x : X) (store : Store) (left : List Answer) : Type 0 where
   pub of : end.Of x
   pub cells : IsStoreOf o c store
   pub fewer : length left ≤ length rest
-  pub comes : (action : Action) → Comes o (end.stack x store) left action → Comes o from rest action
 
--- from this stack and over these answers the code comes to what was found: to its end, to the action that is needed, or to the trap
+-- To whatever action the code comes from the part's end on, over the answers that are left, to that it comes from here. Where the part
+-- needs an answer or fails, it comes to what is needed, or to the trap.
 abbrev pub Meets : (o : Object) (c : Context) {X : Type 0} (end : End X) (from : List Frame) (rest : List Answer) → Outcome X → Type 0
-Meets o c end from rest (Value x store left) = Arrives o c end from rest x store left
+Meets o c end from rest (Value x store left) =
+    (action : Action) → (Arrived o c end rest x store left → Comes o (end.stack x store) left action) → Comes o from rest action
 Meets o c end from rest (Needs action) = Comes o from rest action
 Meets o c end from rest (Fails trap) = Comes o from rest (action.Trap trap)
 
