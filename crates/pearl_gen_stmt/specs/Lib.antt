@@ -1,0 +1,2 @@
+-- which code stands for a statement
+pub mod StmtCode

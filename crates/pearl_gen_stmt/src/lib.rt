@@ -1,0 +1,2 @@
+// Which code stands for the statements of a resolved program, and that it does what they mean. The definitions stand in specs/.
+#![tactic(auto)]
