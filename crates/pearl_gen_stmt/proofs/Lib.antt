@@ -1,3 +1,4 @@
 pub mod Single
 pub mod Flows
 pub mod Renewals
+pub mod Counters
