@@ -2,3 +2,4 @@ pub mod Single
 pub mod Flows
 pub mod Renewals
 pub mod Counters
+pub mod Turning

@@ -46,7 +46,7 @@ goes_meets o c end frames from rest (Needs a) meets e = silent_from o from rest 
 goes_meets o c end frames from rest (Fails trap) meets e = silent_from o from rest (action.Trap trap) meets
 
 -- what is found from behind an action, over one answer less
-heard_meets : (o : Object) (c : Context) {X : Type 0} (end : End X) (frames : List Frame) (offered : Action) (go : Answer → List Frame) (answer : Answer) (rest : List Answer) (m : Outcome X) →
+pub heard_meets : (o : Object) (c : Context) {X : Type 0} (end : End X) (frames : List Frame) (offered : Action) (go : Answer → List Frame) (answer : Answer) (rest : List Answer) (m : Outcome X) →
     Meets o c end (go answer) rest m → RowMeets o c end frames (Offers offered go) (answer ∷ rest) m
 heard_meets o c end frames offered go answer rest (Value x store left) meets e = λ a on. heard_from o offered go answer rest a
     (meets a (λ here. let fewer = here.fewer in on (record { of = here.of; cells = here.cells; fewer = omega (arith, fewer) })))
