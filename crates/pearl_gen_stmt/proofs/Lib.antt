@@ -3,3 +3,4 @@ pub mod Flows
 pub mod Renewals
 pub mod Counters
 pub mod Turning
+pub mod Transfers
