@@ -4,3 +4,4 @@ pub mod Renewals
 pub mod Counters
 pub mod Turning
 pub mod Transfers
+pub mod Schedules
