@@ -315,3 +315,141 @@ module _ (o : Object) (c : Context) (setting : Setting) (Fine : PlainExpr → Ty
       alike_does end (at c from operands) (bind (eval setting e) (λ x. on (Some (number_of x)))) (bind (priority_of setting (Some e)) on)
       (told (eval setting e) (λ x. Some (number_of x)) on)
       (bind_carries o c (on_top c to operands) end (at c from operands) (eval setting e) (λ x. on (Some (number_of x))) (values e from to operands fine code.1) (λ x of. all (x ∷ []) refl))
+
+-- THE STATEMENTS
+
+pushed_more : (xs ys operands : List Cell) → pushed ys (pushed xs operands) ≡ pushed (xs ++ ys) operands
+pushed_more [] ys operands = refl
+pushed_more (x ∷ xs) ys operands = pushed_more xs ys (x ∷ operands)
+
+all_true : (one two three : Bool) → one ≡ true → two ≡ true → three ≡ true → (one && two && three) ≡ true
+all_true one two three a b d = rw (a, b, d) refl
+
+first_false : (one two three : Bool) → one ≡ false → (one && two && three) ≡ false
+first_false one two three a = rw a refl
+
+second_false : (one two three : Bool) → one ≡ true → two ≡ false → (one && two && three) ≡ false
+second_false one two three a b = rw (a, b) refl
+
+third_false : (one two three : Bool) → one ≡ true → two ≡ true → three ≡ false → (one && two && three) ≡ false
+third_false one two three a b d = rw (a, b, d) refl
+
+module _ (o : Object) (c : Context) (place to leave : ℕ) (returns : Option Kind) (next_is : to ≡ place + 1) where
+  abbrev end : End Flow
+  end = ways c to leave returns
+
+  -- a value is out of its range
+  out_meets : (offered : Action) (test : Bool) (operands cells : List Cell) (more : List (List Cell)) (task : ℕ) (rest : List Answer) → test ≡ false →
+      let f = frame_at c place operands cells in let lower = stack c.callers more in
+      RowMeets o c end (f ∷ lower) (traps Range f lower) rest (acts_if test offered (record { task = task; frames = cells ∷ more }) rest)
+  out_meets offered test operands cells more task rest e =
+      let f = frame_at c place operands cells in let lower = stack c.callers more in
+      subst (λ test. RowMeets o c end (f ∷ lower) (traps Range f lower) rest (acts_if test offered (record { task = task; frames = cells ∷ more }) rest)) (sym e)
+      (stops_meets o c end (f ∷ lower) Range rest)
+
+  -- all are in their ranges
+  in_meets : (offered : Action) (test : Bool) (operands cells : List Cell) (more : List (List Cell)) (task : ℕ) (rest : List Answer) →
+      IsStoreOf o c (record { task = task; frames = cells ∷ more }) → test ≡ true →
+      let f = frame_at c place operands cells in let lower = stack c.callers more in
+      RowMeets o c end (f ∷ lower) (steps.acts offered f lower []) rest (acts_if test offered (record { task = task; frames = cells ∷ more }) rest)
+  in_meets offered test operands cells more task rest of e =
+      let f = frame_at c place operands cells in let lower = stack c.callers more in let store : Store = record { task = task; frames = cells ∷ more } in
+      subst (λ test. RowMeets o c end (f ∷ lower) (steps.acts offered f lower []) rest (acts_if test offered store rest)) (sym e)
+      (subst (λ next. RowMeets o c end (f ∷ lower) (Offers offered (λ answer. frame_at c next [] cells ∷ lower)) rest (acts offered store rest)) next_is
+      (asked_meets o c end (f ∷ lower) offered (λ answer. frame_at c to [] cells ∷ lower) store (λ answer. gives Normal) rest
+      (λ answer left. (normal_carries o c to leave returns).over store left of)))
+
+  -- a start by itself
+  starts_meets : (form : StartForm) (xs : List Cell) (act_on : Start → Action) (operands cells : List Cell) (more : List (List Cell)) (task : ℕ) (rest : List Answer) →
+      length xs ≡ length (start_kinds form) → operands ≡ pushed xs [] → IsStoreOf o c (record { task = task; frames = cells ∷ more }) →
+      let f = frame_at c place operands cells in let lower = stack c.callers more in
+      RowMeets o c end (f ∷ lower) (steps.taken (length (start_kinds form)) operands (λ values left. started form values f lower (λ when rest. steps.acts (act_on when) f lower left))) rest
+      (acts_if (is_start (when_of form xs)) (act_on (when_of form xs)) (record { task = task; frames = cells ∷ more }) rest)
+  starts_meets form xs act_on operands cells more task rest long is of =
+      let f = frame_at c place operands cells in let lower = stack c.callers more in let store : Store = record { task = task; frames = cells ∷ more } in
+      let when = when_of form xs in let m = acts_if (is_start when) (act_on when) store rest in
+      let go : List Cell → List Cell → Step = λ values left. started form values f lower (λ when rest. steps.acts (act_on when) f lower left) in
+      let row_is : steps.taken (length (start_kinds form)) operands go ≡ go (xs ++ []) [] =
+          ap (λ operands. steps.taken (length (start_kinds form)) operands go) is ∙ taken_pushed (length (start_kinds form)) xs [] go (sym long) ∙ ap (λ xs. go xs []) (sym (append-nil xs)) in
+      subst (λ step. RowMeets o c end (f ∷ lower) step rest m) (sym row_is)
+      (start_case (λ step. RowMeets o c end (f ∷ lower) step rest m) (missing_meets o c end (f ∷ lower) rest m) f lower form xs [] (λ when rest. steps.acts (act_on when) f lower []) long
+      (λ e. in_meets (act_on when) (is_start when) operands cells more task rest of e) (λ e. out_meets (act_on when) (is_start when) operands cells more task rest e))
+
+  -- a start, a repetition and a priority
+  activate_meets : (task_number : ℕ) (form : StartForm) (how : RepeatForm) (given : Bool) (ws ps us : List Cell) (operands cells : List Cell) (more : List (List Cell)) (task : ℕ) (rest : List Answer) →
+      length ws ≡ length (start_kinds form) → length ps ≡ length (repeat_kinds how) → length us ≡ priority_count given →
+      operands ≡ pushed us (pushed ps (pushed ws [])) → IsStoreOf o c (record { task = task; frames = cells ∷ more }) →
+      let f = frame_at c place operands cells in let lower = stack c.callers more in
+      RowMeets o c end (f ∷ lower) (activate (record { task = task_number; start = form; repeat = how; priority = given }) f lower) rest
+      (acts_if (is_start (when_of form ws) && is_repeat (how_of how ps) && is_priority (urgent_of given us))
+      (action.Activate task_number (when_of form ws) (how_of how ps) (option_map unsigned_abs (urgent_of given us))) (record { task = task; frames = cells ∷ more }) rest)
+  activate_meets number form how given ws ps us operands cells more task rest one two three is of =
+      let f = frame_at c place operands cells in let lower = stack c.callers more in let store : Store = record { task = task; frames = cells ∷ more } in
+      let when = when_of form ws in let again_ = how_of how ps in let urgent = urgent_of given us in
+      let offered : Action = action.Activate number when again_ (option_map unsigned_abs urgent) in
+      let test = is_start when && is_repeat again_ && is_priority urgent in
+      let m = acts_if test offered store rest in
+      let last : List Cell → Start → Repeat → Option ℕ → Step = λ left when how priority. steps.acts (action.Activate number when how priority) f lower left in
+      let go : List Cell → List Cell → Step = λ values left. started form values f lower (λ when more.
+          repeated how more f lower (λ how rest. with_priority given rest f lower (last left when how))) in
+      let all = ws ++ (ps ++ us) in
+      let count = activation_count (record { task = number; start = form; repeat = how; priority = given }) in
+      let lengths = length-append ws (ps ++ us) in let lengths_behind = length-append ps us in
+      let count_is : count ≡ length all = omega (arith, one, two, three, lengths, lengths_behind) in
+      let lie : operands ≡ pushed all [] = is ∙ ap (λ below. pushed us below) (pushed_more ws ps []) ∙ pushed_more (ws ++ ps) us [] ∙ ap (λ xs. pushed xs []) (append_assoc ws ps us) in
+      let row_is : steps.taken count operands go ≡ go all [] = ap (λ operands. steps.taken count operands go) lie ∙ taken_pushed count all [] go count_is in
+      let lost = missing_meets o c end (f ∷ lower) rest m in
+      subst (λ step. RowMeets o c end (f ∷ lower) step rest m) (sym row_is)
+      (start_case (λ step. RowMeets o c end (f ∷ lower) step rest m) lost f lower form ws (ps ++ us)
+      (λ when more. repeated how more f lower (λ how rest. with_priority given rest f lower (last [] when how))) one
+      (λ e. repeat_case (λ step. RowMeets o c end (f ∷ lower) step rest m) lost f lower how ps us
+      (λ how rest. with_priority given rest f lower (last [] when how)) two
+      (λ e2. priority_case (λ step. RowMeets o c end (f ∷ lower) step rest m) lost f lower given us (last [] when again_) three
+      (λ e3. in_meets offered test operands cells more task rest of (all_true (is_start when) (is_repeat again_) (is_priority urgent) e e2 e3))
+      (λ e3. out_meets offered test operands cells more task rest (third_false (is_start when) (is_repeat again_) (is_priority urgent) e e2 e3)))
+      (λ e2. out_meets offered test operands cells more task rest (second_false (is_start when) (is_repeat again_) (is_priority urgent) e e2)))
+      (λ e. out_meets offered test operands cells more task rest (first_false (is_start when) (is_repeat again_) (is_priority urgent) e)))
+
+module _ (o : Object) (c : Context) (setting : Setting) (Fine : PlainExpr → Type 0) (values : (e : PlainExpr) (from to : ℕ) (operands : List Cell) → Fine e →
+    ExprAt setting.program (code_of o c.routine) from e to → Carries o c (on_top c to operands) (at c from operands) (eval setting e)) (from to leave : ℕ) where
+  abbrev end_of : End Flow
+  end_of = ways c to leave setting.result
+
+  pub activates_carries : (task : ℕ) (begin : Option PlainStart) (period : Option PlainPeriod) (priority : Option PlainExpr) →
+      FineStart o c setting Fine values begin → FinePeriod o c setting Fine values period → FinePriority o c setting Fine values priority →
+      ActivateAt setting (code_of o c.routine) from task begin period priority to → Carries o c end_of (at c from []) (activates setting task begin period priority)
+  activates_carries task begin period priority one two three code =
+      let form = code.0 in let how = code.1 in let given = code.2 in let begun = code.3 in let repeated_ = code.4 in let place = code.5 in
+      when_carries o c setting Fine values end_of from begun begin form [] (λ when. bind (repeat_of setting period) (λ how. bind (priority_of setting priority) (λ urgent.
+      acts_if (is_start when && is_repeat how && is_priority urgent) (action.Activate task when how (option_map unsigned_abs urgent))))) one code.6 (λ ws long.
+      period_carries o c setting Fine values end_of begun repeated_ period how (pushed ws []) (λ how. bind (priority_of setting priority) (λ urgent.
+      acts_if (is_start (when_of form ws) && is_repeat how && is_priority urgent) (action.Activate task (when_of form ws) how (option_map unsigned_abs urgent)))) two code.7 (λ ps longer.
+      urgent_carries o c setting Fine values end_of repeated_ place priority given (pushed ps (pushed ws [])) (λ urgent.
+      acts_if (is_start (when_of form ws) && is_repeat (how_of how ps) && is_priority urgent) (action.Activate task (when_of form ws) (how_of how ps) (option_map unsigned_abs urgent))) three code.8 (λ us longest.
+      let operands = pushed us (pushed ps (pushed ws [])) in
+      let test = is_start (when_of form ws) && is_repeat (how_of how ps) && is_priority (urgent_of given us) in
+      let does = acts_if test (action.Activate task (when_of form ws) (how_of how ps) (option_map unsigned_abs (urgent_of given us))) in
+      instr_carries o c end_of place operands (instr.Activate code.9) does code.11 (λ own cells more rest of.
+      let f = frame_at c place operands cells in let lower = stack c.callers more in
+      subst (λ activation. RowMeets o c end_of (f ∷ lower) (activate activation f lower) rest (does (record { task = own; frames = cells ∷ more }) rest)) (sym code.10)
+      (activate_meets o c place to leave setting.result code.12 task form how given ws ps us operands cells more own rest long longer longest refl of)))))
+
+  pub continues_carries : (task : ℕ) (later : Option PlainOnce) → FineLater o c setting Fine values later → ContinueAt setting (code_of o c.routine) from task later to →
+      Carries o c end_of (at c from []) (continues setting task later)
+  continues_carries task later fine code =
+      let form = code.0 in let place = code.1 in
+      maybe_carries o c setting Fine values end_of from place later form [] (λ when. acts_if (is_start when) (action.Continue task when)) fine code.2 (λ ws long.
+      let does = acts_if (is_start (when_of (start_or_free form) ws)) (action.Continue task (when_of (start_or_free form) ws)) in
+      instr_carries o c end_of place (pushed ws []) (instr.Continue code.3) does code.5 (λ own cells more rest of.
+      let f = frame_at c place (pushed ws []) cells in let lower = stack c.callers more in
+      subst (λ continuation. RowMeets o c end_of (f ∷ lower) (continue continuation f lower) rest (does (record { task = own; frames = cells ∷ more }) rest)) (sym code.4)
+      (starts_meets o c place to leave setting.result code.6 (start_or_free form) ws (λ when. action.Continue task when) (pushed ws []) cells more own rest long refl of)))
+
+  pub resumes_carries : (later : PlainOnce) → FineOnce o c setting Fine values later → ResumeAt setting (code_of o c.routine) from later to →
+      Carries o c end_of (at c from []) (resumes setting later)
+  resumes_carries later fine code =
+      let form = code.0 in let place = code.1 in
+      later_carries o c setting Fine values end_of from place later form [] (λ when. acts_if (is_start when) (action.Resume when)) fine code.2 (λ ws long.
+      let does = acts_if (is_start (when_of (as_start form) ws)) (action.Resume (when_of (as_start form) ws)) in
+      instr_carries o c end_of place (pushed ws []) (instr.Resume form) does code.3 (λ own cells more rest of.
+      starts_meets o c place to leave setting.result code.4 (as_start form) ws (λ when. action.Resume when) (pushed ws []) cells more own rest long refl of))
