@@ -79,21 +79,21 @@ module _ (o : Object) (c : Context) (place : ℕ) where
       (λ from here. needed_meets o c end (f ∷ lower) (suits_kind from kind) (makes f lower operands (converted x kind)) rest meant
       (λ suits. makes_meets o c (λ x. Unit {0}) place (x ∷ operands) operands cells more task (converted x kind) rest (λ y made. tt) of)))
 
-  -- what an own cell holds
-  loaded : (operands cells : List Cell) (more : List (List Cell)) (task : ℕ) (rest : List Answer) (found : Option Cell) →
+  -- what a cell holds
+  pub loaded : (all operands cells : List Cell) (more : List (List Cell)) (task : ℕ) (rest : List Answer) (found : Option Cell) →
       IsStoreOf o c (record { task = task; frames = cells ∷ more }) →
-      let f = frame_at c place operands cells in let lower = stack c.callers more in
+      let f = frame_at c place all cells in let lower = stack c.callers more in
       RowMeets o c (on_top c (place + 1) operands) (f ∷ lower) (given found (λ x. leaves f lower (x ∷ operands))) rest
       (evaluation.given found gives (record { task = task; frames = cells ∷ more }) rest)
-  loaded operands cells more task rest None of = missing_meets o c (on_top c (place + 1) operands) (frame_at c place operands cells ∷ stack c.callers more) rest
+  loaded all operands cells more task rest None of = missing_meets o c (on_top c (place + 1) operands) (frame_at c place all cells ∷ stack c.callers more) rest
       (evaluation.given None gives (record { task = task; frames = cells ∷ more }) rest)
-  loaded operands cells more task rest (Some x) of = silent_meets o c (on_top c (place + 1) operands) (frame_at c place operands cells ∷ stack c.callers more) x
+  loaded all operands cells more task rest (Some x) of = silent_meets o c (on_top c (place + 1) operands) (frame_at c place all cells ∷ stack c.callers more) x
       (record { task = task; frames = cells ∷ more }) rest tt of
 
   pub load_carries : (cell : ℕ) (operands : List Cell) → Is (code_of o c.routine) place (instr.Load cell) →
       Carries o c (on_top c (place + 1) operands) (at c place operands) (own_cell cell)
   load_carries cell operands is = instr_carries o c (on_top c (place + 1) operands) place operands (instr.Load cell) (own_cell cell) is
-      (λ task cells more rest of. loaded operands cells more task rest (slice_get cells cell) of)
+      (λ task cells more rest of. loaded operands operands cells more task rest (slice_get cells cell) of)
 
   -- the subscripts are checked
   found_is : (bounds : List Bound) (xs : List Cell) (ns : List ℤ) → length xs ≡ length bounds → numbers_of xs ≡ Some ns → (store : Store) (rest : List Answer) →
