@@ -16,6 +16,7 @@ use Rattle.pearl_program.specs.PlainPrograms.{PlainLeaf, PlainProg}
 use Rattle.pearl_program.specs.Typing.{elements}
 use Rattle.pearl_stack.specs.Frames as stack_frames
 use Rattle.pearl_stack.specs.Frames.{Frame}
+use Rattle.pearl_instructions.specs.declared.instr.Instr.{Instr}
 use Rattle.pearl_instructions.specs.declared.instr.Instr.TheVariants as instr
 use Rattle.pearl_instructions.specs.declared.object.Leaf.{Leaf}
 use Rattle.pearl_instructions.specs.declared.object.Object.{Object}
@@ -92,6 +93,11 @@ referred (Some x) kind e = (x, refl, value_kind_is x kind e)
 -- a leaf has as many slots as these bounds have elements
 abbrev pub FitsLeaf : PlainProg → ℕ → List Bound → Type 0
 FitsLeaf p number bounds = (leaf : PlainLeaf) → slice_get p.leaves number ≡ Some leaf → elements bounds ≡ leaf.values.count
+
+abbrev pub referring : Target → List Bound → Instr
+referring (LeafOf number) bounds = slot_reference number bounds
+referring (Own first) bounds = cell_reference first bounds
+referring (Param at) bounds = instr.Load at
 
 -- of own cells nothing is asked; a parameter with IDENT isn't reached by an offset
 abbrev pub FitsTarget : PlainProg → Target → List Bound → Type 0
@@ -264,3 +270,15 @@ module _ (o : Object) (c : Context) (setting : Setting) (tables : HasTables sett
       (subst (λ m. RowMeets o c end (f ∷ lower) (rows.cell_reference (first + before) f lower operands) rest m)
       (sym (own_element setting first before (bound ∷ bounds) less store rest))
       (cell_meant (first + before) (x ∷ operands) operands cells more task rest of)))
+
+  -- a reference to an element whose offset was found
+  pub refer_element : (target : Target) (bounds : List Bound) (x : Cell) (operands : List Cell) → IsOffset bounds x → FitsTarget setting.program target bounds →
+      Is (code_of o c.routine) place (referring target bounds) →
+      Carries o c (on_top c (place + 1) operands) (at c place (offset_operands bounds x ++ operands)) (reference setting target bounds x)
+  refer_element (LeafOf number) bounds x operands of fits is =
+      subst (λ x. Carries o c (on_top c (place + 1) operands) (at c place (offset_operands bounds x ++ operands)) (reference setting (LeafOf number) bounds x)) (sym of.1)
+      (slot_refers number of.0 bounds operands of.2 fits is)
+  refer_element (Own first) bounds x operands of fits is =
+      subst (λ x. Carries o c (on_top c (place + 1) operands) (at c place (offset_operands bounds x ++ operands)) (reference setting (Own first) bounds x)) (sym of.1)
+      (own_refers first of.0 bounds operands of.2 is)
+  refer_element (Param at) bounds x operands of fits is = absurd fits
