@@ -174,14 +174,17 @@ needed_meets o c end frames false step rest m on e = missing_meets o c end frame
 needed_meets o c end frames true step rest m on e = on refl e
 
 -- a value is made, or a trap
-pub makes_meets : (o : Object) (c : Context) (place : ℕ) (operands left : List Cell) (cells : List Cell) (more : List (List Cell)) (task : ℕ) (made : Result Cell Trap) (rest : List Answer) →
-    IsStoreOf o c (record { task = task; frames = cells ∷ more }) →
+abbrev pub on_top_of : Context → (place : ℕ) → (operands : List Cell) → (Of : Cell → Type 0) → End Cell
+on_top_of c place operands Of = record { stack = λ x. at c place (x ∷ operands); Of = Of }
+
+pub makes_meets : (o : Object) (c : Context) (Of : Cell → Type 0) (place : ℕ) (operands left : List Cell) (cells : List Cell) (more : List (List Cell)) (task : ℕ)
+    (made : Result Cell Trap) (rest : List Answer) → ((x : Cell) → made ≡ Ok x → Of x) → IsStoreOf o c (record { task = task; frames = cells ∷ more }) →
     let f = frame_at c place operands cells in let lower = stack c.callers more in
-    RowMeets o c (on_top c (place + 1) left) (f ∷ lower) (makes f lower left made) rest (value_or_trap made (record { task = task; frames = cells ∷ more }) rest)
-makes_meets o c place operands left cells more task (Ok x) rest is e =
-    silent_meets o c (on_top c (place + 1) left) (frame_at c place operands cells ∷ stack c.callers more) x (record { task = task; frames = cells ∷ more }) rest tt is e
-makes_meets o c place operands left cells more task (Err trap) rest is e =
-    stops_meets o c (on_top c (place + 1) left) (frame_at c place operands cells ∷ stack c.callers more) trap rest e
+    RowMeets o c (on_top_of c (place + 1) left Of) (f ∷ lower) (makes f lower left made) rest (value_or_trap made (record { task = task; frames = cells ∷ more }) rest)
+makes_meets o c Of place operands left cells more task (Ok x) rest of is e =
+    silent_meets o c (on_top_of c (place + 1) left Of) (frame_at c place operands cells ∷ stack c.callers more) x (record { task = task; frames = cells ∷ more }) rest (of x refl) is e
+makes_meets o c Of place operands left cells more task (Err trap) rest of is e =
+    stops_meets o c (on_top_of c (place + 1) left Of) (frame_at c place operands cells ∷ stack c.callers more) trap rest e
 
 heard_is : (answer : Answer) → heard answer ≡ heard_value answer
 heard_is Nothing = refl
