@@ -5,3 +5,4 @@ pub mod Counters
 pub mod Turning
 pub mod Transfers
 pub mod Schedules
+pub mod Statements

@@ -121,7 +121,7 @@ module _ (o : Object) (c : Context) where
       (value_or_trap (converted x of) store rest) (λ from e.
       needed_meets o c (on_top c (place + 1) operands) (f ∷ lower) (suits_kind from of) (makes f lower operands (converted x of)) rest
       (value_or_trap (converted x of) store rest) (λ suits.
-      makes_meets o c place (x ∷ operands) operands cells more task (converted x of) rest fits))))
+      makes_meets o c (λ x. Unit {0}) place (x ∷ operands) operands cells more task (converted x of) rest (λ y made. tt) fits))))
 
   -- a value is pushed
   pub const_carries : {X : Type 0} (end : End X) (place : ℕ) (x : Cell) (operands : List Cell) (does : Does X) → IsConst (code_of o c.routine) place x →
