@@ -42,7 +42,7 @@ use Rattle.std.proofs.lemmas.Option.{same_Some}
 
 -- WHAT IS MEANT BY AN ELEMENT
 
-chosen : {X : Type 0} (test : Bool) (one other : X) → test ≡ true → (if test then one else other) ≡ one
+pub chosen : {X : Type 0} (test : Bool) (one other : X) → test ≡ true → (if test then one else other) ≡ one
 chosen true one other e = refl
 chosen false one other e = cc
 

@@ -82,7 +82,7 @@ less_right a b bound less = omega (arith, less)
 
 -- WHAT IS TYPED
 
-leaf_fits : (found : Option PlainLeaf) (bounds : List Bound) (kind : Kind) (leaf : PlainLeaf) → IsLeafOf found bounds kind → found ≡ Some leaf → elements bounds ≡ leaf.values.count
+pub leaf_fits : (found : Option PlainLeaf) (bounds : List Bound) (kind : Kind) (leaf : PlainLeaf) → IsLeafOf found bounds kind → found ≡ Some leaf → elements bounds ≡ leaf.values.count
 leaf_fits None bounds kind leaf is at = absurd is
 leaf_fits (Some other) bounds kind leaf is at = is.1 ∙ ap (λ (leaf : PlainLeaf). leaf.values.count) (same_Some other leaf at)
 
@@ -210,7 +210,7 @@ module _ (o : Object) (c : Context) (setting : Setting) (around : Around) (below
   -- CALLS
 
   -- the arguments lie on the operands, and the procedure is called
-  call_part : (number : ℕ) (arguments : List CellKind → Does (List Cell)) (from to : ℕ) (operands : List Cell) (procedure : PlainProcedure) →
+  pub call_part : (number : ℕ) (arguments : List CellKind → Does (List Cell)) (from to : ℕ) (operands : List Cell) (procedure : PlainProcedure) →
       slice_get setting.program.procedures number ≡ Some procedure → number + 1 ≤ below → (end : ℕ) →
       Carries o c (all_on_top c end (length (params_of procedure)) operands) (at c from operands) (arguments (params_of procedure)) →
       Is (code_of o c.routine) end (instr.Call number) → to ≡ end + 1 →
@@ -234,7 +234,7 @@ module _ (o : Object) (c : Context) (setting : Setting) (around : Around) (below
   -- THE THEOREM
 
   mutual
-    expr_part : (e : PlainExpr) (kind : Kind) (from to : ℕ) (operands : List Cell) → HasKind around e kind → weights.of_expr weights.calls e ≤ below →
+    pub expr_part : (e : PlainExpr) (kind : Kind) (from to : ℕ) (operands : List Cell) → HasKind around e kind → weights.of_expr weights.calls e ≤ below →
         ExprAt setting.program (code_of o c.routine) from e to → Carries o c (on_top c to operands) (at c from operands) (eval setting e)
     expr_part (OfLiteral value) kind from to operands typed less is =
         at_end to (from + 1) operands (at c from operands) (gives value) is.1
@@ -268,7 +268,7 @@ module _ (o : Object) (c : Context) (setting : Setting) (around : Around) (below
     expr_part (OfTry semaphore) kind from to operands typed less is =
         at_end to (from + 1) operands (at c from operands) (eval setting (OfTry semaphore)) is.1 (try_carries o c from semaphore operands is.0)
 
-    all_part : (es : PlainExprs) (kinds : List Kind) (from to : ℕ) (operands : List Cell) → HaveKinds around es kinds → weights.of_exprs weights.calls es ≤ below →
+    pub all_part : (es : PlainExprs) (kinds : List Kind) (from to : ℕ) (operands : List Cell) → HaveKinds around es kinds → weights.of_exprs weights.calls es ≤ below →
         AllAt setting.program (code_of o c.routine) from es to → Carries o c (all_on_top c to (length kinds) operands) (at c from operands) (eval_all setting es)
     all_part NoExprs [] from to operands typed less is =
         subst (λ to. Carries o c (all_on_top c to 0 operands) (at c from operands) (eval_all setting NoExprs)) (sym is)
@@ -284,7 +284,7 @@ module _ (o : Object) (c : Context) (setting : Setting) (around : Around) (below
         bind_carries o c (all_on_top c to (length kinds) (x ∷ operands)) end (at c is.0 (x ∷ operands)) (eval_all setting rest) (λ xs. gives (x ∷ xs))
         (all_part rest kinds is.0 to (x ∷ operands) typed.1 two is.2) (λ xs long. gives_carries o c end (x ∷ xs) (omega (arith, long))))
 
-    arguments_part : (arguments : PlainArguments) (params : List CellKind) (from to : ℕ) (operands : List Cell) → Suit around params arguments →
+    pub arguments_part : (arguments : PlainArguments) (params : List CellKind) (from to : ℕ) (operands : List Cell) → Suit around params arguments →
         weights.of_arguments weights.calls arguments ≤ below → ArgumentsAt setting.program (code_of o c.routine) from params arguments to →
         Carries o c (all_on_top c to (length params) operands) (at c from operands) (hand_over setting params arguments)
     arguments_part NoArguments [] from to operands typed less is =
