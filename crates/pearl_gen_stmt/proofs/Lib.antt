@@ -6,3 +6,4 @@ pub mod Turning
 pub mod Transfers
 pub mod Schedules
 pub mod Statements
+pub mod Gets
