@@ -1,7 +1,7 @@
 -- GET: its code does what it means.
-use Rattle.std.specs.Prelude.{◌≡◌, ℕ, zero, suc, ◌+◌, ◌-◌, ◌≤◌, ◌<◌, ◌==◌, nat_le, nat_lt, pos, negsuc, ℤ, Bool, true, false, if◌then◌else◌, List, [], ◌∷◌, ◌++◌, length, map, take, drop, get_or, replicate, Option, Some, None, option_map, option_and_then, slice_get, slice_set}
+use Rattle.std.specs.Prelude.{◌≡◌, ℕ, zero, suc, ◌+◌, ◌-◌, ◌≤◌, ◌<◌, ◌==◌, nat_le, nat_lt, ◌⊎◌, pos, negsuc, ℤ, Bool, true, false, if◌then◌else◌, List, [], ◌∷◌, ◌++◌, length, map, take, drop, get_or, replicate, Option, Some, None, option_map, option_and_then, slice_get, slice_set}
 use Rattle.std.specs.List.{AllZip}
-use Rattle.std.proofs.Common.{Box, Global, refl, sym, subst, ap, ◌∙◌, arith, append_assoc}
+use Rattle.std.proofs.Common.{Box, Global, inl, inr, refl, sym, subst, ap, ◌∙◌, arith, append_assoc}
 use Rattle.std.proofs.lemmas.Bool.{leb-true}
 use Rattle.std.proofs.lemmas.List.{length-set, length-replicate, length-append, length-map, length-take, length-drop, take_all}
 use Rattle.std.proofs.lemmas.Option.{slice_get-get_or, same_Some}
@@ -9,6 +9,8 @@ use Rattle.std.proofs.lemmas.Slice.Zip.{AllZip-long}
 use Rattle.std.proofs.Math.Seq.{take-append_seam, drop-append_seam}
 use Rattle.pearl_value.specs.declared.kind.Kind.{Kind}
 use Rattle.pearl_value.specs.declared.kind.Kind.TheVariants as kind
+use Rattle.pearl_value.specs.declared.kind.CellKind.{CellKind}
+use Rattle.pearl_value.specs.declared.kind.CellKind.TheVariants.{Plain, RefTo}
 use Rattle.pearl_value.specs.declared.cell.Cell.{Cell}
 use Rattle.pearl_value.specs.declared.cell.Cell.TheVariants.{Fixed, Bits, Chars, Clock, Span, Ref}
 use Rattle.pearl_value.specs.declared.cell.Place.TheVariants as place_
@@ -28,7 +30,7 @@ use Rattle.pearl_program.specs.declared.expression.Target.TheVariants.{Leaf as L
 use Rattle.pearl_program.specs.declared.expression.Bound.{Bound}
 use Rattle.pearl_program.specs.PlainExpressions.{PlainExpr, PlainVariable, OfVariable, PlainExprs, NoExprs, MoreExprs}
 use Rattle.pearl_program.specs.PlainPrograms.{PlainLeaf}
-use Rattle.pearl_program.specs.Typing.{Around, elements, IsVariable}
+use Rattle.pearl_program.specs.Typing.{Around, elements, IsParam, IsVariable}
 use Rattle.pearl_program.specs.SoundStatements.{FitsSome, IsGet}
 use Rattle.pearl_program.specs.Weights.{calls, of_variable, of_variables}
 use Rattle.pearl_instructions.specs.declared.instr.Instr.{Instr}
@@ -341,6 +343,12 @@ module _ (o : Object) (c : Context) (setting : Setting) where
     room_of at_ [] less = tt
     room_of at_ (target ∷ targets) less = (omega (arith, less), room_of (at_ + 1) targets (omega (arith, less)))
 
+    room_of_ : (cell : ℕ) (targets : List PlainVariable) (all : List CellKind) → (length targets ≡ 0) ⊎ (cell + length targets + length targets ≤ length all) →
+        length (cell_kinds o c.routine) ≡ length all → Room (cell + length targets) targets
+    room_of_ cell [] all either same = tt
+    room_of_ cell (target ∷ targets) all (inl none) same = absurd (omega (arith, none))
+    room_of_ cell (target ∷ targets) all (inr fits) same = room_of (cell + length (target ∷ targets)) (target ∷ targets) (omega (arith, fits, same))
+
     writes_carry : (targets : List PlainVariable) (from to leave cell at_ : ℕ) → Room at_ targets → WrittenAt setting (code_of o c.routine) from cell at_ targets to →
         Carries o c (ways c to leave setting.result) (at c from []) (write_targets setting cell at_ targets)
     writes_carry [] from to leave cell at_ room code =
@@ -394,3 +402,91 @@ module _ (o : Object) (c : Context) (setting : Setting) where
         subst (λ told. RowMeets o c end_ (f ∷ lower) (offered told) rest (does store rest)) same
         (asked_meets o c end_ (f ∷ lower) (action.Get device format (record { items = kinds })) (λ answer. frame_at c (place + 1) [] (with_values cells cell (all_heard answer)) ∷ lower) store (heard_then cell targets) rest
         (λ answer left. heard_meets targets cell (place + 1) to leave writes task cells more of answer left)))))
+
+    asked_framed : (targets : List PlainVariable) (kinds : List Kind) (device format cell from end to leave : ℕ) (reading : Box Reading Global) → o.formats ≡ setting.program.formats →
+        ((items : List Item) → slice_get setting.program.formats format ≡ Some items → data_count items ≡ length kinds) →
+        FilledAt setting (code_of o c.routine) from cell kinds end → reading.value ≡ record { device = device; format = format; first = cell } →
+        Is (code_of o c.routine) end (instr.Get reading) →
+        Carries o c (ways c to leave setting.result) (at c (end + 1) []) (write_targets setting cell (cell + length targets) targets) →
+        (task : ℕ) (frames : List (List Cell)) (rest : List Answer) → IsStoreOf o c (record { task = task; frames = frames }) →
+        Meets o c (ways c to leave setting.result) (at c from [] (record { task = task; frames = frames })) rest
+        (next (put_cells cell (map blank_of kinds)) (bind (ask (action.Get device format (record { items = kinds }))) (heard_then cell targets)) (record { task = task; frames = frames }) rest)
+    asked_framed targets kinds device format cell from end to leave reading formats count fills is gets_ writes task [] rest of = absurd of.cells
+    asked_framed targets kinds device format cell from end to leave reading formats count fills is gets_ writes task (cells ∷ more) rest of =
+        let all = put_in cell (map blank_of kinds) cells in let store : Store = record { task = task; frames = all ∷ more } in
+        let end_ = ways c to leave setting.result in let f = frame_at c end [] all in let lower = stack c.callers more in
+        let m = bind (ask (action.Get device format (record { items = kinds }))) (heard_then cell targets) store rest in
+        filled_meets end_ task more rest m kinds from end cell cells fills
+        (at_row o c end_ end [] all lower (instr.Get reading) rest m gets_
+        (subst (λ reading. RowMeets o c end_ (f ∷ lower) (get_values o reading f lower) rest m) (sym is)
+        (get_meets targets kinds device format cell end to leave formats count writes task cells more rest
+        (more_cells all of (put_long cell (map blank_of kinds) cells)))))
+
+  -- THE OFFSETS
+
+  module _ (around : Around) (below : ℕ) (code : CodeCarries o c setting around below) where
+    -- a variable in no array has no subscripts
+    no_subscripts : (target : Target) (subscripts : PlainExprs) (of : Kind) → IsVariable around (OfVariable target [] subscripts) of → subscripts ≡ NoExprs
+    no_subscripts target NoExprs of is = refl
+    no_subscripts (LeafOf number) (MoreExprs e rest) of is = absurd is.2
+    no_subscripts (Own cell) (MoreExprs e rest) of is = absurd is.2
+    no_subscripts (Param cell) (MoreExprs e rest) of is = absurd (no_param (slice_get around.cells cell) is)
+      where
+        no_param : (kind : Option CellKind) → IsParam kind [] (MoreExprs e rest) of → ⊥
+        no_param None is = is
+        no_param (Some (Plain kind)) is = is
+        no_param (Some (RefTo kind)) is = is
+
+    found_carries : (from to : ℕ) (target : PlainVariable) (of : Kind) → IsVariable around target of → of_variable calls target ≤ below → FoundAt setting (code_of o c.routine) from target to →
+        Carries o c (on_top c to []) (at c from []) (offset setting target)
+    found_carries from to (OfVariable target [] subscripts) of is less code_ =
+        subst (λ subscripts. Carries o c (on_top c to []) (at c from []) (offset setting (OfVariable target [] subscripts))) (sym (no_subscripts target subscripts of is))
+        (const_carries o c (on_top c to []) from (Fixed 31 (pos 0)) [] (gives (Fixed 31 (pos 0))) code_.0
+        (subst (λ to. Carries o c (on_top c to []) (at c (from + 1) (Fixed 31 (pos 0) ∷ [])) (gives (Fixed 31 (pos 0)))) (sym code_.1)
+        (gives_carries o c (on_top c (from + 1) []) (Fixed 31 (pos 0)) tt)))
+    found_carries from to (OfVariable target (bound ∷ bounds) subscripts) of is less code_ =
+        then_gives o c (offset_on_top c to [] (bound ∷ bounds)) (on_top c to []) (at c from []) (offset setting (OfVariable target (bound ∷ bounds) subscripts))
+        (code.offset from to target (bound ∷ bounds) subscripts of [] is less code_) (λ x there. gives_carries o c (on_top c to []) x tt)
+
+    keeps_carry : (targets : List PlainVariable) (kinds : List Kind) (from to at_ : ℕ) → AllZip (IsVariable around) targets kinds → of_variables calls targets ≤ below →
+        KeptAt setting (code_of o c.routine) from at_ targets to → Carries o c (done c to []) (at c from []) (keep_offsets setting at_ targets)
+    keeps_carry [] kinds from to at_ are less code_ = subst (λ to. Carries o c (done c to []) (at c from []) (gives tt)) (sym code_) (gives_carries o c (done c from []) tt tt)
+    keeps_carry (target ∷ targets) [] from to at_ are less code_ = absurd are
+    keeps_carry (target ∷ targets) (of ∷ kinds) from to at_ are less code_ =
+        bind_carries o c (on_top c code_.0 []) (done c to []) (at c from []) (offset setting target) (λ found. next (put_cell at_ found) (keep_offsets setting (at_ + 1) targets))
+        (found_carries from code_.0 target of are.0 (omega (arith, less)) code_.1) (λ found there.
+        bind_carries o c (done c (code_.0 + 1) []) (done c to []) (at c code_.0 (found ∷ [])) (put_cell at_ found) (λ it. keep_offsets setting (at_ + 1) targets)
+        (store_carries o c code_.0 at_ found [] code_.2) (λ it done_.
+        keeps_carry targets kinds (code_.0 + 1) to (at_ + 1) are.1 (omega (arith, less)) code_.3))
+
+-- the cells behind those for values are there
+room_is : (all : List CellKind) (targets : List PlainVariable) (kinds : List Kind) (cell : ℕ) → length kinds ≡ length targets →
+    take (length kinds + length kinds) (drop cell all) ≡ map Plain kinds ++ replicate (length kinds) (Plain (kind.Fixed 31)) → (length targets ≡ 0) ⊎ (cell + length targets + length targets ≤ length all)
+room_is all [] kinds cell long are = inl refl
+room_is all (target ∷ targets) kinds cell long are =
+    let sizes : length (take (length kinds + length kinds) (drop cell all)) ≡ length (map Plain kinds ++ replicate (length kinds) (Plain (kind.Fixed 31))) = ap length are in
+    let both = length-append (map Plain kinds) (replicate (length kinds) (Plain (kind.Fixed 31))) in
+    let one = length-map kinds Plain in
+    let two = length-replicate (length kinds) (Plain (kind.Fixed 31)) in
+    let taken = length-take (length kinds + length kinds) (drop cell all) in
+    let dropped = length-drop cell all in
+    inr (omega (arith, sizes, both, one, two, taken, dropped, long))
+
+pub gets_carry : GetsCarry
+gets_carry o c setting around below placed code out from to targets device format cell is less stands =
+    let kinds = stands.0 in let kept = stands.2 in let end = stands.3 in let sound = is.1 in
+    let long : length kinds ≡ length targets = kinds_long setting targets kinds stands.1 in
+    let same : length sound ≡ length targets = AllZip-long (IsVariable around) targets sound is.2 in
+    let count : (items : List Item) → slice_get setting.program.formats format ≡ Some items → data_count items ≡ length kinds = λ items found.
+        let fits : FitsSome (Some items) sound = subst (λ found. FitsSome found sound) (ap (λ formats. slice_get formats format) placed.formats ∙ found) is.3 in
+        sym (suits-length items sound fits.suits) ∙ same ∙ sym long in
+    let room = room_of_ o c setting placed.known.tables cell targets around.cells (room_is around.cells targets sound cell same is.4) (ap length placed.known.cells) in
+    subst (λ known. Carries o c (ways c to out setting.result) (at c from []) (eval_given known (λ kinds. next (keep_offsets setting (cell + length targets) targets)
+    (next (put_cells cell (map blank_of kinds)) (bind (ask (action.Get device format (record { items = kinds }))) (λ answer.
+    next (put_cells cell (heard_values answer)) (write_targets setting cell (cell + length targets) targets))))))) (sym stands.1)
+    (bind_carries o c (done c kept []) (ways c to out setting.result) (at c from []) (keep_offsets setting (cell + length targets) targets)
+    (λ it. next (put_cells cell (map blank_of kinds)) (bind (ask (action.Get device format (record { items = kinds }))) (λ answer.
+    next (put_cells cell (heard_values answer)) (write_targets setting cell (cell + length targets) targets))))
+    (keeps_carry o c setting around below code targets sound from kept (cell + length targets) is.2 less stands.4) (λ it of.
+    record { over = λ store rest of. asked_framed o c setting placed.known.tables targets kinds device format cell kept end to out stands.6 placed.known.tables.formats count stands.5 stands.7 stands.8
+        (writes_carry o c setting placed.known.tables targets (end + 1) to out cell (cell + length targets) room stands.9) store.task store.frames rest of }))
