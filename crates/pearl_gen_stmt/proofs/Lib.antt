@@ -7,3 +7,4 @@ pub mod Transfers
 pub mod Schedules
 pub mod Statements
 pub mod Gets
+pub mod Procedures

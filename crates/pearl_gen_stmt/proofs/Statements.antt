@@ -399,7 +399,7 @@ module _ (expressions : ExpressionsCarry) (gets_carry : GetsCarry) (o : Object) 
     stmt_carries (OfTake target device) around placed leave out from to leads is less code =
         takes_carries o c setting around below (known around placed) to out from target is.1 device is.3 less code
 
-    stmts_carry : (statements : PlainStmts) (around : Around) (placed : Placed around) (leave : Option ℕ) (out from to : ℕ) → LeadsOut leave out → AreStmts around statements →
+    pub stmts_carry : (statements : PlainStmts) (around : Around) (placed : Placed around) (leave : Option ℕ) (out from to : ℕ) → LeadsOut leave out → AreStmts around statements →
         Below (greatest_of_all calls statements) → StmtsAt setting (code_of o c.routine) leave from statements to → Done from to out (exec_all setting statements)
     stmts_carry NoStmts around placed leave out from to leads are less code =
         subst (λ to. Done from to out (gives Normal)) (sym code) (normal_carries o c from out setting.result)

@@ -2,3 +2,5 @@
 pub mod StmtCode
 -- what the code of statements does
 pub mod Laws
+-- which objects a program becomes, and that their code does what its tasks mean
+pub mod Generated
