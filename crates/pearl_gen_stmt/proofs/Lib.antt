@@ -8,3 +8,4 @@ pub mod Schedules
 pub mod Statements
 pub mod Gets
 pub mod Procedures
+pub mod Tasks

@@ -235,3 +235,42 @@ module _ (p : PlainProg) (o : Object) (sound : IsSound p) (generated : IsGenerat
           record { routine = c.routine; place = place; cells = cells; operands = drop found.params (pushed arguments operands) } ∷ stack c.callers more) others
           ∙ ap (λ left. record { routine = number; place = 0; cells = entered procedure arguments; operands = [] } ∷
           record { routine = c.routine; place = place; cells = cells; operands = left } ∷ stack c.callers more) behind
+
+  -- ALL PROCEDURES
+
+  -- a call
+  call_carries : (number : ℕ) (procedure : PlainProcedure) → slice_get p.procedures number ≡ Some procedure → CallsCarry o (within_program p procedure.result procedure.routine) number →
+      (c : Context) (place : ℕ) → Is (code_of o c.routine) place (instr.Call number) → (arguments operands : List Cell) → length arguments ≡ procedure.params →
+      Carries o c (result_on_top c (place + 1) operands procedure.result) (at c place (pushed arguments operands)) (call_within p (length p.procedures) number arguments)
+  call_carries number procedure there smaller_carry c place is arguments operands long =
+      let end_ = result_on_top c (place + 1) operands procedure.result in let depth = length p.procedures in
+      let body : Does Flow = exec_all (within_program p procedure.result procedure.routine) procedure.routine.body in
+      let then_ : Answer → Does (Option Cell) = λ answer. next (push_frame (entered procedure arguments)) (bind body (λ flow. next drop_frame (result_of_flow procedure.result flow))) in
+      instr_carries o c end_ place (pushed arguments operands) (instr.Call number) (call_within p depth number arguments) is (λ task cells more rest of.
+      let f = frame_at c place (pushed arguments operands) cells in let lower = stack c.callers more in let store : Store = record { task = task; frames = cells ∷ more } in
+      given_meets o c end_ (f ∷ lower) (slice_get o.procedures number)
+      (λ (found : Procedure). needed (nat_le found.params (length (pushed arguments operands))) (Offers action.Enter (λ answer. called number found (f ∷ lower) (pushed arguments operands)))) rest
+      (call_within p depth number arguments store rest) (λ found here.
+      needed_meets o c end_ (f ∷ lower) (nat_le found.params (length (pushed arguments operands))) (Offers action.Enter (λ answer. called number found (f ∷ lower) (pushed arguments operands))) rest
+      (call_within p depth number arguments store rest) (λ enough.
+      subst (RowMeets o c end_ (f ∷ lower) (Offers action.Enter (λ answer. called number found (f ∷ lower) (pushed arguments operands))) rest)
+      (sym (calls_run p sound.order number depth procedure there (in_list p.procedures number procedure there) arguments store rest))
+      (asked_meets o c end_ (f ∷ lower) action.Enter (λ answer. called number found (f ∷ lower) (pushed arguments operands)) store then_ rest (λ answer left.
+      subst (λ frames. Meets o c end_ frames left (then_ answer store left)) (sym (called_is number procedure there found here c place operands arguments long task cells more))
+      (entered_meets number procedure there found here c place operands smaller_carry arguments long task cells more left of))))))
+
+  -- where calls are the same, what is known of them is the same
+  calls_as : (one two : Option Kind) (routine other : PlainRoutine) (below : ℕ) → CallsCarry o (within_program p one routine) below → CallsCarry o (within_program p two other) below
+  calls_as one two routine other below all = record { called = all.called }
+
+  fewer_calls : (result : Option Kind) (routine : PlainRoutine) (below number : ℕ) → number ≤ below → CallsCarry o (within_program p result routine) below → CallsCarry o (within_program p result routine) number
+  fewer_calls result routine below number less all = record { called = λ other smaller_. all.called other (omega (arith, smaller_, less)) }
+
+  calls_carry : (below : ℕ) (result : Option Kind) (routine : PlainRoutine) → CallsCarry o (within_program p result routine) below
+  calls_carry zero result routine = record { called = λ number less. absurd (omega (arith, less)) }
+  calls_carry (suc below) result routine = record { called = λ number less procedure there c place is arguments operands long.
+      call_carries number procedure there (fewer_calls procedure.result procedure.routine below number (omega (arith, less)) (calls_carry below procedure.result procedure.routine))
+      c place is arguments operands long }
+
+pub procedures_carry : ProceduresCarry
+procedures_carry p o sound generated result routine = calls_carry p o sound generated (length p.procedures) result routine
