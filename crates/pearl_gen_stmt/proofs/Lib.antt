@@ -8,4 +8,5 @@ pub mod Schedules
 pub mod Statements
 pub mod Gets
 pub mod Procedures
+pub mod Named
 pub mod Tasks

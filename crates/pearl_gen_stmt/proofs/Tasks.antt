@@ -1,5 +1,5 @@
 -- The code of tasks comes to what they do next.
-use Rattle.std.specs.Prelude.{◌≡◌, ℕ, zero, suc, ◌+◌, ◌≤◌, ◌<◌, List, [], ◌∷◌, ◌++◌, length, map, Option, Some, None, option_map, slice_get}
+use Rattle.std.specs.Prelude.{◌≡◌, ℕ, zero, suc, ◌+◌, ◌≤◌, ◌<◌, List, [], ◌∷◌, ◌++◌, length, map, Option, Some, None, option_map, option_and_then, slice_get}
 use Rattle.std.specs.List.{AllByRecursion, AllZip}
 use Rattle.std.proofs.Common.{refl, sym, subst, ap, ◌∙◌, arith}
 use Rattle.std.proofs.lemmas.List.{length-map}
@@ -14,7 +14,7 @@ use Rattle.pearl_rules.specs.declared.action.Answer.{Answer}
 use Rattle.pearl_stack.specs.Frames.{Frame}
 use Rattle.pearl_program.specs.PlainPrograms.{PlainRoutine, PlainProcedure, PlainTask, PlainProg}
 use Rattle.pearl_program.specs.Typing.{Around}
-use Rattle.pearl_program.specs.Sound.{IsSound, IsTask, around_of}
+use Rattle.pearl_program.specs.Sound.{IsSound, IsTask, around_of, signature_of}
 use Rattle.pearl_program.specs.Weights.{calls, greatest_of_all}
 use Rattle.pearl_instructions.specs.declared.instr.Instr.TheVariants as instr
 use Rattle.pearl_instructions.specs.declared.object.Code.{Code}
@@ -42,6 +42,7 @@ use Rattle.pearl_gen_expr.proofs.Moves.{by_row, missing_from, stopped, frame_at,
 use Rattle.pearl_gen_expr.proofs.Tables.{each}
 use Rattle.pearl_gen_stmt.specs.Laws.{IsPlaced}
 use Rattle.pearl_gen_stmt.specs.Generated.{within_program, IsCode, IsGenerated, TasksCome}
+use Rattle.pearl_gen_stmt.proofs.Named.{stmts_there}
 use Rattle.pearl_gen_stmt.proofs.Procedures.{statements_carry, all_fresh, procedures_carry}
 
 found_behind : (one two : List Code) (n : ℕ) → slice_get (one ++ two) (length one + n) ≡ slice_get two n
@@ -91,3 +92,54 @@ module _ (p : PlainProg) (o : Object) (sound : IsSound p) (generated : IsGenerat
 
   abbrev code : IsCode p None task.routine instr.End (code_of o number)
   code = generated.tasks t task there
+
+  placed : IsPlaced o context setting around (length p.procedures)
+  placed = record {
+    known = record { sound = sound; tables = generated.tables; stands = record { leaves = refl; procedures = refl }; cells = its_cells; calls = procedures_carry p o sound generated None task.routine };
+    formats = refl;
+    result = ap (λ found. option_and_then (λ (p : Procedure). p.result) found) (past_end o.procedures t);
+    returns = tt;
+  }
+
+  its_task : IsTask p task
+  its_task = each (IsTask p) p.tasks t task sound.tasks there
+
+  body_carries : Carries o context (ways context code.end code.end None) (at context 0 []) (exec_all setting task.routine.body)
+  body_carries =
+      let less = stmts_there task.routine.body around its_task.routine.body in let long = length-map p.procedures signature_of in
+      statements_carry o context setting around (length p.procedures) placed None code.end 0 code.end task.routine.body (λ past is. cc)
+      its_task.routine.body (omega (arith, less, long)) code.statements
+
+  -- where its statements have ended the task ends
+  ends : (flow : Flow) (tasks : ℕ) (frames : List (List Cell)) (rest : List Answer) → IsStoreOf o context (record { task = tasks; frames = frames }) →
+      Comes o (flow_stack context code.end code.end flow (record { task = tasks; frames = frames })) rest action.End
+  ends flow tasks [] rest of = absurd of.cells
+  ends Normal tasks (cells ∷ more) rest of =
+      stopped o (frame_at context code.end [] cells ∷ stack context.callers more) rest action.End (row_is o context code.end [] cells (stack context.callers more) instr.End code.behind)
+  ends Exit tasks (cells ∷ more) rest of =
+      stopped o (frame_at context code.end [] cells ∷ stack context.callers more) rest action.End (row_is o context code.end [] cells (stack context.callers more) instr.End code.behind)
+  ends (Return result) tasks (cells ∷ more) rest of = by_row o [] Missing rest action.End refl (missing_from o rest action.End)
+
+  comes_to : (rest : List Answer) (from : List Frame) (m : Outcome Flow) → Meets o context (ways context code.end code.end None) from rest m → Comes o from rest (next_action m)
+  comes_to rest from (Value flow store left) meets = meets action.End (λ here. ends flow store.task store.frames left here.cells)
+  comes_to rest from (Needs a) meets = meets
+  comes_to rest from (Fails trap) meets = meets
+
+  starts : IsStoreOf o context (store_at_start t task)
+  starts =
+      let long = length-map task.routine.cells unset in let kinds : length (cell_kinds o number) ≡ length task.routine.cells = ap length its_cells in
+      record { cells = (omega (arith, long, kinds), tt); task = refl }
+
+  begun_is : begun o number ≡ at context 0 [] (store_at_start t task)
+  begun_is = ap (λ cells. record { routine = number; place = 0; cells = cells; operands = [] } ∷ [])
+      (fresh_are (routine_at o number) ∙ all_fresh (cells_or_none (routine_at o number)) ∙ ap (λ kinds. map unset kinds) its_cells)
+
+  task_comes : (answers : List Answer) → Comes o (begun o number) answers (offer_of p t (Some task) answers)
+  task_comes answers = subst (λ frames. Comes o frames answers (offer_of p t (Some task) answers)) (sym begun_is)
+      (comes_to answers (at context 0 [] (store_at_start t task)) (exec_all setting task.routine.body (store_at_start t task) answers)
+      (body_carries.over (store_at_start t task) answers starts))
+
+pub tasks_come : TasksCome
+unfolding offer
+tasks_come p o sound generated t task there answers =
+    subst (λ found. Comes o (begun o (length o.procedures + t)) answers (offer_of p t found answers)) (sym there) (task_comes p o sound generated t task there answers)
