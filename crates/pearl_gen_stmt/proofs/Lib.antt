@@ -10,3 +10,5 @@ pub mod Gets
 pub mod Procedures
 pub mod Named
 pub mod Tasks
+pub mod Heard
+pub mod Offering

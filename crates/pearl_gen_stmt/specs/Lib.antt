@@ -4,3 +4,5 @@ pub mod StmtCode
 pub mod Laws
 -- which objects a program becomes, and that their code does what its tasks mean
 pub mod Generated
+-- which action code offers over some answers
+pub mod Offering
