@@ -2,6 +2,9 @@
 
 ghost use Rattle.pearl_gen_stmt.specs.Laws.{StatementsCarry};
 ghost use Rattle.pearl_gen_stmt.specs.Generated.{ProceduresCarry, TasksCome};
+ghost use Rattle.pearl_gen_stmt.specs.Offering.{TasksOffer};
+
+use pearl_instructions::laws::{frames_stay, rows_lead_to_stacks, tasks_begin_with_a_stack};
 
 /// The code of statements does what they mean, in whatever routine they stand and whatever called it.
 pub fn statements_carry()
@@ -17,3 +20,12 @@ pub fn procedures_carry()
 pub fn tasks_come()
     ensures { TasksCome }
 {}
+
+/// After all answers that a task can have, the code of a valid object offers what the task does next.
+pub fn tasks_offer()
+    ensures { TasksOffer }
+{
+    tasks_begin_with_a_stack();
+    rows_lead_to_stacks();
+    frames_stay();
+}
