@@ -1,12 +1,12 @@
 -- How the counter of a loop begins, is asked and is added to.
-use Rattle.std.specs.Prelude.{◌≡◌, ℕ, zero, suc, ◌+◌, pos, negsuc, ℤ, ◌+ℤ◌, int_lt, int_le, ◌&&◌, ◌||◌, ◌⊎◌, not, Bool, true, false, if◌then◌else◌, List, [], ◌∷◌, length, Option, Some, None, Result, Ok, Err, is_some, slice_get, slice_set}
+use Rattle.std.specs.Prelude.{◌≡◌, ℕ, ◌+◌, pos, negsuc, ℤ, ◌+ℤ◌, int_lt, int_le, ◌&&◌, ◌||◌, ◌⊎◌, not, Bool, true, false, if◌then◌else◌, List, [], ◌∷◌, length, Option, Some, None, Ok, Err, is_some, slice_get, slice_set}
 use Rattle.std.specs.Ordering.{int_eq}
 use Rattle.std.proofs.Common.{refl, sym, subst, ap, ◌∙◌, arith, inl, inr}
 use Rattle.std.proofs.Math.Dec.{leb-zero, leb-suc-zero}
 use Rattle.std.proofs.lemmas.List.{length-set}
 use Rattle.pearl_value.specs.declared.kind.Kind.{Kind}
 use Rattle.pearl_value.specs.declared.cell.Cell.{Cell}
-use Rattle.pearl_value.specs.declared.cell.Cell.TheVariants.{Fixed, Bits, Chars, Clock, Span, Ref}
+use Rattle.pearl_value.specs.declared.cell.Cell.TheVariants.{Fixed, Bits}
 use Rattle.pearl_value.specs.declared.trap.Trap.{Trap}
 use Rattle.pearl_value.specs.declared.trap.Trap.TheVariants.{Range, Overflow}
 use Rattle.pearl_value.specs.Conversions.{fits_fixed, fixed_of}
@@ -14,26 +14,24 @@ use Rattle.pearl_rules.specs.declared.action.Answer.{Answer}
 use Rattle.pearl_stack.specs.Frames.{Frame}
 use Rattle.pearl_program.specs.PlainExpressions.{PlainExpr}
 use Rattle.pearl_program.specs.PlainStatements.{PlainCounter}
-use Rattle.pearl_instructions.specs.declared.instr.Instr.{Instr}
 use Rattle.pearl_instructions.specs.declared.instr.Instr.TheVariants as instr
 use Rattle.pearl_instructions.specs.declared.object.Object.{Object}
-use Rattle.pearl_instructions.specs.Steps.{Step, Silent, Offers, Missing, given, traps}
+use Rattle.pearl_instructions.specs.Steps.{Step, Silent, Missing, traps}
 use Rattle.pearl_instructions.specs.Operators as operators
 use Rattle.pearl_instructions.specs.Flow as flow
-use Rattle.pearl_instructions.specs.Rows.{act}
 use Rattle.pearl_meaning.specs.Frames.{Store}
-use Rattle.pearl_meaning.specs.Evaluation.{Outcome, Value, Needs, Fails, Does, gives, fails, on_value, bind, next, put_cell, own_cell, given as eval_given}
+use Rattle.pearl_meaning.specs.Evaluation.{Outcome, Value, Needs, Fails, Does, gives, fails, on_value, bind, next, put_cell, own_cell}
 use Rattle.pearl_meaning.specs.Setting.{Setting, cell_kind}
 use Rattle.pearl_meaning.specs.Variables.{number_of}
 use Rattle.pearl_meaning.specs.Values.{convert, eval}
-use Rattle.pearl_meaning.specs.Loops.{holds, counted, limited, begins, is_past, is_within, counts_on, stepped, advance_to, advances, asks_while, goes_on}
+use Rattle.pearl_meaning.specs.Loops.{holds, counted, limited, begins, is_past, is_within, counts_on, advance_to, advances, asks_while, goes_on}
 use Rattle.pearl_gen_expr.specs.Contexts.{stack, Context, at, IsStoreOf}
-use Rattle.pearl_gen_expr.specs.Carrying.{End, Meets, Carries}
-use Rattle.pearl_gen_expr.specs.ExprCode.{code_of, Is, IsConst, ExprAt}
+use Rattle.pearl_gen_expr.specs.Carrying.{End, Carries}
+use Rattle.pearl_gen_expr.specs.ExprCode.{code_of, Is, ExprAt}
 use Rattle.pearl_gen_expr.specs.Ends.{on_top, done}
-use Rattle.pearl_gen_expr.proofs.Moves.{frame_at, RowMeets, bind_carries, gives_carries, instr_carries, same_carries, missing_meets, silent_meets, stops_meets, given_meets, needed_meets}
-use Rattle.pearl_gen_stmt.specs.StmtCode.{ConvertedAt, CountedAt, LimitAt, BeginsAt, LeavesAt, WithinAt, CountsAt, WhileAt, PassedAt, AdvanceAt}
-use Rattle.pearl_gen_stmt.proofs.Single.{more_cells, goes_meets, silent_carries, const_carries, store_carries, conv_carries, branch_carries}
+use Rattle.pearl_gen_expr.proofs.Moves.{frame_at, RowMeets, bind_carries, gives_carries, instr_carries, same_carries, missing_meets, silent_meets, stops_meets}
+use Rattle.pearl_gen_stmt.specs.StmtCode.{ConvertedAt, CountedAt, LimitAt, BeginsAt, WithinAt, CountsAt, WhileAt, PassedAt, AdvanceAt}
+use Rattle.pearl_gen_stmt.proofs.Single.{more_cells, goes_meets, const_carries, store_carries, conv_carries, branch_carries}
 use Rattle.pearl_gen_stmt.proofs.Flows.{jump_carries}
 
 -- the bit that a Bool is

@@ -1,10 +1,9 @@
 -- What jumps, RETURN, and instructions that offer an action do as statements.
-use Rattle.std.specs.Prelude.{◌≡◌, ℕ, zero, suc, ◌+◌, ◌-◌, ◌≤◌, if◌then◌else◌, Bool, true, false, List, [], ◌∷◌, ◌++◌, length, map, drop, Option, Some, None, option_to_list, slice_get}
+use Rattle.std.specs.Prelude.{◌≡◌, ℕ, List, [], ◌∷◌, map, Option, Some, None, option_to_list}
 use Rattle.std.specs.List.{AllZip}
 use Rattle.std.proofs.Common.{refl, sym, subst, ap, ◌∙◌, arith}
 use Rattle.pearl_value.specs.declared.kind.Kind.{Kind}
 use Rattle.pearl_value.specs.declared.cell.Cell.{Cell}
-use Rattle.pearl_value.specs.declared.trap.Trap.{Trap}
 use Rattle.pearl_rules.specs.declared.action.Action.{Action}
 use Rattle.pearl_rules.specs.declared.action.Action.TheVariants as action
 use Rattle.pearl_rules.specs.declared.action.Answer.{Answer}
@@ -13,22 +12,21 @@ use Rattle.pearl_instructions.specs.declared.instr.Instr.{Instr}
 use Rattle.pearl_instructions.specs.declared.instr.Instr.TheVariants as instr
 use Rattle.pearl_instructions.specs.declared.object.Object.{Object}
 use Rattle.pearl_instructions.specs.Objects.{result_of}
-use Rattle.pearl_instructions.specs.Steps.{Step, Silent, Offers, Missing, popped}
+use Rattle.pearl_instructions.specs.Steps.{Silent, Offers}
 use Rattle.pearl_instructions.specs.Flow.{returned}
 use Rattle.pearl_instructions.specs.Flow as flow
 use Rattle.pearl_instructions.specs.Rows.{act, row, own_task}
 use Rattle.pearl_instructions.specs.Rows as rows
 use Rattle.pearl_meaning.specs.Frames.{Store}
-use Rattle.pearl_meaning.specs.Evaluation.{Outcome, Value, Needs, Fails, Does, gives, fails, on_value, bind, next, ask, stop, own_task as the_task}
+use Rattle.pearl_meaning.specs.Evaluation.{Outcome, Value, Needs, Fails, Does, gives, on_value, bind, stop, own_task as the_task}
 use Rattle.pearl_meaning.specs.Loops.{Flow, Normal, Exit, Return}
 use Rattle.pearl_meaning.specs.Schedules.{acts}
-use Rattle.pearl_meaning.specs.Execution.{acts_on, terminates}
-use Rattle.pearl_gen_expr.specs.Contexts.{Standing, stack, Context, at, back, lowest, routines, HasCells, IsStoreOf}
-use Rattle.pearl_gen_expr.specs.Carrying.{End, Arrived, Meets, Carries}
-use Rattle.pearl_gen_expr.specs.ExprCode.{code_of, Is, IsConst}
-use Rattle.pearl_gen_expr.specs.Ends.{on_top, done, IsResult, IsFlow, ways}
-use Rattle.pearl_gen_expr.proofs.Moves.{ComesFrom, offered_from, heard_from, stopped, frame_at, row_is, MeetsBy, RowMeets, bind_meets, bind_carries, gives_carries, instr_carries, same_carries, missing_meets, silent_meets, stops_meets, given_meets, needed_meets}
-use Rattle.pearl_gen_stmt.proofs.Single.{goes_meets, asked_meets, silent_carries, ask_carries}
+use Rattle.pearl_gen_expr.specs.Contexts.{Standing, stack, Context, at, back, lowest, HasCells, IsStoreOf}
+use Rattle.pearl_gen_expr.specs.Carrying.{End, Carries}
+use Rattle.pearl_gen_expr.specs.ExprCode.{code_of, Is}
+use Rattle.pearl_gen_expr.specs.Ends.{IsResult, IsFlow, ways}
+use Rattle.pearl_gen_expr.proofs.Moves.{offered_from, heard_from, stopped, frame_at, RowMeets, gives_carries, instr_carries, same_carries, missing_meets, silent_meets}
+use Rattle.pearl_gen_stmt.proofs.Single.{asked_meets, silent_carries, ask_carries}
 
 -- ONE AFTER ANOTHER
 

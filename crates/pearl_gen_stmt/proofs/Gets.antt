@@ -1,9 +1,9 @@
 -- GET: its code does what it means.
-use Rattle.std.specs.Prelude.{◌≡◌, ℕ, zero, suc, ◌+◌, ◌-◌, ◌≤◌, ◌<◌, ◌==◌, nat_le, nat_lt, ◌⊎◌, pos, negsuc, ℤ, Bool, true, false, if◌then◌else◌, List, [], ◌∷◌, ◌++◌, length, map, take, drop, get_or, replicate, Option, Some, None, option_map, option_and_then, slice_get, slice_set}
+use Rattle.std.specs.Prelude.{◌≡◌, ℕ, suc, ◌+◌, ◌-◌, ◌≤◌, ◌<◌, ◌==◌, nat_le, nat_lt, ◌⊎◌, pos, negsuc, Bool, true, false, if◌then◌else◌, List, [], ◌∷◌, ◌++◌, length, map, take, drop, get_or, replicate, Option, Some, None, option_map, option_and_then, slice_get, slice_set}
 use Rattle.std.specs.List.{AllZip}
 use Rattle.std.proofs.Common.{Box, Global, inl, inr, refl, sym, subst, ap, ◌∙◌, arith, append_assoc}
 use Rattle.std.proofs.lemmas.Bool.{leb-true}
-use Rattle.std.proofs.lemmas.List.{length-set, length-replicate, length-append, length-map, length-take, length-drop, take_all}
+use Rattle.std.proofs.lemmas.List.{length-set, length-replicate, length-append, length-map, length-take, length-drop}
 use Rattle.std.proofs.lemmas.Option.{slice_get-get_or, same_Some}
 use Rattle.std.proofs.lemmas.Slice.Zip.{AllZip-long}
 use Rattle.std.proofs.Math.Seq.{take-append_seam, drop-append_seam}
@@ -12,7 +12,7 @@ use Rattle.pearl_value.specs.declared.kind.Kind.TheVariants as kind
 use Rattle.pearl_value.specs.declared.kind.CellKind.{CellKind}
 use Rattle.pearl_value.specs.declared.kind.CellKind.TheVariants.{Plain, RefTo}
 use Rattle.pearl_value.specs.declared.cell.Cell.{Cell}
-use Rattle.pearl_value.specs.declared.cell.Cell.TheVariants.{Fixed, Bits, Chars, Clock, Span, Ref}
+use Rattle.pearl_value.specs.declared.cell.Cell.TheVariants.{Fixed, Clock, Ref}
 use Rattle.pearl_value.specs.declared.cell.Place.TheVariants as place_
 use Rattle.pearl_value.specs.declared.trap.Trap.TheVariants.{Index, Range}
 use Rattle.pearl_value.specs.Blanks.{filled_to, blank_of}
@@ -20,7 +20,6 @@ use Rattle.pearl_value.specs.Cells.{kind_of}
 use Rattle.pearl_format.specs.declared.item.Item.{Item}
 use Rattle.pearl_format.specs.Items.{data_count}
 use Rattle.pearl_format.proofs.Counts.{suits-length}
-use Rattle.pearl_rules.specs.declared.action.Action.{Action}
 use Rattle.pearl_rules.specs.declared.action.Action.TheVariants as action
 use Rattle.pearl_rules.specs.declared.action.Answer.{Answer}
 use Rattle.pearl_rules.specs.declared.action.Answer.TheVariants.{Nothing, One, Many}
@@ -28,12 +27,11 @@ use Rattle.pearl_stack.specs.Frames.{Frame}
 use Rattle.pearl_program.specs.declared.expression.Target.{Target}
 use Rattle.pearl_program.specs.declared.expression.Target.TheVariants.{Leaf as LeafOf, Own, Param}
 use Rattle.pearl_program.specs.declared.expression.Bound.{Bound}
-use Rattle.pearl_program.specs.PlainExpressions.{PlainExpr, PlainVariable, OfVariable, PlainExprs, NoExprs, MoreExprs}
+use Rattle.pearl_program.specs.PlainExpressions.{PlainVariable, OfVariable, PlainExprs, NoExprs, MoreExprs}
 use Rattle.pearl_program.specs.PlainPrograms.{PlainLeaf}
 use Rattle.pearl_program.specs.Typing.{Around, elements, IsParam, IsVariable}
-use Rattle.pearl_program.specs.SoundStatements.{FitsSome, IsGet}
+use Rattle.pearl_program.specs.SoundStatements.{FitsSome}
 use Rattle.pearl_program.specs.Weights.{calls, of_variable, of_variables}
-use Rattle.pearl_instructions.specs.declared.instr.Instr.{Instr}
 use Rattle.pearl_instructions.specs.declared.instr.Instr.TheVariants as instr
 use Rattle.pearl_instructions.specs.declared.instr.Reading.{Reading}
 use Rattle.pearl_instructions.specs.declared.object.Object.{Object}
@@ -44,7 +42,6 @@ use Rattle.pearl_instructions.specs.Steps as steps
 use Rattle.pearl_instructions.specs.Cells as rows
 use Rattle.pearl_instructions.specs.Cells.{filled}
 use Rattle.pearl_instructions.specs.Offers.{value_kinds, items_suit, cells_from, with_values, get_values}
-use Rattle.pearl_instructions.specs.Rows.{act}
 use Rattle.pearl_instructions.specs.Stacks.{cell_kinds}
 use Rattle.pearl_meaning.specs.Frames.{Store}
 use Rattle.pearl_meaning.specs.Frames as meaning
@@ -52,23 +49,20 @@ use Rattle.pearl_meaning.specs.Evaluation.{Outcome, Value, Needs, Fails, Does, g
 use Rattle.pearl_meaning.specs.Setting.{Setting, variable_kind}
 use Rattle.pearl_meaning.specs.Variables.{elements_before, offset_of, within, own_reference, reference, write_reference}
 use Rattle.pearl_meaning.specs.Variables as variables
-use Rattle.pearl_meaning.specs.Values.{eval_all}
 use Rattle.pearl_meaning.specs.Loops.{Flow, Normal}
-use Rattle.pearl_meaning.specs.Transfers.{heard_values, offset, keep_offsets, kept_reference, write_targets, kinds_of, gets}
+use Rattle.pearl_meaning.specs.Transfers.{heard_values, offset, keep_offsets, kept_reference, write_targets, kinds_of}
 use Rattle.pearl_gen_expr.specs.Contexts.{stack, Context, at, IsStoreOf}
-use Rattle.pearl_gen_expr.specs.Carrying.{End, Arrived, Meets, Carries}
-use Rattle.pearl_gen_expr.specs.Tables.{HasTables, plain_leaf}
-use Rattle.pearl_gen_expr.specs.ExprCode.{code_of, Is, IsConst}
+use Rattle.pearl_gen_expr.specs.Carrying.{End, Meets, Carries}
+use Rattle.pearl_gen_expr.specs.Tables.{HasTables}
+use Rattle.pearl_gen_expr.specs.ExprCode.{code_of, Is}
 use Rattle.pearl_gen_expr.specs.Ends.{on_top, done, offset_on_top, ways}
 use Rattle.pearl_gen_expr.specs.Laws.{CodeCarries}
 use Rattle.pearl_gen_expr.proofs.Moves.{frame_at, RowMeets, bind_carries, gives_carries, instr_carries, same_carries, missing_meets, silent_meets, stops_meets, given_meets, needed_meets}
 use Rattle.pearl_gen_expr.proofs.Tables.{leaf_is, slots_are}
 use Rattle.pearl_gen_expr.proofs.Expressions.{parted}
-use Rattle.pearl_gen_expr.proofs.Cells.{callers_are, own_is}
-use Rattle.pearl_gen_expr.proofs.Writing.{own_written, written_store, acts_meets, write_ref}
-use Rattle.pearl_gen_stmt.specs.StmtCode.{writing_at, kept_in, FoundAt, KeptAt, FilledAt, WrittenAt, GetAt}
-use Rattle.pearl_gen_stmt.specs.Laws.{IsPlaced}
-use Rattle.pearl_gen_stmt.proofs.Single.{more_cells, goes_meets, asked_meets, silent_carries, const_carries, store_carries, load_carries}
+use Rattle.pearl_gen_expr.proofs.Writing.{own_written, acts_meets, write_ref}
+use Rattle.pearl_gen_stmt.specs.StmtCode.{writing_at, FoundAt, KeptAt, FilledAt, WrittenAt}
+use Rattle.pearl_gen_stmt.proofs.Single.{more_cells, goes_meets, asked_meets, const_carries, store_carries, load_carries}
 use Rattle.pearl_gen_stmt.proofs.Flows.{normal_carries}
 use Rattle.pearl_gen_stmt.proofs.Renewals.{put_in, put_long, put_none, put_more}
 use Rattle.pearl_gen_stmt.proofs.Counters.{then_gives}

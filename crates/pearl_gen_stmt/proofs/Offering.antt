@@ -1,11 +1,10 @@
 -- In a valid object the code of each task offers what the task does next: no row that it comes to is missing.
-use Rattle.std.specs.Prelude.{◌≡◌, ℕ, zero, suc, ◌+◌, ◌-◌, List, [], ◌∷◌, ◌++◌, length, Option, Some, None, slice_get}
+use Rattle.std.specs.Prelude.{◌≡◌, ℕ, zero, suc, ◌+◌, List, [], ◌∷◌, ◌++◌, length, Option, Some, None, slice_get}
 use Rattle.std.proofs.Common.{refl, sym, subst, ap, ◌∙◌, arith, append_assoc, append-nil}
 use Rattle.pearl_rules.specs.declared.action.Action.{Action}
 use Rattle.pearl_rules.specs.declared.action.Answer.{Answer}
 use Rattle.pearl_stack.specs.Frames.{Frame}
-use Rattle.pearl_program.specs.PlainPrograms.{PlainTask, PlainProg}
-use Rattle.pearl_program.specs.Sound.{IsSound}
+use Rattle.pearl_program.specs.PlainPrograms.{PlainProg}
 use Rattle.pearl_instructions.specs.declared.instr.Instr.{Instr}
 use Rattle.pearl_instructions.specs.declared.instr.Instr.TheVariants.{End}
 use Rattle.pearl_instructions.specs.declared.object.Code.{Code}
@@ -14,12 +13,12 @@ use Rattle.pearl_instructions.specs.Lawful.{IsObject}
 use Rattle.pearl_instructions.specs.Laws.{Begins, Leads as RowsLead, KeepsTask}
 use Rattle.pearl_instructions.specs.Objects.{routine_at}
 use Rattle.pearl_instructions.specs.Owned.{IsOfTask, Moves, Afterwards}
-use Rattle.pearl_instructions.specs.Rows.{act, row, instr_at, begun, lowest, own_task}
+use Rattle.pearl_instructions.specs.Rows.{act, row, instr_at, begun, lowest}
 use Rattle.pearl_instructions.specs.Stacks.{IsStack, Answers, Goes, task_of}
 use Rattle.pearl_instructions.specs.Steps.{Step, Silent, Offers, Missing, given}
 use Rattle.pearl_instructions.specs.Valid.{IsValid}
 use Rattle.pearl_meaning.specs.Programs.{offer}
-use Rattle.pearl_meaning.specs.Hearing.{Suits, HeardAfter, Heard}
+use Rattle.pearl_meaning.specs.Hearing.{Suits, HeardAfter}
 use Rattle.pearl_gen_expr.specs.Comes.{Onward, ComesIn, Comes}
 use Rattle.pearl_gen_expr.specs.ExprCode.{instructions_or_none}
 use Rattle.pearl_gen_stmt.specs.Generated.{IsGenerated}

@@ -1,6 +1,5 @@
 -- The code of procedures does what calls of them mean.
-use Rattle.std.specs.Prelude.{◌≡◌, ℕ, zero, suc, ◌+◌, ◌-◌, ◌≤◌, ◌<◌, max, nat_le, Bool, true, false, List, [], ◌∷◌, ◌++◌, length, map, take, drop, reverse, Option, Some, None, option_map, option_and_then, option_to_list, slice_get}
-use Rattle.std.specs.List.{AllByRecursion, AllZip}
+use Rattle.std.specs.Prelude.{◌≡◌, ℕ, zero, suc, ◌+◌, ◌≤◌, ◌<◌, nat_le, List, [], ◌∷◌, ◌++◌, length, map, drop, Option, Some, None, option_map, option_and_then, slice_get}
 use Rattle.std.proofs.Common.{refl, sym, subst, ap, ◌∙◌, arith}
 use Rattle.std.proofs.lemmas.List.{length-append, length-map, length-drop}
 use Rattle.std.proofs.lemmas.Option.{slice_get-map, same_Some}
@@ -8,13 +7,10 @@ use Rattle.pearl_value.specs.declared.kind.Kind.{Kind}
 use Rattle.pearl_value.specs.declared.kind.CellKind.{CellKind}
 use Rattle.pearl_value.specs.declared.kind.CellKind.TheVariants.{Plain, RefTo}
 use Rattle.pearl_value.specs.declared.cell.Cell.{Cell}
-use Rattle.pearl_value.specs.declared.trap.Trap.{Trap}
 use Rattle.pearl_value.specs.declared.trap.Trap.TheVariants.{Range}
-use Rattle.pearl_rules.specs.declared.action.Action.{Action}
 use Rattle.pearl_rules.specs.declared.action.Action.TheVariants as action
 use Rattle.pearl_rules.specs.declared.action.Answer.{Answer}
 use Rattle.pearl_stack.specs.Frames.{Frame}
-use Rattle.pearl_program.specs.PlainStatements.{PlainStmts}
 use Rattle.pearl_program.specs.PlainPrograms.{PlainRoutine, PlainProcedure, PlainProg}
 use Rattle.pearl_program.specs.Typing.{Around}
 use Rattle.pearl_program.specs.Sound.{IsSound, IsProcedure, CallSmaller, around_of}
@@ -24,34 +20,32 @@ use Rattle.pearl_instructions.specs.declared.instr.Instr.TheVariants as instr
 use Rattle.pearl_instructions.specs.declared.object.Code.{Code}
 use Rattle.pearl_instructions.specs.declared.object.Procedure.{Procedure}
 use Rattle.pearl_instructions.specs.declared.object.Object.{Object}
-use Rattle.pearl_instructions.specs.Objects.{routines, routine_at, result_of}
-use Rattle.pearl_instructions.specs.Steps.{Step, Silent, Offers, Missing, given, needed}
+use Rattle.pearl_instructions.specs.Objects.{routine_at, result_of}
+use Rattle.pearl_instructions.specs.Steps.{Silent, Offers, needed}
 use Rattle.pearl_instructions.specs.Flow.{fresh, called}
 use Rattle.pearl_instructions.specs.Flow as flow
 use Rattle.pearl_instructions.specs.Rows.{act, row}
 use Rattle.pearl_instructions.specs.Stacks.{cell_kinds, cells_or_none}
 use Rattle.pearl_meaning.specs.Frames.{Store}
-use Rattle.pearl_meaning.specs.Evaluation.{Outcome, Value, Needs, Fails, Does, gives, fails, on_value, bind, next, ask, push_frame, drop_frame}
+use Rattle.pearl_meaning.specs.Evaluation.{Outcome, Value, Needs, Fails, Does, on_value, bind, next, push_frame, drop_frame}
 use Rattle.pearl_meaning.specs.Setting.{Setting}
 use Rattle.pearl_meaning.specs.Loops.{Flow, Normal, Exit, Return}
 use Rattle.pearl_meaning.specs.Execution.{exec_all}
-use Rattle.pearl_meaning.specs.Programs.{unset, result_at_end, result_of as result_of_flow, entered, setting_of, runs, call_within}
+use Rattle.pearl_meaning.specs.Programs.{unset, result_at_end, result_of as result_of_flow, entered, call_within}
 use Rattle.pearl_meaning.proofs.CallsAlike.{calls_run}
-use Rattle.pearl_gen_expr.specs.Comes.{Comes}
-use Rattle.pearl_gen_expr.specs.Contexts.{Standing, stack, Context, at, back, within_call, HasCells, IsStoreOf, pushed}
+use Rattle.pearl_gen_expr.specs.Contexts.{stack, Context, at, within_call, HasCells, IsStoreOf, pushed}
 use Rattle.pearl_gen_expr.specs.Carrying.{End, Arrived, Meets, Carries}
 use Rattle.pearl_gen_expr.specs.Tables.{HasTables, Head, head_of, code_head}
 use Rattle.pearl_gen_expr.specs.ExprCode.{code_of, Is}
 use Rattle.pearl_gen_expr.specs.Ends.{IsResult, result_on_top, flow_stack, IsFlow, ways}
-use Rattle.pearl_gen_expr.specs.Calls.{CallsCarry, IsKnown}
-use Rattle.pearl_gen_expr.proofs.Moves.{by_row, row_is, frame_at, RowMeets, gives_carries, instr_carries, same_carries, missing_meets, silent_meets, stops_meets, given_meets, needed_meets}
+use Rattle.pearl_gen_expr.specs.Calls.{CallsCarry}
+use Rattle.pearl_gen_expr.proofs.Moves.{by_row, row_is, frame_at, RowMeets, gives_carries, instr_carries, silent_meets, stops_meets, given_meets, needed_meets}
 use Rattle.pearl_gen_expr.proofs.Index.{taken_is, dropped_is}
 use Rattle.pearl_gen_expr.proofs.Tables.{each}
 use Rattle.pearl_gen_expr.proofs.Whole.{expressions_carry}
 use Rattle.pearl_gen_stmt.specs.Laws.{IsPlaced, StatementsCarry}
 use Rattle.pearl_gen_stmt.specs.Generated.{within_program, last_of, IsCode, IsGenerated, ProceduresCarry}
 use Rattle.pearl_gen_stmt.proofs.Single.{asked_meets}
-use Rattle.pearl_gen_stmt.proofs.Turning.{at_row}
 use Rattle.pearl_gen_stmt.proofs.Statements.{stmts_carry}
 use Rattle.pearl_gen_stmt.proofs.Gets.{gets_carry}
 

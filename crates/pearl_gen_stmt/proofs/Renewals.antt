@@ -1,25 +1,23 @@
 -- A row of cells gets values: by one instruction where they are unset, else one after the other.
-use Rattle.std.specs.Prelude.{◌≡◌, ℕ, zero, suc, ◌+◌, ◌-◌, ◌≤◌, nat_le, Bool, true, false, List, [], ◌∷◌, ◌++◌, length, take, drop, replicate, Option, Some, None, slice_get, slice_set}
+use Rattle.std.specs.Prelude.{◌≡◌, ℕ, zero, suc, ◌+◌, ◌-◌, ◌≤◌, nat_le, List, [], ◌∷◌, ◌++◌, length, take, drop, replicate, Some, slice_get, slice_set}
 use Rattle.std.proofs.Common.{refl, sym, subst, ap, ◌∙◌, arith, append-nil}
 use Rattle.std.proofs.lemmas.List.{length-set, length-replicate, length-append, length-drop, take-append-drop}
 use Rattle.pearl_value.specs.declared.kind.Kind.{Kind}
 use Rattle.pearl_value.specs.declared.cell.Cell.{Cell}
 use Rattle.pearl_value.specs.Blanks.{blank_of}
 use Rattle.pearl_rules.specs.declared.action.Answer.{Answer}
-use Rattle.pearl_stack.specs.Frames.{Frame}
 use Rattle.pearl_program.specs.FirstCells.{first_cells, last_or}
 use Rattle.pearl_program.specs.PlainStatements.{PlainValues}
-use Rattle.pearl_instructions.specs.declared.instr.Instr.{Instr}
 use Rattle.pearl_instructions.specs.declared.instr.Instr.TheVariants as instr
 use Rattle.pearl_instructions.specs.declared.object.Object.{Object}
-use Rattle.pearl_instructions.specs.Steps.{Step, Silent}
+use Rattle.pearl_instructions.specs.Steps.{Silent}
 use Rattle.pearl_instructions.specs.Cells.{filled}
 use Rattle.pearl_meaning.specs.Frames.{Store}
-use Rattle.pearl_meaning.specs.Evaluation.{Outcome, Value, Does, gives, put_cells}
+use Rattle.pearl_meaning.specs.Evaluation.{Value, gives, put_cells}
 use Rattle.pearl_meaning.specs.Setting.{Setting}
-use Rattle.pearl_gen_expr.specs.Contexts.{stack, Context, at, IsStoreOf}
-use Rattle.pearl_gen_expr.specs.Carrying.{End, Meets, Carries}
-use Rattle.pearl_gen_expr.specs.ExprCode.{code_of, Is, IsConst}
+use Rattle.pearl_gen_expr.specs.Contexts.{stack, Context, at}
+use Rattle.pearl_gen_expr.specs.Carrying.{Meets, Carries}
+use Rattle.pearl_gen_expr.specs.ExprCode.{code_of, Is}
 use Rattle.pearl_gen_expr.specs.Ends.{done}
 use Rattle.pearl_gen_expr.proofs.Moves.{frame_at, RowMeets, gives_carries, instr_carries, same_carries, silent_meets, given_meets, needed_meets}
 use Rattle.pearl_gen_stmt.specs.StmtCode.{StoresAt, RenewAt}

@@ -1,10 +1,10 @@
 -- ACTIVATE, CONTINUE and RESUME: their code does what they mean.
-use Rattle.std.specs.Prelude.{◌≡◌, ℕ, zero, suc, ◌+◌, ◌≤◌, pos, ℤ, int_le, ◌&&◌, Bool, true, false, if◌then◌else◌, unsigned_abs, List, [], ◌∷◌, ◌++◌, length, Option, Some, None, option_map}
+use Rattle.std.specs.Prelude.{◌≡◌, ℕ, ◌+◌, pos, ℤ, int_le, ◌&&◌, Bool, true, false, if◌then◌else◌, unsigned_abs, List, [], ◌∷◌, ◌++◌, length, Option, Some, None, option_map}
 use Rattle.std.proofs.Common.{refl, sym, subst, ap, ◌∙◌, arith, append_assoc, append-nil}
 use Rattle.std.proofs.lemmas.List.{length-append}
 use Rattle.pearl_value.specs.declared.kind.Kind.{Kind}
 use Rattle.pearl_value.specs.declared.cell.Cell.{Cell}
-use Rattle.pearl_value.specs.declared.cell.Cell.TheVariants.{Fixed, Bits, Chars, Clock, Span, Ref}
+use Rattle.pearl_value.specs.declared.cell.Cell.TheVariants.{Fixed, Clock, Span}
 use Rattle.pearl_value.specs.declared.trap.Trap.TheVariants.{Range}
 use Rattle.pearl_rules.specs.declared.action.Action.{Action}
 use Rattle.pearl_rules.specs.declared.action.Action.TheVariants as action
@@ -17,31 +17,26 @@ use Rattle.pearl_stack.specs.Frames.{Frame}
 use Rattle.pearl_program.specs.PlainExpressions.{PlainExpr}
 use Rattle.pearl_program.specs.PlainStatements.{PlainPeriodEnd, OfUntil, OfDuring, PlainPeriod, PlainStart, OfAt, OfAfter, OfWhen, OfWhenAfter, PlainOnce, OnceAt, OnceAfter, OnceWhen}
 use Rattle.pearl_instructions.specs.declared.schedule.OnceForm.{OnceForm}
-use Rattle.pearl_instructions.specs.declared.schedule.OnceForm.TheVariants as once
 use Rattle.pearl_instructions.specs.declared.schedule.StartForm.{StartForm}
 use Rattle.pearl_instructions.specs.declared.schedule.StartForm.TheVariants as start
 use Rattle.pearl_instructions.specs.declared.schedule.RepeatForm.{RepeatForm}
 use Rattle.pearl_instructions.specs.declared.schedule.RepeatForm.TheVariants as again
-use Rattle.pearl_instructions.specs.declared.instr.Activation.{Activation}
-use Rattle.pearl_instructions.specs.declared.instr.Continuation.{Continuation}
-use Rattle.pearl_instructions.specs.declared.instr.Instr.{Instr}
 use Rattle.pearl_instructions.specs.declared.instr.Instr.TheVariants as instr
 use Rattle.pearl_instructions.specs.declared.object.Object.{Object}
 use Rattle.pearl_instructions.specs.Steps.{Step, Silent, Offers, Missing, traps}
 use Rattle.pearl_instructions.specs.Steps as steps
-use Rattle.pearl_instructions.specs.Offers.{as_start, start_or_free, start_kinds, repeat_kinds, activation_count, started, repeated, with_priority, activate, continue, resume}
-use Rattle.pearl_instructions.specs.Rows.{act}
+use Rattle.pearl_instructions.specs.Offers.{as_start, start_or_free, start_kinds, repeat_kinds, activation_count, started, repeated, with_priority, activate, continue}
 use Rattle.pearl_meaning.specs.Frames.{Store}
-use Rattle.pearl_meaning.specs.Evaluation.{Outcome, Value, Needs, Fails, Does, gives, fails, on_value, bind, next, ask}
+use Rattle.pearl_meaning.specs.Evaluation.{Outcome, Value, Needs, Fails, Does, gives, on_value, bind}
 use Rattle.pearl_meaning.specs.Setting.{Setting}
 use Rattle.pearl_meaning.specs.Variables.{number_of}
 use Rattle.pearl_meaning.specs.Values.{eval}
 use Rattle.pearl_meaning.specs.Loops.{Flow, Normal}
-use Rattle.pearl_meaning.specs.Schedules.{acts, moment_of, lapse_of, moment, lapse, start_of, once_of, with_end, repeat_of, priority_of, is_start, is_repeat, is_priority, acts_if, activates, continues, resumes}
+use Rattle.pearl_meaning.specs.Schedules.{acts, moment_of, lapse_of, lapse, start_of, once_of, with_end, repeat_of, priority_of, is_start, is_repeat, is_priority, acts_if, activates, continues, resumes}
 use Rattle.pearl_meaning.proofs.Alike.{Alike}
 use Rattle.pearl_gen_expr.specs.Contexts.{stack, Context, at, IsStoreOf, pushed}
-use Rattle.pearl_gen_expr.specs.Carrying.{End, Arrived, Meets, Carries}
-use Rattle.pearl_gen_expr.specs.ExprCode.{code_of, Is, ExprAt}
+use Rattle.pearl_gen_expr.specs.Carrying.{End, Carries}
+use Rattle.pearl_gen_expr.specs.ExprCode.{code_of, ExprAt}
 use Rattle.pearl_gen_expr.specs.Ends.{on_top, ways}
 use Rattle.pearl_gen_expr.proofs.Moves.{frame_at, RowMeets, bind_carries, instr_carries, same_carries, missing_meets, stops_meets}
 use Rattle.pearl_gen_stmt.specs.StmtCode.{WhenAt, LaterAt, MaybeLaterAt, PeriodEndAt, PeriodAt, PriorityAt, ActivateAt, ContinueAt, ResumeAt}

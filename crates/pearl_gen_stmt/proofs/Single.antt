@@ -1,11 +1,10 @@
 -- What single instructions of statements do.
-use Rattle.std.specs.Prelude.{◌≡◌, ℕ, zero, suc, ◌+◌, ◌-◌, ◌≤◌, ◌<◌, nat_le, ◌==◌, not, Bool, true, false, if◌then◌else◌, List, [], ◌∷◌, ◌++◌, length, take, drop, replicate, Option, Some, None, Result, Ok, Err, slice_get, slice_set}
-use Rattle.std.proofs.Common.{refl, sym, subst, ap, ◌∙◌, arith}
-use Rattle.std.proofs.lemmas.List.{length-set, length-replicate, length-append, length-drop, length-take}
+use Rattle.std.specs.Prelude.{◌≡◌, ℕ, ◌+◌, ◌≤◌, ◌==◌, not, Bool, true, false, if◌then◌else◌, List, [], ◌∷◌, length, Option, Some, None, slice_get, slice_set}
+use Rattle.std.proofs.Common.{sym, subst, ap, arith}
+use Rattle.std.proofs.lemmas.List.{length-set}
 use Rattle.pearl_value.specs.declared.kind.Kind.{Kind}
 use Rattle.pearl_value.specs.declared.cell.Cell.{Cell}
 use Rattle.pearl_value.specs.declared.cell.Cell.TheVariants.{Fixed, Bits, Chars, Clock, Span, Ref}
-use Rattle.pearl_value.specs.declared.trap.Trap.{Trap}
 use Rattle.pearl_value.specs.Conversions.{converted}
 use Rattle.pearl_rules.specs.declared.action.Action.{Action}
 use Rattle.pearl_rules.specs.declared.action.Action.TheVariants as action
@@ -14,20 +13,19 @@ use Rattle.pearl_stack.specs.Frames.{Frame}
 use Rattle.pearl_instructions.specs.declared.instr.Instr.{Instr}
 use Rattle.pearl_instructions.specs.declared.instr.Instr.TheVariants as instr
 use Rattle.pearl_instructions.specs.declared.object.Object.{Object}
-use Rattle.pearl_instructions.specs.Steps.{Step, Silent, Offers, Missing, given, needed, value_kind, makes}
+use Rattle.pearl_instructions.specs.Steps.{Silent, Offers, given, needed, value_kind, makes}
 use Rattle.pearl_instructions.specs.Operators.{suits_kind}
 use Rattle.pearl_instructions.specs.Flow.{jump_zero}
-use Rattle.pearl_instructions.specs.Rows.{act, row}
+use Rattle.pearl_instructions.specs.Rows.{act}
 use Rattle.pearl_meaning.specs.Frames.{Store}
-use Rattle.pearl_meaning.specs.Evaluation.{Outcome, Value, Needs, Fails, Does, gives, fails, on_value, bind, next, ask, ask_value, stop, value_or_trap, put_cell, put_cells, own_cell, given as eval_given}
+use Rattle.pearl_meaning.specs.Evaluation.{Outcome, Value, Needs, Fails, Does, gives, on_value, bind, ask, value_or_trap, put_cell, own_cell, given as eval_given}
 use Rattle.pearl_meaning.specs.Values.{convert}
 use Rattle.pearl_meaning.specs.Loops.{holds}
-use Rattle.pearl_gen_expr.specs.Comes.{Onward, ComesIn, Comes}
-use Rattle.pearl_gen_expr.specs.Contexts.{Standing, stack, Context, at, IsStoreOf}
-use Rattle.pearl_gen_expr.specs.Carrying.{End, Arrived, Meets, Carries}
+use Rattle.pearl_gen_expr.specs.Contexts.{stack, Context, at, IsStoreOf}
+use Rattle.pearl_gen_expr.specs.Carrying.{End, Meets, Carries}
 use Rattle.pearl_gen_expr.specs.ExprCode.{code_of, Is, IsConst}
 use Rattle.pearl_gen_expr.specs.Ends.{on_top, done}
-use Rattle.pearl_gen_expr.proofs.Moves.{ComesFrom, by_row, silent_from, missing_from, offered_from, heard_from, stopped, frame_at, row_is, MeetsBy, RowMeets, bind_meets, bind_carries, gives_carries, instr_carries, same_carries, missing_meets, silent_meets, stops_meets, given_meets, needed_meets, makes_meets, asks_meets}
+use Rattle.pearl_gen_expr.proofs.Moves.{silent_from, offered_from, heard_from, frame_at, RowMeets, instr_carries, missing_meets, silent_meets, given_meets, needed_meets, makes_meets}
 
 -- what a cell holds, where it is there
 abbrev given_value : Option Cell → Does Cell

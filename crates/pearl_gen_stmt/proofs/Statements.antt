@@ -1,17 +1,17 @@
 -- The code of statements does what they mean.
-use Rattle.std.specs.Prelude.{◌≡◌, ℕ, zero, suc, ◌+◌, ◌≤◌, max, pos, negsuc, ℤ, Bool, true, false, if◌then◌else◌, List, [], ◌∷◌, length, Option, Some, None, IfSome, slice_get}
+use Rattle.std.specs.Prelude.{◌≡◌, ℕ, zero, suc, ◌+◌, ◌≤◌, pos, negsuc, if◌then◌else◌, List, [], ◌∷◌, Option, Some, None, IfSome, slice_get}
 use Rattle.std.proofs.Common.{Box, Global, refl, sym, subst, ap, ◌∙◌, arith}
 use Rattle.pearl_value.specs.declared.kind.Kind.{Kind}
 use Rattle.pearl_value.specs.declared.kind.Kind.TheVariants.{Bits as of_bits, Fixed as of_fixed, Clock as of_clock, Span as of_span}
 use Rattle.pearl_value.specs.declared.cell.Cell.{Cell}
-use Rattle.pearl_value.specs.declared.cell.Cell.TheVariants.{Fixed, Bits, Chars, Clock, Span, Ref}
+use Rattle.pearl_value.specs.declared.cell.Cell.TheVariants.{Fixed}
 use Rattle.pearl_value.specs.declared.listing.Listing.{Listing}
 use Rattle.pearl_rules.specs.declared.action.Action.{Action}
 use Rattle.pearl_rules.specs.declared.action.Action.TheVariants as action
 use Rattle.pearl_rules.specs.declared.action.Answer.{Answer}
 use Rattle.pearl_stack.specs.Frames.{Frame}
 use Rattle.pearl_program.specs.FirstCells.{first_cells}
-use Rattle.pearl_program.specs.PlainExpressions.{PlainExpr, PlainVariable, PlainExprs, PlainArguments}
+use Rattle.pearl_program.specs.PlainExpressions.{PlainExpr, PlainVariable, PlainArguments}
 use Rattle.pearl_program.specs.PlainStatements.{PlainPeriodEnd, OfUntil, OfDuring, PlainPeriod, PlainStart, OfAt, OfAfter, OfWhen, OfWhenAfter, PlainOnce, OnceAt, OnceAfter, OnceWhen, PlainCounter, PlainStmt, OfRenew, OfAssign, OfCallOf, OfIf, OfCase, OfRepeat, OfExit, OfReturn, OfActivate, OfContinue, OfResume, OfSuspend, OfTerminate, OfPrevent, OfRequest, OfRelease, OfEnable, OfDisable, OfTrigger, OfPut, OfGet, OfSend, OfTake, PlainStmts, NoStmts, MoreStmts, PlainBranches, NoBranches, MoreBranches}
 use Rattle.pearl_program.specs.PlainPrograms.{PlainProcedure}
 use Rattle.pearl_program.specs.Sound.{signature_of}
@@ -22,11 +22,11 @@ use Rattle.pearl_program.specs.Weights.{calls, of_expr, of_if, of_counter, of_st
 use Rattle.pearl_instructions.specs.declared.instr.Instr.{Instr}
 use Rattle.pearl_instructions.specs.declared.instr.Instr.TheVariants as instr
 use Rattle.pearl_instructions.specs.declared.object.Object.{Object}
-use Rattle.pearl_instructions.specs.Steps.{Step, Silent, Offers, Missing}
+use Rattle.pearl_instructions.specs.Steps.{Offers}
 use Rattle.pearl_instructions.specs.Flow.{branch, goes_or_on}
 use Rattle.pearl_instructions.specs.Rows.{act, own_task}
 use Rattle.pearl_meaning.specs.Frames.{Store}
-use Rattle.pearl_meaning.specs.Evaluation.{Outcome, Value, Needs, Fails, Does, gives, fails, bind, next, ask, stop, put_cells}
+use Rattle.pearl_meaning.specs.Evaluation.{Does, gives, bind, next, put_cells}
 use Rattle.pearl_meaning.specs.Setting.{Setting, params_of}
 use Rattle.pearl_meaning.specs.Variables.{number_of}
 use Rattle.pearl_meaning.specs.Values.{eval}
@@ -35,21 +35,20 @@ use Rattle.pearl_meaning.specs.Schedules.{acts}
 use Rattle.pearl_meaning.specs.Transfers.{gets}
 use Rattle.pearl_meaning.specs.Execution.{on_flow, acts_on, terminates, returns, alternative, chosen, exec, exec_all, exec_nth}
 use Rattle.pearl_gen_expr.specs.Contexts.{stack, Context, at, IsStoreOf}
-use Rattle.pearl_gen_expr.specs.Carrying.{End, Arrived, Meets, Carries}
+use Rattle.pearl_gen_expr.specs.Carrying.{End, Meets, Carries}
 use Rattle.pearl_gen_expr.specs.ExprCode.{code_of, Is, ExprAt}
 use Rattle.pearl_gen_expr.specs.Ends.{on_top, done, IsFlow, flow_stack, ways}
-use Rattle.pearl_gen_expr.specs.Calls.{IsAroundIn, IsKnown}
 use Rattle.pearl_gen_expr.specs.Laws.{CodeCarries, ExpressionsCarry}
 use Rattle.pearl_gen_expr.proofs.Moves.{frame_at, RowMeets, bind_carries, gives_carries, instr_carries, missing_meets}
 use Rattle.pearl_gen_expr.proofs.Tables.{signature_is}
 use Rattle.pearl_gen_stmt.specs.StmtCode.{on_task, BeginsAt, CountsAt, WhileAt, AdvanceAt, ReturnAt, GetAt, StmtAt, StmtsAt, ElseAt, BranchesAt}
-use Rattle.pearl_gen_stmt.specs.Laws.{IsPlaced, LeadsOut, StatementsCarry}
+use Rattle.pearl_gen_stmt.specs.Laws.{IsPlaced, LeadsOut}
 use Rattle.pearl_gen_stmt.proofs.Single.{goes_meets, branch_carries}
 use Rattle.pearl_gen_stmt.proofs.Flows.{jump_carries, normal_carries, acts_carries, acts_own_carries, stop_own_carries, return_carries}
 use Rattle.pearl_gen_stmt.proofs.Renewals.{renew_carries}
 use Rattle.pearl_gen_stmt.proofs.Counters.{then_gives, advance_carries, goes_on_carries, begins_carries}
 use Rattle.pearl_gen_stmt.proofs.Turning.{repeats_carry}
-use Rattle.pearl_gen_stmt.proofs.Transfers.{Fine, fine_carries, assign_carries, takes_carries, sends_carries, returns_carries, call_of_carries, puts_carries}
+use Rattle.pearl_gen_stmt.proofs.Transfers.{assign_carries, takes_carries, sends_carries, returns_carries, call_of_carries, puts_carries}
 use Rattle.pearl_gen_stmt.proofs.Schedules.{activates_carries, continues_carries, resumes_carries}
 
 -- the place that is named, or else the next one

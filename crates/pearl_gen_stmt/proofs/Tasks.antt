@@ -1,42 +1,34 @@
 -- The code of tasks comes to what they do next.
-use Rattle.std.specs.Prelude.{◌≡◌, ℕ, zero, suc, ◌+◌, ◌≤◌, ◌<◌, List, [], ◌∷◌, ◌++◌, length, map, Option, Some, None, option_map, option_and_then, slice_get}
-use Rattle.std.specs.List.{AllByRecursion, AllZip}
+use Rattle.std.specs.Prelude.{◌≡◌, ℕ, suc, ◌+◌, List, [], ◌∷◌, ◌++◌, length, map, Option, Some, None, option_map, option_and_then, slice_get}
 use Rattle.std.proofs.Common.{refl, sym, subst, ap, ◌∙◌, arith}
 use Rattle.std.proofs.lemmas.List.{length-map}
 use Rattle.std.proofs.lemmas.Option.{slice_get-map, same_Some}
-use Rattle.pearl_value.specs.declared.kind.Kind.{Kind}
-use Rattle.pearl_value.specs.declared.kind.CellKind.{CellKind}
 use Rattle.pearl_value.specs.declared.cell.Cell.{Cell}
-use Rattle.pearl_value.specs.declared.trap.Trap.{Trap}
-use Rattle.pearl_rules.specs.declared.action.Action.{Action}
 use Rattle.pearl_rules.specs.declared.action.Action.TheVariants as action
 use Rattle.pearl_rules.specs.declared.action.Answer.{Answer}
 use Rattle.pearl_stack.specs.Frames.{Frame}
-use Rattle.pearl_program.specs.PlainPrograms.{PlainRoutine, PlainProcedure, PlainTask, PlainProg}
+use Rattle.pearl_program.specs.PlainPrograms.{PlainTask, PlainProg}
 use Rattle.pearl_program.specs.Typing.{Around}
 use Rattle.pearl_program.specs.Sound.{IsSound, IsTask, around_of, signature_of}
-use Rattle.pearl_program.specs.Weights.{calls, greatest_of_all}
 use Rattle.pearl_instructions.specs.declared.instr.Instr.TheVariants as instr
 use Rattle.pearl_instructions.specs.declared.object.Code.{Code}
 use Rattle.pearl_instructions.specs.declared.object.Task.{Task}
 use Rattle.pearl_instructions.specs.declared.object.Procedure.{Procedure}
 use Rattle.pearl_instructions.specs.declared.object.Object.{Object}
-use Rattle.pearl_instructions.specs.Objects.{routines, routine_at, result_of}
-use Rattle.pearl_instructions.specs.Steps.{Step, Silent, Offers, Missing}
+use Rattle.pearl_instructions.specs.Objects.{routines, routine_at}
+use Rattle.pearl_instructions.specs.Steps.{Missing}
 use Rattle.pearl_instructions.specs.Flow.{fresh}
-use Rattle.pearl_instructions.specs.Rows.{act, row, fresh_cells, begun}
+use Rattle.pearl_instructions.specs.Rows.{fresh_cells, begun}
 use Rattle.pearl_instructions.specs.Stacks.{cell_kinds, cells_or_none}
-use Rattle.pearl_meaning.specs.Frames.{Store}
 use Rattle.pearl_meaning.specs.Evaluation.{Outcome, Value, Needs, Fails}
 use Rattle.pearl_meaning.specs.Setting.{Setting}
 use Rattle.pearl_meaning.specs.Loops.{Flow, Normal, Exit, Return}
 use Rattle.pearl_meaning.specs.Execution.{exec_all}
 use Rattle.pearl_meaning.specs.Programs.{unset, store_at_start, next_action, offer_of, offer}
 use Rattle.pearl_gen_expr.specs.Comes.{Comes}
-use Rattle.pearl_gen_expr.specs.Contexts.{Standing, stack, Context, at, HasCells, IsStoreOf}
-use Rattle.pearl_gen_expr.specs.Carrying.{End, Arrived, Meets, Carries}
-use Rattle.pearl_gen_expr.specs.Tables.{HasTables}
-use Rattle.pearl_gen_expr.specs.ExprCode.{code_of, Is}
+use Rattle.pearl_gen_expr.specs.Contexts.{stack, Context, at, IsStoreOf}
+use Rattle.pearl_gen_expr.specs.Carrying.{Meets, Carries}
+use Rattle.pearl_gen_expr.specs.ExprCode.{code_of}
 use Rattle.pearl_gen_expr.specs.Ends.{flow_stack, ways}
 use Rattle.pearl_gen_expr.proofs.Moves.{by_row, missing_from, stopped, frame_at, row_is}
 use Rattle.pearl_gen_expr.proofs.Tables.{each}

@@ -1,53 +1,49 @@
 -- Assignment, PUT, SEND, TAKE, RETURN with a value, and calls: their code does what they mean.
-use Rattle.std.specs.Prelude.{◌≡◌, ℕ, zero, suc, ◌+◌, ◌≤◌, max, nat_le, Bool, true, false, List, [], ◌∷◌, ◌++◌, length, take, drop, reverse, Option, Some, None, option_to_list, slice_get}
-use Rattle.std.proofs.Common.{refl, sym, subst, ap, ◌∙◌, arith, append_assoc, append-nil}
+use Rattle.std.specs.Prelude.{◌≡◌, ℕ, ◌+◌, ◌≤◌, nat_le, true, List, [], ◌∷◌, ◌++◌, length, take, drop, reverse, Option, Some, None, option_to_list, slice_get}
+use Rattle.std.proofs.Common.{refl, sym, subst, ap, ◌∙◌, arith, append_assoc}
 use Rattle.std.proofs.lemmas.Bool.{le-leb}
 use Rattle.std.proofs.lemmas.List.{length-append, length-reverse, reverse-reverse, reverse-append}
 use Rattle.std.proofs.Math.Seq.{take-append_seam, drop-append_seam}
 use Rattle.pearl_value.specs.declared.kind.Kind.{Kind}
 use Rattle.pearl_value.specs.declared.cell.Cell.{Cell}
 use Rattle.pearl_value.specs.declared.trap.Trap.TheVariants.{Format}
-use Rattle.pearl_format.specs.declared.item.Item.{Item}
 use Rattle.pearl_format.specs.Items.{data_count}
 use Rattle.pearl_format.specs.Texts.{text_of}
 use Rattle.pearl_format.proofs.Counts.{suits-length}
-use Rattle.pearl_rules.specs.declared.action.Action.{Action}
 use Rattle.pearl_rules.specs.declared.action.Action.TheVariants as action
 use Rattle.pearl_rules.specs.declared.action.Answer.{Answer}
 use Rattle.pearl_rules.specs.Tables.{items_or_none}
 use Rattle.pearl_stack.specs.Frames.{Frame}
 use Rattle.pearl_program.specs.PlainExpressions.{PlainExpr, PlainVariable, PlainExprs, PlainArguments}
 use Rattle.pearl_program.specs.PlainPrograms.{PlainProcedure}
-use Rattle.pearl_program.specs.Typing.{Around, HasKind, IsVariable, Suit, HasValueFor, HaveKinds}
-use Rattle.pearl_program.specs.SoundStatements.{FitsSome, IsPut}
+use Rattle.pearl_program.specs.Typing.{Around, HasKind, IsVariable, Suit, HaveKinds}
+use Rattle.pearl_program.specs.SoundStatements.{FitsSome}
 use Rattle.pearl_program.specs.Weights.{calls, of_expr, of_exprs, of_variable, of_arguments}
-use Rattle.pearl_instructions.specs.declared.instr.Instr.{Instr}
 use Rattle.pearl_instructions.specs.declared.instr.Instr.TheVariants as instr
 use Rattle.pearl_instructions.specs.declared.object.Object.{Object}
 use Rattle.pearl_instructions.specs.Objects.{items_at, result_of}
-use Rattle.pearl_instructions.specs.Steps.{Step, Silent, Offers, Missing, given, needed, taken}
+use Rattle.pearl_instructions.specs.Steps.{Step, Offers, given, needed, taken}
 use Rattle.pearl_instructions.specs.Offers.{value_kinds, items_suit, put_text}
-use Rattle.pearl_instructions.specs.Rows.{act}
 use Rattle.pearl_meaning.specs.Frames.{Store}
-use Rattle.pearl_meaning.specs.Evaluation.{Outcome, Value, Needs, Fails, Does, gives, fails, on_value, bind, next, ask, ask_value}
+use Rattle.pearl_meaning.specs.Evaluation.{Outcome, Value, Needs, Fails, Does, gives, on_value, bind, next, ask_value}
 use Rattle.pearl_meaning.specs.Setting.{Setting, variable_kind, sent_kind, items_of, params_of}
 use Rattle.pearl_meaning.specs.Variables.{write_reference}
 use Rattle.pearl_meaning.specs.Values as values
 use Rattle.pearl_meaning.specs.Values.{convert, eval, taken as take_variable, eval_all, hand_over}
-use Rattle.pearl_meaning.specs.Loops.{Flow, Normal, Exit, Return}
+use Rattle.pearl_meaning.specs.Loops.{Flow, Normal, Return}
 use Rattle.pearl_meaning.specs.Schedules.{acts}
 use Rattle.pearl_meaning.specs.Transfers.{puts_text, delivers, assigns, puts, sends, takes}
 use Rattle.pearl_meaning.specs.Execution.{returns}
-use Rattle.pearl_meaning.proofs.Alike.{Alike, itself, after_same}
+use Rattle.pearl_meaning.proofs.Alike.{Alike, after_same}
 use Rattle.pearl_gen_expr.specs.Contexts.{stack, Context, at, IsStoreOf, pushed}
-use Rattle.pearl_gen_expr.specs.Carrying.{End, Arrived, Meets, Carries}
-use Rattle.pearl_gen_expr.specs.ExprCode.{code_of, Is, IsConst, ExprAt, AllAt, WayAt, CallAt, writing_to}
-use Rattle.pearl_gen_expr.specs.Ends.{on_top, all_on_top, done, IsResult, result_on_top, IsFlow, ways}
+use Rattle.pearl_gen_expr.specs.Carrying.{End, Carries}
+use Rattle.pearl_gen_expr.specs.ExprCode.{code_of, Is, ExprAt, WayAt, writing_to}
+use Rattle.pearl_gen_expr.specs.Ends.{on_top, all_on_top, done, IsResult, result_on_top, ways}
 use Rattle.pearl_gen_expr.specs.Laws.{CodeCarries}
-use Rattle.pearl_gen_expr.proofs.Moves.{ComesFrom, frame_at, RowMeets, bind_carries, gives_carries, instr_carries, same_carries, missing_meets, silent_meets, stops_meets, given_meets, needed_meets, asks_meets}
+use Rattle.pearl_gen_expr.proofs.Moves.{frame_at, RowMeets, bind_carries, instr_carries, same_carries, stops_meets, given_meets, needed_meets, asks_meets}
 use Rattle.pearl_gen_stmt.specs.StmtCode.{ConvertedAt, AssignAt, TakeAt, DroppedAt, CallOfAt, ReturnAt, PutAt, SendAt}
-use Rattle.pearl_gen_stmt.proofs.Single.{silent_carries, ask_carries, asked_meets, conv_carries}
-use Rattle.pearl_gen_stmt.proofs.Flows.{normal_carries, acts_carries, return_carries, return_value_carries}
+use Rattle.pearl_gen_stmt.proofs.Single.{silent_carries, asked_meets, conv_carries}
+use Rattle.pearl_gen_stmt.proofs.Flows.{normal_carries, acts_carries, return_value_carries}
 use Rattle.pearl_gen_stmt.proofs.Counters.{converted_carries}
 
 -- THE SAME, PUT TOGETHER OTHERWISE

@@ -1,25 +1,23 @@
 -- The turns of a loop.
 use Rattle.std.specs.Prelude.{◌≡◌, ℕ, zero, suc, ◌+◌, ◌≤◌, Bool, true, false, if◌then◌else◌, List, [], ◌∷◌, length, Option}
-use Rattle.std.proofs.Common.{refl, arith}
+use Rattle.std.proofs.Common.{arith}
 use Rattle.pearl_value.specs.declared.kind.Kind.{Kind}
 use Rattle.pearl_value.specs.declared.cell.Cell.{Cell}
-use Rattle.pearl_rules.specs.declared.action.Action.{Action}
 use Rattle.pearl_rules.specs.declared.action.Action.TheVariants as action
 use Rattle.pearl_rules.specs.declared.action.Answer.{Answer}
 use Rattle.pearl_stack.specs.Frames.{Frame}
 use Rattle.pearl_instructions.specs.declared.instr.Instr.{Instr}
 use Rattle.pearl_instructions.specs.declared.instr.Instr.TheVariants as instr
 use Rattle.pearl_instructions.specs.declared.object.Object.{Object}
-use Rattle.pearl_instructions.specs.Steps.{Step, Offers}
 use Rattle.pearl_instructions.specs.Rows.{act, row}
 use Rattle.pearl_meaning.specs.Frames.{Store}
-use Rattle.pearl_meaning.specs.Evaluation.{Outcome, Value, Needs, Fails, Does, gives, bind, next, ask, stop}
+use Rattle.pearl_meaning.specs.Evaluation.{Outcome, Value, Needs, Fails, Does, gives, bind}
 use Rattle.pearl_meaning.specs.Loops.{Flow, Normal, Exit, Return, after_turn, turn, turns, repeats}
 use Rattle.pearl_gen_expr.specs.Contexts.{stack, Context, at, IsStoreOf}
-use Rattle.pearl_gen_expr.specs.Carrying.{End, Arrived, Meets, Carries}
+use Rattle.pearl_gen_expr.specs.Carrying.{End, Meets, Carries}
 use Rattle.pearl_gen_expr.specs.ExprCode.{code_of, Is}
 use Rattle.pearl_gen_expr.specs.Ends.{IsFlow, flow_stack, ways}
-use Rattle.pearl_gen_expr.proofs.Moves.{ComesFrom, by_row, offered_from, frame_at, row_is, RowMeets, bind_meets, gives_carries}
+use Rattle.pearl_gen_expr.proofs.Moves.{by_row, offered_from, frame_at, row_is, RowMeets, bind_meets, gives_carries}
 use Rattle.pearl_gen_stmt.proofs.Single.{heard_meets}
 use Rattle.pearl_gen_stmt.proofs.Counters.{forked}
 

@@ -4,7 +4,7 @@ use Rattle.std.proofs.Common.{Box, Global}
 use Rattle.pearl_value.specs.declared.kind.Kind.{Kind}
 use Rattle.pearl_value.specs.declared.cell.Cell.{Cell}
 use Rattle.pearl_value.specs.declared.cell.Cell.TheVariants.{Fixed}
-use Rattle.pearl_value.specs.declared.trap.Trap.TheVariants.{Overflow, Range}
+use Rattle.pearl_value.specs.declared.trap.Trap.TheVariants.{Overflow}
 use Rattle.pearl_value.specs.declared.listing.Listing.{Listing}
 use Rattle.pearl_program.specs.declared.expression.Target.{Target}
 use Rattle.pearl_program.specs.declared.expression.Target.TheVariants.{Leaf, Own, Param}
