@@ -16,7 +16,6 @@ use Rattle.pearl_program.specs.PlainPrograms.{PlainLeaf, PlainProg}
 use Rattle.pearl_program.specs.Typing.{elements}
 use Rattle.pearl_stack.specs.Frames as stack_frames
 use Rattle.pearl_stack.specs.Frames.{Frame}
-use Rattle.pearl_instructions.specs.declared.instr.Instr.{Instr}
 use Rattle.pearl_instructions.specs.declared.instr.Instr.TheVariants as instr
 use Rattle.pearl_instructions.specs.declared.object.Leaf.{Leaf}
 use Rattle.pearl_instructions.specs.declared.object.Object.{Object}
@@ -32,7 +31,7 @@ use Rattle.pearl_meaning.specs.Variables.{reference, own_reference, read_referen
 use Rattle.pearl_gen_expr.specs.Contexts.{Standing, Context, stack, at, IsStoreOf}
 use Rattle.pearl_gen_expr.specs.Carrying.{Carries}
 use Rattle.pearl_gen_expr.specs.Tables.{plain_leaf, HasTables}
-use Rattle.pearl_gen_expr.specs.ExprCode.{code_of, Is, reading, slot_reference, cell_reference}
+use Rattle.pearl_gen_expr.specs.ExprCode.{code_of, Is, reading, slot_reference, cell_reference, referring}
 use Rattle.pearl_gen_expr.specs.Ends.{on_top, offset_operands, IsOffset}
 use Rattle.pearl_gen_expr.proofs.Moves.{frame_at, RowMeets, instr_carries, missing_meets, silent_meets, given_meets, asks_meets}
 use Rattle.pearl_gen_expr.proofs.Instructions.{loaded}
@@ -93,11 +92,6 @@ referred (Some x) kind e = (x, refl, value_kind_is x kind e)
 -- a leaf has as many slots as these bounds have elements
 abbrev pub FitsLeaf : PlainProg → ℕ → List Bound → Type 0
 FitsLeaf p number bounds = (leaf : PlainLeaf) → slice_get p.leaves number ≡ Some leaf → elements bounds ≡ leaf.values.count
-
-abbrev pub referring : Target → List Bound → Instr
-referring (LeafOf number) bounds = slot_reference number bounds
-referring (Own first) bounds = cell_reference first bounds
-referring (Param at) bounds = instr.Load at
 
 -- of own cells nothing is asked; a parameter with IDENT isn't reached by an offset
 abbrev pub FitsTarget : PlainProg → Target → List Bound → Type 0

@@ -32,13 +32,13 @@ use Rattle.pearl_instructions.specs.declared.instr.Instr.TheVariants as instr
 use Rattle.pearl_instructions.specs.declared.object.Object.{Object}
 use Rattle.pearl_gen_expr.specs.Contexts.{Context, at}
 use Rattle.pearl_gen_expr.specs.Carrying.{Carries}
-use Rattle.pearl_gen_expr.specs.ExprCode.{code_of, Is, reading, OffsetOf, ReadOf, ReferenceOf, ExprAt, AllAt, ArgumentsAt, ArgumentAt}
+use Rattle.pearl_gen_expr.specs.ExprCode.{code_of, Is, reading, referring, OffsetOf, ReadOf, ReferenceOf, ExprAt, AllAt, ArgumentsAt, ArgumentAt}
 use Rattle.pearl_gen_expr.specs.Ends.{on_top, all_on_top, result_on_top, offset_on_top, IsResult}
 use Rattle.pearl_gen_expr.specs.Calls.{IsKnown}
 use Rattle.pearl_gen_expr.proofs.Moves.{bind_carries, gives_carries, same_carries}
 use Rattle.pearl_gen_expr.proofs.Tables.{params_are, signature_is}
 use Rattle.pearl_gen_expr.proofs.Instructions.{const_carries, now_carries, try_carries, monadic_carries, dyadic_carries, conv_carries, load_carries, index_carries}
-use Rattle.pearl_gen_expr.proofs.Elements.{FitsTarget, referring, read_ref, read_element, refer_element}
+use Rattle.pearl_gen_expr.proofs.Elements.{FitsTarget, read_ref, read_element, refer_element}
 
 -- ONE AFTER ANOTHER
 

@@ -55,6 +55,11 @@ abbrev pub cell_reference : ℕ → List Bound → Instr
 cell_reference cell [] = instr.RefCell cell
 cell_reference cell (bound ∷ bounds) = instr.RefCellAt cell (elements (bound ∷ bounds))
 
+abbrev pub referring : Target → List Bound → Instr
+referring (Leaf number) bounds = slot_reference number bounds
+referring (Own cell) bounds = cell_reference cell bounds
+referring (Param cell) bounds = instr.Load cell
+
 -- at which places a part of the code may end that begins at another
 abbrev pub Ends : Type 1
 Ends = (to : ℕ) → Type 0

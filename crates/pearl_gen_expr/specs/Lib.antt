@@ -8,6 +8,8 @@ pub mod Carrying
 pub mod Tables
 -- which code stands for an expression
 pub mod ExprCode
+-- what is emitted
+pub mod Emitting
 -- where the code of expressions, calls and statements ends
 pub mod Ends
 -- when the code of procedures does what calls of them mean
