@@ -332,7 +332,7 @@ module _ (o : Object) (c : Context) where
         let begun = code.0 in let step = code.1 in
         let two : step + 2 ≡ step + 1 + 1 = omega arith in
         let behind : Carries o c (done c to []) (at c (step + 1 + 1) []) (limited setting counter counter.end) =
-            subst (λ place. Carries o c (done c to []) (at c place []) (limited setting counter counter.end)) two (limited_carries (step + 2) to counter counter.end fine.2 code.7) in
+        subst (λ place. Carries o c (done c to []) (at c place []) (limited setting counter counter.end)) two (limited_carries (step + 2) to counter counter.end fine.2 code.7) in
         bind_carries o c (on_top c begun []) (done c to []) (at c from []) (counted setting counter counter.begin)
         (λ control. next (put_cell counter.cell control) (bind (counted setting counter counter.step) (λ x. if int_eq (number_of x) (pos 0) then fails Range
         else next (put_cell (counter.cell + 1) x) (limited setting counter counter.end))))

@@ -472,8 +472,8 @@ gets_carry o c setting around below placed code out from to targets device forma
     let long : length kinds ≡ length targets = kinds_long setting targets kinds stands.1 in
     let same : length sound ≡ length targets = AllZip-long (IsVariable around) targets sound is.2 in
     let count : (items : List Item) → slice_get setting.program.formats format ≡ Some items → data_count items ≡ length kinds = λ items found.
-        let fits : FitsSome (Some items) sound = subst (λ found. FitsSome found sound) (ap (λ formats. slice_get formats format) placed.formats ∙ found) is.3 in
-        sym (suits-length items sound fits.suits) ∙ same ∙ sym long in
+    let fits : FitsSome (Some items) sound = subst (λ found. FitsSome found sound) (ap (λ formats. slice_get formats format) placed.formats ∙ found) is.3 in
+    sym (suits-length items sound fits.suits) ∙ same ∙ sym long in
     let room = room_of_ o c setting placed.known.tables cell targets around.cells (room_is around.cells targets sound cell same is.4) (ap length placed.known.cells) in
     subst (λ known. Carries o c (ways c to out setting.result) (at c from []) (eval_given known (λ kinds. next (keep_offsets setting (cell + length targets) targets)
     (next (put_cells cell (map blank_of kinds)) (bind (ask (action.Get device format (record { items = kinds }))) (λ answer.
@@ -482,5 +482,7 @@ gets_carry o c setting around below placed code out from to targets device forma
     (λ it. next (put_cells cell (map blank_of kinds)) (bind (ask (action.Get device format (record { items = kinds }))) (λ answer.
     next (put_cells cell (heard_values answer)) (write_targets setting cell (cell + length targets) targets))))
     (keeps_carry o c setting around below code targets sound from kept (cell + length targets) is.2 less stands.4) (λ it of.
-    record { over = λ store rest of. asked_framed o c setting placed.known.tables targets kinds device format cell kept end to out stands.6 placed.known.tables.formats count stands.5 stands.7 stands.8
-        (writes_carry o c setting placed.known.tables targets (end + 1) to out cell (cell + length targets) room stands.9) store.task store.frames rest of }))
+    record {
+      over = λ store rest of. asked_framed o c setting placed.known.tables targets kinds device format cell kept end to out stands.6 placed.known.tables.formats count stands.5 stands.7 stands.8
+          (writes_carry o c setting placed.known.tables targets (end + 1) to out cell (cell + length targets) room stands.9) store.task store.frames rest of;
+    }))

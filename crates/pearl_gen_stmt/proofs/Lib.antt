@@ -12,3 +12,4 @@ pub mod Named
 pub mod Tasks
 pub mod Heard
 pub mod Offering
+mod Example

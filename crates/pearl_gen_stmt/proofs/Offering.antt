@@ -58,6 +58,7 @@ module _ (leads : RowsLead) (keeps : KeepsTask) (p : PlainProg) (o : Object) (ge
     where
       goes : Goes o t (row o (f ∷ lower))
       goes = subst (λ own. Goes o own (row o (f ∷ lower))) (task_is o t (f ∷ lower) is.own is.stack) (leads o valid object (f ∷ lower) is.stack)
+
       by : (found : Option Instr) → instr_at o f ≡ found → LeadsOn (row o (f ∷ lower))
       by None e = absurd (subst (λ found. Goes o t (given found (λ instr. act o instr f lower))) e goes)
       by (Some instr) e = both_lead f lower instr (row o (f ∷ lower)) goes (keeps o t f lower instr is.own e)
@@ -113,7 +114,7 @@ module _ (leads : RowsLead) (keeps : KeepsTask) (p : PlainProg) (o : Object) (ge
       let suits : Suits p t offered answer = subst (λ action. Suits p t action answer) (ap (λ answers. offer p t answers) (sym (append-nil before)) ∙ sym is) heard.0 in
       let there : IsHere (go answer) = subst LeadsOn e (leads_on frames here) answer (suits_same p o generated.tables t offered answer suits) in
       let later = subst (λ action. OffersAfter o (go answer) rest action) (behind before answer rest)
-          (offers rest (before ++ answer ∷ []) (go answer) there (comes_behind before frames offered go answer e comes) heard.1) in
+      (offers rest (before ++ answer ∷ []) (go answer) there (comes_behind before frames offered go answer e comes) heard.1) in
       offers_on (Offers offered go) frames e (answer ∷ rest) (offer p t (before ++ (answer ∷ rest))) later.rows later.offers)
       (comes []).rows frames here comes (comes []).comes
 

@@ -222,7 +222,7 @@ module _ (p : PlainProg) (o : Object) (sound : IsSound p) (generated : IsGenerat
           let first = taken_is arguments operands found.params (long ∙ sym params) in
           let behind = dropped_is arguments operands found.params (long ∙ sym params) in
           let others : map fresh (drop found.params found.code.cells) ≡ map unset (drop procedure.params procedure.routine.cells) =
-              all_fresh (drop found.params found.code.cells) ∙ ap (λ n. map unset (drop n found.code.cells)) params ∙ ap (λ kinds. map unset (drop procedure.params kinds)) kinds in
+          all_fresh (drop found.params found.code.cells) ∙ ap (λ n. map unset (drop n found.code.cells)) params ∙ ap (λ kinds. map unset (drop procedure.params kinds)) kinds in
           ap (λ own. record { routine = number; place = 0; cells = own ++ map fresh (drop found.params found.code.cells); operands = [] } ∷
           record { routine = c.routine; place = place; cells = cells; operands = drop found.params (pushed arguments operands) } ∷ stack c.callers more) first
           ∙ ap (λ rest. record { routine = number; place = 0; cells = arguments ++ rest; operands = [] } ∷
@@ -262,9 +262,11 @@ module _ (p : PlainProg) (o : Object) (sound : IsSound p) (generated : IsGenerat
 
   calls_carry : (below : ℕ) (result : Option Kind) (routine : PlainRoutine) → CallsCarry o (within_program p result routine) below
   calls_carry zero result routine = record { called = λ number less. absurd (omega (arith, less)) }
-  calls_carry (suc below) result routine = record { called = λ number less procedure there c place is arguments operands long.
-      call_carries number procedure there (fewer_calls procedure.result procedure.routine below number (omega (arith, less)) (calls_carry below procedure.result procedure.routine))
-      c place is arguments operands long }
+  calls_carry (suc below) result routine = record {
+    called = λ number less procedure there c place is arguments operands long.
+        call_carries number procedure there (fewer_calls procedure.result procedure.routine below number (omega (arith, less)) (calls_carry below procedure.result procedure.routine))
+        c place is arguments operands long;
+  }
 
 pub procedures_carry : ProceduresCarry
 procedures_carry p o sound generated result routine = calls_carry p o sound generated (length p.procedures) result routine

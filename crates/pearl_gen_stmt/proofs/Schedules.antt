@@ -166,6 +166,7 @@ told_of_two first second one two both on = record { same = λ store rest. outer 
     inner p (Value y store rest) = refl
     inner p (Needs action) = refl
     inner p (Fails trap) = refl
+
     outer : (m : Outcome _) → on_value m (λ x. bind second (λ y. on (both (one x) (two y))))
         ≡ on_value (on_value (on_value m (λ x. gives (one x))) (λ p. bind (bind second (λ y. gives (two y))) (λ t. gives (both p t)))) on
     outer (Value x store rest) = inner (one x) (second store rest)
@@ -365,7 +366,7 @@ module _ (o : Object) (c : Context) (place to leave : ℕ) (returns : Option Kin
       let when = when_of form xs in let m = acts_if (is_start when) (act_on when) store rest in
       let go : List Cell → List Cell → Step = λ values left. started form values f lower (λ when rest. steps.acts (act_on when) f lower left) in
       let row_is : steps.taken (length (start_kinds form)) operands go ≡ go (xs ++ []) [] =
-          ap (λ operands. steps.taken (length (start_kinds form)) operands go) is ∙ taken_pushed (length (start_kinds form)) xs [] go (sym long) ∙ ap (λ xs. go xs []) (sym (append-nil xs)) in
+      ap (λ operands. steps.taken (length (start_kinds form)) operands go) is ∙ taken_pushed (length (start_kinds form)) xs [] go (sym long) ∙ ap (λ xs. go xs []) (sym (append-nil xs)) in
       subst (λ step. RowMeets o c end (f ∷ lower) step rest m) (sym row_is)
       (start_case (λ step. RowMeets o c end (f ∷ lower) step rest m) (missing_meets o c end (f ∷ lower) rest m) f lower form xs [] (λ when rest. steps.acts (act_on when) f lower []) long
       (λ e. in_meets (act_on when) (is_start when) operands cells more task rest of e) (λ e. out_meets (act_on when) (is_start when) operands cells more task rest e))
@@ -386,7 +387,7 @@ module _ (o : Object) (c : Context) (place to leave : ℕ) (returns : Option Kin
       let m = acts_if test offered store rest in
       let last : List Cell → Start → Repeat → Option ℕ → Step = λ left when how priority. steps.acts (action.Activate number when how priority) f lower left in
       let go : List Cell → List Cell → Step = λ values left. started form values f lower (λ when more.
-          repeated how more f lower (λ how rest. with_priority given rest f lower (last left when how))) in
+      repeated how more f lower (λ how rest. with_priority given rest f lower (last left when how))) in
       let all = ws ++ (ps ++ us) in
       let count = activation_count (record { task = number; start = form; repeat = how; priority = given }) in
       let lengths = length-append ws (ps ++ us) in let lengths_behind = length-append ps us in

@@ -142,6 +142,7 @@ module _ (o : Object) (c : Context) where
           (otherwise (record { task = task; frames = cells ∷ more }) rest) (there.over (record { task = task; frames = cells ∷ more }) rest of)
       either false frames task cells more rest of = goes_meets o c end frames (at c (place + 1) operands (record { task = task; frames = cells ∷ more })) rest
           (does (record { task = task; frames = cells ∷ more }) rest) (here.over (record { task = task; frames = cells ∷ more }) rest of)
+
       jumped : (x : Cell) (frames : List Frame) (task : ℕ) (cells : List Cell) (more : List (List Cell)) (rest : List Answer) → IsStoreOf o c (record { task = task; frames = cells ∷ more }) →
           RowMeets o c end frames (jump_zero other (frame_at c place (x ∷ operands) cells) (stack c.callers more) operands x) rest
           ((if holds x then does else otherwise) (record { task = task; frames = cells ∷ more }) rest)

@@ -356,8 +356,8 @@ module _ (expressions : ExpressionsCarry) (gets_carry : GetsCarry) (o : Object) 
     stmt_carries (OfCase selector alternatives otherwise) around placed leave out from to leads is less code =
         let place = code.0 in let end = code.1 in let targets = code.2 in
         let other : Carries o c (Ends to out) (at c (place + 1) []) (exec_all setting otherwise) =
-            ends_on o c out setting.result (at c (place + 1) []) end to (exec_all setting otherwise) code.6
-            (stmts_carry otherwise around placed leave out (place + 1) end leads is.2 (omega (arith, less)) code.5) in
+        ends_on o c out setting.result (at c (place + 1) []) end to (exec_all setting otherwise) code.6
+        (stmts_carry otherwise around placed leave out (place + 1) end leads is.2 (omega (arith, less)) code.5) in
         bind_carries o c (on_top c place []) (Ends to out) (at c from []) (eval setting selector)
         (λ x. selected o c out setting.result x (λ n. exec_nth setting alternatives n (exec_all setting otherwise)) (exec_all setting otherwise))
         (values around placed selector from place [] (of_fixed is.0.0, is.0.1, omega (arith, less)) code.3) (λ x of.
