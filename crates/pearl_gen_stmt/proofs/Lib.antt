@@ -1,0 +1,15 @@
+pub mod Single
+pub mod Flows
+pub mod Renewals
+pub mod Counters
+pub mod Turning
+pub mod Transfers
+pub mod Schedules
+pub mod Statements
+pub mod Gets
+pub mod Procedures
+pub mod Named
+pub mod Tasks
+pub mod Heard
+pub mod Offering
+mod Example

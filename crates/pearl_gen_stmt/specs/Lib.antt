@@ -1,0 +1,8 @@
+-- which code stands for a statement
+pub mod StmtCode
+-- what the code of statements does
+pub mod Laws
+-- which objects a program becomes, and that their code does what its tasks mean
+pub mod Generated
+-- which action code offers over some answers
+pub mod Offering
