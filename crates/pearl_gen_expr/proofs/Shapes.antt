@@ -1,5 +1,5 @@
 -- Parts of the code in which no rule fails, one behind the other.
-use Rattle.std.proofs.Common.{◌≡◌, ◌⊎◌, inl, inr, ℕ, suc, ◌+◌, ◌<◌, ◌≤◌, Bool, true, false, List, [], Option, Some, None, slice_get, length, refl, sym, ap, ◌∙◌, subst, arith, eq-eqb, ltb-true, ltb-false, ◌∷◌}
+use Rattle.std.proofs.Common.{◌≡◌, ℕ, suc, ◌+◌, ◌<◌, ◌≤◌, Bool, true, false, [], Option, Some, None, slice_get, length, refl, sym, ap, ◌∙◌, subst, arith, eq-eqb, ltb-true, ltb-false, ◌∷◌}
 use Rattle.std.specs.List.{list_all}
 use Rattle.pearl_value.specs.declared.kind.Kind.{Kind}
 use Rattle.pearl_value.specs.declared.kind.Kind.TheVariants as kind
@@ -13,7 +13,7 @@ use Rattle.pearl_instructions.specs.Operands.{Shape, asked, same_kind, same_cell
 use Rattle.pearl_instructions.specs.Named.{v1}
 use Rattle.pearl_instructions.specs.Kinds.{v3, v4, v5, shape_after}
 use Rattle.pearl_instructions.specs.Valid.{goes_on, targets, is_named, stated, passed_on, shape_or, shape_before, v6, v7, v8, v10, v11, v12, keep, judged, judged_at, is_turn}
-use Rattle.pearl_gen_expr.specs.Shapes.{IsQuiet, AreQuiet, Keeps}
+use Rattle.pearl_gen_expr.specs.Shapes.{IsQuiet, Keeps}
 
 -- the rules that are asked of an instruction alone
 pub record Fits (o : Object) (r : ℕ) (code : Code) (instr : Instr) (s : Shape) : Type 0 where
@@ -52,11 +52,11 @@ same_kind_self (kind.Chars a) = eq-eqb a a refl
 same_kind_self kind.Clock = refl
 same_kind_self kind.Span = refl
 
-same_cell_self : (k : CellKind) → same_cell k k ≡ true
+pub same_cell_self : (k : CellKind) → same_cell k k ≡ true
 same_cell_self (Plain a) = same_kind_self a
 same_cell_self (RefTo a) = same_kind_self a
 
-and_is : (a b : Bool) → a ≡ true → b ≡ true → a && b ≡ true
+pub and_is : (a b : Bool) → a ≡ true → b ≡ true → a && b ≡ true
 and_is true b e f = f
 and_is false b e f = cc
 
