@@ -1,0 +1,67 @@
+-- An action is offered soon.
+use Rattle.std.proofs.Common.{◌≡◌, inl, inr, ℕ, zero, suc, ◌+◌, ◌<◌, List, length, refl, sym, ap, ◌∙◌, subst, arith}
+use Rattle.pearl_rules.specs.declared.action.Action.TheVariants.{End}
+use Rattle.pearl_rules.specs.Runs as runs
+use Rattle.pearl_stack.specs.Frames.{Frame}
+use Rattle.pearl_instructions.specs.declared.object.Object.{Object}
+use Rattle.pearl_instructions.specs.Laws as instructions
+use Rattle.pearl_instructions.specs.Rows.{row, begun}
+use Rattle.pearl_instructions.specs.Stacks.{Then, OffersWithin}
+use Rattle.pearl_instructions.specs.Steps.{Step, Silent, Offers, Missing}
+use Rattle.pearl_engine.specs.Engines.{stepped_by, total_rows}
+use Rattle.pearl_engine.specs.Owners.{HasNone, one_more, silent_rows}
+use Rattle.pearl_engine.specs.Laws.{OffersSoon}
+use Rattle.pearl_engine.proofs.Stands.{silent_is, task_there}
+
+-- fewer rows are silent than come up to the one that offers
+few : (o : Object) (n : ℕ) (frames : List Frame) → OffersWithin o n frames → silent_rows o n frames < n
+few o zero frames h = absurd h
+few o (suc n) frames h = by (row o frames) h (few o n)
+  where
+    by : (step : Step) → Then (OffersWithin o n) step → ((frames : List Frame) → OffersWithin o n frames → silent_rows o n frames < n) → one_more (silent_rows o n) step < suc n
+    by (Silent next) h go = let less = go next h in omega (arith, less)
+    by (Offers action go') h go = omega arith
+    by Missing h go = absurd h
+
+-- and looking further finds no more
+stable : (o : Object) (n : ℕ) (frames : List Frame) → OffersWithin o n frames → silent_rows o (suc n) frames ≡ silent_rows o n frames
+stable o zero frames h = absurd h
+stable o (suc n) frames h = by (row o frames) h (stable o n)
+  where
+    by : (step : Step) → Then (OffersWithin o n) step → ((frames : List Frame) → OffersWithin o n frames → silent_rows o (suc n) frames ≡ silent_rows o n frames) →
+        one_more (silent_rows o (suc n)) step ≡ one_more (silent_rows o n) step
+    by (Silent next) h go = ap suc (go next h)
+    by (Offers action go') h go = refl
+    by Missing h go = refl
+
+fall : (o : Object) (n : ℕ) (frames next : List Frame) → OffersWithin o n frames → row o frames ≡ Silent next → silent_rows o n next < silent_rows o n frames
+fall o zero frames next h e = absurd h
+fall o (suc n) frames next h e =
+    let within : OffersWithin o n next = subst (Then (OffersWithin o n)) e h in
+    let here : silent_rows o (suc n) frames ≡ suc (silent_rows o n next) = ap (one_more (silent_rows o n)) e in
+    let there = stable o n next within in
+    omega (arith, here, there)
+
+none_left : (o : Object) (n t : ℕ) (frames : List Frame) → 0 < n → HasNone o t frames → silent_rows o n frames < n
+none_left o zero t frames some none = absurd (omega (arith, some))
+none_left o (suc n) t frames some none = let here : silent_rows o (suc n) frames ≡ 0 = ap (one_more (silent_rows o n)) none.missing in omega (arith, here)
+
+some_left : (o : Object) (n : ℕ) (frames : List Frame) → OffersWithin o n frames → 0 < n
+some_left o zero frames h = absurd h
+some_left o (suc n) frames h = omega arith
+
+pub soon : instructions.Begins → instructions.OffersSoon → OffersSoon
+soon begins law o valid lawful some =
+    let code = task_there o 0 some in
+    let first = begins o (length o.procedures + 0) code.0 valid lawful (omega arith) code.1 in
+    let rows : 0 < total_rows o = some_left o (total_rows o) (begun o (length o.procedures + 0)) (law o valid lawful (begun o (length o.procedures + 0)) first) in
+    record {
+      bounded = λ t heard frames stands. elim stands [
+        | inl s ↦ few o (total_rows o) frames (law o valid lawful frames s.stack)
+        | inr none ↦ none_left o (total_rows o) t frames rows none
+      ];
+      falls = λ t heard frames next stands e. elim stands [
+        | inl s ↦ fall o (total_rows o) frames next (law o valid lawful frames s.stack) (silent_is (row o frames) next e)
+        | inr none ↦ let no : runs.Offers End ≡ runs.Silent next = ap stepped_by (sym none.missing) ∙ e in cc
+      ];
+    }
