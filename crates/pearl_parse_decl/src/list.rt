@@ -103,6 +103,8 @@ pub fn list<P: Readable>(
     })
 }
 
+// A list in brackets has room 9 in place of 16: the opening bracket pays for eight tokens, and one more closes the list.
+
 /// `"(" part { "," part } ")"`
 pub fn bracketed<P: Readable>(
     alloc: Global,
