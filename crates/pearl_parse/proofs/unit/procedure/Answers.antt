@@ -47,9 +47,9 @@ returns-in_err-block-clause-least c =
     let second = c.returns-returns.ensures in
     let stop = c.max.result in
     let at_0 = past_params tokens from few c.args.name c.requires.name (omega (arith, c.requires.within)) c.requires.colon (omega (arith, c.requires.within)) c.requires.within c.requires.word params.part.items params.end params.stop first.spells
-        (omega (arith, first.ahead)) (omega (arith, first.ahead)) (omega (arith, first.ahead)) first.least in
+    (omega (arith, first.ahead)) (omega (arith, first.ahead)) (omega (arith, first.ahead)) first.least in
     let at = past_returns tokens from few params.end params.stop (omega (arith, first.ahead)) at_0 returns.part returns.end returns.stop stop second.spells (omega (arith, second.ahead)) (omega (arith, second.ahead))
-        (omega (arith, first.ahead, second.ahead, c.max.ensures)) second.least c.max.ensures in
+    (omega (arith, first.ahead, second.ahead, c.max.ensures)) second.least c.max.ensures in
     handed_in 24 SpellsDecl tokens from 0 _ c.in_err-block.field-0.0 c.from_residual.result c.from_residual.ensures (λ e is. is) (omega arith)
     (unit_halts tokens from few returns.end stop (omega (arith, first.ahead, second.ahead)) at c.in_err-block.field-0.0 c.in_err-block.ensures.least)
 
@@ -64,9 +64,9 @@ returns-clause-least c =
     let second = c.returns-returns.ensures in
     let stop = c.max.result in
     let at_0 = past_params tokens from few c.args.name c.requires.name (omega (arith, c.requires.within)) c.requires.colon (omega (arith, c.requires.within)) c.requires.within c.requires.word params.part.items params.end params.stop first.spells
-        (omega (arith, first.ahead)) (omega (arith, first.ahead)) (omega (arith, first.ahead)) first.least in
+    (omega (arith, first.ahead)) (omega (arith, first.ahead)) (omega (arith, first.ahead)) first.least in
     let at = past_returns tokens from few params.end params.stop (omega (arith, first.ahead)) at_0 returns.part returns.end returns.stop stop second.spells (omega (arith, second.ahead)) (omega (arith, second.ahead))
-        (omega (arith, first.ahead, second.ahead, c.max.ensures)) second.least c.max.ensures in
+    (omega (arith, first.ahead, second.ahead, c.max.ensures)) second.least c.max.ensures in
     let block = c.in_ok-block.block in
     let last = c.in_ok-block.ensures in
     unit_goes tokens from few returns.end stop (omega (arith, first.ahead, second.ahead)) at block.part block.end block.stop last.spells (omega (arith, last.bounds)) (omega (arith, last.bounds)) (omega (arith, last.bounds)) last.least

@@ -40,7 +40,7 @@ returns-in_err-block-clause-least c =
     let head = c.task_head-head.result in
     let read = c.task_head-head.ensures in
     let at = past_head tokens from few c.args.name c.requires.name (omega (arith, c.requires.within)) c.requires.colon (omega (arith, c.requires.within)) c.requires.within c.requires.word head.part head.end head.stop read.spells
-        (omega (arith, read.ahead)) (omega (arith, read.ahead)) (omega (arith, read.ahead)) read.least in
+    (omega (arith, read.ahead)) (omega (arith, read.ahead)) (omega (arith, read.ahead)) read.least in
     handed_in 24 SpellsDecl tokens from 0 _ c.in_err-block.field-0.0 c.from_residual.result c.from_residual.ensures (λ e is. is) (omega arith)
     (unit_halts tokens from few head.end head.stop (omega (arith, read.ahead)) at c.in_err-block.field-0.0 c.in_err-block.ensures.least)
 
@@ -52,7 +52,7 @@ returns-clause-least c =
     let head = c.task_head-head.result in
     let read = c.task_head-head.ensures in
     let at = past_head tokens from few c.args.name c.requires.name (omega (arith, c.requires.within)) c.requires.colon (omega (arith, c.requires.within)) c.requires.within c.requires.word head.part head.end head.stop read.spells
-        (omega (arith, read.ahead)) (omega (arith, read.ahead)) (omega (arith, read.ahead)) read.least in
+    (omega (arith, read.ahead)) (omega (arith, read.ahead)) (omega (arith, read.ahead)) read.least in
     let block = c.in_ok-block.block in
     let last = c.in_ok-block.ensures in
     unit_goes tokens from few head.end head.stop (omega (arith, read.ahead)) at block.part block.end block.stop last.spells (omega (arith, last.bounds)) (omega (arith, last.bounds)) (omega (arith, last.bounds)) last.least
