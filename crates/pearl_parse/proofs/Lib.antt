@@ -38,3 +38,4 @@ pub mod TransferLeast
 pub mod RepeatedLeast
 pub mod StatementLeast
 pub mod UnitLeast
+pub mod SystemLeast

@@ -9,7 +9,7 @@ use Rattle.pearl_tree.specs.declared.tree.ModuleName.{ModuleName}
 use Rattle.pearl_tree.specs.declared.tree.Tree.{Tree}
 use Rattle.pearl_tree.specs.declared.token.What.{What}
 use Rattle.pearl_tree.specs.declared.token.Token.{Token}
-use Rattle.pearl_tree.specs.Standing.{Spelling, what_at, HasWord, HasSymbol, SpellsSymbolFlag}
+use Rattle.pearl_tree.specs.Standing.{Spelling, what_at, HasWord, HasSymbol, SpellsSymbolFlag, SpellsMaybe}
 use Rattle.pearl_tree.specs.Declarations.{SpellsDevice}
 use Rattle.pearl_tree.specs.Modules.{SpellsDecl, SpellsModuleName, SpellsSystem, SpellsTree}
 use Rattle.pearl_tables.specs.declared.symbol.TheConstants as s
@@ -44,6 +44,12 @@ SpellsOptionalSystem = SpellsOptional (is_word w.SYSTEM) SpellsSystem
 abbrev pub SpellsOpening : List Token → Spelling (Option (Parts Device))
 SpellsOpening tokens from system to =
     (m : ℕ) × SpellsOptionalSystem tokens from system m × HasWord tokens m w.PROBLEM ×
+    HasSymbol tokens (m + 1) s.SEMICOLON × (to ≡ m + 2)
+
+-- the same, where a system part that is missing says nothing of the token there
+abbrev pub SpellsOpened : List Token → Spelling (Option (Parts Device))
+SpellsOpened tokens from system to =
+    (m : ℕ) × SpellsMaybe (SpellsSystem tokens) from system m × HasWord tokens m w.PROBLEM ×
     HasSymbol tokens (m + 1) s.SEMICOLON × (to ≡ m + 2)
 
 -- MODEND [ ";" ], and no token behind it
