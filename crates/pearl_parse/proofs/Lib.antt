@@ -39,3 +39,4 @@ pub mod RepeatedLeast
 pub mod StatementLeast
 pub mod UnitLeast
 pub mod SystemLeast
+pub mod ModuleLeast

@@ -40,6 +40,12 @@ SpellsHead tokens from name to =
 abbrev pub SpellsOptionalSystem : List Token → Spelling (Option (Parts Device))
 SpellsOptionalSystem = SpellsOptional (is_word w.SYSTEM) SpellsSystem
 
+-- MODULE [ "(" id ")" | id ] ";", where a name that is missing says nothing of the token there
+abbrev pub SpellsTitle : List Token → Spelling (Option ModuleName)
+SpellsTitle tokens from name to =
+    (m : ℕ) × HasWord tokens from w.MODULE × SpellsMaybe (SpellsModuleName tokens) (from + 1) name m ×
+    HasSymbol tokens m s.SEMICOLON × (to ≡ m + 1)
+
 -- [ SYSTEM ";" { device } ] PROBLEM ";"
 abbrev pub SpellsOpening : List Token → Spelling (Option (Parts Device))
 SpellsOpening tokens from system to =
@@ -56,6 +62,11 @@ SpellsOpened tokens from system to =
 abbrev pub SpellsEnding : List Token → Spelling Bool
 SpellsEnding tokens from semicolon to =
     HasWord tokens from w.MODEND × SpellsSymbolFlag tokens s.SEMICOLON (from + 1) semicolon to × (to ≡ length tokens)
+
+-- MODEND [ ";" ]
+abbrev pub SpellsClose : List Token → Spelling Bool
+SpellsClose tokens from semicolon to =
+    HasWord tokens from w.MODEND × SpellsSymbolFlag tokens s.SEMICOLON (from + 1) semicolon to
 
 -- no token
 abbrev pub is_end : Option What → Bool
