@@ -35,3 +35,8 @@ pub mod CallLeast
 pub mod ScheduleLeast
 pub mod LoopLeast
 pub mod TransferLeast
+pub mod RepeatedLeast
+pub mod StatementLeast
+pub mod UnitLeast
+pub mod SystemLeast
+pub mod ModuleLeast

@@ -1,9 +1,7 @@
 -- Which tokens the parts of statements depend on that are read for themselves: those before their end alone.
 use Rattle.std.proofs.Common.{◌≡◌, ℕ, ◌+◌, ◌<◌, List, ◌∙◌, arith}
-use Rattle.pearl_tree.specs.declared.statement.BodyDecl.{BodyDecl}
-use Rattle.pearl_tree.specs.declared.statement.Stmt.{Stmt}
 use Rattle.pearl_tree.specs.declared.token.Token.{Token}
-use Rattle.pearl_tree.specs.Standing.{Spelling, what_at, SpellsName, SpellsMaybe, SpellsEach}
+use Rattle.pearl_tree.specs.Standing.{Spelling, what_at, SpellsName, SpellsMaybe}
 use Rattle.pearl_tree.specs.Expressions.{SpellsWhole}
 use Rattle.pearl_tree.specs.Formats.{SpellsFmt}
 use Rattle.pearl_tree.specs.Statements.{SpellsAfter, SpellsFor, SpellsBodyDecl, SpellsStmt}
@@ -15,13 +13,8 @@ use Rattle.pearl_parse_decl.proofs.LocalLists as lists
 use Rattle.pearl_parse_decl.proofs.LocalDeclarations as declarations
 use Rattle.pearl_parse.specs.Stops.{SpellsBefore, SpellsNameList, SpellsFormats, SpellsStation}
 use Rattle.pearl_parse.specs.Calls.{SpellsArguments}
-use Rattle.pearl_parse.specs.Bodies.{SpellsStatements, SpellsCondition, SpellsHeads}
+use Rattle.pearl_parse.specs.Bodies.{SpellsStatements, SpellsInner, SpellsCondition, SpellsHeads}
 use Rattle.pearl_parse.proofs.LocalStatements.{after_keeps, maybe_list_keeps, for_keeps, body_declaration_keeps, stmt_keeps}
-
--- { DCL item { "," item } ";" } { stmt }: a body without its place, which the token behind an empty one has
-abbrev pub SpellsInner : ℕ → List Token → Spelling (List BodyDecl × List Stmt)
-SpellsInner depth tokens from inner to =
-    (m : ℕ) × SpellsEach (SpellsBodyDecl tokens) from inner.0 m × SpellsStatements depth tokens m inner.1 to
 
 module _ (tokens others : List Token) (k : ℕ) (alike : AlikeBefore tokens others k) where
   what : (j : ℕ) → j < k → what_at others j ≡ what_at tokens j

@@ -20,12 +20,13 @@ use Rattle.pearl_parse_expr.proofs.Trees.{parts_of}
 use Rattle.pearl_parse_decl.proofs.LocalLists.{after_of, each_long, list_long, maybe_bracketed_long}
 use Rattle.pearl_parse_decl.proofs.LocalLists as lists
 use Rattle.pearl_parse_decl.proofs.LocalDeclarations.{declared_keeps, spec_keeps, param_keeps, returns_keep}
+use Rattle.pearl_parse.specs.Bodies.{SpellsInner}
 use Rattle.pearl_parse.proofs.Steps.{Ends, Then}
 use Rattle.pearl_parse.proofs.Comes.{BehindWord, BehindSymbol, Maybe, Makes}
 use Rattle.pearl_parse.proofs.Made.{semicolon, word_within}
 use Rattle.pearl_parse.proofs.NestedRests.{closing_rest}
 use Rattle.pearl_parse.proofs.NestedMade.{body_made}
-use Rattle.pearl_parse.proofs.LocalRests.{SpellsInner, inner_keeps}
+use Rattle.pearl_parse.proofs.LocalRests.{inner_keeps}
 use Rattle.pearl_parse.proofs.LocalModules.{block_keeps, decl_keeps}
 
 one_long : {X : Type 0} (n : ℕ) (spells : Spelling X) → ((from : ℕ) (x : X) (to : ℕ) → spells from x to → from + (n + 1) ≤ to) →

@@ -16,13 +16,13 @@ use Rattle.pearl_parse_expr.proofs.Reaching.{placed, placed_within}
 use Rattle.pearl_parse_expr.proofs.Trees.{boxed, parts_of}
 use Rattle.pearl_parse_decl.proofs.LocalLists.{after_of, each_long}
 use Rattle.pearl_parse_decl.proofs.LocalLists as lists
-use Rattle.pearl_parse.specs.Bodies.{SpellsStatements, SpellsCondition, SpellsHeads}
+use Rattle.pearl_parse.specs.Bodies.{SpellsStatements, SpellsCondition, SpellsHeads, SpellsInner}
 use Rattle.pearl_parse.proofs.Steps.{Ends, Then}
 use Rattle.pearl_parse.proofs.Comes.{BehindWord, Maybe, Makes}
 use Rattle.pearl_parse.proofs.Made.{word_within}
 use Rattle.pearl_parse.proofs.NestedRests.{closing_rest, if_spelled, case_spelled, begin_spelled, repeat_spelled}
 use Rattle.pearl_parse.proofs.LocalStatements.{body_declaration_keeps, stmt_keeps, branch_keeps}
-use Rattle.pearl_parse.proofs.LocalRests.{SpellsInner, heads_keep, inner_keeps}
+use Rattle.pearl_parse.proofs.LocalRests.{heads_keep, inner_keeps}
 
 module _ (others : List Token) (depth : ℕ) where
   statements_long : (from : ℕ) (xs : List Stmt) (to : ℕ) → SpellsStatements depth others from xs to → from + length xs ≤ to

@@ -20,13 +20,12 @@ use Rattle.pearl_parse_expr.proofs.Reaching.{placed, token_of}
 use Rattle.pearl_parse_expr.proofs.Trees.{parts_of}
 use Rattle.pearl_parse.specs.Stops.{SpellsFormats}
 use Rattle.pearl_parse.specs.Calls.{SpellsArguments}
-use Rattle.pearl_parse.specs.Bodies.{SpellsStatements}
+use Rattle.pearl_parse.specs.Bodies.{SpellsStatements, SpellsInner}
 use Rattle.pearl_parse.proofs.Steps.{Rest, Ends, Then}
 use Rattle.pearl_parse.proofs.Comes.{Fills, Behind, BehindWord, BehindSymbol, Maybe, ends_fill, fills_as, fills_token, fills_word, fills_symbol, fills_name, fills_maybe}
 use Rattle.pearl_parse.proofs.Made.{semicolon, station}
 use Rattle.pearl_parse.proofs.ScheduleMade.{After, activation, continuation, resumption}
 use Rattle.pearl_parse.proofs.NestedRests.{closing_rest}
-use Rattle.pearl_parse.proofs.LocalRests.{SpellsInner}
 
 module _ (n : ℕ) (rest : Rest) (fills : Fills n rest) where
   -- NOW, as the expression that is missing

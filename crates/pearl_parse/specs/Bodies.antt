@@ -55,6 +55,11 @@ SpellsBlock depth tokens from block to =
     (m : ℕ) × IsAt tokens from block.0 × SpellsEach (SpellsBodyDecl tokens) from block.1.0 m ×
     SpellsStatements depth tokens m block.1.1 to
 
+-- { DCL item { "," item } ";" } { stmt }: a body without its place, which the token behind an empty one has
+abbrev pub SpellsInner : ℕ → List Token → Spelling (List BodyDecl × List Stmt)
+SpellsInner depth tokens from inner to =
+    (m : ℕ) × SpellsEach (SpellsBodyDecl tokens) from inner.0 m × SpellsStatements depth tokens m inner.1 to
+
 -- word ";"
 abbrev pub SpellsClosing : ℕ → List Token → Spelling (Unit {0})
 SpellsClosing word tokens from _ to = HasWord tokens from word × HasSymbol tokens (from + 1) s.SEMICOLON × (to ≡ from + 2)

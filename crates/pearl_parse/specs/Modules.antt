@@ -9,7 +9,7 @@ use Rattle.pearl_tree.specs.declared.tree.ModuleName.{ModuleName}
 use Rattle.pearl_tree.specs.declared.tree.Tree.{Tree}
 use Rattle.pearl_tree.specs.declared.token.What.{What}
 use Rattle.pearl_tree.specs.declared.token.Token.{Token}
-use Rattle.pearl_tree.specs.Standing.{Spelling, what_at, HasWord, HasSymbol, SpellsSymbolFlag}
+use Rattle.pearl_tree.specs.Standing.{Spelling, what_at, HasWord, HasSymbol, SpellsSymbolFlag, SpellsMaybe}
 use Rattle.pearl_tree.specs.Declarations.{SpellsDevice}
 use Rattle.pearl_tree.specs.Modules.{SpellsDecl, SpellsModuleName, SpellsSystem, SpellsTree}
 use Rattle.pearl_tables.specs.declared.symbol.TheConstants as s
@@ -40,16 +40,33 @@ SpellsHead tokens from name to =
 abbrev pub SpellsOptionalSystem : List Token → Spelling (Option (Parts Device))
 SpellsOptionalSystem = SpellsOptional (is_word w.SYSTEM) SpellsSystem
 
+-- MODULE [ "(" id ")" | id ] ";", where a name that is missing says nothing of the token there
+abbrev pub SpellsTitle : List Token → Spelling (Option ModuleName)
+SpellsTitle tokens from name to =
+    (m : ℕ) × HasWord tokens from w.MODULE × SpellsMaybe (SpellsModuleName tokens) (from + 1) name m ×
+    HasSymbol tokens m s.SEMICOLON × (to ≡ m + 1)
+
 -- [ SYSTEM ";" { device } ] PROBLEM ";"
 abbrev pub SpellsOpening : List Token → Spelling (Option (Parts Device))
 SpellsOpening tokens from system to =
     (m : ℕ) × SpellsOptionalSystem tokens from system m × HasWord tokens m w.PROBLEM ×
     HasSymbol tokens (m + 1) s.SEMICOLON × (to ≡ m + 2)
 
+-- the same, where a system part that is missing says nothing of the token there
+abbrev pub SpellsOpened : List Token → Spelling (Option (Parts Device))
+SpellsOpened tokens from system to =
+    (m : ℕ) × SpellsMaybe (SpellsSystem tokens) from system m × HasWord tokens m w.PROBLEM ×
+    HasSymbol tokens (m + 1) s.SEMICOLON × (to ≡ m + 2)
+
 -- MODEND [ ";" ], and no token behind it
 abbrev pub SpellsEnding : List Token → Spelling Bool
 SpellsEnding tokens from semicolon to =
     HasWord tokens from w.MODEND × SpellsSymbolFlag tokens s.SEMICOLON (from + 1) semicolon to × (to ≡ length tokens)
+
+-- MODEND [ ";" ]
+abbrev pub SpellsClose : List Token → Spelling Bool
+SpellsClose tokens from semicolon to =
+    HasWord tokens from w.MODEND × SpellsSymbolFlag tokens s.SEMICOLON (from + 1) semicolon to
 
 -- no token
 abbrev pub is_end : Option What → Bool

@@ -6,7 +6,10 @@ ghost use Rattle.pearl_tree.specs.Statements.{SpellsBodyDecl, SpellsWholeBody};
 ghost use Rattle.pearl_tables.specs.declared.word_code.TheConstants as w;
 ghost use Rattle.pearl_parse_expr.specs.Stops.{IsLongest, IsOnly, IsAhead, IsHalted, is_word};
 ghost use Rattle.pearl_parse.specs.Stops.{StopsWithin};
-ghost use Rattle.pearl_parse.specs.Bodies.{extends_body};
+ghost use Rattle.pearl_parse_expr.specs.Least.{IsLeastIn};
+ghost use Rattle.pearl_parse.specs.Bodies.{extends_body, SpellsInner};
+ghost use Rattle.pearl_parse.specs.Reached.{IsLeastBehind};
+ghost use Rattle.pearl_tree.specs.declared.limit.TheConstants as limit;
 
 use crate::each::Repeated;
 use crate::statement::body;
@@ -29,6 +32,7 @@ fn body_declaration(alloc: Global, tokens: &[Token], from: usize) -> Result<Read
     ensures only { IfOk result (λ reading. IsOnly SpellsBodyDecl tokens.now from reading.end reading.stop) }
     ensures ahead { IfOk result (λ reading. IsAhead tokens.now from reading.end reading.stop) }
     ensures refused { IfErr result (λ halt. IsHalted SpellsBodyDecl tokens.now from halt) }
+    ensures least { IsLeastIn 24 SpellsBodyDecl tokens.now from result }
 {
     word(tokens, from, from, DCL)?;
     let items = list(alloc, tokens, from + 1)?;
@@ -62,6 +66,7 @@ pub fn whole_body(alloc: Global, tokens: &[Token], from: usize) -> Result<Readin
     ensures longest { IfOk result (λ reading. IsLongest SpellsWholeBody extends_body tokens.now from reading.end reading.stop) }
     ensures bounds { IfOk result (λ reading. StopsWithin tokens.now from from reading.end reading.stop) }
     ensures refused { IfErr result (λ halt. IsHalted SpellsWholeBody tokens.now from halt) }
+    ensures least { IsLeastBehind 24 (SpellsInner limit.NESTED_MAX) tokens.now from from result }
 {
     match body(alloc, tokens, from, from, NESTED_MAX) {
         Ok(read) => Ok(Reading {

@@ -6,6 +6,8 @@ ghost use Rattle.pearl_tree.specs.declared.token.What.{What};
 ghost use Rattle.pearl_tree.specs.Standing.{Spelling, SpellsEach, what_at};
 ghost use Rattle.pearl_parse_expr.specs.declared.reading.Halt.{Halt};
 ghost use Rattle.pearl_parse_expr.specs.Stops.{IsLongest, IsOnly, IsAhead, IsHalted};
+ghost use Rattle.pearl_parse_expr.specs.Least.{IsLeastIn};
+ghost use Rattle.pearl_parse_decl.specs.Readings.{IsSelfContained};
 ghost use Rattle.pearl_parse.specs.Stops as spec;
 
 use pearl_parse_expr::reading::{Halt, Reading, append};
@@ -26,7 +28,9 @@ pub trait Repeated: Drop {
         ensures spells { IfOk result (λ reading. spelling tokens.now from reading.part reading.end) }
         ensures only { IfOk result (λ reading. IsOnly spelling tokens.now from reading.end reading.stop) }
         ensures ahead { IfOk result (λ reading. IsAhead tokens.now from reading.end reading.stop) }
-        ensures refused { IfErr result (λ halt. IsHalted spelling tokens.now from halt) };
+        ensures refused { IfErr result (λ halt. IsHalted spelling tokens.now from halt) }
+        ensures least { IsLeastIn 24 spelling tokens.now from result }
+        ensures contained { IsSelfContained spelling };
 
     // Every part begins with such a token.
     ghost first: { (tokens : List Token) (from : ℕ) (x : Self) (to : ℕ) → spelling tokens from x to → begins (what_at tokens from) ≡ true };
@@ -43,6 +47,7 @@ pub fn each<P: Repeated>(
     ensures longest { IfOk result (λ reading. IsLongest (λ tokens. SpellsEach (P.spelling tokens)) P.begins tokens.now from reading.end reading.stop) }
     ensures bounds { IfOk result (λ reading. spec.StopsWithin tokens.now from from reading.end reading.stop) }
     ensures refused { IfErr result (λ halt. halt ≡ Halt.NoMemory) }
+    ensures least { IsLeastIn 24 (λ tokens. SpellsEach (P.spelling tokens)) tokens.now from result }
 {
     let mut list = Vec::new(alloc);
     let mut end = from;

@@ -1,9 +1,12 @@
 // Whole modules.
 
 ghost use Rattle.std.specs.Prelude.{◌≡◌, ◌≢◌, ◌+◌, ◌<◌, ◌≤◌, length, max, IfOk, IfErr, OnOk};
-ghost use Rattle.pearl_tree.specs.Modules.{Spells};
+ghost use Rattle.pearl_tree.specs.Standing.{SpellsMaybe};
+ghost use Rattle.pearl_tree.specs.Modules.{Spells, SpellsModuleName, SpellsTree};
 ghost use Rattle.pearl_parse_expr.specs.declared.reading.Halt.{Halt};
 ghost use Rattle.pearl_parse_expr.specs.Stops.{IsOnly, IsAhead, IsHalted};
+ghost use Rattle.pearl_parse_expr.specs.Least.{HaltsIn};
+ghost use Rattle.pearl_parse.specs.Reached.{HaltsBehind};
 ghost use Rattle.pearl_parse.specs.Stops as spec;
 ghost use Rattle.pearl_parse.specs.Modules as modules;
 
@@ -27,6 +30,7 @@ fn module_name(tokens: &[Token], from: usize) -> Result<Reading<Option<ModuleNam
     ensures bounds { IfOk result (λ reading. spec.StopsWithin tokens.now from from reading.end reading.stop) }
     ensures close { IfOk result (λ reading. reading.stop ≡ reading.end) }
     ensures refused { IfErr result (λ halt. IsHalted modules.SpellsOptionalName tokens.now from halt) }
+    ensures least { IfErr result (λ halt. HaltsIn 16 (λ tokens. SpellsMaybe (SpellsModuleName tokens)) tokens.now from halt) }
     ensures memory { IfErr result (λ halt. halt ≢ Halt.NoMemory) }
 {
     if is_symbol(tokens, from, LEFT_ROUND) {
@@ -60,6 +64,7 @@ fn head(tokens: &[Token], from: usize) -> Result<Reading<Option<ModuleName>>, Ha
     ensures ahead { IfOk result (λ reading. IsAhead tokens.now from reading.end reading.stop) }
     ensures close { IfOk result (λ reading. reading.stop ≡ reading.end) }
     ensures refused { IfErr result (λ halt. IsHalted modules.SpellsHead tokens.now from halt) }
+    ensures least { IfErr result (λ halt. HaltsIn 16 modules.SpellsTitle tokens.now from halt) }
     ensures memory { IfErr result (λ halt. halt ≢ Halt.NoMemory) }
 {
     word(tokens, from, from, MODULE)?;
@@ -90,6 +95,7 @@ fn ending(tokens: &[Token], from: usize, least_stop: usize) -> Result<bool, Halt
     ensures spells { IfOk result (λ semicolon. modules.SpellsEnding tokens.now from semicolon (length tokens.now)) }
     ensures within { IfOk result (λ _. from < length tokens.now) }
     ensures refused { IfErr result (λ halt. spec.IsStopped modules.SpellsEnding tokens.now from least_stop halt) }
+    ensures least { IfErr result (λ halt. HaltsBehind 8 modules.SpellsClose tokens.now from least_stop halt) }
     ensures memory { IfErr result (λ halt. halt ≢ Halt.NoMemory) }
 {
     word(tokens, from, least_stop, MODEND)?;
@@ -106,6 +112,7 @@ fn ending(tokens: &[Token], from: usize, least_stop: usize) -> Result<bool, Halt
 pub fn module(alloc: Global, tokens: &[Token]) -> Result<Tree, Halt>
     ensures spells { IfOk result (λ tree. Spells tree tokens.now) }
     ensures refused { IfErr result (λ halt. IsHalted modules.SpellsSource tokens.now 0 halt) }
+    ensures least { IfErr result (λ halt. HaltsIn 24 SpellsTree tokens.now 0 halt) }
 {
     let head = head(tokens, 0)?;
     let opening = opening(alloc, tokens, head.end)?;

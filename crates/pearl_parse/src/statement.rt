@@ -7,7 +7,9 @@ ghost use Rattle.pearl_tables.specs.declared.word_code.TheConstants as w;
 ghost use Rattle.pearl_parse_expr.specs.declared.reading.Halt.{Halt};
 ghost use Rattle.pearl_parse_expr.specs.Stops.{IsLongest, IsOnly, IsAhead, IsHalted};
 ghost use Rattle.pearl_parse.specs.Stops as spec;
+ghost use Rattle.pearl_parse_expr.specs.Least.{IsLeastIn};
 ghost use Rattle.pearl_parse.specs.Bodies as bodies;
+ghost use Rattle.pearl_parse.specs.Reached.{IsLeastBehind};
 
 use crate::each::each;
 use crate::first::{First, first_at};
@@ -37,6 +39,7 @@ fn statements(
     ensures longest { IfOk result (λ reading. IsLongest (bodies.SpellsStatements depth) spec.begins_statement tokens.now from reading.end reading.stop) }
     ensures bounds { IfOk result (λ reading. spec.StopsWithin tokens.now from least_stop reading.end reading.stop) }
     ensures refused { IfErr result (λ halt. halt ≡ Halt.NoMemory) }
+    ensures least { IsLeastBehind 24 (bodies.SpellsStatements depth) tokens.now from least_stop result }
 {
     let mut list = Vec::new(alloc);
     let mut end = from;
@@ -79,6 +82,7 @@ fn branch(
     ensures longest { IfOk result (λ reading. IsLongest (bodies.SpellsHeaded depth word) spec.begins_statement tokens.now from reading.end reading.stop) }
     ensures bounds { IfOk result (λ reading. spec.StopsWithin tokens.now (from + 1) least_stop reading.end reading.stop) }
     ensures refused { IfErr result (λ halt. halt ≡ Halt.NoMemory) }
+    ensures least { IsLeastBehind 24 (λ tokens. SpellsBranch tokens depth word) tokens.now from least_stop result }
 {
     match statements(alloc, tokens, from + 1, least_stop.max(from + 1), depth) {
         Ok(statements) => Ok(Reading {
@@ -108,6 +112,7 @@ fn maybe_branch(
     ensures longest { IfOk result (λ reading. IsLongest (bodies.SpellsOptionalHeaded depth word) spec.begins_statement tokens.now from reading.end reading.stop) }
     ensures bounds { IfOk result (λ reading. spec.StopsWithin tokens.now from least_stop reading.end reading.stop) }
     ensures refused { IfErr result (λ halt. halt ≡ Halt.NoMemory) }
+    ensures least { IsLeastBehind 24 (λ tokens. SpellsMaybe (SpellsBranch tokens depth word)) tokens.now from least_stop result }
 {
     if !is_word(tokens, from, word) {
         return Ok(Reading {
@@ -140,6 +145,7 @@ fn alternatives(
     ensures longest { IfOk result (λ reading. IsLongest (bodies.SpellsChoices depth) bodies.extends_alternatives tokens.now from reading.end reading.stop) }
     ensures bounds { IfOk result (λ reading. spec.StopsWithin tokens.now from least_stop reading.end reading.stop) }
     ensures refused { IfErr result (λ halt. spec.IsStopped (bodies.SpellsChoices depth) tokens.now from least_stop halt) }
+    ensures least { IsLeastBehind 24 (λ tokens. SpellsSome (SpellsBranch tokens depth w.ALT)) tokens.now from least_stop result }
 {
     if !is_word(tokens, from, ALT) {
         return Err(Halt::Refused(least_stop));
@@ -173,6 +179,7 @@ fn if_(alloc: Global, tokens: &[Token], from: usize, depth: u8) -> Result<Readin
     ensures only { IfOk result (λ reading. IsOnly (λ tokens. SpellsStmt tokens depth) tokens.now from reading.end reading.stop) }
     ensures ahead { IfOk result (λ reading. IsAhead tokens.now from reading.end reading.stop) }
     ensures refused { IfErr result (λ halt. IsHalted (λ tokens. SpellsStmt tokens depth) tokens.now from halt) }
+    ensures least { IsLeastIn 24 (λ tokens. SpellsStmt tokens depth) tokens.now from result }
 {
     if depth == 0 {
         return Err(Halt::Refused(from));
@@ -210,6 +217,7 @@ fn case(alloc: Global, tokens: &[Token], from: usize, depth: u8) -> Result<Readi
     ensures only { IfOk result (λ reading. IsOnly (λ tokens. SpellsStmt tokens depth) tokens.now from reading.end reading.stop) }
     ensures ahead { IfOk result (λ reading. IsAhead tokens.now from reading.end reading.stop) }
     ensures refused { IfErr result (λ halt. IsHalted (λ tokens. SpellsStmt tokens depth) tokens.now from halt) }
+    ensures least { IsLeastIn 24 (λ tokens. SpellsStmt tokens depth) tokens.now from result }
 {
     if depth == 0 {
         return Err(Halt::Refused(from));
@@ -252,6 +260,7 @@ pub fn body(
     ensures longest { IfOk result (λ reading. IsLongest (bodies.SpellsBlock depth) bodies.extends_body tokens.now from reading.end reading.stop) }
     ensures bounds { IfOk result (λ reading. spec.StopsWithin tokens.now from least_stop reading.end reading.stop) }
     ensures refused { IfErr result (λ halt. spec.IsStopped (bodies.SpellsBlock depth) tokens.now from least_stop halt) }
+    ensures least { IsLeastBehind 24 (bodies.SpellsInner depth) tokens.now from least_stop result }
 {
     if from == tokens.len() {
         return Err(Halt::Refused(least_stop));
@@ -279,6 +288,7 @@ fn repeat(alloc: Global, tokens: &[Token], from: usize, depth: u8) -> Result<Rea
     ensures only { IfOk result (λ reading. IsOnly (λ tokens. SpellsStmt tokens depth) tokens.now from reading.end reading.stop) }
     ensures ahead { IfOk result (λ reading. IsAhead tokens.now from reading.end reading.stop) }
     ensures refused { IfErr result (λ halt. IsHalted (λ tokens. SpellsStmt tokens depth) tokens.now from halt) }
+    ensures least { IsLeastIn 24 (λ tokens. SpellsStmt tokens depth) tokens.now from result }
 {
     if depth == 0 {
         return Err(Halt::Refused(from));
@@ -311,6 +321,7 @@ fn begin(alloc: Global, tokens: &[Token], from: usize, depth: u8) -> Result<Read
     ensures only { IfOk result (λ reading. IsOnly (λ tokens. SpellsStmt tokens depth) tokens.now from reading.end reading.stop) }
     ensures ahead { IfOk result (λ reading. IsAhead tokens.now from reading.end reading.stop) }
     ensures refused { IfErr result (λ halt. IsHalted (λ tokens. SpellsStmt tokens depth) tokens.now from halt) }
+    ensures least { IsLeastIn 24 (λ tokens. SpellsStmt tokens depth) tokens.now from result }
 {
     if depth == 0 {
         return Err(Halt::Refused(from));
@@ -341,6 +352,7 @@ pub fn statement(
     ensures only { IfOk result (λ reading. IsOnly (λ tokens. SpellsStmt tokens depth) tokens.now from reading.end reading.stop) }
     ensures ahead { IfOk result (λ reading. IsAhead tokens.now from reading.end reading.stop) }
     ensures refused { IfErr result (λ halt. IsHalted (λ tokens. SpellsStmt tokens depth) tokens.now from halt) }
+    ensures least { IsLeastIn 24 (λ tokens. SpellsStmt tokens depth) tokens.now from result }
 {
     let first = match first_at(tokens, from) {
         Some(first) => first,

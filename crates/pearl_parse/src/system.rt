@@ -1,11 +1,12 @@
 // The system part of a module.
 
 ghost use Rattle.std.specs.Prelude.{◌≡◌, ◌+◌, ◌<◌, ◌≤◌, length, IfOk, IfErr};
-ghost use Rattle.pearl_tree.specs.Standing.{HasWord};
+ghost use Rattle.pearl_tree.specs.Standing.{HasWord, SpellsMaybe};
 ghost use Rattle.pearl_tree.specs.Declarations.{SpellsDevice};
 ghost use Rattle.pearl_tree.specs.Modules.{SpellsSystem};
 ghost use Rattle.pearl_tables.specs.declared.word_code.TheConstants as w;
 ghost use Rattle.pearl_parse_expr.specs.Stops.{IsLongest, IsOnly, IsAhead, IsHalted, is_name};
+ghost use Rattle.pearl_parse_expr.specs.Least.{IsLeastIn};
 ghost use Rattle.pearl_parse.specs.Stops as spec;
 ghost use Rattle.pearl_parse.specs.Modules as modules;
 
@@ -41,6 +42,7 @@ fn system(alloc: Global, tokens: &[Token], from: usize) -> Result<Reading<Parts<
     ensures longest { IfOk result (λ reading. IsLongest SpellsSystem is_name tokens.now from reading.end reading.stop) }
     ensures ahead { IfOk result (λ reading. IsAhead tokens.now from reading.end reading.stop) }
     ensures refused { IfErr result (λ halt. IsHalted SpellsSystem tokens.now from halt) }
+    ensures least { IsLeastIn 16 SpellsSystem tokens.now from result }
 {
     symbol(tokens, from + 1, from, SEMICOLON)?;
     match each(alloc, tokens, from + 2) {
@@ -64,6 +66,7 @@ fn maybe_system(
     ensures longest { IfOk result (λ reading. IsLongest modules.SpellsOptionalSystem is_name tokens.now from reading.end reading.stop) }
     ensures bounds { IfOk result (λ reading. spec.StopsWithin tokens.now from from reading.end reading.stop) }
     ensures refused { IfErr result (λ halt. IsHalted modules.SpellsOptionalSystem tokens.now from halt) }
+    ensures least { IsLeastIn 16 (λ tokens. SpellsMaybe (SpellsSystem tokens)) tokens.now from result }
 {
     if !is_word(tokens, from, SYSTEM) {
         return Ok(Reading {
@@ -93,6 +96,7 @@ pub fn opening(
     ensures only { IfOk result (λ reading. IsOnly modules.SpellsOpening tokens.now from reading.end reading.stop) }
     ensures ahead { IfOk result (λ reading. IsAhead tokens.now from reading.end reading.stop) }
     ensures refused { IfErr result (λ halt. IsHalted modules.SpellsOpening tokens.now from halt) }
+    ensures least { IsLeastIn 24 modules.SpellsOpened tokens.now from result }
 {
     let system = maybe_system(alloc, tokens, from)?;
     word(tokens, system.end, system.stop, PROBLEM)?;

@@ -6,6 +6,7 @@ ghost use Rattle.pearl_tree.specs.Modules.{SpellsDecl};
 ghost use Rattle.pearl_tables.specs.declared.symbol.TheConstants as s;
 ghost use Rattle.pearl_tables.specs.declared.word_code.TheConstants as w;
 ghost use Rattle.pearl_parse_expr.specs.Stops.{IsOnly, IsAhead, IsHalted};
+ghost use Rattle.pearl_parse_expr.specs.Least.{IsLeastIn};
 ghost use Rattle.pearl_parse.specs.Modules as modules;
 
 use crate::block::block;
@@ -34,6 +35,7 @@ fn task(alloc: Global, tokens: &[Token], from: usize, name: Name) -> Result<Read
     ensures only { IfOk result (λ reading. IsOnly SpellsDecl tokens.now from reading.end reading.stop) }
     ensures ahead { IfOk result (λ reading. IsAhead tokens.now from reading.end reading.stop) }
     ensures refused { IfErr result (λ halt. IsHalted SpellsDecl tokens.now from halt) }
+    ensures least { IsLeastIn 24 SpellsDecl tokens.now from result }
 {
     let head = task_head(tokens, from + 3);
     let block = block(alloc, tokens, head.end, head.stop)?;
@@ -65,6 +67,7 @@ fn procedure(
     ensures only { IfOk result (λ reading. IsOnly SpellsDecl tokens.now from reading.end reading.stop) }
     ensures ahead { IfOk result (λ reading. IsAhead tokens.now from reading.end reading.stop) }
     ensures refused { IfErr result (λ halt. IsHalted SpellsDecl tokens.now from halt) }
+    ensures least { IsLeastIn 24 SpellsDecl tokens.now from result }
 {
     let params = match maybe_bracketed(alloc, tokens, from + 3) {
         Ok(params) => params,
@@ -93,6 +96,7 @@ fn unit(alloc: Global, tokens: &[Token], from: usize, name: Name) -> Result<Read
     ensures only { IfOk result (λ reading. IsOnly SpellsDecl tokens.now from reading.end reading.stop) }
     ensures ahead { IfOk result (λ reading. IsAhead tokens.now from reading.end reading.stop) }
     ensures refused { IfErr result (λ halt. IsHalted SpellsDecl tokens.now from halt) }
+    ensures least { IsLeastIn 24 SpellsDecl tokens.now from result }
 {
     symbol(tokens, from + 1, from, COLON)?;
     if is_word(tokens, from + 2, TASK) {
@@ -109,6 +113,7 @@ pub fn declaration(alloc: Global, tokens: &[Token], from: usize) -> Result<Readi
     ensures only { IfOk result (λ reading. IsOnly SpellsDecl tokens.now from reading.end reading.stop) }
     ensures ahead { IfOk result (λ reading. IsAhead tokens.now from reading.end reading.stop) }
     ensures refused { IfErr result (λ halt. IsHalted SpellsDecl tokens.now from halt) }
+    ensures least { IsLeastIn 24 SpellsDecl tokens.now from result }
 {
     if is_word(tokens, from, LENGTH) {
         return length_of(tokens, from);

@@ -1,4 +1,4 @@
-use Rattle.std.proofs.Common.{◌+◌, sym, ap, subst, arith}
+use Rattle.std.proofs.Common.{◌+◌, sym, ap, subst, ◌<◌, ◌^◌, length, rules, ◌≤◌, arith}
 use Rattle.pearl_tree.specs.Statements.{SpellsWholeBody}
 use Rattle.pearl_tree.specs.Modules.{SpellsBlock}
 use Rattle.pearl_tables.specs.declared.symbol.TheConstants as s
@@ -8,6 +8,9 @@ use Rattle.pearl_parse.specs.Stops.{IsStopped}
 use Rattle.pearl_parse_decl.specs.Readings.{behind}
 use Rattle.pearl_parse.proofs.Steps.{err_told, missing_behind, no_part_behind, ends}
 use Rattle.pearl_parse.proofs.BlockRests.{end_rest, opened_rest, opened_goes, body_goes, end_goes, behind_is_stopped}
+use Rattle.pearl_parse.specs.Reached.{HaltsBehind}
+use Rattle.pearl_parse.proofs.UnitLeast.{no_opening, block_halts, past_body, no_end_word, no_last, block_goes}
+use Rattle.pearl_parse.proofs.States.{handed_behind}
 use Rattle.pearl_parse.proofs.block.block.Goals as goal
 
 pub returns-in_err-symbol-clause-refused : goal.returns-in_err-symbol-clause-refused
@@ -64,3 +67,64 @@ returns-clause-only c =
     let stop = c.max-stop.result in
     let go = end_goes tokens from least_stop body.end body.stop stop (omega (arith, c.max-stop.ensures)) (omega (arith, c.max-stop.ensures)) read.longest in
     ends SpellsBlock tokens from end_rest body.end stop c.max.result (body.end + 2) go (omega (arith, c.max.ensures)) (λ others to h. h.2)
+
+pub returns-in_err-symbol-clause-least : goal.returns-in_err-symbol-clause-least
+returns-in_err-symbol-clause-least c =
+    let tokens = c.args.tokens.now in
+    let from = c.args.from in
+    let few : length tokens < 2 ^ 55 = search rules in
+    let low = c.args.least_stop in
+    let inside : from ≤ length tokens = omega (arith, c.requires.least_stop) in
+    handed_behind 24 SpellsBlock tokens from low _ c.in_err-symbol.field-0.0 c.from_residual.result c.from_residual.ensures (λ e is. is)
+    (no_opening tokens from low inside few c.in_err-symbol.field-0.0 c.in_err-symbol.ensures.missing)
+
+pub returns-in-Err-clause-least : goal.returns-in-Err-clause-least
+returns-in-Err-clause-least c =
+    let tokens = c.args.tokens.now in
+    let from = c.args.from in
+    let few : length tokens < 2 ^ 55 = search rules in
+    let low = c.args.least_stop in
+    let inside : from ≤ length tokens = omega (arith, c.requires.least_stop) in
+    subst (λ halt. HaltsBehind 24 SpellsBlock tokens from low halt) (sym c.behind.ensures.same)
+    (block_halts tokens from low inside few c.in_ok-symbol.ensures.stands c.in_ok-symbol.ensures.within c.in-Err.halt c.in-Err.ensures.least)
+
+pub returns-in_err-word-clause-least : goal.returns-in_err-word-clause-least
+returns-in_err-word-clause-least c =
+    let tokens = c.args.tokens.now in
+    let from = c.args.from in
+    let few : length tokens < 2 ^ 55 = search rules in
+    let low = c.args.least_stop in
+    let inside : from ≤ length tokens = omega (arith, c.requires.least_stop) in
+    let body = c.in-Ok.body in
+    let read = c.in-Ok.ensures in
+    let stop = c.max-stop.result in
+    let at = past_body tokens from low inside few c.in_ok-symbol.ensures.stands c.in_ok-symbol.ensures.within body.part body.end body.stop stop read.spells (omega (arith, read.bounds)) (omega (arith, read.bounds, c.max-stop.ensures, c.requires.least_stop)) read.least c.max-stop.ensures in
+    handed_behind 24 SpellsBlock tokens from low _ c.in_err-word.field-0.0 c.from_residual-in_err-word.result c.from_residual-in_err-word.ensures (λ e is. is)
+    (no_end_word tokens from low inside few body.end stop at c.in_err-word.field-0.0 c.in_err-word.ensures.missing)
+
+pub returns-in_err-symbol-2-clause-least : goal.returns-in_err-symbol-2-clause-least
+returns-in_err-symbol-2-clause-least c =
+    let tokens = c.args.tokens.now in
+    let from = c.args.from in
+    let few : length tokens < 2 ^ 55 = search rules in
+    let low = c.args.least_stop in
+    let inside : from ≤ length tokens = omega (arith, c.requires.least_stop) in
+    let body = c.in-Ok.body in
+    let read = c.in-Ok.ensures in
+    let stop = c.max-stop.result in
+    let at = past_body tokens from low inside few c.in_ok-symbol.ensures.stands c.in_ok-symbol.ensures.within body.part body.end body.stop stop read.spells (omega (arith, read.bounds)) (omega (arith, read.bounds, c.max-stop.ensures, c.requires.least_stop)) read.least c.max-stop.ensures in
+    handed_behind 24 SpellsBlock tokens from low _ c.in_err-symbol-2.field-0.0 c.from_residual-in_err-symbol-2.result c.from_residual-in_err-symbol-2.ensures (λ e is. is)
+    (no_last tokens from low inside few body.end stop at c.in_ok-word.ensures.stands c.in_ok-word.ensures.within c.in_err-symbol-2.field-0.0 c.in_err-symbol-2.ensures.missing)
+
+pub returns-clause-least : goal.returns-clause-least
+returns-clause-least c =
+    let tokens = c.args.tokens.now in
+    let from = c.args.from in
+    let few : length tokens < 2 ^ 55 = search rules in
+    let low = c.args.least_stop in
+    let inside : from ≤ length tokens = omega (arith, c.requires.least_stop) in
+    let body = c.in-Ok.body in
+    let read = c.in-Ok.ensures in
+    let stop = c.max-stop.result in
+    let at = past_body tokens from low inside few c.in_ok-symbol.ensures.stands c.in_ok-symbol.ensures.within body.part body.end body.stop stop read.spells (omega (arith, read.bounds)) (omega (arith, read.bounds, c.max-stop.ensures, c.requires.least_stop)) read.least c.max-stop.ensures in
+    block_goes tokens from low inside few body.end stop at c.in_ok-word.ensures.stands c.in_ok-word.ensures.within c.max.result c.in_ok-symbol-2.ensures.stands c.in_ok-symbol-2.ensures.within c.max.ensures

@@ -1,5 +1,6 @@
 use Rattle.std.proofs.Common.{◌-◌, length}
 use Rattle.pearl_tree.specs.Standing.{SpellsEach}
+use Rattle.pearl_parse.specs.Reached.{GoesBehind}
 use Rattle.pearl_parse.specs.Stops.{StopsWithin}
 use Rattle.pearl_parse.proofs.Repetitions.{EachGoes}
 use Rattle.pearl_parse.proofs.each.each.Given as goal
@@ -9,6 +10,7 @@ invariant-each g l = record {
   spells : SpellsEach (g.P.Repeated.spelling l.tokens) l.from l.list.items l.end;
   goes : EachGoes g.P.Repeated.spelling g.P.Repeated.begins l.tokens l.from l.end l.stop;
   bounds : StopsWithin l.tokens l.from l.from l.end l.stop;
+  least : GoesBehind 24 (λ tokens. SpellsEach (g.P.Repeated.spelling tokens)) l.tokens l.from l.from l.end l.stop;
 }
 
 abbrev pub decreases-each : goal.decreases-each

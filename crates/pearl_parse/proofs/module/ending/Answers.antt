@@ -1,9 +1,10 @@
-use Rattle.std.proofs.Common.{◌+◌, refl, sym, ap, arith}
+use Rattle.std.proofs.Common.{◌+◌, refl, sym, ap, ◌<◌, ◌≤◌, ◌^◌, length, rules, arith}
 use Rattle.pearl_tables.specs.declared.word_code.TheConstants as w
 use Rattle.pearl_parse_expr.specs.Stops.{is_word}
 use Rattle.pearl_parse.specs.Modules.{SpellsEnding, is_end}
 use Rattle.pearl_parse.proofs.Steps.{err_told, missing_is_refused, missing_behind}
 use Rattle.pearl_parse.proofs.ModuleRests.{end_of_tokens_rest, ending_rest, is_end_of_tokens, ending_goes, closed_goes, open_goes}
+use Rattle.pearl_parse.proofs.ModuleLeast.{no_modend, no_end_behind, no_source_end}
 use Rattle.pearl_parse.proofs.module.ending.Goals as goal
 
 pub returns-in_err-word-clause-refused : goal.returns-in_err-word-clause-refused
@@ -53,3 +54,34 @@ pub returns-in_err-end_of_tokens-2-clause-memory : goal.returns-in_err-end_of_to
 returns-in_err-end_of_tokens-2-clause-memory c =
     err_told _ _ c.in_err-end_of_tokens-2.field-0.0 c.from_residual-in_err-end_of_tokens-2.result c.from_residual-in_err-end_of_tokens-2.ensures (λ e is. is)
     (missing_is_refused c.args.tokens.now is_end (c.args.from + 1) c.max-stop.result c.in_err-end_of_tokens-2.field-0.0 c.in_err-end_of_tokens-2.ensures.missing)
+
+pub returns-in_err-word-clause-least : goal.returns-in_err-word-clause-least
+returns-in_err-word-clause-least c =
+    let tokens = c.args.tokens.now in
+    let from = c.args.from in
+    let few : length tokens < 2 ^ 55 = search rules in
+    let low = c.args.least_stop in
+    let inside : from ≤ length tokens = omega (arith, c.requires.least_stop) in
+    err_told _ _ c.in_err-word.field-0.0 c.from_residual.result c.from_residual.ensures (λ e is. is)
+    (no_modend tokens from low inside few c.in_err-word.field-0.0 c.in_err-word.ensures.missing)
+
+pub returns-in_err-end_of_tokens-clause-least : goal.returns-in_err-end_of_tokens-clause-least
+returns-in_err-end_of_tokens-clause-least c =
+    let tokens = c.args.tokens.now in
+    let from = c.args.from in
+    let few : length tokens < 2 ^ 55 = search rules in
+    let low = c.args.least_stop in
+    let inside : from ≤ length tokens = omega (arith, c.requires.least_stop) in
+    err_told _ _ c.in_err-end_of_tokens.field-0.0 c.from_residual-in_err-end_of_tokens.result c.from_residual-in_err-end_of_tokens.ensures (λ e is. is)
+    (no_end_behind tokens from low inside few c.in_ok-word.ensures.stands c.in_ok-word.ensures.within c.max-stop.result c.max-stop.ensures (c.if-is_symbol.ensures.stands refl) (c.if-is_symbol.ensures.within refl)
+    c.in_err-end_of_tokens.field-0.0 c.in_err-end_of_tokens.ensures.missing)
+
+pub returns-in_err-end_of_tokens-2-clause-least : goal.returns-in_err-end_of_tokens-2-clause-least
+returns-in_err-end_of_tokens-2-clause-least c =
+    let tokens = c.args.tokens.now in
+    let from = c.args.from in
+    let few : length tokens < 2 ^ 55 = search rules in
+    let low = c.args.least_stop in
+    let inside : from ≤ length tokens = omega (arith, c.requires.least_stop) in
+    err_told _ _ c.in_err-end_of_tokens-2.field-0.0 c.from_residual-in_err-end_of_tokens-2.result c.from_residual-in_err-end_of_tokens-2.ensures (λ e is. is)
+    (no_source_end tokens from low inside few c.in_ok-word.ensures.stands c.in_ok-word.ensures.within c.max-stop.result c.max-stop.ensures c.in_err-end_of_tokens-2.field-0.0 c.in_err-end_of_tokens-2.ensures.missing)

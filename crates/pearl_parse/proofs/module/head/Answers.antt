@@ -1,11 +1,13 @@
-use Rattle.std.proofs.Common.{◌+◌, ap, arith}
+use Rattle.std.proofs.Common.{◌+◌, ap, ◌<◌, ◌≤◌, ◌^◌, length, rules, refl, arith}
 use Rattle.pearl_tables.specs.declared.symbol.TheConstants as s
 use Rattle.pearl_tables.specs.declared.word_code.TheConstants as w
 use Rattle.pearl_parse_expr.specs.Stops.{is_symbol, is_word}
-use Rattle.pearl_parse.specs.Modules.{SpellsOptionalName, SpellsHead}
+use Rattle.pearl_parse.specs.Modules.{SpellsOptionalName, SpellsHead, SpellsTitle}
 use Rattle.pearl_parse.proofs.Steps.{err_told, missing_is_refused, past_only, missing, no_first, ends}
 use Rattle.pearl_parse.proofs.LeafRests.{exit_rest}
 use Rattle.pearl_parse.proofs.ModuleRests.{head_rest, head_goes, name_goes}
+use Rattle.pearl_parse.proofs.ModuleLeast.{no_module, no_title, no_title_end}
+use Rattle.pearl_parse.proofs.States.{halts_in}
 use Rattle.pearl_parse.proofs.module.head.Goals as goal
 
 pub returns-in_err-word-clause-refused : goal.returns-in_err-word-clause-refused
@@ -57,3 +59,30 @@ returns-in_err-symbol-clause-memory c =
     let name = c.in_ok-name.name in
     err_told _ _ c.in_err-symbol.field-0.0 c.from_residual-in_err-symbol.result c.from_residual-in_err-symbol.ensures (λ e is. is)
     (missing_is_refused c.args.tokens.now (is_symbol s.SEMICOLON) name.end name.stop c.in_err-symbol.field-0.0 c.in_err-symbol.ensures.missing)
+
+pub returns-in_err-word-clause-least : goal.returns-in_err-word-clause-least
+returns-in_err-word-clause-least c =
+    let tokens = c.args.tokens.now in
+    let from = c.args.from in
+    let few : length tokens < 2 ^ 55 = search rules in
+    err_told _ _ c.in_err-word.field-0.0 c.from_residual.result c.from_residual.ensures (λ e is. is)
+    (halts_in 16 SpellsTitle tokens from 0 (omega arith) c.in_err-word.field-0.0 (no_module tokens from c.requires few c.in_err-word.field-0.0 c.in_err-word.ensures.missing))
+
+pub returns-in_err-name-clause-least : goal.returns-in_err-name-clause-least
+returns-in_err-name-clause-least c =
+    let tokens = c.args.tokens.now in
+    let from = c.args.from in
+    let few : length tokens < 2 ^ 55 = search rules in
+    err_told _ _ c.in_err-name.field-0.0 c.from_residual-in_err-name.result c.from_residual-in_err-name.ensures (λ e is. is)
+    (halts_in 16 SpellsTitle tokens from 0 (omega arith) c.in_err-name.field-0.0 (no_title tokens from c.requires few c.in_ok-word.ensures.stands c.in_ok-word.ensures.within c.in_err-name.field-0.0 c.in_err-name.ensures.refused c.in_err-name.ensures.least))
+
+pub returns-in_err-symbol-clause-least : goal.returns-in_err-symbol-clause-least
+returns-in_err-symbol-clause-least c =
+    let tokens = c.args.tokens.now in
+    let from = c.args.from in
+    let few : length tokens < 2 ^ 55 = search rules in
+    let name = c.in_ok-name.name in
+    let read = c.in_ok-name.ensures in
+    err_told _ _ c.in_err-symbol.field-0.0 c.from_residual-in_err-symbol.result c.from_residual-in_err-symbol.ensures (λ e is. is)
+    (halts_in 16 SpellsTitle tokens from 0 (omega arith) c.in_err-symbol.field-0.0 (no_title_end tokens from c.requires few c.in_ok-word.ensures.stands c.in_ok-word.ensures.within name.part name.end name.stop read.spells (omega (arith, read.bounds)) read.close (omega (arith, read.bounds))
+    c.in_err-symbol.field-0.0 c.in_err-symbol.ensures.missing))

@@ -1,11 +1,13 @@
-use Rattle.std.proofs.Common.{◌+◌, refl, sym, ap, arith}
-use Rattle.pearl_tree.specs.Standing.{what_at}
+use Rattle.std.proofs.Common.{◌+◌, refl, sym, ap, ◌<◌, ◌≤◌, ◌^◌, length, rules, arith}
+use Rattle.pearl_tree.specs.Standing.{what_at, SpellsMaybe}
 use Rattle.pearl_tree.specs.Modules.{SpellsModuleName}
 use Rattle.pearl_tables.specs.declared.symbol.TheConstants as s
 use Rattle.pearl_parse_expr.specs.Stops.{is_name, is_symbol}
 use Rattle.pearl_parse.specs.Modules.{begins_module_name, SpellsOptionalName}
 use Rattle.pearl_parse.proofs.Steps.{err_told, missing_is_refused, missing, ends, optional_is_none}
 use Rattle.pearl_parse.proofs.ModuleRests.{bracketed_rest, bracketed_goes, bracket_closes, bare_is_only, name_begins, no_name}
+use Rattle.pearl_parse.proofs.ModuleLeast.{no_bracketed, no_bracket}
+use Rattle.pearl_parse.proofs.States.{halts_in}
 use Rattle.pearl_parse.proofs.module.module_name.Goals as goal
 
 pub returns-in_err-name-clause-refused : goal.returns-in_err-name-clause-refused
@@ -57,3 +59,20 @@ pub returns-in_err-symbol-clause-memory : goal.returns-in_err-symbol-clause-memo
 returns-in_err-symbol-clause-memory c =
     err_told _ _ c.in_err-symbol.field-0.0 c.from_residual-in_err-symbol.result c.from_residual-in_err-symbol.ensures (λ e is. is)
     (missing_is_refused c.args.tokens.now (is_symbol s.RIGHT_ROUND) (c.args.from + 2) c.args.from c.in_err-symbol.field-0.0 c.in_err-symbol.ensures.missing)
+
+pub returns-in_err-name-clause-least : goal.returns-in_err-name-clause-least
+returns-in_err-name-clause-least c =
+    let tokens = c.args.tokens.now in
+    let from = c.args.from in
+    let few : length tokens < 2 ^ 55 = search rules in
+    err_told _ _ c.in_err-name.field-0.0 c.from_residual.result c.from_residual.ensures (λ e is. is)
+    (halts_in 16 (λ tokens. SpellsMaybe (SpellsModuleName tokens)) tokens from 0 (omega arith) c.in_err-name.field-0.0 (no_bracketed tokens from (c.if-is_symbol.ensures.stands refl) (c.if-is_symbol.ensures.within refl) few c.in_err-name.field-0.0 c.in_err-name.ensures.missing))
+
+pub returns-in_err-symbol-clause-least : goal.returns-in_err-symbol-clause-least
+returns-in_err-symbol-clause-least c =
+    let tokens = c.args.tokens.now in
+    let from = c.args.from in
+    let few : length tokens < 2 ^ 55 = search rules in
+    err_told _ _ c.in_err-symbol.field-0.0 c.from_residual-in_err-symbol.result c.from_residual-in_err-symbol.ensures (λ e is. is)
+    (halts_in 16 (λ tokens. SpellsMaybe (SpellsModuleName tokens)) tokens from 0 (omega arith) c.in_err-symbol.field-0.0 (no_bracket tokens from (c.if-is_symbol.ensures.stands refl) (c.if-is_symbol.ensures.within refl) few c.in_ok-name.name c.in_ok-name.ensures.stands c.in_ok-name.ensures.within
+    c.in_err-symbol.field-0.0 c.in_err-symbol.ensures.missing))

@@ -1,19 +1,22 @@
-use Rattle.std.proofs.Common.{◌+◌, ◌-◌, ◌<◌, ◌≤◌, refl, sym, ap, subst, ◌∙◌, arith}
-use Rattle.pearl_tree.specs.Standing.{SpellsEach, SpellsSome}
+use Rattle.std.proofs.Common.{◌+◌, ◌-◌, ◌<◌, ◌≤◌, refl, sym, ap, subst, ◌∙◌, ◌^◌, length, rules, inr, arith}
+use Rattle.pearl_tree.specs.Standing.{SpellsEach, SpellsSome, SpellsMaybe}
 use Rattle.pearl_tree.specs.Statements.{SpellsStmt, SpellsAfter, SpellsBranch, SpellsBodyDecl}
 use Rattle.pearl_tables.specs.declared.word_code.TheConstants as w
 use Rattle.pearl_parse_expr.specs.Stops.{IsHalted, extends_expression, is_word}
 use Rattle.pearl_parse_expr.proofs.Lists.{each_one_more}
 use Rattle.pearl_parse_expr.proofs.Halts.{stuck_of, at_depth, ok_map}
 use Rattle.pearl_parse.specs.Stops.{begins_statement}
-use Rattle.pearl_parse.specs.Bodies.{extends_body, extends_alternatives, SpellsStatements, SpellsHeaded, SpellsOptionalHeaded, SpellsChoices, SpellsBlock, SpellsClosing, SpellsCondition, SpellsHeads}
+use Rattle.pearl_parse.specs.Bodies.{extends_body, extends_alternatives, SpellsStatements, SpellsHeaded, SpellsOptionalHeaded, SpellsChoices, SpellsBlock, SpellsClosing, SpellsCondition, SpellsHeads, SpellsInner}
 use Rattle.pearl_parse.proofs.Steps.{Ends, Then, err_told, goes_longer, past, past_only, no_first, no_part, ends, itself, optional_is_none, optional_is_longest, only_is_longest}
 use Rattle.pearl_parse.proofs.ByFirst.{stmt_begins}
 use Rattle.pearl_parse.proofs.LeafRests.{Spelled}
 use Rattle.pearl_parse.proofs.Repetitions.{each_next, each_ends}
-use Rattle.pearl_parse.proofs.Choices.{some_of, choices_next, choices_end, no_choice}
+use Rattle.pearl_parse.proofs.Choices.{some_of, choices_next, choices_end, no_choice, choices_begin}
 use Rattle.pearl_parse.proofs.Blocks.{block_is_longest, no_block}
 use Rattle.pearl_parse.proofs.NestedRests.{closing_rest, otherwise_rest, then_rest, choices_rest, block_rest, avoids_closing, avoids_otherwise, avoids_choices, if_goes, case_goes, begin_goes, repeat_goes, if_spelled, case_spelled, begin_spelled, repeat_spelled, no_if, no_case, no_begin, no_repeat, no_statement, out_of_memory, out_of_memory_behind}
+use Rattle.pearl_parse.proofs.StatementLeast.{stmt_kept, branch_kept, branch_read, maybe_branch_read, no_choice_least, choices_read, no_inner, inner_read, some_statement, no_memory, closing_halts, closed_goes, past_statements, past_other, choices_halt, past_choices, inner_halts, past_inner, if_halts, past_condition, case_halts, past_selector, repeat_halts, past_heads, begin_begun}
+use Rattle.pearl_parse.proofs.RepeatedLeast.{none_least, next_least, end_least}
+use Rattle.pearl_parse.proofs.States.{told_none, handed_in, handed_behind}
 use Rattle.pearl_parse.proofs.statement.+statement.Goals as goal
 
 pub statements-each-preserved : goal.statements-each-preserved
@@ -32,6 +35,8 @@ statements-each-preserved t c =
       goes = each_next (λ tokens. SpellsStmt tokens depth) begins_statement tokens c.args.from c.each.end c.each.stop next.end next.stop c.max-stop.result c.each.invariant.goes near ahead below reach
           (stmt_begins tokens depth c.each.end next.part next.end read.spells) read.only;
       bounds = (omega (arith, c.each.invariant.bounds, read.ahead), omega (arith, read.ahead, c.max-stop.ensures), omega (arith, c.each.invariant.bounds, c.max-stop.ensures), omega (arith, c.each.invariant.bounds, read.ahead, c.max-stop.ensures));
+      least = next_least (λ tokens. SpellsStmt tokens depth) tokens c.args.from c.args.least_stop 1 (stmt_kept depth) c.each.list.items c.each.end c.each.stop c.each.invariant.spells c.each.invariant.least next.end next.stop c.max-stop.result
+          ahead (omega (arith, read.ahead)) read.least c.max-stop.ensures;
     }
 
 pub statements-returns-in-Refused-clause-longest : goal.statements-returns-in-Refused-clause-longest
@@ -78,6 +83,8 @@ alternatives-each-preserved t c =
           (each_one_more (SpellsBranch tokens depth w.ALT) c.each.list.items c.args.from c.each.end next.end next.part c.each.invariant.spells read.spells);
       goes = choices_next tokens depth c.args.from c.each.end c.each.stop next.end next.stop c.each.invariant.goes near ahead read.bounds.2 here read.longest;
       bounds = (omega (arith, c.each.invariant.bounds, read.bounds), read.bounds.1, omega (arith, c.each.invariant.bounds, read.bounds), read.bounds.3);
+      least = next_least (λ tokens. SpellsBranch tokens depth w.ALT) tokens c.args.from c.args.least_stop 1 (branch_kept depth w.ALT) c.each.list.items c.each.end c.each.stop c.each.invariant.spells c.each.invariant.least next.end read.least.0 next.stop
+          ahead read.least.1 read.least.2 (omega (arith, read.least.3));
     }
 
 pub alternatives-returns-in_Err-next-clause-refused : goal.alternatives-returns-in_Err-next-clause-refused
@@ -363,3 +370,396 @@ statement-returns-in-Simple-clause-only t c = ok_map _ _ c.simple.result (λ rea
 
 pub statement-returns-in-Simple-clause-refused : goal.statement-returns-in-Simple-clause-refused
 statement-returns-in-Simple-clause-refused t c = at_depth (λ depth halt. IsHalted (λ tokens. SpellsStmt tokens depth) c.args.tokens.now c.args.from halt) c.args.depth c.simple.result c.simple.ensures.refused
+
+pub statements-each-init : goal.statements-each-init
+statements-each-init t c =
+    record {
+      spells = search rules;
+      goes = λ others agree xs to h. inr (xs, h);
+      bounds = search rules;
+      least = none_least (λ tokens. SpellsStmt tokens c.args.depth) c.args.tokens.now c.args.from c.args.least_stop c.args.least_stop (omega (arith, c.requires));
+    }
+
+pub statements-returns-in-Refused-clause-least : goal.statements-returns-in-Refused-clause-least
+statements-returns-in-Refused-clause-least t c =
+    let depth = c.args.depth in
+    let tokens = c.args.tokens.now in
+    let stuck = stuck_of (λ tokens. SpellsStmt tokens depth) tokens c.each.end c.in-Refused.at c.in-Err.halt c.in-Refused.is c.in-Err.ensures.refused in
+    end_least (λ tokens. SpellsStmt tokens depth) tokens c.args.from c.args.least_stop 1 (stmt_kept depth) c.each.list.items c.each.end c.each.stop c.each.invariant.spells c.each.invariant.least c.in-Err.halt c.in-Refused.at
+    c.max.result c.in-Refused.is c.in-Err.ensures.least stuck.1 c.max.ensures
+
+pub branch-returns-in-Ok-clause-least : goal.branch-returns-in-Ok-clause-least
+branch-returns-in-Ok-clause-least t c =
+    let tokens = c.args.tokens.now in
+    let few : length tokens < 2 ^ 55 = search rules in
+    let statements = c.in-Ok.statements in
+    let read = c.in-Ok.ensures in
+    branch_read tokens c.args.depth c.args.word c.args.from c.args.least_stop c.requires.within few c.requires.word c.max.result c.max.ensures statements.part.items statements.end statements.stop read.spells
+    (omega (arith, read.bounds)) (omega (arith, read.bounds)) (omega (arith, read.bounds)) read.least
+
+pub branch-returns-in-Err-clause-least : goal.branch-returns-in-Err-clause-least
+branch-returns-in-Err-clause-least t c =
+    no_memory 24 (λ tokens. SpellsBranch tokens c.args.depth c.args.word) c.args.tokens.now c.args.from c.args.least_stop c.in-Err.halt c.in-Err.ensures.refused
+
+pub maybe_branch-returns-then-not-is_word-clause-least : goal.maybe_branch-returns-then-not-is_word-clause-least
+maybe_branch-returns-then-not-is_word-clause-least t c =
+    told_none 24 (λ tokens. SpellsMaybe (SpellsBranch tokens c.args.depth c.args.word)) c.args.tokens.now c.args.from c.args.least_stop c.args.least_stop (omega (arith, c.requires))
+
+pub maybe_branch-returns-in_Ok-branch-clause-least : goal.maybe_branch-returns-in_Ok-branch-clause-least
+maybe_branch-returns-in_Ok-branch-clause-least t c =
+    let read = c.in_Ok-branch.ensures in
+    maybe_branch_read c.args.tokens.now c.args.depth c.args.word c.args.from c.args.least_stop c.in_Ok-branch.branch.end c.in_Ok-branch.branch.stop (omega (arith, read.bounds)) read.least
+
+pub maybe_branch-returns-in_Err-branch-clause-least : goal.maybe_branch-returns-in_Err-branch-clause-least
+maybe_branch-returns-in_Err-branch-clause-least t c =
+    no_memory 24 (λ tokens. SpellsMaybe (SpellsBranch tokens c.args.depth c.args.word)) c.args.tokens.now c.args.from c.args.least_stop c.in_Err-branch.halt c.in_Err-branch.ensures.refused
+
+pub alternatives-returns-then-not-is_word-clause-least : goal.alternatives-returns-then-not-is_word-clause-least
+alternatives-returns-then-not-is_word-clause-least t c =
+    let few : length c.args.tokens.now < 2 ^ 55 = search rules in
+    no_choice_least c.args.tokens.now c.args.depth c.args.from (omega (arith, c.requires)) few c.args.least_stop c.requires.0
+
+pub alternatives-each-init : goal.alternatives-each-init
+alternatives-each-init t c =
+    record {
+      spells = search rules;
+      goes = choices_begin c.args.tokens.now c.args.depth c.args.from c.args.least_stop;
+      bounds = search rules;
+      least = none_least (λ tokens. SpellsBranch tokens c.args.depth w.ALT) c.args.tokens.now c.args.from c.args.least_stop c.args.least_stop (omega (arith, c.requires));
+    }
+
+pub alternatives-returns-in_Err-next-clause-least : goal.alternatives-returns-in_Err-next-clause-least
+alternatives-returns-in_Err-next-clause-least t c =
+    no_memory 24 (λ tokens. SpellsSome (SpellsBranch tokens c.args.depth w.ALT)) c.args.tokens.now c.args.from c.args.least_stop c.in_Err-next.halt c.in_Err-next.ensures.refused
+
+pub alternatives-returns-clause-least : goal.alternatives-returns-clause-least
+alternatives-returns-clause-least t c =
+    let few : length c.args.tokens.now < 2 ^ 55 = search rules in
+    choices_read c.args.tokens.now c.args.depth c.args.from (omega (arith, c.requires)) few c.args.least_stop c.each.end c.each.stop (omega (arith, c.each.invariant.bounds)) c.each.invariant.least
+
+pub if_-returns-then-depth-eq0-clause-least : goal.if_-returns-then-depth-eq0-clause-least
+if_-returns-then-depth-eq0-clause-least t c =
+    let few : length c.args.tokens.now < 2 ^ 55 = search rules in
+    some_statement c.args.tokens.now c.args.depth c.args.from (omega (arith, c.requires.within)) few
+
+pub if_-returns-in_err-condition-clause-least : goal.if_-returns-in_err-condition-clause-least
+if_-returns-in_err-condition-clause-least t c =
+    let tokens = c.args.tokens.now in
+    let from = c.args.from in
+    let depth = c.args.depth in
+    let few : length tokens < 2 ^ 55 = search rules in
+    let deep : 0 < depth = omega (arith, c.if-depth-eq0.false) in
+    let inside : from < length tokens = omega (arith, c.requires.within) in
+    handed_in 24 (Spelled depth) tokens from 0 _ c.in_err-condition.field-0.0 c.from_residual.result c.from_residual.ensures (λ e is. is) (omega arith)
+    (if_halts tokens depth from inside few deep c.in_err-condition.field-0.0 c.in_err-condition.ensures.refused c.in_err-condition.ensures.least)
+
+pub if_-returns-in_err-statements-clause-least : goal.if_-returns-in_err-statements-clause-least
+if_-returns-in_err-statements-clause-least t c =
+    let tokens = c.args.tokens.now in
+    let from = c.args.from in
+    let depth = c.args.depth in
+    handed_in 24 (Spelled depth) tokens from 0 _ c.in_err-statements.field-0.0 c.from_residual-in_err-statements.result c.from_residual-in_err-statements.ensures (λ e is. is) (omega arith)
+    (no_memory 24 (Spelled depth) tokens from 0 c.in_err-statements.field-0.0 c.in_err-statements.ensures.refused)
+
+pub if_-returns-in_err-otherwise-clause-least : goal.if_-returns-in_err-otherwise-clause-least
+if_-returns-in_err-otherwise-clause-least t c =
+    let tokens = c.args.tokens.now in
+    let from = c.args.from in
+    let depth = c.args.depth in
+    handed_in 24 (Spelled depth) tokens from 0 _ c.in_err-otherwise.field-0.0 c.from_residual-in_err-otherwise.result c.from_residual-in_err-otherwise.ensures (λ e is. is) (omega arith)
+    (no_memory 24 (Spelled depth) tokens from 0 c.in_err-otherwise.field-0.0 c.in_err-otherwise.ensures.refused)
+
+pub if_-returns-in_err-closing-clause-least : goal.if_-returns-in_err-closing-clause-least
+if_-returns-in_err-closing-clause-least t c =
+    let tokens = c.args.tokens.now in
+    let from = c.args.from in
+    let depth = c.args.depth in
+    let few : length tokens < 2 ^ 55 = search rules in
+    let deep : 0 < depth = omega (arith, c.if-depth-eq0.false) in
+    let inside : from < length tokens = omega (arith, c.requires.within) in
+    let condition = c.in_ok-condition.condition in
+    let statements = c.in_ok-statements.statements in
+    let otherwise = c.in_ok-otherwise.otherwise in
+    let head = c.in_ok-condition.ensures in
+    let inner = c.in_ok-statements.ensures in
+    let other = c.in_ok-otherwise.ensures in
+    let at_0 = past_condition tokens depth from inside few deep condition.part condition.end condition.stop head.spells (omega (arith, head.ahead)) (omega (arith, head.ahead)) (omega (arith, head.ahead)) head.least in
+    let at_1 = past_statements tokens depth from condition.end condition.stop (omega (arith, head.ahead)) at_0 statements.part.items statements.end statements.stop inner.spells (omega (arith, inner.bounds)) (omega (arith, inner.bounds)) inner.least in
+    let at_2 = past_other tokens depth from w.ELSE statements.end statements.stop (omega (arith, head.ahead, inner.bounds)) at_1 otherwise.part otherwise.end otherwise.stop other.spells (omega (arith, other.bounds)) (omega (arith, other.bounds)) other.least in
+    handed_in 24 (Spelled depth) tokens from 0 _ c.in_err-closing.field-0.0 c.from_residual-in_err-closing.result c.from_residual-in_err-closing.ensures (λ e is. is) (omega arith)
+    (closing_halts tokens depth from w.FIN otherwise.end otherwise.stop at_2 c.in_err-closing.field-0.0 (c.in_err-closing.ensures.least (omega arith)))
+
+pub if_-returns-in_err-boxed-clause-least : goal.if_-returns-in_err-boxed-clause-least
+if_-returns-in_err-boxed-clause-least t c =
+    let tokens = c.args.tokens.now in
+    let from = c.args.from in
+    let depth = c.args.depth in
+    handed_in 24 (Spelled depth) tokens from 0 _ c.in_err-boxed.field-0.0 c.from_residual-in_err-boxed.result c.from_residual-in_err-boxed.ensures (λ e is. is) (omega arith)
+    (no_memory 24 (Spelled depth) tokens from 0 c.in_err-boxed.field-0.0 c.in_err-boxed.ensures.fault)
+
+pub if_-returns-clause-least : goal.if_-returns-clause-least
+if_-returns-clause-least t c =
+    let tokens = c.args.tokens.now in
+    let from = c.args.from in
+    let depth = c.args.depth in
+    let few : length tokens < 2 ^ 55 = search rules in
+    let deep : 0 < depth = omega (arith, c.if-depth-eq0.false) in
+    let inside : from < length tokens = omega (arith, c.requires.within) in
+    let condition = c.in_ok-condition.condition in
+    let statements = c.in_ok-statements.statements in
+    let otherwise = c.in_ok-otherwise.otherwise in
+    let head = c.in_ok-condition.ensures in
+    let inner = c.in_ok-statements.ensures in
+    let other = c.in_ok-otherwise.ensures in
+    let at_0 = past_condition tokens depth from inside few deep condition.part condition.end condition.stop head.spells (omega (arith, head.ahead)) (omega (arith, head.ahead)) (omega (arith, head.ahead)) head.least in
+    let at_1 = past_statements tokens depth from condition.end condition.stop (omega (arith, head.ahead)) at_0 statements.part.items statements.end statements.stop inner.spells (omega (arith, inner.bounds)) (omega (arith, inner.bounds)) inner.least in
+    let at_2 = past_other tokens depth from w.ELSE statements.end statements.stop (omega (arith, head.ahead, inner.bounds)) at_1 otherwise.part otherwise.end otherwise.stop other.spells (omega (arith, other.bounds)) (omega (arith, other.bounds)) other.least in
+    closed_goes tokens depth from w.FIN otherwise.end otherwise.stop at_2 c.max.result c.in_ok-closing.ensures.stands c.in_ok-closing.ensures.within (omega (arith, other.bounds)) c.max.ensures
+
+pub case-returns-then-depth-eq0-clause-least : goal.case-returns-then-depth-eq0-clause-least
+case-returns-then-depth-eq0-clause-least t c =
+    let few : length c.args.tokens.now < 2 ^ 55 = search rules in
+    some_statement c.args.tokens.now c.args.depth c.args.from (omega (arith, c.requires.within)) few
+
+pub case-returns-in_err-selector-clause-least : goal.case-returns-in_err-selector-clause-least
+case-returns-in_err-selector-clause-least t c =
+    let tokens = c.args.tokens.now in
+    let from = c.args.from in
+    let depth = c.args.depth in
+    let few : length tokens < 2 ^ 55 = search rules in
+    let deep : 0 < depth = omega (arith, c.if-depth-eq0.false) in
+    let inside : from < length tokens = omega (arith, c.requires.within) in
+    handed_in 24 (Spelled depth) tokens from 0 _ c.in_err-selector.field-0.0 c.from_residual.result c.from_residual.ensures (λ e is. is) (omega arith)
+    (case_halts tokens depth from inside few deep c.in_err-selector.field-0.0 c.in_err-selector.ensures.least)
+
+pub case-returns-in_err-alternatives-clause-least : goal.case-returns-in_err-alternatives-clause-least
+case-returns-in_err-alternatives-clause-least t c =
+    let tokens = c.args.tokens.now in
+    let from = c.args.from in
+    let depth = c.args.depth in
+    let few : length tokens < 2 ^ 55 = search rules in
+    let deep : 0 < depth = omega (arith, c.if-depth-eq0.false) in
+    let inside : from < length tokens = omega (arith, c.requires.within) in
+    let selector = c.in_ok-selector.selector in
+    let head = c.in_ok-selector.ensures in
+    let at_0 = past_selector tokens depth from inside few deep selector.part selector.end selector.stop head.spells (omega (arith, head.bounds)) (omega (arith, head.bounds)) head.least in
+    handed_in 24 (Spelled depth) tokens from 0 _ c.in_err-alternatives.field-0.0 c.from_residual-in_err-alternatives.result c.from_residual-in_err-alternatives.ensures (λ e is. is) (omega arith)
+    (choices_halt tokens depth from selector.end selector.stop (omega (arith, head.bounds)) at_0 c.in_err-alternatives.field-0.0 c.in_err-alternatives.ensures.least)
+
+pub case-returns-in_err-otherwise-clause-least : goal.case-returns-in_err-otherwise-clause-least
+case-returns-in_err-otherwise-clause-least t c =
+    let tokens = c.args.tokens.now in
+    let from = c.args.from in
+    let depth = c.args.depth in
+    handed_in 24 (Spelled depth) tokens from 0 _ c.in_err-otherwise.field-0.0 c.from_residual-in_err-otherwise.result c.from_residual-in_err-otherwise.ensures (λ e is. is) (omega arith)
+    (no_memory 24 (Spelled depth) tokens from 0 c.in_err-otherwise.field-0.0 c.in_err-otherwise.ensures.refused)
+
+pub case-returns-in_err-closing-clause-least : goal.case-returns-in_err-closing-clause-least
+case-returns-in_err-closing-clause-least t c =
+    let tokens = c.args.tokens.now in
+    let from = c.args.from in
+    let depth = c.args.depth in
+    let few : length tokens < 2 ^ 55 = search rules in
+    let deep : 0 < depth = omega (arith, c.if-depth-eq0.false) in
+    let inside : from < length tokens = omega (arith, c.requires.within) in
+    let selector = c.in_ok-selector.selector in
+    let head = c.in_ok-selector.ensures in
+    let at_0 = past_selector tokens depth from inside few deep selector.part selector.end selector.stop head.spells (omega (arith, head.bounds)) (omega (arith, head.bounds)) head.least in
+    let alternatives = c.in_ok-alternatives.alternatives in
+    let otherwise = c.in_ok-otherwise.otherwise in
+    let inner = c.in_ok-alternatives.ensures in
+    let other = c.in_ok-otherwise.ensures in
+    let at_1 = past_choices tokens depth from selector.end selector.stop (omega (arith, head.bounds)) at_0 alternatives.part.items alternatives.end alternatives.stop inner.spells (omega (arith, inner.bounds)) (omega (arith, inner.bounds)) inner.least in
+    let at_2 = past_other tokens depth from w.OUT alternatives.end alternatives.stop (omega (arith, head.bounds, inner.bounds)) at_1 otherwise.part otherwise.end otherwise.stop other.spells (omega (arith, other.bounds)) (omega (arith, other.bounds)) other.least in
+    handed_in 24 (Spelled depth) tokens from 0 _ c.in_err-closing.field-0.0 c.from_residual-in_err-closing.result c.from_residual-in_err-closing.ensures (λ e is. is) (omega arith)
+    (closing_halts tokens depth from w.FIN otherwise.end otherwise.stop at_2 c.in_err-closing.field-0.0 (c.in_err-closing.ensures.least (omega arith)))
+
+pub case-returns-in_err-boxed-clause-least : goal.case-returns-in_err-boxed-clause-least
+case-returns-in_err-boxed-clause-least t c =
+    let tokens = c.args.tokens.now in
+    let from = c.args.from in
+    let depth = c.args.depth in
+    handed_in 24 (Spelled depth) tokens from 0 _ c.in_err-boxed.field-0.0 c.from_residual-in_err-boxed.result c.from_residual-in_err-boxed.ensures (λ e is. is) (omega arith)
+    (no_memory 24 (Spelled depth) tokens from 0 c.in_err-boxed.field-0.0 c.in_err-boxed.ensures.fault)
+
+pub case-returns-clause-least : goal.case-returns-clause-least
+case-returns-clause-least t c =
+    let tokens = c.args.tokens.now in
+    let from = c.args.from in
+    let depth = c.args.depth in
+    let few : length tokens < 2 ^ 55 = search rules in
+    let deep : 0 < depth = omega (arith, c.if-depth-eq0.false) in
+    let inside : from < length tokens = omega (arith, c.requires.within) in
+    let selector = c.in_ok-selector.selector in
+    let head = c.in_ok-selector.ensures in
+    let at_0 = past_selector tokens depth from inside few deep selector.part selector.end selector.stop head.spells (omega (arith, head.bounds)) (omega (arith, head.bounds)) head.least in
+    let alternatives = c.in_ok-alternatives.alternatives in
+    let otherwise = c.in_ok-otherwise.otherwise in
+    let inner = c.in_ok-alternatives.ensures in
+    let other = c.in_ok-otherwise.ensures in
+    let at_1 = past_choices tokens depth from selector.end selector.stop (omega (arith, head.bounds)) at_0 alternatives.part.items alternatives.end alternatives.stop inner.spells (omega (arith, inner.bounds)) (omega (arith, inner.bounds)) inner.least in
+    let at_2 = past_other tokens depth from w.OUT alternatives.end alternatives.stop (omega (arith, head.bounds, inner.bounds)) at_1 otherwise.part otherwise.end otherwise.stop other.spells (omega (arith, other.bounds)) (omega (arith, other.bounds)) other.least in
+    closed_goes tokens depth from w.FIN otherwise.end otherwise.stop at_2 c.max.result c.in_ok-closing.ensures.stands c.in_ok-closing.ensures.within (omega (arith, other.bounds)) c.max.ensures
+
+pub body-returns-then-from-tokens-clause-least : goal.body-returns-then-from-tokens-clause-least
+body-returns-then-from-tokens-clause-least t c =
+    let few : length c.args.tokens.now < 2 ^ 55 = search rules in
+    no_inner c.args.tokens.now c.args.depth c.args.from c.args.least_stop (omega (arith, c.requires)) few c.requires.0
+
+pub body-returns-in_err-declarations-clause-least : goal.body-returns-in_err-declarations-clause-least
+body-returns-in_err-declarations-clause-least t c =
+    handed_behind 24 (SpellsInner c.args.depth) c.args.tokens.now c.args.from c.args.least_stop _ c.in_err-declarations.field-0.0 c.from_residual.result c.from_residual.ensures (λ e is. is)
+    (no_memory 24 (SpellsInner c.args.depth) c.args.tokens.now c.args.from c.args.least_stop c.in_err-declarations.field-0.0 c.in_err-declarations.ensures.refused)
+
+pub body-returns-in_err-statements-clause-least : goal.body-returns-in_err-statements-clause-least
+body-returns-in_err-statements-clause-least t c =
+    handed_behind 24 (SpellsInner c.args.depth) c.args.tokens.now c.args.from c.args.least_stop _ c.in_err-statements.field-0.0 c.from_residual-in_err-statements.result c.from_residual-in_err-statements.ensures (λ e is. is)
+    (no_memory 24 (SpellsInner c.args.depth) c.args.tokens.now c.args.from c.args.least_stop c.in_err-statements.field-0.0 c.in_err-statements.ensures.refused)
+
+pub body-returns-clause-least : goal.body-returns-clause-least
+body-returns-clause-least t c =
+    let tokens = c.args.tokens.now in
+    let from = c.args.from in
+    let depth = c.args.depth in
+    let few : length tokens < 2 ^ 55 = search rules in
+    let declarations = c.in_ok-declarations.declarations in
+    let statements = c.in_ok-statements.statements in
+    let first = c.in_ok-declarations.ensures in
+    let inner = c.in_ok-statements.ensures in
+    inner_read tokens depth from c.args.least_stop (omega (arith, c.requires)) few declarations.part.items declarations.end declarations.stop c.max-least_stop.result first.spells (omega (arith, first.bounds)) (omega (arith, first.bounds))
+    (omega (arith, first.bounds, c.requires, c.max-least_stop.ensures)) first.least c.max-least_stop.ensures statements.part.items statements.end statements.stop inner.spells (omega (arith, inner.bounds)) (omega (arith, inner.bounds))
+    (omega (arith, inner.bounds)) inner.least
+
+pub repeat-returns-then-depth-eq0-clause-least : goal.repeat-returns-then-depth-eq0-clause-least
+repeat-returns-then-depth-eq0-clause-least t c =
+    let few : length c.args.tokens.now < 2 ^ 55 = search rules in
+    some_statement c.args.tokens.now c.args.depth c.args.from (omega (arith, c.requires.within)) few
+
+pub repeat-returns-in_err-heads-clause-least : goal.repeat-returns-in_err-heads-clause-least
+repeat-returns-in_err-heads-clause-least t c =
+    let tokens = c.args.tokens.now in
+    let from = c.args.from in
+    let depth = c.args.depth in
+    let few : length tokens < 2 ^ 55 = search rules in
+    let deep : 0 < depth = omega (arith, c.if-depth-eq0.false) in
+    let inside : from < length tokens = omega (arith, c.requires.within) in
+    handed_in 24 (Spelled depth) tokens from 0 _ c.in_err-heads.field-0.0 c.from_residual.result c.from_residual.ensures (λ e is. is) (omega arith)
+    (repeat_halts tokens depth from inside few deep c.in_err-heads.field-0.0 c.in_err-heads.ensures.refused c.in_err-heads.ensures.least)
+
+pub repeat-returns-in_err-body-clause-least : goal.repeat-returns-in_err-body-clause-least
+repeat-returns-in_err-body-clause-least t c =
+    let tokens = c.args.tokens.now in
+    let from = c.args.from in
+    let depth = c.args.depth in
+    let few : length tokens < 2 ^ 55 = search rules in
+    let deep : 0 < depth = omega (arith, c.if-depth-eq0.false) in
+    let inside : from < length tokens = omega (arith, c.requires.within) in
+    let heads = c.in_ok-heads.heads in
+    let head = c.in_ok-heads.ensures in
+    let at_0 = past_heads tokens depth from inside few deep heads.part heads.end heads.stop head.spells (omega (arith, head.ahead)) (omega (arith, head.ahead)) (omega (arith, head.ahead)) head.least in
+    handed_in 24 (Spelled depth) tokens from 0 _ c.in_err-body.field-0.0 c.from_residual-in_err-body.result c.from_residual-in_err-body.ensures (λ e is. is) (omega arith)
+    (inner_halts tokens depth from heads.end heads.stop (omega (arith, head.ahead)) at_0 c.in_err-body.field-0.0 c.in_err-body.ensures.least)
+
+pub repeat-returns-in_err-closing-clause-least : goal.repeat-returns-in_err-closing-clause-least
+repeat-returns-in_err-closing-clause-least t c =
+    let tokens = c.args.tokens.now in
+    let from = c.args.from in
+    let depth = c.args.depth in
+    let few : length tokens < 2 ^ 55 = search rules in
+    let deep : 0 < depth = omega (arith, c.if-depth-eq0.false) in
+    let inside : from < length tokens = omega (arith, c.requires.within) in
+    let heads = c.in_ok-heads.heads in
+    let head = c.in_ok-heads.ensures in
+    let at_0 = past_heads tokens depth from inside few deep heads.part heads.end heads.stop head.spells (omega (arith, head.ahead)) (omega (arith, head.ahead)) (omega (arith, head.ahead)) head.least in
+    let body = c.in_ok-body.body in
+    let inner = c.in_ok-body.ensures in
+    let at_1 = past_inner tokens depth from heads.end heads.stop (omega (arith, head.ahead)) at_0 body.part body.end body.stop inner.spells (omega (arith, inner.bounds)) (omega (arith, inner.bounds)) inner.least in
+    handed_in 24 (Spelled depth) tokens from 0 _ c.in_err-closing.field-0.0 c.from_residual-in_err-closing.result c.from_residual-in_err-closing.ensures (λ e is. is) (omega arith)
+    (closing_halts tokens depth from w.END body.end body.stop at_1 c.in_err-closing.field-0.0 (c.in_err-closing.ensures.least (omega arith)))
+
+pub repeat-returns-in_err-boxed-clause-least : goal.repeat-returns-in_err-boxed-clause-least
+repeat-returns-in_err-boxed-clause-least t c =
+    let tokens = c.args.tokens.now in
+    let from = c.args.from in
+    let depth = c.args.depth in
+    handed_in 24 (Spelled depth) tokens from 0 _ c.in_err-boxed.field-0.0 c.from_residual-in_err-boxed.result c.from_residual-in_err-boxed.ensures (λ e is. is) (omega arith)
+    (no_memory 24 (Spelled depth) tokens from 0 c.in_err-boxed.field-0.0 c.in_err-boxed.ensures.fault)
+
+pub repeat-returns-clause-least : goal.repeat-returns-clause-least
+repeat-returns-clause-least t c =
+    let tokens = c.args.tokens.now in
+    let from = c.args.from in
+    let depth = c.args.depth in
+    let few : length tokens < 2 ^ 55 = search rules in
+    let deep : 0 < depth = omega (arith, c.if-depth-eq0.false) in
+    let inside : from < length tokens = omega (arith, c.requires.within) in
+    let heads = c.in_ok-heads.heads in
+    let head = c.in_ok-heads.ensures in
+    let at_0 = past_heads tokens depth from inside few deep heads.part heads.end heads.stop head.spells (omega (arith, head.ahead)) (omega (arith, head.ahead)) (omega (arith, head.ahead)) head.least in
+    let body = c.in_ok-body.body in
+    let inner = c.in_ok-body.ensures in
+    let at_1 = past_inner tokens depth from heads.end heads.stop (omega (arith, head.ahead)) at_0 body.part body.end body.stop inner.spells (omega (arith, inner.bounds)) (omega (arith, inner.bounds)) inner.least in
+    closed_goes tokens depth from w.END body.end body.stop at_1 c.max.result c.in_ok-closing.ensures.stands c.in_ok-closing.ensures.within (omega (arith, inner.bounds)) c.max.ensures
+
+pub begin-returns-then-depth-eq0-clause-least : goal.begin-returns-then-depth-eq0-clause-least
+begin-returns-then-depth-eq0-clause-least t c =
+    let few : length c.args.tokens.now < 2 ^ 55 = search rules in
+    some_statement c.args.tokens.now c.args.depth c.args.from (omega (arith, c.requires.within)) few
+
+pub begin-returns-in_err-body-clause-least : goal.begin-returns-in_err-body-clause-least
+begin-returns-in_err-body-clause-least t c =
+    let tokens = c.args.tokens.now in
+    let from = c.args.from in
+    let depth = c.args.depth in
+    let few : length tokens < 2 ^ 55 = search rules in
+    let deep : 0 < depth = omega (arith, c.if-depth-eq0.false) in
+    let inside : from < length tokens = omega (arith, c.requires.within) in
+    let at_0 = begin_begun tokens depth from inside few deep c.requires.word in
+    handed_in 24 (Spelled depth) tokens from 0 _ c.in_err-body.field-0.0 c.from_residual.result c.from_residual.ensures (λ e is. is) (omega arith)
+    (inner_halts tokens depth from (from + 1) (from + 1) (omega arith) at_0 c.in_err-body.field-0.0 c.in_err-body.ensures.least)
+
+pub begin-returns-in_err-closing-clause-least : goal.begin-returns-in_err-closing-clause-least
+begin-returns-in_err-closing-clause-least t c =
+    let tokens = c.args.tokens.now in
+    let from = c.args.from in
+    let depth = c.args.depth in
+    let few : length tokens < 2 ^ 55 = search rules in
+    let deep : 0 < depth = omega (arith, c.if-depth-eq0.false) in
+    let inside : from < length tokens = omega (arith, c.requires.within) in
+    let at_0 = begin_begun tokens depth from inside few deep c.requires.word in
+    let body = c.in_ok-body.body in
+    let inner = c.in_ok-body.ensures in
+    let at_1 = past_inner tokens depth from (from + 1) (from + 1) (omega arith) at_0 body.part body.end body.stop inner.spells (omega (arith, inner.bounds)) (omega (arith, inner.bounds)) inner.least in
+    handed_in 24 (Spelled depth) tokens from 0 _ c.in_err-closing.field-0.0 c.from_residual-in_err-closing.result c.from_residual-in_err-closing.ensures (λ e is. is) (omega arith)
+    (closing_halts tokens depth from w.END body.end body.stop at_1 c.in_err-closing.field-0.0 (c.in_err-closing.ensures.least (omega arith)))
+
+pub begin-returns-in_err-boxed-clause-least : goal.begin-returns-in_err-boxed-clause-least
+begin-returns-in_err-boxed-clause-least t c =
+    let tokens = c.args.tokens.now in
+    let from = c.args.from in
+    let depth = c.args.depth in
+    handed_in 24 (Spelled depth) tokens from 0 _ c.in_err-boxed.field-0.0 c.from_residual-in_err-boxed.result c.from_residual-in_err-boxed.ensures (λ e is. is) (omega arith)
+    (no_memory 24 (Spelled depth) tokens from 0 c.in_err-boxed.field-0.0 c.in_err-boxed.ensures.fault)
+
+pub begin-returns-clause-least : goal.begin-returns-clause-least
+begin-returns-clause-least t c =
+    let tokens = c.args.tokens.now in
+    let from = c.args.from in
+    let depth = c.args.depth in
+    let few : length tokens < 2 ^ 55 = search rules in
+    let deep : 0 < depth = omega (arith, c.if-depth-eq0.false) in
+    let inside : from < length tokens = omega (arith, c.requires.within) in
+    let at_0 = begin_begun tokens depth from inside few deep c.requires.word in
+    let body = c.in_ok-body.body in
+    let inner = c.in_ok-body.ensures in
+    let at_1 = past_inner tokens depth from (from + 1) (from + 1) (omega arith) at_0 body.part body.end body.stop inner.spells (omega (arith, inner.bounds)) (omega (arith, inner.bounds)) inner.least in
+    closed_goes tokens depth from w.END body.end body.stop at_1 c.max.result c.in_ok-closing.ensures.stands c.in_ok-closing.ensures.within (omega (arith, inner.bounds)) c.max.ensures
+
+pub statement-returns-in-None-clause-least : goal.statement-returns-in-None-clause-least
+statement-returns-in-None-clause-least t c =
+    let few : length c.args.tokens.now < 2 ^ 55 = search rules in
+    some_statement c.args.tokens.now c.args.depth c.args.from (omega (arith, c.requires)) few
+
+pub statement-returns-in-Simple-clause-least : goal.statement-returns-in-Simple-clause-least
+statement-returns-in-Simple-clause-least t c =
+    c.simple.ensures.least c.args.depth

@@ -2,6 +2,7 @@ use Rattle.std.proofs.Common.{◌+◌, ◌-◌, ◌*◌, length}
 use Rattle.pearl_tree.specs.Standing.{SpellsEach}
 use Rattle.pearl_tree.specs.Statements.{SpellsStmt, SpellsBranch}
 use Rattle.pearl_tables.specs.declared.word_code.TheConstants as w
+use Rattle.pearl_parse.specs.Reached.{GoesBehind}
 use Rattle.pearl_parse.specs.Stops.{StopsWithin, begins_statement}
 use Rattle.pearl_parse.specs.Bodies.{SpellsStatements}
 use Rattle.pearl_parse.proofs.Repetitions.{EachGoes}
@@ -43,6 +44,7 @@ invariant-statements-each l = record {
   spells : SpellsStatements l.depth l.tokens l.from l.list.items l.end;
   goes : EachGoes (λ tokens. SpellsStmt tokens l.depth) begins_statement l.tokens l.from l.end l.stop;
   bounds : StopsWithin l.tokens l.from l.least_stop l.end l.stop;
+  least : GoesBehind 24 (SpellsStatements l.depth) l.tokens l.from l.least_stop l.end l.stop;
 }
 
 abbrev pub decreases-statements-each : goal.decreases-statements-each
@@ -53,6 +55,7 @@ invariant-alternatives-each l = record {
   spells : SpellsEach (SpellsBranch l.tokens l.depth w.ALT) l.from l.list.items l.end;
   goes : ChoicesGo l.tokens l.depth l.from l.end l.stop;
   bounds : StopsWithin l.tokens l.from l.least_stop l.end l.stop;
+  least : GoesBehind 24 (λ tokens. SpellsEach (SpellsBranch tokens l.depth w.ALT)) l.tokens l.from l.least_stop l.end l.stop;
 }
 
 abbrev pub decreases-alternatives-each : goal.decreases-alternatives-each

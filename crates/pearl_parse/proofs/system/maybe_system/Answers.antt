@@ -1,10 +1,12 @@
-use Rattle.std.proofs.Common.{sym, arith}
+use Rattle.std.proofs.Common.{sym, inl, refl, arith}
 use Rattle.pearl_tree.specs.Modules.{SpellsSystem}
 use Rattle.pearl_tables.specs.declared.word_code.TheConstants as w
 use Rattle.pearl_parse_expr.specs.Stops.{is_name, is_word}
 use Rattle.pearl_parse.specs.Modules.{SpellsOptionalSystem}
 use Rattle.pearl_parse.proofs.Steps.{only_is_longest, optional_is_none, optional_is_longest, optional_is_halted}
 use Rattle.pearl_parse.proofs.ModuleRests.{system_begins}
+use Rattle.pearl_tree.specs.Standing.{SpellsMaybe}
+use Rattle.pearl_parse.proofs.States.{goes_as, halts_as, some_reaches}
 use Rattle.pearl_parse.proofs.system.maybe_system.Goals as goal
 
 pub returns-then-not-is_word-clause-longest : goal.returns-then-not-is_word-clause-longest
@@ -23,3 +25,22 @@ returns-in-Ok-clause-longest c =
 pub returns-in-Err-clause-refused : goal.returns-in-Err-clause-refused
 returns-in-Err-clause-refused c =
     optional_is_halted (is_word w.SYSTEM) SpellsSystem c.args.tokens.now c.args.from c.in-Err.halt (sym c.if-not-is_word.ensures.value) c.in-Err.ensures.refused
+
+pub returns-then-not-is_word-clause-least : goal.returns-then-not-is_word-clause-least
+returns-then-not-is_word-clause-least c =
+    record { goes = inl refl }
+
+pub returns-in-Ok-clause-least : goal.returns-in-Ok-clause-least
+returns-in-Ok-clause-least c =
+    let tokens = c.args.tokens.now in
+    let from = c.args.from in
+    let read = c.in-Ok.ensures in
+    goes_as 16 16 SpellsSystem (λ tokens. SpellsMaybe (SpellsSystem tokens)) tokens from from (omega arith) (λ stop near r. some_reaches 16 SpellsSystem tokens from stop near r) c.in-Ok.devices.end c.in-Ok.devices.stop
+    (omega (arith, read.ahead)) read.least
+
+pub returns-in-Err-clause-least : goal.returns-in-Err-clause-least
+returns-in-Err-clause-least c =
+    let tokens = c.args.tokens.now in
+    let from = c.args.from in
+    halts_as 16 16 SpellsSystem (λ tokens. SpellsMaybe (SpellsSystem tokens)) tokens from from (omega arith) (λ stop near r. some_reaches 16 SpellsSystem tokens from stop near r) c.in-Err.halt c.in-Err.ensures.refused
+    c.in-Err.ensures.least

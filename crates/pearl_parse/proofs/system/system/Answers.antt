@@ -1,9 +1,11 @@
-use Rattle.std.proofs.Common.{◌+◌, ap, arith}
+use Rattle.std.proofs.Common.{◌+◌, ap, ◌<◌, ◌^◌, length, rules, arith}
 use Rattle.pearl_tree.specs.Modules.{SpellsSystem}
 use Rattle.pearl_tables.specs.declared.symbol.TheConstants as s
 use Rattle.pearl_parse_expr.specs.Stops.{is_symbol}
 use Rattle.pearl_parse.proofs.Steps.{err_told, missing}
 use Rattle.pearl_parse.proofs.ModuleRests.{devices_rest, devices_go, system_is_longest}
+use Rattle.pearl_parse.proofs.SystemLeast.{no_devices, system_goes}
+use Rattle.pearl_parse.proofs.States.{handed_in}
 use Rattle.pearl_parse.proofs.system.system.Goals as goal
 
 pub returns-in_err-symbol-clause-refused : goal.returns-in_err-symbol-clause-refused
@@ -17,3 +19,21 @@ returns-in_err-symbol-clause-refused c =
 pub returns-in-Ok-clause-longest : goal.returns-in-Ok-clause-longest
 returns-in-Ok-clause-longest c =
     system_is_longest c.args.tokens.now c.args.from c.in-Ok.devices.end c.in-Ok.devices.stop c.in-Ok.ensures.longest
+
+pub returns-in_err-symbol-clause-least : goal.returns-in_err-symbol-clause-least
+returns-in_err-symbol-clause-least c =
+    let tokens = c.args.tokens.now in
+    let from = c.args.from in
+    let few : length tokens < 2 ^ 55 = search rules in
+    handed_in 16 SpellsSystem tokens from 0 _ c.in_err-symbol.field-0.0 c.from_residual.result c.from_residual.ensures (λ e is. is) (omega arith)
+    (no_devices tokens from c.requires.word c.requires.within few c.in_err-symbol.field-0.0 c.in_err-symbol.ensures.missing)
+
+pub returns-in-Ok-clause-least : goal.returns-in-Ok-clause-least
+returns-in-Ok-clause-least c =
+    let tokens = c.args.tokens.now in
+    let from = c.args.from in
+    let few : length tokens < 2 ^ 55 = search rules in
+    let devices = c.in-Ok.devices in
+    let read = c.in-Ok.ensures in
+    system_goes tokens from c.requires.word c.requires.within few c.in_ok-symbol.ensures.stands c.in_ok-symbol.ensures.within devices.part.items devices.end devices.stop read.spells (omega (arith, read.bounds)) (omega (arith, read.bounds))
+    (omega (arith, read.bounds)) read.least
