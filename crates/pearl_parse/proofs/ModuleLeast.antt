@@ -184,8 +184,26 @@ tree_made others from to small h =
     let two : o.1 ≡ o.2.0 + 1 + 1 = omega (arith, o.2.4) in
     module_made others from to small (
       t.1,
-      (h.0, t.0, t.2, (t.3, (o.0, o.2.0, subst (λ k. SpellsMaybe (SpellsSystem others) k o.0 o.2.0) t.4 o.2.1, (o.2.2, (o.2.3,
-      (d.0, d.1, subst (λ k. SpellsEach (SpellsDecl others) k d.0 d.1) two d.2, (e.2.0, (e.0, e.1, e.2.1, e.3)))))))),
+      (
+        h.0,
+        t.0,
+        t.2,
+        (
+          t.3,
+          (
+            o.0,
+            o.2.0,
+            subst (λ k. SpellsMaybe (SpellsSystem others) k o.0 o.2.0) t.4 o.2.1,
+            (
+              o.2.2,
+              (
+                o.2.3,
+                (d.0, d.1, subst (λ k. SpellsEach (SpellsDecl others) k d.0 d.1) two d.2, (e.2.0, (e.0, e.1, e.2.1, e.3))),
+              ),
+            ),
+          ),
+        ),
+      ),
     )
 
 close_rest_fills : Fills 1 close_rest

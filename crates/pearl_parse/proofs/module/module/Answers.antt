@@ -75,8 +75,8 @@ returns-in_err-semicolon-clause-least c =
     let third = c.in-Ok.ensures in
     let stop = c.max.result in
     let at_1 = past_opening tokens few head.end head.stop (omega (arith, first.ahead)) (omega (arith, first.close)) at_0 opening.part opening.end opening.stop second.spells (omega (arith, second.ahead)) (omega (arith, second.ahead)) (omega (arith, second.ahead))
-        second.least in
+    second.least in
     let at = past_decls tokens few opening.end opening.stop (omega (arith, first.ahead, second.ahead)) at_1 list.part.items list.end list.stop stop third.spells (omega (arith, third.bounds)) (omega (arith, third.bounds))
-        (omega (arith, third.bounds, second.ahead, c.max.ensures)) third.least c.max.ensures in
+    (omega (arith, third.bounds, second.ahead, c.max.ensures)) third.least c.max.ensures in
     err_told _ _ c.in_err-semicolon.field-0.0 c.from_residual-in_err-semicolon.result c.from_residual-in_err-semicolon.ensures (λ e is. is)
     (halts_in 24 SpellsTree tokens 0 0 (omega arith) c.in_err-semicolon.field-0.0 (close_halts tokens few list.end stop at c.in_err-semicolon.field-0.0 c.in_err-semicolon.ensures.least))
