@@ -1,5 +1,5 @@
 -- A source that is checked: what is due for it is determined, and comes to its end where no rule is broken.
-use Rattle.std.proofs.Common.{◌≡◌, ◌≤◌, ◌⊎◌, ℕ, List, [], Some, length, ap, sym, ◌∙◌, subst, inl, inr}
+use Rattle.std.proofs.Common.{◌≡◌, ◌≤◌, ℕ, List, [], Some, length, ap, sym, ◌∙◌, subst, inl, inr}
 use Rattle.pearl_tree.specs.declared.fault.RuleFault.{RuleFault}
 use Rattle.pearl_tree.specs.Modules.{Spells}
 use Rattle.pearl_tree.specs.ShownModules.{shown_tree}
@@ -11,7 +11,6 @@ use Rattle.pearl_script.specs.declared.refusal.Refusal.TheVariants as refusal
 use Rattle.pearl_script.specs.Refusals.{refusal_line}
 use Rattle.pearl_top.specs.CheckDue.{BreaksNone, BreaksSome, IsAccepted, IsUnaccepted, accepted_line}
 use Rattle.pearl_top.specs.declared.limits.TheConstants.{SOURCE_LIMIT}
-use Rattle.pearl_top.specs.Laws.{HasNoTree}
 use Rattle.pearl_top.specs.PrintDue.{IsSpelled}
 use Rattle.pearl_top.proofs.PrintLaws.{never_unspelled, unspelled_once}
 use Rattle.pearl_top.proofs.SourceLaws.{IsSettled}
@@ -48,11 +47,11 @@ broken_once source bytes others one two =
     (sym one.is_first ∙ ap (λ tree. first (all_broken tree)) (shown_once source one.is two.is) ∙ two.is_first) in
     one.text ∙ ap (λ (fault : RuleFault). refusal_line (refusal.Source fault.place fault.rule)) same ∙ sym two.text
 
-unaccepted_once : (source bytes others : List ℕ) → IsUnaccepted source bytes → IsUnaccepted source others → (bytes ≡ others) ⊎ HasNoTree source
+unaccepted_once : (source bytes others : List ℕ) → IsUnaccepted source bytes → IsUnaccepted source others → bytes ≡ others
 unaccepted_once source bytes others (inl unspelled) (inl also) = unspelled_once source bytes others unspelled also
 unaccepted_once source bytes others (inl unspelled) (inr some) = absurd (never_unspelled source bytes some.is unspelled)
 unaccepted_once source bytes others (inr some) (inl unspelled) = absurd (never_unspelled source others some.is unspelled)
-unaccepted_once source bytes others (inr some) (inr also) = inl (broken_once source bytes others some also)
+unaccepted_once source bytes others (inr some) (inr also) = broken_once source bytes others some also
 
 unaccepted_within : (source bytes : List ℕ) → IsUnaccepted source bytes → length source ≤ SOURCE_LIMIT
 unaccepted_within source bytes (inl unspelled) = unspelled.within

@@ -1,15 +1,15 @@
 -- A source that is printed: what is due for it is determined, and comes to its end where it is spelled.
-use Rattle.std.proofs.Common.{◌≡◌, ◌⊎◌, ℕ, List, ap, sym, ◌∙◌, subst, inl, inr}
+use Rattle.std.proofs.Common.{◌≡◌, ◌⊎◌, ℕ, List, length, ap, sym, ◌∙◌, subst, inl, inr}
 use Rattle.pearl_tree.specs.Modules.{Spells}
-use Rattle.pearl_tree.specs.Stops.{NoneBegins}
-use Rattle.pearl_tree.proofs.FirstStop.{stops_have_no_tree}
+use Rattle.pearl_tree.specs.Stops.{NoneBegins, IsFirstStop}
+use Rattle.pearl_tree.proofs.FirstStop.{one_stop, stops_have_no_tree}
 use Rattle.pearl_lex.specs.Lexes.{IsStuck}
 use Rattle.pearl_lex.proofs.Unique.{one_reading, one_place, never_both}
+use Rattle.pearl_parse.specs.Refusals.{place_or_end}
 use Rattle.pearl_print.specs.Spelled.{text_of_tokens}
 use Rattle.pearl_print.proofs.ShownModules.{source_has_one_text}
 use Rattle.pearl_script.specs.declared.refusal.Refusal.TheVariants as refusal
 use Rattle.pearl_script.specs.Refusals.{refusal_line}
-use Rattle.pearl_top.specs.Laws.{HasNoTree}
 use Rattle.pearl_top.specs.PrintDue.{HasStop, IsPrinted, IsSpelled, IsUnspelled}
 use Rattle.pearl_top.proofs.SourceLaws.{IsSettled}
 
@@ -30,23 +30,22 @@ never_unspelled source bytes is refused = by refused.fault
         (subst (λ tokens. NoneBegins tokens stop.refused.token) (one_reading source stop.tokens is.tokens stop.lexes is.lexes) stop.refused.none)
         is.spells
 
--- no tree spells tokens with which no program begins
-has_no_tree : (source : List ℕ) (place : ℕ) → HasStop source place → HasNoTree source
-has_no_tree source place stop = record {
-  tokens = stop.tokens;
-  lexes = stop.lexes;
-  none = λ tree spells. stops_have_no_tree stop.tokens stop.refused.token tree stop.refused.none spells;
-}
-
--- a source is refused with one line, unless it has tokens and no tree
-pub unspelled_once : (source bytes others : List ℕ) → IsUnspelled source bytes → IsUnspelled source others → (bytes ≡ others) ⊎ HasNoTree source
-unspelled_once source bytes others one two = by one.fault two.fault
+-- a source is refused with one line
+pub unspelled_once : (source bytes others : List ℕ) → IsUnspelled source bytes → IsUnspelled source others → bytes ≡ others
+unspelled_once source bytes others one two =
+    one.text ∙ ap (λ place. refusal_line (refusal.Syntax place)) (by one.fault two.fault) ∙ sym two.text
   where
-    by : IsStuck source one.place ⊎ HasStop source one.place → IsStuck source two.place ⊎ HasStop source two.place → (bytes ≡ others) ⊎ HasNoTree source
-    by (inl stuck) (inl also) =
-        inl (one.text ∙ ap (λ place. refusal_line (refusal.Syntax place)) (one_place source one.place two.place stuck also) ∙ sym two.text)
-    by (inl stuck) (inr stop) = inr (has_no_tree source two.place stop)
-    by (inr stop) fault = inr (has_no_tree source one.place stop)
+    by : IsStuck source one.place ⊎ HasStop source one.place → IsStuck source two.place ⊎ HasStop source two.place → one.place ≡ two.place
+    by (inl stuck) (inl also) = one_place source one.place two.place stuck also
+    by (inl stuck) (inr stop) = absurd (never_both source stop.tokens one.place stop.lexes stuck)
+    by (inr stop) (inl stuck) = absurd (never_both source stop.tokens two.place stop.lexes stuck)
+    by (inr stop) (inr also) =
+        let same : also.tokens ≡ stop.tokens = one_reading source also.tokens stop.tokens also.lexes stop.lexes in
+        let second : IsFirstStop also.tokens also.refused.token = record { none = also.refused.none; some = also.refused.some } in
+        let token : stop.refused.token ≡ also.refused.token =
+        one_stop stop.tokens stop.refused.token also.refused.token (record { none = stop.refused.none; some = stop.refused.some })
+        (subst (λ tokens. IsFirstStop tokens also.refused.token) same second) in
+        stop.refused.stands ∙ (λ i. place_or_end (sym same i) (length source) (token i)) ∙ sym also.refused.stands
 
 -- what is due is settled by the source
 pub print_settled : (source : List ℕ) → IsSettled source (IsPrinted source) (IsUnspelled source)

@@ -5,7 +5,6 @@ use Rattle.pearl_script.specs.Refusals.{refusal_line}
 use Rattle.pearl_top.specs.declared.limits.TheConstants.{SOURCE_LIMIT}
 use Rattle.pearl_top.specs.declared.status.Status.{Status}
 use Rattle.pearl_top.specs.declared.status.Status.TheVariants.{Done, Usage, Refused, BadObject, BadJournal, ReadFault, WriteFault, NoMemory, TooLong}
-use Rattle.pearl_top.specs.Laws.{AreSameOf, HasNoTree}
 use Rattle.pearl_top.specs.Reading.{DueAtSource, UnreadDue}
 
 -- where the count of faults rose from earlier on
@@ -63,14 +62,14 @@ at_source_completes source done refused rose TooLong bytes within never due no_m
 
 -- ONE OUTCOME
 
--- what is written of a source that is done with is one list, and so is what is written of one that is refused, apart from one that has
--- tokens and no tree; it is not both; and either way it is within the limit
+-- what is written of a source that is done with is one list, and so is what is written of one that is refused; it is not both; and
+-- either way it is within the limit
 pub record IsSettled (source : List ℕ) (done refused : List ℕ → Type 0) : Type 0 where
   pub done_within : (bytes : List ℕ) → done bytes → length source ≤ SOURCE_LIMIT
   pub refused_within : (bytes : List ℕ) → refused bytes → length source ≤ SOURCE_LIMIT
   pub never_both : (bytes others : List ℕ) → done bytes → refused others → ⊥
   pub done_once : (bytes others : List ℕ) → done bytes → done others → bytes ≡ others
-  pub refused_once : (bytes others : List ℕ) → refused bytes → refused others → (bytes ≡ others) ⊎ HasNoTree source
+  pub refused_once : (bytes others : List ℕ) → refused bytes → refused others → bytes ≡ others
 
 -- a source that is too long
 abbrev IsLong : List ℕ → List ℕ → Type 0
@@ -96,19 +95,16 @@ ended source done refused TooLong bytes known due = inr (inr (refl, due))
 within_or_long : (source bytes : List ℕ) → length source ≤ SOURCE_LIMIT → IsLong source bytes → ⊥
 within_or_long source bytes within long = omega (arith, within, long.0)
 
-same_at : (source : List ℕ) (status at : Status) (bytes others : List ℕ) → status ≡ at → AreSameOf source at bytes others → AreSameOf source status bytes others
-same_at source status at bytes others e same = subst (λ s. AreSameOf source s bytes others) (sym e) same
-
 ended_once : (source : List ℕ) (done refused : List ℕ → Type 0) (status other : Status) (bytes others : List ℕ) → IsSettled source done refused →
-    Ended source done refused status bytes → Ended source done refused other others → (status ≡ other) × AreSameOf source status bytes others
+    Ended source done refused status bytes → Ended source done refused other others → (status ≡ other) × (bytes ≡ others)
 ended_once source done refused status other bytes others settled (inl (e, is)) (inl (f, also)) =
-    (e ∙ sym f, same_at source status Done bytes others e (settled.done_once bytes others is also))
+    (e ∙ sym f, settled.done_once bytes others is also)
 ended_once source done refused status other bytes others settled (inl (e, is)) (inr (inl (f, why))) = absurd (settled.never_both bytes others is why)
 ended_once source done refused status other bytes others settled (inl (e, is)) (inr (inr (f, long))) =
     absurd (within_or_long source others (settled.done_within bytes is) long)
 ended_once source done refused status other bytes others settled (inr (inl (e, why))) (inl (f, is)) = absurd (settled.never_both others bytes is why)
 ended_once source done refused status other bytes others settled (inr (inl (e, why))) (inr (inl (f, also))) =
-    (e ∙ sym f, same_at source status Refused bytes others e (settled.refused_once bytes others why also))
+    (e ∙ sym f, settled.refused_once bytes others why also)
 ended_once source done refused status other bytes others settled (inr (inl (e, why))) (inr (inr (f, long))) =
     absurd (within_or_long source others (settled.refused_within bytes why) long)
 ended_once source done refused status other bytes others settled (inr (inr (e, long))) (inl (f, is)) =
@@ -116,12 +112,12 @@ ended_once source done refused status other bytes others settled (inr (inr (e, l
 ended_once source done refused status other bytes others settled (inr (inr (e, long))) (inr (inl (f, why))) =
     absurd (within_or_long source bytes (settled.refused_within others why) long)
 ended_once source done refused status other bytes others settled (inr (inr (e, long))) (inr (inr (f, also))) =
-    (e ∙ sym f, same_at source status TooLong bytes others e (long.1 ∙ sym also.1))
+    (e ∙ sym f, long.1 ∙ sym also.1)
 
 -- what is due at a source is one thing, where nothing outside fails and memory is there
 pub at_source_once : (source : List ℕ) (done refused : List ℕ → Type 0) (status other : Status) (bytes others : List ℕ) → IsSettled source done refused →
     status ≢ NoMemory → other ≢ NoMemory → DueAtSource source done refused ⊥ status bytes → DueAtSource source done refused ⊥ other others →
-    (status ≡ other) × AreSameOf source status bytes others
+    (status ≡ other) × (bytes ≡ others)
 at_source_once source done refused status other bytes others settled known also due too =
     ended_once source done refused status other bytes others settled (ended source done refused status bytes known due)
     (ended source done refused other others also too)

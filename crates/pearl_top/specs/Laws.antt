@@ -1,5 +1,5 @@
 -- The definitions determine the answer, and printing a printed text changes nothing.
-use Rattle.std.specs.Prelude.{◌≡◌, ℕ, ◌≤◌, ◌⊎◌, List, length}
+use Rattle.std.specs.Prelude.{◌≡◌, ℕ, ◌≤◌, List, length}
 use Rattle.pearl_rules.specs.declared.action.Answer.{Answer}
 use Rattle.pearl_rules.specs.declared.entry.Entry.{Entry}
 use Rattle.pearl_prog.specs.declared.program.Program.{Program}
@@ -11,8 +11,8 @@ use Rattle.pearl_print.specs.Reading.{FitsHours}
 use Rattle.pearl_meaning.specs.Meaning.{offer}
 use Rattle.pearl_top.specs.declared.limits.TheConstants.{SOURCE_LIMIT}
 use Rattle.pearl_top.specs.declared.status.Status.{Status}
-use Rattle.pearl_top.specs.declared.status.Status.TheVariants.{Done, Refused}
-use Rattle.pearl_top.specs.Commands.{Command, Check, Print}
+use Rattle.pearl_top.specs.declared.status.Status.TheVariants.{Done}
+use Rattle.pearl_top.specs.Commands.{Command, Print}
 use Rattle.pearl_top.specs.Outcome.{IsSource, IsOutcome}
 use Rattle.pearl_top.specs.Transcript.{Close, IsTranscript}
 
@@ -29,28 +29,10 @@ abbrev pub HasOneTranscript : Type 0
 HasOneTranscript = (source : List ℕ) (p q : Program) → IsSource source p → IsSource source q → (es : List Entry) (close : Close) (bytes others : List ℕ) →
     IsTranscript p es close bytes → IsTranscript q es close others → bytes ≡ others
 
--- the source has tokens, and no tree spells them
-pub record HasNoTree (source : List ℕ) : Type 0 where
-  pub tokens : List Token
-  pub lexes : Lexes source tokens
-  pub none : (tree : Tree) → Spells tree tokens → ⊥
-
--- The same bytes. But where a source is refused that has tokens and no tree, the line may name any place up to and with which no
--- program begins.
-abbrev pub AreSameOf : List ℕ → Status → List ℕ → List ℕ → Type 0
-AreSameOf source Refused bytes others = (bytes ≡ others) ⊎ HasNoTree source
-AreSameOf source status bytes others = bytes ≡ others
-
--- the same bytes, for `check` and `print` apart from those lines
-abbrev pub AreSame : Command → (List ℕ → List ℕ) → Status → List ℕ → List ℕ → Type 0
-AreSame (Check source) files = AreSameOf (files source)
-AreSame (Print source) files = AreSameOf (files source)
-AreSame _ files = λ status bytes others. bytes ≡ others
-
--- a command and its files have at most one status, and at most one list of bytes, apart from those lines
+-- a command and its files have at most one status, and at most one list of bytes
 abbrev pub HasOneOutcome : Type 0
 HasOneOutcome = (command : Command) (files : List ℕ → List ℕ) (status other : Status) (bytes others : List ℕ) →
-    IsOutcome command files status bytes → IsOutcome command files other others → (status ≡ other) × AreSame command files status bytes others
+    IsOutcome command files status bytes → IsOutcome command files other others → (status ≡ other) × (bytes ≡ others)
 
 -- no duration of the source has 2^63 hours or more, once its minutes and seconds are carried into them
 abbrev pub HoursFit : List ℕ → Type 0

@@ -13,8 +13,6 @@ pub fn one_transcript()
 {}
 
 /// A command and its files have at most one status and one list of bytes, where nothing outside fails and memory is there.
-/// Only where `check` or `print` refuses a source that has tokens and no tree, its line may name any place up to and with
-/// which no program begins. So a source that has a tree has one outcome of `check`, and one of `print`.
 pub fn one_outcome()
     ensures { HasOneOutcome }
 {}

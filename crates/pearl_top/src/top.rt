@@ -49,7 +49,7 @@ pub fn pearl<S: Shelf, K: Sink>(
         Ends (K.taken sink.old) (K.taken sink.new) (Due command (content files) rose) result }
 
     // Where the status is none of those for which the outside or memory is the cause, what was taken is, with the status, an
-    // outcome. How far it is the only one says `laws::one_outcome`.
+    // outcome. That it is the only one says `laws::one_outcome`.
     ensures outcome { let command = command_of (map string_bytes words.now) in
         (files : Files) → S.holds shelf.old ≡ Some files →
         result ≢ Status.NoMemory → result ≢ Status.ReadFault → result ≢ Status.WriteFault →
