@@ -1,15 +1,14 @@
 -- No rule of the validator fails at Index behind its subscripts, and at Call behind its arguments.
 use Rattle.std.proofs.Common.{◌≡◌, ℕ, zero, suc, ◌+◌, ◌*◌, ◌<◌, ◌≤◌, ◌⊎◌, inl, inr, Bool, true, false, T, List, [], ◌∷◌, ◌++◌, Option, Some, slice_get, length, replicate, map, refl, sym, ap, ◌∙◌, subst, arith, le-leb, lt-ltb, Box, Global}
-use Rattle.std.specs.Prelude.{◌⊎◌, ◌||◌, ◌≤ℤ◌, int_le, nat_lt, nat_le, option_map, option_and_then, option_to_list, take, drop, reverse}
+use Rattle.std.specs.Prelude.{◌⊎◌, ◌||◌, int_le, nat_lt, nat_le, option_map, option_and_then, option_to_list, take, drop, reverse}
 use Rattle.std.specs.List.{list_all}
 use Rattle.std.proofs.lemmas.Option.{slice_get_within}
 use Rattle.std.proofs.lemmas.List.{append_assoc, take_at, reverse-reverse, length-reverse, length-drop, length-map, length-replicate, length-take-le}
 use Rattle.std.proofs.lemmas.Grind.{reverse_onto}
 use Rattle.std.proofs.Math.Seq.{drop-append_seam}
-use Rattle.pearl_value.specs.declared.kind.Kind.{Kind}
 use Rattle.pearl_value.specs.declared.kind.Kind.TheVariants as kind_
 use Rattle.pearl_value.specs.declared.kind.CellKind.{CellKind}
-use Rattle.pearl_value.specs.declared.kind.CellKind.TheVariants.{Plain, RefTo}
+use Rattle.pearl_value.specs.declared.kind.CellKind.TheVariants.{Plain}
 use Rattle.pearl_program.specs.declared.expression.Bound.{Bound}
 use Rattle.pearl_program.specs.Typing as typing
 use Rattle.pearl_program.specs.Typing.{IsBound}
@@ -19,7 +18,7 @@ use Rattle.pearl_instructions.specs.declared.object.Code.{Code}
 use Rattle.pearl_instructions.specs.declared.object.Procedure.{Procedure}
 use Rattle.pearl_instructions.specs.declared.object.Object.{Object}
 use Rattle.pearl_instructions.specs.Objects.{is_task}
-use Rattle.pearl_instructions.specs.Operands.{Shape, Asked, Anything, SomeFixed, v2, arguments_asked, same_shape}
+use Rattle.pearl_instructions.specs.Operands.{Shape, Anything, SomeFixed, v2, arguments_asked, same_shape}
 use Rattle.pearl_instructions.specs.Kinds.{suits_parameters}
 use Rattle.pearl_instructions.specs.Valid.{extent, elements, is_array, call_fits, result_shape}
 use Rattle.pearl_gen_expr.specs.ExprCode.{bounds_of}
