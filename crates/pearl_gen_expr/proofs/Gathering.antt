@@ -22,7 +22,7 @@ use Rattle.pearl_instructions.specs.Operands.{Shape, Anything, SomeFixed, v2, ar
 use Rattle.pearl_instructions.specs.Kinds.{suits_parameters}
 use Rattle.pearl_instructions.specs.Valid.{extent, elements, is_array, call_fits, result_shape}
 use Rattle.pearl_gen_expr.specs.ExprCode.{bounds_of}
-use Rattle.pearl_gen_expr.specs.Shapes.{IsQuiet, Keeps}
+use Rattle.pearl_gen_expr.specs.Shapes.{IsQuiet, Keeps, handed}
 use Rattle.pearl_gen_expr.proofs.Fitting.{told}
 use Rattle.pearl_gen_expr.proofs.Shapes.{and_is, same_shape_self, one_keeps}
 
@@ -113,11 +113,6 @@ index_keeps o r code place quiet list bound bounds shape s is same are few small
     }))
 
 -- ARGUMENTS
-
--- these kinds are pushed in order on a shape
-abbrev pub handed : List CellKind → Shape → Shape
-handed [] s = s
-handed (k ∷ kinds) s = handed kinds (k ∷ s)
 
 handed_is : (kinds s : List CellKind) → handed kinds s ≡ reverse kinds ++ s
 handed_is [] s = refl

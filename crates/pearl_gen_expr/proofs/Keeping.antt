@@ -1,5 +1,5 @@
 -- No rule of the validator fails in the code of an expression.
-use Rattle.std.proofs.Common.{◌≡◌, ℕ, zero, suc, ◌+◌, ◌<◌, ◌≤◌, ◌⊎◌, inl, inr, max, true, List, [], ◌∷◌, ◌++◌, Option, Some, None, slice_get, length, refl, sym, ap, ◌∙◌, subst, arith}
+use Rattle.std.proofs.Common.{◌≡◌, ℕ, zero, suc, ◌+◌, ◌<◌, ◌≤◌, ◌⊎◌, inl, inr, max, true, List, [], ◌∷◌, ◌++◌, Option, Some, None, slice_get, length, map, refl, sym, ap, ◌∙◌, subst, arith}
 use Rattle.std.specs.Prelude.{option_map, take, drop, unwrap_or}
 use Rattle.std.specs.List.{sum_by}
 use Rattle.std.proofs.Math.Nat.{mul-pos}
@@ -33,10 +33,10 @@ use Rattle.pearl_instructions.specs.Operands.{Shape}
 use Rattle.pearl_instructions.specs.Valid.{result_shape}
 use Rattle.pearl_gen_expr.specs.Tables.{plain_leaf, Head, head_of, code_head}
 use Rattle.pearl_gen_expr.specs.ExprCode.{Is, reading, slot_reference, cell_reference, OffsetOf, ReadOf, ReferenceOf, ExprAt, AllAt, ArgumentsAt, ArgumentAt}
-use Rattle.pearl_gen_expr.specs.Shapes.{IsQuiet, AreQuiet, Keeps, IsPlaced, depths, ExpressionsKeep}
+use Rattle.pearl_gen_expr.specs.Shapes.{IsQuiet, AreQuiet, Keeps, IsPlaced, depths, handed, offset_shape, AllKeep, CallKeeps, OffsetKeeps, ExpressionsKeep}
 use Rattle.pearl_gen_expr.proofs.Shapes.{both_keep}
 use Rattle.pearl_gen_expr.proofs.Fitting.{const_keeps, now_keeps, try_keeps, conv_keeps, monadic_keeps, dyadic_keeps, load_keeps, read_keeps, read_at_keeps, read_ref_keeps, ref_slot_keeps, ref_slot_at_keeps, load_at_keeps, ref_cell_at_keeps, ref_cell_keeps, first_is_plain}
-use Rattle.pearl_gen_expr.proofs.Gathering.{FixedOn, fixed_more, fixed_length, AreBounds, index_keeps, handed, handed_length, call_keeps}
+use Rattle.pearl_gen_expr.proofs.Gathering.{FixedOn, fixed_more, fixed_length, AreBounds, index_keeps, handed_length, call_keeps}
 use Rattle.pearl_gen_expr.proofs.Forward.{expr_forward, all_forward, arguments_forward, argument_forward, some_values}
 use Rattle.pearl_gen_expr.proofs.Tables.{each, signature_is}
 
@@ -104,10 +104,9 @@ param_typed : (found : Option CellKind) (bounds : List Bound) (es : PlainExprs) 
 param_typed (Some (RefTo of)) [] NoExprs kind is = ap (λ of. Some (RefTo of)) is
 param_typed found bounds es kind is = absurd is
 
--- an offset where there are bounds
-abbrev pub offset_shape : List Bound → Shape → Shape
-offset_shape [] s = s
-offset_shape (bound ∷ bounds) s = Plain (kind_.Fixed 31) ∷ s
+no_bounds : (found : Option CellKind) (bounds : List Bound) (es : PlainExprs) (kind : Kind) → IsParam found bounds es kind → bounds ≡ []
+no_bounds (Some (RefTo of)) [] NoExprs kind is = refl
+no_bounds found bounds es kind is = absurd is
 
 -- the procedure of the object
 callee_of : (found : Option Procedure) (procedure : PlainProcedure) → option_map code_head found ≡ Some (head_of procedure) →
@@ -413,6 +412,45 @@ module _ (o : Object) (r : ℕ) (code : Code) (p : PlainProg) (around : Around) 
         refer_keeps target bounds subscripts kind from to s
         (λ are end quiet at. subscripts_keep subscripts bounds from end s are small deep room_for quiet at) suit room quiet is
 
+  all_keep : AllKeep o r code p around below most
+  all_keep NoExprs [] from to s typed small deep room quiet is = subst (λ to. Keeps o r code from to s s) (sym is) (nothing_keeps o r code from s)
+  all_keep NoExprs (kind ∷ kinds) from to s typed small deep room quiet is = absurd typed
+  all_keep (MoreExprs e rest) [] from to s typed small deep room quiet is = absurd typed
+  all_keep (MoreExprs e rest) (kind ∷ kinds) from to s typed small deep room quiet is =
+      let middle = is.0 in let some = some_values e in
+      let first = expr_forward p code.instructions e from middle is.1 in let then = all_forward p code.instructions rest middle to is.2 in
+      both_keep o r code from middle to s (Plain kind ∷ s) (handed (map Plain kinds) (Plain kind ∷ s))
+      (expr_keeps e kind from middle s typed.0 (less_left (of_expr calls e) (of_exprs calls rest) below small)
+      (less_left (of_expr (callees (depths o)) e) (of_exprs (callees (depths o)) rest) most deep) (omega (arith, room)) (first_quiet o r code from middle to quiet then) is.1)
+      (all_keep rest kinds middle to (Plain kind ∷ s) typed.1 (less_right (of_expr calls e) (of_exprs calls rest) below small)
+      (less_right (of_expr (callees (depths o)) e) (of_exprs (callees (depths o)) rest) most deep) (omega (arith, room, some)) (then_quiet o r code from middle to quiet first) is.2)
+
+  call_at_keeps : CallKeeps o r code p around below most
+  call_at_keeps number procedure arguments from to s there suit small_here small_within deep_here deep_within room quiet is =
+      let end = is.2 in let last = is.5 in
+      let same : is.0 ≡ procedure = same_Some is.0 procedure (sym is.1 ∙ there) in
+      let at = subst (λ (procedure : PlainProcedure). ArgumentsAt p code.instructions from (params_of procedure) arguments end) same is.3 in
+      let before = arguments_keep arguments (params_of procedure) from end s suit small_within deep_within room (first_quiet o r code from end to quiet (omega (arith, last))) at in
+      called_keeps number procedure from end to (of_arguments values arguments) s there small_here deep_here (many_arguments (params_of procedure) arguments suit) room quiet before is.4 last
+
+  offset_at_keeps : OffsetKeeps o r code p around below most
+  offset_at_keeps (LeafOf number) bounds es kind from to s typed small deep room quiet is =
+      offset_keeps bounds es from to (of_exprs values es) s (λ end quiet at. subscripts_keep es bounds from end s typed.2 small deep room quiet at)
+      (are_bounds around bounds es typed.2) typed.1 (few_elements number bounds kind typed.0) (many_values around bounds es typed.2) room quiet is
+  offset_at_keeps (Own first) bounds es kind from to s typed small deep room quiet is =
+      offset_keeps bounds es from to (of_exprs values es) s (λ end quiet at. subscripts_keep es bounds from end s typed.2 small deep room quiet at)
+      (are_bounds around bounds es typed.2) typed.1
+      (few_cells first bounds kind (of_exprs values es) s (subst (λ cells. AreCells cells first (elements bounds) (Plain kind)) placed.cells typed.0.0) room)
+      (many_values around bounds es typed.2) room quiet is
+  offset_at_keeps (Param first) bounds es kind from to s typed small deep room quiet is =
+      let none = no_bounds (slice_get around.cells first) bounds es kind typed in
+      subst (λ bounds. OffsetOf code.instructions from bounds (λ end. AllAt p code.instructions from es end) to → Keeps o r code from to s (offset_shape bounds s)) (sym none)
+      (λ same. subst (λ to. Keeps o r code from to s s) (sym same) (nothing_keeps o r code from s)) is
+
 pub expressions_keep : ExpressionsKeep
-expressions_keep o r code p around below placed e kind from to s typed small room quiet is =
-    expr_keeps o r code p around below (of_expr (callees (depths o)) e) placed e kind from to s typed small (omega arith) room quiet is
+expressions_keep o r code p around below deepest placed = record {
+  expr = λ e kind from to s typed small deep room quiet is. expr_keeps o r code p around below deepest placed e kind from to s typed small deep room quiet is;
+  all = all_keep o r code p around below deepest placed;
+  call = call_at_keeps o r code p around below deepest placed;
+  offset = offset_at_keeps o r code p around below deepest placed;
+}
