@@ -32,11 +32,12 @@ use Rattle.pearl_instructions.specs.Objects.{is_task}
 use Rattle.pearl_instructions.specs.Operands.{Shape}
 use Rattle.pearl_instructions.specs.Valid.{result_shape}
 use Rattle.pearl_gen_expr.specs.Tables.{plain_leaf, Head, head_of, code_head}
-use Rattle.pearl_gen_expr.specs.ExprCode.{Is, reading, slot_reference, cell_reference, OffsetOf, ReadOf, ReferenceOf, ExprAt, AllAt, ArgumentsAt, ArgumentAt}
-use Rattle.pearl_gen_expr.specs.Shapes.{IsQuiet, AreQuiet, Keeps, IsPlaced, depths, handed, offset_shape, AllKeep, CallKeeps, OffsetKeeps, ExpressionsKeep}
+use Rattle.pearl_gen_expr.specs.ExprCode.{Is, reading, writing, slot_reference, cell_reference, OffsetOf, ReadOf, ReferenceOf, ExprAt, AllAt, ArgumentsAt, ArgumentAt}
+use Rattle.pearl_gen_expr.specs.Shapes.{IsQuiet, AreQuiet, Keeps, IsPlaced, depths, handed, offset_shape, AllKeep, CallKeeps, OffsetKeeps, WayKeeps, WritingKeeps, ExpressionsKeep}
 use Rattle.pearl_gen_expr.proofs.Shapes.{both_keep}
 use Rattle.pearl_gen_expr.proofs.Fitting.{const_keeps, now_keeps, try_keeps, conv_keeps, monadic_keeps, dyadic_keeps, load_keeps, read_keeps, read_at_keeps, read_ref_keeps, ref_slot_keeps, ref_slot_at_keeps, load_at_keeps, ref_cell_at_keeps, ref_cell_keeps, first_is_plain}
 use Rattle.pearl_gen_expr.proofs.Gathering.{FixedOn, fixed_more, fixed_length, AreBounds, index_keeps, handed_length, call_keeps}
+use Rattle.pearl_gen_expr.proofs.Storing.{write_keeps, write_at_keeps, write_ref_keeps, store_keeps, store_at_keeps}
 use Rattle.pearl_gen_expr.proofs.Forward.{expr_forward, all_forward, arguments_forward, argument_forward, some_values}
 use Rattle.pearl_gen_expr.proofs.Tables.{each, signature_is}
 
@@ -447,10 +448,39 @@ module _ (o : Object) (r : ℕ) (code : Code) (p : PlainProg) (around : Around) 
       subst (λ bounds. OffsetOf code.instructions from bounds (λ end. AllAt p code.instructions from es end) to → Keeps o r code from to s (offset_shape bounds s)) (sym none)
       (λ same. subst (λ to. Keeps o r code from to s s) (sym same) (nothing_keeps o r code from s)) is
 
+  way_at_keeps : WayKeeps o r code p around below most
+  way_at_keeps (LeafOf number) bounds es kind from to s typed small deep room quiet is = offset_at_keeps (LeafOf number) bounds es kind from to s typed small deep (omega (arith, room)) quiet is
+  way_at_keeps (Own first) bounds es kind from to s typed small deep room quiet is = offset_at_keeps (Own first) bounds es kind from to s typed small deep (omega (arith, room)) quiet is
+  way_at_keeps (Param first) bounds es kind from to s typed small deep room quiet is =
+      let param = param_typed (slice_get around.cells first) bounds es kind typed in let last = is.1 in
+      let there : slice_get code.cells first ≡ Some (RefTo kind) = ap (λ cells. slice_get cells first) (sym placed.cells) ∙ param in
+      just_one o r code from to s (RefTo kind ∷ s) last (load_keeps o r code from (last_quiet o r code from from to quiet (omega arith) last) first (RefTo kind) s is.0 there (omega (arith, room)))
+
+  leaf_written : (number : ℕ) (bounds : List Bound) (place : ℕ) (s : Shape) (leaf : Leaf) → slice_get o.leaves number ≡ Some leaf → Is code.instructions place (writing (LeafOf number) bounds) →
+      IsQuiet code (place + 1) → Room 2 s → Keeps o r code place (place + 1) (Plain leaf.kind ∷ offset_shape bounds s) s
+  leaf_written number [] place s leaf there is quiet room = write_keeps o r code place quiet number leaf s there is (omega (arith, room))
+  leaf_written number (bound ∷ bounds) place s leaf there is quiet room = write_at_keeps o r code place quiet number leaf s there is (omega (arith, room))
+
+  own_written : (first : ℕ) (bounds : List Bound) (kind : Kind) (place : ℕ) (s : Shape) → AreCells code.cells first (elements bounds) (Plain kind) → Is code.instructions place (writing (Own first) bounds) →
+      IsQuiet code (place + 1) → Room 2 s → Keeps o r code place (place + 1) (Plain kind ∷ offset_shape bounds s) s
+  own_written first [] kind place s are is quiet room = store_keeps o r code place quiet first kind s is are (omega (arith, room))
+  own_written first (bound ∷ bounds) kind place s are is quiet room =
+      store_at_keeps o r code place quiet first (elements (bound ∷ bounds)) kind s is (some_elements (bound ∷ bounds)) are (omega (arith, room))
+
+  writing_keeps : WritingKeeps o r code p around below most
+  writing_keeps (LeafOf number) bounds es kind place s typed room quiet is =
+      let leaf = leaf_there number bounds kind typed.0 in
+      subst (λ kind. Keeps o r code place (place + 1) (Plain kind ∷ offset_shape bounds s) s) leaf.2 (leaf_written number bounds place s leaf.0 leaf.1 is quiet room)
+  writing_keeps (Own first) bounds es kind place s typed room quiet is =
+      own_written first bounds kind place s (subst (λ cells. AreCells cells first (elements bounds) (Plain kind)) placed.cells typed.0.0) is quiet room
+  writing_keeps (Param first) bounds es kind place s typed room quiet is = write_ref_keeps o r code place quiet kind s is (omega (arith, room))
+
 pub expressions_keep : ExpressionsKeep
 expressions_keep o r code p around below deepest placed = record {
   expr = λ e kind from to s typed small deep room quiet is. expr_keeps o r code p around below deepest placed e kind from to s typed small deep room quiet is;
   all = all_keep o r code p around below deepest placed;
   call = call_at_keeps o r code p around below deepest placed;
   offset = offset_at_keeps o r code p around below deepest placed;
+  way = way_at_keeps o r code p around below deepest placed;
+  write = writing_keeps o r code p around below deepest placed;
 }

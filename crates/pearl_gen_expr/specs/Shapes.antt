@@ -4,8 +4,9 @@ use Rattle.std.specs.Prelude.{◌≡◌, ◌⊎◌, ℕ, ◌+◌, ◌<◌, ◌�
 use Rattle.pearl_value.specs.declared.kind.Kind.{Kind}
 use Rattle.pearl_value.specs.declared.kind.Kind.TheVariants as kind_
 use Rattle.pearl_value.specs.declared.kind.CellKind.{CellKind}
-use Rattle.pearl_value.specs.declared.kind.CellKind.TheVariants.{Plain}
+use Rattle.pearl_value.specs.declared.kind.CellKind.TheVariants.{Plain, RefTo}
 use Rattle.pearl_program.specs.declared.expression.Target.{Target}
+use Rattle.pearl_program.specs.declared.expression.Target.TheVariants.{Param}
 use Rattle.pearl_program.specs.declared.expression.Bound.{Bound}
 use Rattle.pearl_program.specs.PlainExpressions.{PlainExpr, OfVariable, PlainExprs, PlainArguments}
 use Rattle.pearl_program.specs.PlainPrograms.{PlainProcedure, PlainProg}
@@ -20,7 +21,7 @@ use Rattle.pearl_instructions.specs.Objects.{is_task}
 use Rattle.pearl_instructions.specs.Operands.{Shape}
 use Rattle.pearl_instructions.specs.Valid.{is_named, stated, shape_before, judged_at, result_shape}
 use Rattle.pearl_gen_expr.specs.Tables.{HasTables}
-use Rattle.pearl_gen_expr.specs.ExprCode.{ExprAt, AllAt, CallAt, OffsetAt}
+use Rattle.pearl_gen_expr.specs.ExprCode.{Is, writing, ExprAt, AllAt, CallAt, OffsetAt, WayAt}
 use Rattle.pearl_gen_expr.specs.Calls.{IsAroundIn}
 
 -- no jump leads here, and no shape is stated
@@ -61,6 +62,11 @@ abbrev pub offset_shape : List Bound → Shape → Shape
 offset_shape [] s = s
 offset_shape (bound ∷ bounds) s = Plain (kind_.Fixed 31) ∷ s
 
+-- what lies below a value that is written to a variable of this kind
+abbrev pub way_shape : Target → List Bound → Kind → Shape → Shape
+way_shape (Param cell) bounds kind s = RefTo kind ∷ s
+way_shape target bounds kind s = offset_shape bounds s
+
 -- the stated depth has room for so many values more, and then for so much in procedures that are called
 abbrev pub HasRoom : Code → (values deepest : ℕ) → Shape → Type 0
 HasRoom code values deepest s = length code.cells + length s + values + deepest ≤ code.depth
@@ -96,12 +102,29 @@ module _ (o : Object) (r : ℕ) (code : Code) (p : PlainProg) (around : Around) 
       HasRoom code (of_exprs values subscripts) deepest s →
       AreQuiet code from to → OffsetAt p code.instructions from variable to → Keeps o r code from to s (offset_shape bounds s)
 
+  -- behind the way to a variable there lies what is needed to write a value to it
+  abbrev pub WayKeeps : Type 0
+  WayKeeps = (target : Target) (bounds : List Bound) (subscripts : PlainExprs) (kind : Kind) (from to : ℕ) (s : Shape) →
+      let variable = OfVariable target bounds subscripts in
+      IsVariable around variable kind → of_exprs calls subscripts ≤ below → of_exprs (callees (depths o)) subscripts ≤ deepest →
+      HasRoom code (of_exprs values subscripts + 1) deepest s →
+      AreQuiet code from to → WayAt p code.instructions from variable to → Keeps o r code from to s (way_shape target bounds kind s)
+
+  -- and a value of just its kind that lies on that is written there
+  abbrev pub WritingKeeps : Type 0
+  WritingKeeps = (target : Target) (bounds : List Bound) (subscripts : PlainExprs) (kind : Kind) (place : ℕ) (s : Shape) →
+      IsVariable around (OfVariable target bounds subscripts) kind → HasRoom code 2 deepest s →
+      IsQuiet code (place + 1) → Is code.instructions place (writing target bounds) →
+      Keeps o r code place (place + 1) (Plain kind ∷ way_shape target bounds kind s) s
+
 -- No rule fails in the code of an expression where the stated depth has room for its values and for the procedures that it calls.
 pub record CodeKeeps (o : Object) (r : ℕ) (code : Code) (p : PlainProg) (around : Around) (below deepest : ℕ) : Type 0 where
   pub expr : ExprKeeps o r code p around below deepest
   pub all : AllKeep o r code p around below deepest
   pub call : CallKeeps o r code p around below deepest
   pub offset : OffsetKeeps o r code p around below deepest
+  pub way : WayKeeps o r code p around below deepest
+  pub write : WritingKeeps o r code p around below deepest
 
 abbrev pub ExpressionsKeep : Type 0
 ExpressionsKeep = (o : Object) (r : ℕ) (code : Code) (p : PlainProg) (around : Around) (below deepest : ℕ) → IsPlaced o r code p around below →

@@ -10,8 +10,8 @@ pub fn expressions_carry()
 {}
 
 /// No rule of the validator fails in the code of an expression, if the routine's stated depth has room for its values and for
-/// the procedures that it calls, and behind the code its value lies on the operands; so it is with several expressions, calls and
-/// subscripts.
+/// the procedures that it calls, and behind the code its value lies on the operands; so it is with several expressions, calls,
+/// subscripts, and what is written to a variable.
 pub fn expressions_keep()
     ensures { ExpressionsKeep }
 {}
