@@ -36,7 +36,7 @@ suits from to s = absurd s
 
 module _ (o : Object) (r : ℕ) (code : Code) (place : ℕ) (quiet : IsQuiet code (place + 1)) where
   -- what an instruction makes of the shape, told in another way
-  told : (instr : Instr) (s after : Shape) → shape_after o r code instr s ≡ after → Keeps o r code place (place + 1) s (shape_after o r code instr s) →
+  pub told : (instr : Instr) (s after : Shape) → shape_after o r code instr s ≡ after → Keeps o r code place (place + 1) s (shape_after o r code instr s) →
       Keeps o r code place (place + 1) s after
   told instr s after same keeps = subst (Keeps o r code place (place + 1) s) same keeps
 

@@ -1,5 +1,5 @@
 -- A part's code ends where it begins or behind that, and an expression is one value at least.
-use Rattle.std.proofs.Common.{◌≡◌, ℕ, ◌+◌, ◌≤◌, List, [], ◌∷◌, arith}
+use Rattle.std.proofs.Common.{ℕ, ◌≤◌, List, [], ◌∷◌, arith}
 use Rattle.pearl_value.specs.declared.kind.CellKind.{CellKind}
 use Rattle.pearl_value.specs.declared.kind.CellKind.TheVariants.{Plain, RefTo}
 use Rattle.pearl_program.specs.declared.expression.Target.{Target}
@@ -53,7 +53,7 @@ module _ (p : PlainProg) (code : List Instr) where
     arguments_forward (MoreArguments argument rest) (param ∷ params) from to is =
         let less = argument_forward argument param from is.0 is.1 in let more = arguments_forward rest params is.0 to is.2 in omega (arith, less, more)
 
-    argument_forward : (argument : PlainArgument) (param : CellKind) (from to : ℕ) → ArgumentAt p code from param argument to → from ≤ to
+    pub argument_forward : (argument : PlainArgument) (param : CellKind) (from to : ℕ) → ArgumentAt p code from param argument to → from ≤ to
     argument_forward (OfValue e) (Plain kind) from to is = let less = expr_forward e from is.0 is.1 in let last = is.3 in omega (arith, less, last)
     argument_forward (OfValue e) (RefTo kind) from to is = absurd is
     argument_forward (OfIdent variable) (Plain kind) from to is = absurd is
@@ -65,6 +65,6 @@ some_values (OfLiteral value) = omega arith
 some_values (OfRead variable) = omega arith
 some_values (OfMonadic op operand) = some_values operand
 some_values (OfDyadic op left right) = let less = some_values left in omega (arith, less)
-some_values (OfCall number arguments) = omega arith
+some_values (OfCall number all) = omega arith
 some_values OfNow = omega arith
 some_values (OfTry semaphore) = omega arith

@@ -64,7 +64,7 @@ or_is : (a b : Bool) → b ≡ true → a || b ≡ true
 or_is true b e = refl
 or_is false b e = e
 
-same_shape_self : (s : Shape) → same_shape s s ≡ true
+pub same_shape_self : (s : Shape) → same_shape s s ≡ true
 same_shape_self [] = refl
 same_shape_self (k ∷ s) = and_is (same_cell k k) (same_shape s s) (same_cell_self k) (same_shape_self s)
 

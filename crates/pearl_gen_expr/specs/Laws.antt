@@ -1,4 +1,4 @@
--- What the code of expressions does: it does what they mean, from any stack on.
+-- What the code of expressions does: from any stack on it does what they mean, or comes to where there is no row.
 use Rattle.std.specs.Prelude.{◌≡◌, ℕ, ◌+◌, ◌≤◌, List, length, Some, slice_get}
 use Rattle.pearl_value.specs.declared.kind.Kind.{Kind}
 use Rattle.pearl_value.specs.declared.cell.Cell.{Cell}
@@ -59,7 +59,8 @@ module _ (o : Object) (c : Context) (setting : Setting) (around : Around) (below
       Carries o c (done c (end + 1) operands) (at c from operands)
       (bind (taken setting variable) (λ r. bind value (λ x. write_reference r x)))
 
--- Wherever an expression stands whose code and whose surroundings are known, its code does what it means.
+-- Wherever an expression stands whose code and whose surroundings are known, its code does what it means, or comes to where there is
+-- no row.
 pub record CodeCarries (o : Object) (c : Context) (setting : Setting) (around : Around) (below : ℕ) : Type 0 where
   pub expr : ExprCarries o c setting around below
   pub all : AllCarry o c setting around below

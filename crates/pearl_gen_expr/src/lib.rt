@@ -1,4 +1,4 @@
-// The code of expressions, and that it does what they mean.
+// The code of expressions, and that it does what they mean, or comes to where there is no row.
 #![tactic(auto)]
 
 pub mod bounds;
