@@ -160,7 +160,7 @@ module _ (p : PlainProg) (o : Object) (sound : IsSound p) (generated : IsGenerat
         returns = refl;
       }
 
-      abbrev code : IsCode p procedure.result procedure.routine (last_of procedure.result) (code_of o number)
+      abbrev code : IsCode p o number procedure.result procedure.routine (last_of procedure.result)
       code = generated.procedures number procedure there
 
       body_carries : CallsCarry o setting number → Carries o inner (ways inner code.end code.end procedure.result) (at inner 0 []) (exec_all setting procedure.routine.body)

@@ -82,7 +82,7 @@ module _ (p : PlainProg) (o : Object) (sound : IsSound p) (generated : IsGenerat
       (sym (slice_get-map (λ (task : Task). task.code.cells) o.tasks t) ∙ (ap (λ all. slice_get all t) generated.tables.task_cells ∙
       (slice_get-map (λ (task : PlainTask). task.routine.cells) p.tasks t ∙ ap (option_map (λ (task : PlainTask). task.routine.cells)) there)))
 
-  abbrev code : IsCode p None task.routine instr.End (code_of o number)
+  abbrev code : IsCode p o number None task.routine instr.End
   code = generated.tasks t task there
 
   placed : IsPlaced o context setting around (length p.procedures)
