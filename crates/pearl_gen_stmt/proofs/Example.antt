@@ -1,5 +1,5 @@
 -- A program and its object, whose code is as it is asked: REPEAT; IF TRY S THEN EXIT; ELSE CALL P; FIN; END; and P returns.
-use Rattle.std.specs.Prelude.{◌≡◌, ℕ, zero, suc, ◌+◌, true, List, [], ◌∷◌, length, Some, None, slice_get}
+use Rattle.std.specs.Prelude.{◌≡◌, ℕ, zero, suc, ◌+◌, true, List, [], ◌∷◌, ◌++◌, map, replicate, length, Some, None, slice_get}
 use Rattle.std.proofs.Common.{refl, subst}
 use Rattle.std.proofs.lemmas.Option.{same_Some}
 use Rattle.pearl_program.specs.PlainExpressions.{OfTry, NoArguments}
@@ -9,6 +9,7 @@ use Rattle.pearl_instructions.specs.declared.instr.Instr.{Instr}
 use Rattle.pearl_instructions.specs.declared.instr.Instr.TheVariants.{Jump, JumpZero, Turn, Call, Return, End, Try}
 use Rattle.pearl_instructions.specs.declared.object.Code.{Code}
 use Rattle.pearl_instructions.specs.declared.object.Object.{Object}
+use Rattle.pearl_instructions.specs.Valid.{unsound}
 use Rattle.pearl_gen_stmt.specs.Generated.{last_of, IsCode, IsGenerated}
 
 abbrev body : PlainStmts
@@ -70,6 +71,10 @@ task_code zero task is =
       stated = (refl, refl);
     })
 task_code (suc t) task is = cc
+
+-- no rule of the validator fails at any place of its routines
+no_fault : map (unsound object 0) (0 ∷ 1 ∷ 2 ∷ []) ++ map (unsound object 1) (0 ∷ 1 ∷ 2 ∷ 3 ∷ 4 ∷ 5 ∷ 6 ∷ 7 ∷ 8 ∷ []) ≡ replicate 12 None
+no_fault = refl
 
 generated : IsGenerated program object
 generated = record {

@@ -52,9 +52,11 @@ pub record IsGenerated (p : PlainProg) (o : Object) : Type 0 where
 -- the code of each procedure does what calling it means, or comes to where there is no row
 abbrev pub ProceduresCarry : Type 0
 ProceduresCarry = (p : PlainProg) (o : Object) → IsSound p → IsGenerated p o →
-    (result : Option Kind) (routine : PlainRoutine) → CallsCarry o (within_program p result routine) (length p.procedures)
+    (result : Option Kind) (routine : PlainRoutine) →
+    CallsCarry o (within_program p result routine) (length p.procedures)
 
 -- The code of each task comes, over any answers, to what the task does next after them, or to where there is no row.
 abbrev pub TasksCome : Type 0
 TasksCome = (p : PlainProg) (o : Object) → IsSound p → IsGenerated p o →
-    (t : ℕ) (task : PlainTask) → slice_get p.tasks t ≡ Some task → (answers : List Answer) → Comes o (begun o (length o.procedures + t)) answers (offer p t answers)
+    (t : ℕ) (task : PlainTask) → slice_get p.tasks t ≡ Some task → (answers : List Answer) →
+    Comes o (begun o (length o.procedures + t)) answers (offer p t answers)
