@@ -8,6 +8,8 @@ pub mod Carrying
 pub mod Tables
 -- which code stands for an expression
 pub mod ExprCode
+-- what the validator asks of a part of the code
+pub mod Shapes
 -- what is emitted
 pub mod Emitting
 -- where the code of expressions, calls and statements ends
