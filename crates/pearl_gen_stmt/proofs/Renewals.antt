@@ -125,13 +125,13 @@ module _ (o : Object) (c : Context) where
       let store : Store = record { task = task; frames = cells ∷ more } in
       let two : from + 2 ≡ from + 1 + 1 = omega arith in
       let next : Carries o c (done c to []) (at c (from + 1) (x ∷ [])) (put_cells (cell + 1) (x ∷ replicate n x)) =
-        store_then (from + 1) (cell + 1) to x (replicate n x) code.1 (λ task cells more rest of found.
-        let store : Store = record { task = task; frames = cells ∷ more } in
-        subst (λ place. Meets o c (done c to []) (at c place [] store) rest (put_cells (cell + 1 + 1) (replicate n x) store rest)) two
-        (repeats_meet setting (from + 2) (cell + 1) n to x code.2 task cells more rest of found)) in
+      store_then (from + 1) (cell + 1) to x (replicate n x) code.1 (λ task cells more rest of found.
+      let store : Store = record { task = task; frames = cells ∷ more } in
+      subst (λ place. Meets o c (done c to []) (at c place [] store) rest (put_cells (cell + 1 + 1) (replicate n x) store rest)) two
+      (repeats_meet setting (from + 2) (cell + 1) n to x code.2 task cells more rest of found)) in
       let first : Meets o c (on_top c (from + 1) []) (at c from [] store) rest (Value x store rest) =
-        subst (λ found. Meets o c (on_top c (from + 1) []) (at c from [] store) rest (given_value found store rest)) found
-        ((load_carries o c from cell [] code.0).over store rest of) in
+      subst (λ found. Meets o c (on_top c (from + 1) []) (at c from [] store) rest (given_value found store rest)) found
+      ((load_carries o c from cell [] code.0).over store rest of) in
       λ action on. first action (λ here. next.over store rest of action on)
 
   -- the values are put into their cells one after the other, and the last one into the cells behind them
@@ -142,7 +142,7 @@ module _ (o : Object) (c : Context) where
       let two : end ≡ from + 1 + 1 = let is = code.2 in omega (arith, is) in
       let same : cell + length {A = Cell} [] ≡ cell = omega arith in
       let again : RepeatsAt setting (code_of o c.routine) (from + 1 + 1) cell n to =
-        subst (λ place. RepeatsAt setting (code_of o c.routine) place cell n to) two (subst (λ cell. RepeatsAt setting (code_of o c.routine) end cell n to) same repeated) in
+      subst (λ place. RepeatsAt setting (code_of o c.routine) place cell n to) two (subst (λ cell. RepeatsAt setting (code_of o c.routine) end cell n to) same repeated) in
       const_carries o c (done c to []) from x [] (put_cells cell (x ∷ replicate n x)) code.0
       (store_then (from + 1) cell to x (replicate n x) code.1 (repeats_meet setting (from + 1 + 1) cell n to x again))
   stores_carry setting from cell x (y ∷ ys) end n to code repeated =
@@ -150,8 +150,8 @@ module _ (o : Object) (c : Context) where
       let one : cell + length (y ∷ ys) ≡ cell + 1 + length ys = omega arith in
       let all = y ∷ ys ++ replicate n (last_or y ys) in
       let behind : Carries o c (done c to []) (at c (from + 1 + 1) []) (put_cells (cell + 1) all) =
-        subst (λ place. Carries o c (done c to []) (at c place []) (put_cells (cell + 1) all)) two
-        (stores_carry setting (from + 2) (cell + 1) y ys end n to code.2 (subst (λ cell. RepeatsAt setting (code_of o c.routine) end cell n to) one repeated)) in
+      subst (λ place. Carries o c (done c to []) (at c place []) (put_cells (cell + 1) all)) two
+      (stores_carry setting (from + 2) (cell + 1) y ys end n to code.2 (subst (λ cell. RepeatsAt setting (code_of o c.routine) end cell n to) one repeated)) in
       const_carries o c (done c to []) from x [] (put_cells cell (x ∷ all)) code.0
       (store_then (from + 1) cell to x all code.1 (λ task cells more rest of found. behind.over (record { task = task; frames = cells ∷ more }) rest of))
 

@@ -28,7 +28,6 @@ use Rattle.pearl_meaning.specs.Programs.{unset, store_at_start, next_action, off
 use Rattle.pearl_gen_expr.specs.Comes.{Comes}
 use Rattle.pearl_gen_expr.specs.Contexts.{stack, Context, at, IsStoreOf}
 use Rattle.pearl_gen_expr.specs.Carrying.{Meets, Carries}
-use Rattle.pearl_gen_expr.specs.ExprCode.{code_of}
 use Rattle.pearl_gen_expr.specs.Ends.{flow_stack, ways}
 use Rattle.pearl_gen_expr.proofs.Moves.{by_row, missing_from, stopped, frame_at, row_is}
 use Rattle.pearl_gen_expr.proofs.Tables.{each}
