@@ -1,5 +1,5 @@
 -- A program and its object, whose code is as it is asked: REPEAT; IF TRY S THEN EXIT; ELSE CALL P; FIN; END; and P returns.
-use Rattle.std.specs.Prelude.{◌≡◌, ℕ, zero, suc, ◌+◌, true, List, [], ◌∷◌, length, Some, None, slice_get}
+use Rattle.std.specs.Prelude.{◌≡◌, ℕ, zero, suc, ◌+◌, true, List, [], ◌∷◌, ◌++◌, map, replicate, length, Some, None, slice_get}
 use Rattle.std.proofs.Common.{refl, subst}
 use Rattle.std.proofs.lemmas.Option.{same_Some}
 use Rattle.pearl_program.specs.PlainExpressions.{OfTry, NoArguments}
@@ -9,7 +9,7 @@ use Rattle.pearl_instructions.specs.declared.instr.Instr.{Instr}
 use Rattle.pearl_instructions.specs.declared.instr.Instr.TheVariants.{Jump, JumpZero, Turn, Call, Return, End, Try}
 use Rattle.pearl_instructions.specs.declared.object.Code.{Code}
 use Rattle.pearl_instructions.specs.declared.object.Object.{Object}
-use Rattle.pearl_gen_expr.specs.ExprCode.{code_of}
+use Rattle.pearl_instructions.specs.Valid.{unsound}
 use Rattle.pearl_gen_stmt.specs.Generated.{last_of, IsCode, IsGenerated}
 
 abbrev body : PlainStmts
@@ -24,8 +24,8 @@ trying = record { name = 84 ∷ []; priority = 255; main = true; routine = recor
 abbrev program : PlainProg
 program = record { leaves = []; semaphores = 1 ∷ []; devices = []; formats = []; procedures = returning ∷ []; tasks = trying ∷ [] }
 
-abbrev code : List Instr → Code
-code instructions = record { cells = []; depth = 1; instructions = instructions; shapes = [] }
+abbrev code : ℕ → List Instr → Code
+code depth instructions = record { cells = []; depth = depth; instructions = instructions; shapes = [] }
 
 abbrev object : Object
 object = record {
@@ -33,21 +33,21 @@ object = record {
   semaphores = 1 ∷ [];
   leaves = [];
   formats = [];
-  procedures = record { params = 0; result = None; code = code (Return ∷ Return ∷ []) } ∷ [];
-  tasks = record { name = record { items = 84 ∷ [] }; priority = 255; main = true; code = code (Turn ∷ Try 0 ∷ JumpZero 5 ∷ Jump 7 ∷ Jump 6 ∷ Call 0 ∷ Jump 0 ∷ End ∷ []) } ∷ [];
+  procedures = record { params = 0; result = None; code = code 2 (Return ∷ Return ∷ []) } ∷ [];
+  tasks = record { name = record { items = 84 ∷ [] }; priority = 255; main = true; code = code 5 (Turn ∷ Try 0 ∷ JumpZero 5 ∷ Jump 7 ∷ Jump 6 ∷ Call 0 ∷ Jump 0 ∷ End ∷ []) } ∷ [];
 }
 
 procedure_code : (number : ℕ) (procedure : PlainProcedure) → slice_get program.procedures number ≡ Some procedure →
-    IsCode program procedure.result procedure.routine (last_of procedure.result) (code_of object number)
+    IsCode program object number procedure.result procedure.routine (last_of procedure.result)
 procedure_code zero procedure is =
-    subst (λ (procedure : PlainProcedure). IsCode program procedure.result procedure.routine (last_of procedure.result) (code_of object 0)) (same_Some returning procedure is)
-    (record { end = 1; statements = (1, (refl, refl), refl); behind = refl })
+    subst (λ (procedure : PlainProcedure). IsCode program object 0 procedure.result procedure.routine (last_of procedure.result)) (same_Some returning procedure is)
+    (record { end = 1; statements = (1, (refl, refl), refl); behind = refl; whole = refl; stated = (refl, refl) })
 procedure_code (suc number) procedure is = cc
 
 -- IF stands at 1, its EXIT at 3, and its CALL at 5
-task_code : (t : ℕ) (task : PlainTask) → slice_get program.tasks t ≡ Some task → IsCode program None task.routine End (code_of object (length object.procedures + t))
+task_code : (t : ℕ) (task : PlainTask) → slice_get program.tasks t ≡ Some task → IsCode program object (length object.procedures + t) None task.routine End
 task_code zero task is =
-    subst (λ (task : PlainTask). IsCode program None task.routine End (code_of object 1)) (same_Some trying task is)
+    subst (λ (task : PlainTask). IsCode program object 1 None task.routine End) (same_Some trying task is)
     (record {
       end = 7;
       statements = (
@@ -67,8 +67,14 @@ task_code zero task is =
         refl,
       );
       behind = refl;
+      whole = refl;
+      stated = (refl, refl);
     })
 task_code (suc t) task is = cc
+
+-- no rule of the validator fails at any place of its routines
+no_fault : map (unsound object 0) (0 ∷ 1 ∷ 2 ∷ []) ++ map (unsound object 1) (0 ∷ 1 ∷ 2 ∷ 3 ∷ 4 ∷ 5 ∷ 6 ∷ 7 ∷ 8 ∷ []) ≡ replicate 12 None
+no_fault = refl
 
 generated : IsGenerated program object
 generated = record {

@@ -18,22 +18,15 @@ use Rattle.pearl_instructions.specs.Flow as flow
 use Rattle.pearl_instructions.specs.Rows.{act, row, own_task}
 use Rattle.pearl_instructions.specs.Rows as rows
 use Rattle.pearl_meaning.specs.Frames.{Store}
-use Rattle.pearl_meaning.specs.Evaluation.{Outcome, Value, Needs, Fails, Does, gives, on_value, bind, stop, own_task as the_task}
+use Rattle.pearl_meaning.specs.Evaluation.{Value, Needs, Does, gives, bind, stop, own_task as the_task}
 use Rattle.pearl_meaning.specs.Loops.{Flow, Normal, Exit, Return}
 use Rattle.pearl_meaning.specs.Schedules.{acts}
 use Rattle.pearl_gen_expr.specs.Contexts.{Standing, stack, Context, at, back, lowest, HasCells, IsStoreOf}
 use Rattle.pearl_gen_expr.specs.Carrying.{End, Carries}
 use Rattle.pearl_gen_expr.specs.ExprCode.{code_of, Is}
 use Rattle.pearl_gen_expr.specs.Ends.{IsResult, IsFlow, ways}
-use Rattle.pearl_gen_expr.proofs.Moves.{offered_from, heard_from, stopped, frame_at, RowMeets, gives_carries, instr_carries, same_carries, missing_meets, silent_meets}
+use Rattle.pearl_gen_expr.proofs.Moves.{offered_from, heard_from, stopped, frame_at, RowMeets, gives_carries, instr_carries, missing_meets, silent_meets}
 use Rattle.pearl_gen_stmt.proofs.Single.{asked_meets, silent_carries, ask_carries}
-
--- ONE AFTER ANOTHER
-
-on_value_twice : {X Y Z : Type 0} (outcome : Outcome X) (go : X → Does Y) (on : Y → Does Z) → on_value outcome (λ x. bind (go x) on) ≡ on_value (on_value outcome go) on
-on_value_twice (Value x store rest) go on = refl
-on_value_twice (Needs action) go on = refl
-on_value_twice (Fails trap) go on = refl
 
 -- THE OWN TASK
 
@@ -51,17 +44,6 @@ own_task_is o c place operands cells more task of =
     omega (arith, low, is)
 
 module _ (o : Object) (c : Context) where
-  -- the same, put together otherwise
-  pub nested_carries : {X Y Z : Type 0} (end : End Z) (from : Store → List Frame) (first : Does X) (go : X → Does Y) (on : Y → Does Z) →
-      Carries o c end from (bind first (λ x. bind (go x) on)) → Carries o c end from (bind (bind first go) on)
-  nested_carries end from first go on carries =
-      same_carries o c end from (bind first (λ x. bind (go x) on)) (bind (bind first go) on) (λ store rest. on_value_twice (first store rest) go on) carries
-
-  pub unnested_carries : {X Y Z : Type 0} (end : End Z) (from : Store → List Frame) (first : Does X) (go : X → Does Y) (on : Y → Does Z) →
-      Carries o c end from (bind (bind first go) on) → Carries o c end from (bind first (λ x. bind (go x) on))
-  unnested_carries end from first go on carries =
-      same_carries o c end from (bind (bind first go) on) (bind first (λ x. bind (go x) on)) (λ store rest. sym (on_value_twice (first store rest) go on)) carries
-
   -- JUMPS
 
   pub jump_carries : {X : Type 0} (end : End X) (place to : ℕ) (operands : List Cell) (does : Does X) → Is (code_of o c.routine) place (instr.Jump to) →
@@ -69,68 +51,68 @@ module _ (o : Object) (c : Context) where
   jump_carries end place to operands does is = silent_carries o c end place to operands operands (instr.Jump to) does is (λ cells low. refl)
 
   module _ (to leave : ℕ) (returns : Option Kind) where
-    abbrev End_ : End Flow
-    End_ = ways c to leave returns
+    abbrev Ending : End Flow
+    Ending = ways c to leave returns
 
-    pub normal_carries : Carries o c End_ (at c to []) (gives Normal)
-    normal_carries = gives_carries o c End_ Normal tt
+    pub normal_carries : Carries o c Ending (at c to []) (gives Normal)
+    normal_carries = gives_carries o c Ending Normal tt
 
-    pub exit_carries : Carries o c End_ (at c leave []) (gives Exit)
-    exit_carries = gives_carries o c End_ Exit tt
+    pub exit_carries : Carries o c Ending (at c leave []) (gives Exit)
+    exit_carries = gives_carries o c Ending Exit tt
 
     -- an action, and then the next statement
     pub acts_carries : (place : ℕ) (operands : List Cell) (instr : Instr) (offered : Action) → Is (code_of o c.routine) place instr →
         ((cells : List Cell) (low : List Frame) → act o instr (frame_at c place operands cells) low ≡ Offers offered (λ answer. frame_at c to [] cells ∷ low)) →
-        Carries o c End_ (at c place operands) (acts offered)
+        Carries o c Ending (at c place operands) (acts offered)
     acts_carries place operands instr offered is acts =
-        ask_carries o c End_ place to operands (λ answer. []) instr offered (λ answer. gives Normal) is acts (λ answer. normal_carries)
+        ask_carries o c Ending place to operands (λ answer. []) instr offered (λ answer. gives Normal) is acts (λ answer. normal_carries)
 
     -- an action on the own task
     pub acts_own_carries : (place : ℕ) (instr : Instr) (action : ℕ → Action) → Is (code_of o c.routine) place instr →
         ((cells : List Cell) (low : List Frame) → act o instr (frame_at c place [] cells) low ≡ Offers (action (own_task o (frame_at c place [] cells) low)) (λ answer. frame_at c to [] cells ∷ low)) →
-        Carries o c End_ (at c place []) (bind the_task (λ task. acts (action task)))
-    acts_own_carries place instr action is row = instr_carries o c End_ place [] instr (bind the_task (λ task. acts (action task))) is (λ task cells more rest of.
+        Carries o c Ending (at c place []) (bind the_task (λ task. acts (action task)))
+    acts_own_carries place instr action is row = instr_carries o c Ending place [] instr (bind the_task (λ task. acts (action task))) is (λ task cells more rest of.
         let f = frame_at c place [] cells in let lower = stack c.callers more in let store : Store = record { task = task; frames = cells ∷ more } in
-        subst (λ step. RowMeets o c End_ (f ∷ lower) step rest (acts (action task) store rest)) (sym (row cells lower))
-        (subst (λ number. RowMeets o c End_ (f ∷ lower) (Offers (action number) (λ answer. frame_at c to [] cells ∷ lower)) rest (acts (action task) store rest))
+        subst (λ step. RowMeets o c Ending (f ∷ lower) step rest (acts (action task) store rest)) (sym (row cells lower))
+        (subst (λ number. RowMeets o c Ending (f ∷ lower) (Offers (action number) (λ answer. frame_at c to [] cells ∷ lower)) rest (acts (action task) store rest))
         (sym (own_task_is o c place [] cells more task of))
-        (asked_meets o c End_ (f ∷ lower) (action task) (λ answer. frame_at c to [] cells ∷ lower) store (λ answer. gives Normal) rest
+        (asked_meets o c Ending (f ∷ lower) (action task) (λ answer. frame_at c to [] cells ∷ lower) store (λ answer. gives Normal) rest
         (λ answer left. normal_carries.over store left of))))
 
     -- one after which nothing more is heard
-    stopped_meets : (frames : List Frame) (offered : Action) (rest : List Answer) → RowMeets o c End_ frames (Offers offered (λ answer. frames)) rest (Needs offered)
+    stopped_meets : (frames : List Frame) (offered : Action) (rest : List Answer) → RowMeets o c Ending frames (Offers offered (λ answer. frames)) rest (Needs offered)
     stopped_meets frames offered [] e = offered_from o offered (λ answer. frames)
     stopped_meets frames offered (answer ∷ rest) e = heard_from o offered (λ answer. frames) answer rest offered (stopped o frames rest offered e)
 
     pub stop_own_carries : (place : ℕ) → Is (code_of o c.routine) place instr.TerminateOwn →
-        Carries o c End_ (at c place []) (bind the_task (λ task. stop (action.Terminate task)))
-    stop_own_carries place is = instr_carries o c End_ place [] instr.TerminateOwn (bind the_task (λ task. stop (action.Terminate task))) is (λ task cells more rest of.
+        Carries o c Ending (at c place []) (bind the_task (λ task. stop (action.Terminate task)))
+    stop_own_carries place is = instr_carries o c Ending place [] instr.TerminateOwn (bind the_task (λ task. stop (action.Terminate task))) is (λ task cells more rest of.
         let f = frame_at c place [] cells in let lower = stack c.callers more in
-        subst (λ number. RowMeets o c End_ (f ∷ lower) (Offers (action.Terminate number) (λ answer. f ∷ lower)) rest (Needs (action.Terminate task)))
+        subst (λ number. RowMeets o c Ending (f ∷ lower) (Offers (action.Terminate number) (λ answer. f ∷ lower)) rest (Needs (action.Terminate task)))
         (sym (own_task_is o c place [] cells more task of)) (stopped_meets (f ∷ lower) (action.Terminate task) rest))
 
     -- RETURN
 
     returned_meets : (callers : List Standing) (more : List (List Cell)) (frames : List Frame) (result : Option Cell) (task : ℕ) (cells : List Cell) (rest : List Answer) →
         c.callers ≡ callers → IsFlow returns (Return result) → IsStoreOf o c (record { task = task; frames = cells ∷ more }) →
-        RowMeets o c End_ frames (returned (stack callers more) (option_to_list result)) rest (Value (Return result) (record { task = task; frames = cells ∷ more }) rest)
-    returned_meets [] more frames result task cells rest e of is = missing_meets o c End_ frames rest (Value (Return result) (record { task = task; frames = cells ∷ more }) rest)
-    returned_meets (caller ∷ callers) [] frames result task cells rest e of is = missing_meets o c End_ frames rest (Value (Return result) (record { task = task; frames = cells ∷ [] }) rest)
+        RowMeets o c Ending frames (returned (stack callers more) (option_to_list result)) rest (Value (Return result) (record { task = task; frames = cells ∷ more }) rest)
+    returned_meets [] more frames result task cells rest e of is = missing_meets o c Ending frames rest (Value (Return result) (record { task = task; frames = cells ∷ more }) rest)
+    returned_meets (caller ∷ callers) [] frames result task cells rest e of is = missing_meets o c Ending frames rest (Value (Return result) (record { task = task; frames = cells ∷ [] }) rest)
     returned_meets (caller ∷ callers) (below ∷ more) frames result task cells rest e of is =
-        subst (λ left. RowMeets o c End_ frames (Silent left) rest (Value (Return result) (record { task = task; frames = cells ∷ below ∷ more }) rest))
+        subst (λ left. RowMeets o c Ending frames (Silent left) rest (Value (Return result) (record { task = task; frames = cells ∷ below ∷ more }) rest))
         (ap (λ callers. stack (back result callers) (below ∷ more)) e)
-        (silent_meets o c End_ frames (Return result) (record { task = task; frames = cells ∷ below ∷ more }) rest of is)
+        (silent_meets o c Ending frames (Return result) (record { task = task; frames = cells ∷ below ∷ more }) rest of is)
 
     pub return_carries : (place : ℕ) → returns ≡ None → result_of o c.routine ≡ returns → Is (code_of o c.routine) place instr.Return →
-        Carries o c End_ (at c place []) (gives (Return None))
-    return_carries place none known is = instr_carries o c End_ place [] instr.Return (gives (Return None)) is (λ task cells more rest of.
+        Carries o c Ending (at c place []) (gives (Return None))
+    return_carries place none known is = instr_carries o c Ending place [] instr.Return (gives (Return None)) is (λ task cells more rest of.
         let f = frame_at c place [] cells in let lower = stack c.callers more in
-        subst (λ kind. RowMeets o c End_ (f ∷ lower) (flow.returns kind f lower) rest (Value (Return None) (record { task = task; frames = cells ∷ more }) rest)) (sym (known ∙ none))
+        subst (λ kind. RowMeets o c Ending (f ∷ lower) (flow.returns kind f lower) rest (Value (Return None) (record { task = task; frames = cells ∷ more }) rest)) (sym (known ∙ none))
         (returned_meets c.callers more (f ∷ lower) None task cells rest refl (subst (λ kind. IsResult kind None) (sym none) tt) of))
 
     pub return_value_carries : (place : ℕ) (kind : Kind) (x : Cell) → returns ≡ Some kind → result_of o c.routine ≡ returns → Is (code_of o c.routine) place instr.Return →
-        Carries o c End_ (at c place (x ∷ [])) (gives (Return (Some x)))
-    return_value_carries place kind x some known is = instr_carries o c End_ place (x ∷ []) instr.Return (gives (Return (Some x))) is (λ task cells more rest of.
+        Carries o c Ending (at c place (x ∷ [])) (gives (Return (Some x)))
+    return_value_carries place kind x some known is = instr_carries o c Ending place (x ∷ []) instr.Return (gives (Return (Some x))) is (λ task cells more rest of.
         let f = frame_at c place (x ∷ []) cells in let lower = stack c.callers more in
-        subst (λ kind. RowMeets o c End_ (f ∷ lower) (flow.returns kind f lower) rest (Value (Return (Some x)) (record { task = task; frames = cells ∷ more }) rest)) (sym (known ∙ some))
+        subst (λ kind. RowMeets o c Ending (f ∷ lower) (flow.returns kind f lower) rest (Value (Return (Some x)) (record { task = task; frames = cells ∷ more }) rest)) (sym (known ∙ some))
         (returned_meets c.callers more (f ∷ lower) (Some x) task cells rest refl (subst (λ kind. IsResult kind (Some x)) (sym some) tt) of))

@@ -13,7 +13,7 @@ use Rattle.pearl_value.specs.declared.kind.CellKind.{CellKind}
 use Rattle.pearl_value.specs.declared.kind.CellKind.TheVariants.{Plain, RefTo}
 use Rattle.pearl_value.specs.declared.cell.Cell.{Cell}
 use Rattle.pearl_value.specs.declared.cell.Cell.TheVariants.{Fixed, Clock, Ref}
-use Rattle.pearl_value.specs.declared.cell.Place.TheVariants as place_
+use Rattle.pearl_value.specs.declared.cell.Place.TheVariants as places
 use Rattle.pearl_value.specs.declared.trap.Trap.TheVariants.{Index, Range}
 use Rattle.pearl_value.specs.Blanks.{filled_to, blank_of}
 use Rattle.pearl_value.specs.Cells.{kind_of}
@@ -189,7 +189,7 @@ module _ (o : Object) (c : Context) (setting : Setting) where
     where
       there : (old : Option Cell) → let f = frame_at c place (x ∷ found ∷ []) cells in let lower = stack c.callers more in
           RowMeets o c (done c (place + 1) []) (f ∷ lower) (given old (λ old. Silent (frame_at c (place + 1) [] (slice_set cells k x) ∷ lower))) rest
-          (on_value (on_value (eval_given old gives (record { task = task; frames = cells ∷ more }) rest) (λ y. bind own_frame (λ frame. gives (Ref (kind_of y) (place_.Cell frame k))))) (λ to. write_reference to x))
+          (on_value (on_value (eval_given old gives (record { task = task; frames = cells ∷ more }) rest) (λ y. bind own_frame (λ frame. gives (Ref (kind_of y) (places.Cell frame k))))) (λ to. write_reference to x))
       there None = let m : Outcome (Unit {0}) = Fails Range in missing_meets o c (done c (place + 1) []) (frame_at c place (x ∷ found ∷ []) cells ∷ stack c.callers more) rest m
       there (Some y) =
           let frames = frame_at c place (x ∷ found ∷ []) cells ∷ stack c.callers more in let after : Store = record { task = task; frames = slice_set cells k x ∷ more } in
@@ -211,10 +211,10 @@ module _ (o : Object) (c : Context) (setting : Setting) where
         (bind (reference setting (LeafOf number) bounds found) (λ to. write_reference to x) store rest) (λ leaf here.
         let there = leaf_is setting.program o tables number leaf here in
         subst (λ known. RowMeets o c (done c (place + 1) []) (f ∷ lower) (steps.within leaf.slots found f lower (λ n. rows.writes o number n x f lower [])) rest
-        (bind (eval_given known (λ (leaf : PlainLeaf). within leaf.values.count found (λ before. gives (Ref leaf.values.kind (place_.Slot (variables.first_slot setting.program.leaves number + before)))))) (λ to. write_reference to x) store rest))
+        (bind (eval_given known (λ (leaf : PlainLeaf). within leaf.values.count found (λ before. gives (Ref leaf.values.kind (places.Slot (variables.first_slot setting.program.leaves number + before)))))) (λ to. write_reference to x) store rest))
         (sym there)
         (within_meets (done c (place + 1) []) f lower leaf.slots found (λ n. rows.writes o number n x f lower [])
-        (λ before. gives (Ref leaf.kind (place_.Slot (variables.first_slot setting.program.leaves number + before)))) (λ to. write_reference to x) store rest (λ n.
+        (λ before. gives (Ref leaf.kind (places.Slot (variables.first_slot setting.program.leaves number + before)))) (λ to. write_reference to x) store rest (λ n.
         subst (λ first. RowMeets o c (done c (place + 1) []) (f ∷ lower) (acts (action.Write (first_slot o.leaves number + n) x) f lower []) rest
         (next (ask (action.Write (first + n) x)) (gives tt) store rest)) (sym (slots_are setting.program o tables number))
         (acts_meets o c place (x ∷ found ∷ []) [] cells more task (action.Write (first_slot o.leaves number + n) x) rest of))))
@@ -263,15 +263,15 @@ module _ (o : Object) (c : Context) (setting : Setting) where
     same_within count found go store rest same = tt
 
     same_leaf : (number : ℕ) (found : Cell) (store : Store) (rest : List Answer) (leaf : Option PlainLeaf) →
-        IsSame store rest (eval_given leaf (λ (leaf : PlainLeaf). within leaf.values.count found (λ before. gives (Ref leaf.values.kind (place_.Slot (variables.first_slot setting.program.leaves number + before))))) store rest)
+        IsSame store rest (eval_given leaf (λ (leaf : PlainLeaf). within leaf.values.count found (λ before. gives (Ref leaf.values.kind (places.Slot (variables.first_slot setting.program.leaves number + before))))) store rest)
     same_leaf number found store rest None = tt
     same_leaf number found store rest (Some leaf) =
-        same_within leaf.values.count found (λ before. gives (Ref leaf.values.kind (place_.Slot (variables.first_slot setting.program.leaves number + before)))) store rest (λ n. (refl, refl))
+        same_within leaf.values.count found (λ before. gives (Ref leaf.values.kind (places.Slot (variables.first_slot setting.program.leaves number + before)))) store rest (λ n. (refl, refl))
 
     same_own : (k : ℕ) (store : Store) (rest : List Answer) → IsSame store rest (own_reference k store rest)
     same_own k store rest = by (slice_get (meaning.top store.frames) k)
       where
-        by : (old : Option Cell) → IsSame store rest (on_value (eval_given old gives store rest) (λ y. bind own_frame (λ frame. gives (Ref (kind_of y) (place_.Cell frame k)))))
+        by : (old : Option Cell) → IsSame store rest (on_value (eval_given old gives store rest) (λ y. bind own_frame (λ frame. gives (Ref (kind_of y) (places.Cell frame k)))))
         by None = tt
         by (Some y) = (refl, refl)
 
@@ -289,73 +289,73 @@ module _ (o : Object) (c : Context) (setting : Setting) where
     after_same store rest (Fails trap) go other is same = refl
 
     -- the offset, then the value, and then it is written
-    element_carries : {X : Type 0} (end : End X) (from cell at_ : ℕ) (target : Target) (bounds : List Bound) (subscripts : PlainExprs) (then_ : Does X) → IsElement target →
-        Is (code_of o c.routine) from (instr.Load at_) → Is (code_of o c.routine) (from + 1) (instr.Load cell) → Is (code_of o c.routine) (from + 2) (writing_at target bounds) →
-        Carries o c end (at c (from + 3) []) then_ →
-        Carries o c end (at c from []) (bind (own_cell at_) (λ found. bind (kept_reference setting (OfVariable target bounds subscripts) found) (λ to. bind (own_cell cell) (λ x.
-        next (write_reference to x) then_))))
-    element_carries end from cell at_ target bounds subscripts then_ element first second third behind =
+    element_carries : {X : Type 0} (end : End X) (from cell keeping : ℕ) (target : Target) (bounds : List Bound) (subscripts : PlainExprs) (onward : Does X) → IsElement target →
+        Is (code_of o c.routine) from (instr.Load keeping) → Is (code_of o c.routine) (from + 1) (instr.Load cell) → Is (code_of o c.routine) (from + 2) (writing_at target bounds) →
+        Carries o c end (at c (from + 3) []) onward →
+        Carries o c end (at c from []) (bind (own_cell keeping) (λ found. bind (kept_reference setting (OfVariable target bounds subscripts) found) (λ to. bind (own_cell cell) (λ x.
+        next (write_reference to x) onward))))
+    element_carries end from cell keeping target bounds subscripts onward element first second third behind =
         let three : from + 3 ≡ from + 1 + 1 + 1 = omega arith in let two : from + 2 ≡ from + 1 + 1 = omega arith in
-        bind_carries o c (on_top c (from + 1) []) end (at c from []) (own_cell at_) (λ found. bind (kept_reference setting (OfVariable target bounds subscripts) found) (λ to. bind (own_cell cell) (λ x.
-        next (write_reference to x) then_))) (load_carries o c from at_ [] first) (λ found of.
+        bind_carries o c (on_top c (from + 1) []) end (at c from []) (own_cell keeping) (λ found. bind (kept_reference setting (OfVariable target bounds subscripts) found) (λ to. bind (own_cell cell) (λ x.
+        next (write_reference to x) onward))) (load_carries o c from keeping [] first) (λ found of.
         let kept = kept_reference setting (OfVariable target bounds subscripts) found in
-        instr_carries o c end (from + 1) (found ∷ []) (instr.Load cell) (bind kept (λ to. bind (own_cell cell) (λ x. next (write_reference to x) then_))) second (λ task cells more rest is.
+        instr_carries o c end (from + 1) (found ∷ []) (instr.Load cell) (bind kept (λ to. bind (own_cell cell) (λ x. next (write_reference to x) onward))) second (λ task cells more rest is.
         let f = frame_at c (from + 1) (found ∷ []) cells in let lower = stack c.callers more in let store : Store = record { task = task; frames = cells ∷ more } in
         given_meets o c end (f ∷ lower) (slice_get cells cell) (λ x. Silent (frame_at c (from + 1 + 1) (x ∷ found ∷ []) cells ∷ lower)) rest
-        (bind kept (λ to. bind (own_cell cell) (λ x. next (write_reference to x) then_)) store rest) (λ x there.
+        (bind kept (λ to. bind (own_cell cell) (λ x. next (write_reference to x) onward)) store rest) (λ x there.
         subst (λ m. RowMeets o c end (f ∷ lower) (Silent (at c (from + 1 + 1) (x ∷ found ∷ []) store)) rest m)
-        (after_same store rest (kept store rest) (λ to. next (write_reference to x) then_) (λ to. bind (own_cell cell) (λ x. next (write_reference to x) then_))
+        (after_same store rest (kept store rest) (λ to. next (write_reference to x) onward) (λ to. bind (own_cell cell) (λ x. next (write_reference to x) onward))
         (same_kept target bounds subscripts found store rest element)
-        (λ to. ap (λ known. on_value (eval_given known gives store rest) (λ x. next (write_reference to x) then_)) (sym there)))
-        (goes_meets o c end (f ∷ lower) (at c (from + 1 + 1) (x ∷ found ∷ []) store) rest (bind kept (λ to. next (write_reference to x) then_) store rest)
-        ((same_carries o c end (at c (from + 1 + 1) (x ∷ found ∷ [])) (next (bind kept (λ to. write_reference to x)) then_) (bind kept (λ to. next (write_reference to x) then_))
-        (λ store rest. sym (parted kept (λ to. write_reference to x) (λ it. then_) store rest))
-        (bind_carries o c (done c (from + 1 + 1 + 1) []) end (at c (from + 1 + 1) (x ∷ found ∷ [])) (bind kept (λ to. write_reference to x)) (λ it. then_)
+        (λ to. ap (λ known. on_value (eval_given known gives store rest) (λ x. next (write_reference to x) onward)) (sym there)))
+        (goes_meets o c end (f ∷ lower) (at c (from + 1 + 1) (x ∷ found ∷ []) store) rest (bind kept (λ to. next (write_reference to x) onward) store rest)
+        ((same_carries o c end (at c (from + 1 + 1) (x ∷ found ∷ [])) (next (bind kept (λ to. write_reference to x)) onward) (bind kept (λ to. next (write_reference to x) onward))
+        (λ store rest. sym (parted kept (λ to. write_reference to x) (λ it. onward) store rest))
+        (bind_carries o c (done c (from + 1 + 1 + 1) []) end (at c (from + 1 + 1) (x ∷ found ∷ [])) (bind kept (λ to. write_reference to x)) (λ it. onward)
         (written_carries (from + 1 + 1) target bounds subscripts x found element (subst (λ place. Is (code_of o c.routine) place (writing_at target bounds)) two third))
-        (λ it of. subst (λ place. Carries o c end (at c place []) then_) three behind))).over store rest is)))))
+        (λ it of. subst (λ place. Carries o c end (at c place []) onward) three behind))).over store rest is)))))
 
     -- what a parameter with IDENT names is written
-    param_carries : {X : Type 0} (end : End X) (from cell at_ param : ℕ) (then_ : Does X) → at_ < length (cell_kinds o c.routine) →
+    param_carries : {X : Type 0} (end : End X) (from cell keeping param : ℕ) (onward : Does X) → keeping < length (cell_kinds o c.routine) →
         Is (code_of o c.routine) from (instr.Load param) → Is (code_of o c.routine) (from + 1) (instr.Load cell) → Is (code_of o c.routine) (from + 2) instr.WriteRef →
-        Carries o c end (at c (from + 3) []) then_ →
-        Carries o c end (at c from []) (bind (own_cell at_) (λ found. bind (own_cell param) (λ to. bind (own_cell cell) (λ x. next (write_reference to x) then_))))
-    param_carries end from cell at_ param then_ less first second third behind =
+        Carries o c end (at c (from + 3) []) onward →
+        Carries o c end (at c from []) (bind (own_cell keeping) (λ found. bind (own_cell param) (λ to. bind (own_cell cell) (λ x. next (write_reference to x) onward))))
+    param_carries end from cell keeping param onward less first second third behind =
         let three : from + 3 ≡ from + 1 + 1 + 1 = omega arith in let two : from + 2 ≡ from + 1 + 1 = omega arith in
-        skip_cell end (at c from []) at_ (λ found. bind (own_cell param) (λ to. bind (own_cell cell) (λ x. next (write_reference to x) then_))) less (λ found.
-        bind_carries o c (on_top c (from + 1) []) end (at c from []) (own_cell param) (λ to. bind (own_cell cell) (λ x. next (write_reference to x) then_)) (load_carries o c from param [] first) (λ to of.
-        bind_carries o c (on_top c (from + 1 + 1) (to ∷ [])) end (at c (from + 1) (to ∷ [])) (own_cell cell) (λ x. next (write_reference to x) then_) (load_carries o c (from + 1) cell (to ∷ []) second) (λ x of.
-        bind_carries o c (done c (from + 1 + 1 + 1) []) end (at c (from + 1 + 1) (x ∷ to ∷ [])) (write_reference to x) (λ it. then_)
+        skip_cell end (at c from []) keeping (λ found. bind (own_cell param) (λ to. bind (own_cell cell) (λ x. next (write_reference to x) onward))) less (λ found.
+        bind_carries o c (on_top c (from + 1) []) end (at c from []) (own_cell param) (λ to. bind (own_cell cell) (λ x. next (write_reference to x) onward)) (load_carries o c from param [] first) (λ to of.
+        bind_carries o c (on_top c (from + 1 + 1) (to ∷ [])) end (at c (from + 1) (to ∷ [])) (own_cell cell) (λ x. next (write_reference to x) onward) (load_carries o c (from + 1) cell (to ∷ []) second) (λ x of.
+        bind_carries o c (done c (from + 1 + 1 + 1) []) end (at c (from + 1 + 1) (x ∷ to ∷ [])) (write_reference to x) (λ it. onward)
         (write_ref o c (from + 1 + 1) to x [] (subst (λ place. Is (code_of o c.routine) place instr.WriteRef) two third))
-        (λ it of. subst (λ place. Carries o c end (at c place []) then_) three behind))))
+        (λ it of. subst (λ place. Carries o c end (at c place []) onward) three behind))))
 
     -- so many cells of the routine are there
     abbrev Room : ℕ → List PlainVariable → Type 0
-    Room at_ [] = Unit {0}
-    Room at_ (target ∷ targets) = (at_ < length (cell_kinds o c.routine)) × Room (at_ + 1) targets
+    Room keeping [] = Unit {0}
+    Room keeping (target ∷ targets) = (keeping < length (cell_kinds o c.routine)) × Room (keeping + 1) targets
 
-    room_of : (at_ : ℕ) (targets : List PlainVariable) → at_ + length targets ≤ length (cell_kinds o c.routine) → Room at_ targets
-    room_of at_ [] less = tt
-    room_of at_ (target ∷ targets) less = (omega (arith, less), room_of (at_ + 1) targets (omega (arith, less)))
+    room_of : (keeping : ℕ) (targets : List PlainVariable) → keeping + length targets ≤ length (cell_kinds o c.routine) → Room keeping targets
+    room_of keeping [] less = tt
+    room_of keeping (target ∷ targets) less = (omega (arith, less), room_of (keeping + 1) targets (omega (arith, less)))
 
-    room_of_ : (cell : ℕ) (targets : List PlainVariable) (all : List CellKind) → (length targets ≡ 0) ⊎ (cell + length targets + length targets ≤ length all) →
+    room_within : (cell : ℕ) (targets : List PlainVariable) (all : List CellKind) → (length targets ≡ 0) ⊎ (cell + length targets + length targets ≤ length all) →
         length (cell_kinds o c.routine) ≡ length all → Room (cell + length targets) targets
-    room_of_ cell [] all either same = tt
-    room_of_ cell (target ∷ targets) all (inl none) same = absurd (omega (arith, none))
-    room_of_ cell (target ∷ targets) all (inr fits) same = room_of (cell + length (target ∷ targets)) (target ∷ targets) (omega (arith, fits, same))
+    room_within cell [] all either same = tt
+    room_within cell (target ∷ targets) all (inl none) same = absurd (omega (arith, none))
+    room_within cell (target ∷ targets) all (inr fits) same = room_of (cell + length (target ∷ targets)) (target ∷ targets) (omega (arith, fits, same))
 
-    writes_carry : (targets : List PlainVariable) (from to leave cell at_ : ℕ) → Room at_ targets → WrittenAt setting (code_of o c.routine) from cell at_ targets to →
-        Carries o c (ways c to leave setting.result) (at c from []) (write_targets setting cell at_ targets)
-    writes_carry [] from to leave cell at_ room code =
+    writes_carry : (targets : List PlainVariable) (from to leave cell keeping : ℕ) → Room keeping targets → WrittenAt setting (code_of o c.routine) from cell keeping targets to →
+        Carries o c (ways c to leave setting.result) (at c from []) (write_targets setting cell keeping targets)
+    writes_carry [] from to leave cell keeping room code =
         subst (λ to. Carries o c (ways c to leave setting.result) (at c from []) (gives Normal)) (sym code) (normal_carries o c from leave setting.result)
-    writes_carry (OfVariable (LeafOf number) bounds subscripts ∷ targets) from to leave cell at_ room code =
-        element_carries (ways c to leave setting.result) from cell at_ (LeafOf number) bounds subscripts (write_targets setting (cell + 1) (at_ + 1) targets) tt code.0 code.1 code.2
-        (writes_carry targets (from + 3) to leave (cell + 1) (at_ + 1) room.1 code.3)
-    writes_carry (OfVariable (Own first) bounds subscripts ∷ targets) from to leave cell at_ room code =
-        element_carries (ways c to leave setting.result) from cell at_ (Own first) bounds subscripts (write_targets setting (cell + 1) (at_ + 1) targets) tt code.0 code.1 code.2
-        (writes_carry targets (from + 3) to leave (cell + 1) (at_ + 1) room.1 code.3)
-    writes_carry (OfVariable (Param param) bounds subscripts ∷ targets) from to leave cell at_ room code =
-        param_carries (ways c to leave setting.result) from cell at_ param (write_targets setting (cell + 1) (at_ + 1) targets) room.0 code.0 code.1 code.2
-        (writes_carry targets (from + 3) to leave (cell + 1) (at_ + 1) room.1 code.3)
+    writes_carry (OfVariable (LeafOf number) bounds subscripts ∷ targets) from to leave cell keeping room code =
+        element_carries (ways c to leave setting.result) from cell keeping (LeafOf number) bounds subscripts (write_targets setting (cell + 1) (keeping + 1) targets) tt code.0 code.1 code.2
+        (writes_carry targets (from + 3) to leave (cell + 1) (keeping + 1) room.1 code.3)
+    writes_carry (OfVariable (Own first) bounds subscripts ∷ targets) from to leave cell keeping room code =
+        element_carries (ways c to leave setting.result) from cell keeping (Own first) bounds subscripts (write_targets setting (cell + 1) (keeping + 1) targets) tt code.0 code.1 code.2
+        (writes_carry targets (from + 3) to leave (cell + 1) (keeping + 1) room.1 code.3)
+    writes_carry (OfVariable (Param param) bounds subscripts ∷ targets) from to leave cell keeping room code =
+        param_carries (ways c to leave setting.result) from cell keeping param (write_targets setting (cell + 1) (keeping + 1) targets) room.0 code.0 code.1 code.2
+        (writes_carry targets (from + 3) to leave (cell + 1) (keeping + 1) room.1 code.3)
 
     -- THE ACTION
 
@@ -382,19 +382,19 @@ module _ (o : Object) (c : Context) (setting : Setting) where
         RowMeets o c (ways c to leave setting.result) (f ∷ lower) (get_values o (record { device = device; format = format; first = cell }) f lower) rest
         (bind (ask (action.Get device format (record { items = kinds }))) (heard_then cell targets) (record { task = task; frames = cells ∷ more }) rest)
     get_meets targets kinds device format cell place to leave formats count writes task before more rest of =
-        let blanks = map blank_of kinds in let cells = put_in cell blanks before in let end_ = ways c to leave setting.result in
+        let blanks = map blank_of kinds in let cells = put_in cell blanks before in let ending = ways c to leave setting.result in
         let f = frame_at c place [] cells in let lower = stack c.callers more in let store : Store = record { task = task; frames = cells ∷ more } in
         let does = bind (ask (action.Get device format (record { items = kinds }))) (heard_then cell targets) in
         let offered : List Kind → Step = λ kinds. Offers (action.Get device format (record { items = kinds })) (λ answer. frame_at c (place + 1) [] (with_values cells cell (all_heard answer)) ∷ lower) in
-        given_meets o c end_ (f ∷ lower) (items_at o format) (λ items. given (option_and_then value_kinds (cells_from cells cell (data_count items))) (λ kinds. needed (items_suit items kinds) (offered kinds))) rest
+        given_meets o c ending (f ∷ lower) (items_at o format) (λ items. given (option_and_then value_kinds (cells_from cells cell (data_count items))) (λ kinds. needed (items_suit items kinds) (offered kinds))) rest
         (does store rest) (λ items found.
         let n = data_count items in
         let long : n ≡ length blanks = count items (ap (λ formats. slice_get formats format) (sym formats) ∙ found) ∙ sym (length-map kinds blank_of) in
-        given_meets o c end_ (f ∷ lower) (option_and_then value_kinds (cells_from cells cell n)) (λ kinds. needed (items_suit items kinds) (offered kinds)) rest (does store rest) (λ told is.
+        given_meets o c ending (f ∷ lower) (option_and_then value_kinds (cells_from cells cell n)) (λ kinds. needed (items_suit items kinds) (offered kinds)) rest (does store rest) (λ told is.
         let same : kinds ≡ told = same_Some kinds told (sym (blank_kinds kinds) ∙ kinds_found cell n blanks before told long (nat_le (cell + n) (length cells)) (nat_le n 0) refl refl is) in
-        needed_meets o c end_ (f ∷ lower) (items_suit items told) (offered told) rest (does store rest) (λ suits.
-        subst (λ told. RowMeets o c end_ (f ∷ lower) (offered told) rest (does store rest)) same
-        (asked_meets o c end_ (f ∷ lower) (action.Get device format (record { items = kinds })) (λ answer. frame_at c (place + 1) [] (with_values cells cell (all_heard answer)) ∷ lower) store (heard_then cell targets) rest
+        needed_meets o c ending (f ∷ lower) (items_suit items told) (offered told) rest (does store rest) (λ suits.
+        subst (λ told. RowMeets o c ending (f ∷ lower) (offered told) rest (does store rest)) same
+        (asked_meets o c ending (f ∷ lower) (action.Get device format (record { items = kinds })) (λ answer. frame_at c (place + 1) [] (with_values cells cell (all_heard answer)) ∷ lower) store (heard_then cell targets) rest
         (λ answer left. heard_meets targets cell (place + 1) to leave writes task cells more of answer left)))))
 
     asked_framed : (targets : List PlainVariable) (kinds : List Kind) (device format cell from end to leave : ℕ) (reading : Box Reading Global) → o.formats ≡ setting.program.formats →
@@ -405,14 +405,14 @@ module _ (o : Object) (c : Context) (setting : Setting) where
         (task : ℕ) (frames : List (List Cell)) (rest : List Answer) → IsStoreOf o c (record { task = task; frames = frames }) →
         Meets o c (ways c to leave setting.result) (at c from [] (record { task = task; frames = frames })) rest
         (next (put_cells cell (map blank_of kinds)) (bind (ask (action.Get device format (record { items = kinds }))) (heard_then cell targets)) (record { task = task; frames = frames }) rest)
-    asked_framed targets kinds device format cell from end to leave reading formats count fills is gets_ writes task [] rest of = absurd of.cells
-    asked_framed targets kinds device format cell from end to leave reading formats count fills is gets_ writes task (cells ∷ more) rest of =
+    asked_framed targets kinds device format cell from end to leave reading formats count fills is reads writes task [] rest of = absurd of.cells
+    asked_framed targets kinds device format cell from end to leave reading formats count fills is reads writes task (cells ∷ more) rest of =
         let all = put_in cell (map blank_of kinds) cells in let store : Store = record { task = task; frames = all ∷ more } in
-        let end_ = ways c to leave setting.result in let f = frame_at c end [] all in let lower = stack c.callers more in
+        let ending = ways c to leave setting.result in let f = frame_at c end [] all in let lower = stack c.callers more in
         let m = bind (ask (action.Get device format (record { items = kinds }))) (heard_then cell targets) store rest in
-        filled_meets end_ task more rest m kinds from end cell cells fills
-        (at_row o c end_ end [] all lower (instr.Get reading) rest m gets_
-        (subst (λ reading. RowMeets o c end_ (f ∷ lower) (get_values o reading f lower) rest m) (sym is)
+        filled_meets ending task more rest m kinds from end cell cells fills
+        (at_row o c ending end [] all lower (instr.Get reading) rest m reads
+        (subst (λ reading. RowMeets o c ending (f ∷ lower) (get_values o reading f lower) rest m) (sym is)
         (get_meets targets kinds device format cell end to leave formats count writes task cells more rest
         (more_cells all of (put_long cell (map blank_of kinds) cells)))))
 
@@ -433,25 +433,25 @@ module _ (o : Object) (c : Context) (setting : Setting) where
 
     found_carries : (from to : ℕ) (target : PlainVariable) (of : Kind) → IsVariable around target of → of_variable calls target ≤ below → FoundAt setting (code_of o c.routine) from target to →
         Carries o c (on_top c to []) (at c from []) (offset setting target)
-    found_carries from to (OfVariable target [] subscripts) of is less code_ =
+    found_carries from to (OfVariable target [] subscripts) of is less found_code =
         subst (λ subscripts. Carries o c (on_top c to []) (at c from []) (offset setting (OfVariable target [] subscripts))) (sym (no_subscripts target subscripts of is))
-        (const_carries o c (on_top c to []) from (Fixed 31 (pos 0)) [] (gives (Fixed 31 (pos 0))) code_.0
-        (subst (λ to. Carries o c (on_top c to []) (at c (from + 1) (Fixed 31 (pos 0) ∷ [])) (gives (Fixed 31 (pos 0)))) (sym code_.1)
+        (const_carries o c (on_top c to []) from (Fixed 31 (pos 0)) [] (gives (Fixed 31 (pos 0))) found_code.0
+        (subst (λ to. Carries o c (on_top c to []) (at c (from + 1) (Fixed 31 (pos 0) ∷ [])) (gives (Fixed 31 (pos 0)))) (sym found_code.1)
         (gives_carries o c (on_top c (from + 1) []) (Fixed 31 (pos 0)) tt)))
-    found_carries from to (OfVariable target (bound ∷ bounds) subscripts) of is less code_ =
+    found_carries from to (OfVariable target (bound ∷ bounds) subscripts) of is less found_code =
         then_gives o c (offset_on_top c to [] (bound ∷ bounds)) (on_top c to []) (at c from []) (offset setting (OfVariable target (bound ∷ bounds) subscripts))
-        (code.offset from to target (bound ∷ bounds) subscripts of [] is less code_) (λ x there. gives_carries o c (on_top c to []) x tt)
+        (code.offset from to target (bound ∷ bounds) subscripts of [] is less found_code) (λ x there. gives_carries o c (on_top c to []) x tt)
 
-    keeps_carry : (targets : List PlainVariable) (kinds : List Kind) (from to at_ : ℕ) → AllZip (IsVariable around) targets kinds → of_variables calls targets ≤ below →
-        KeptAt setting (code_of o c.routine) from at_ targets to → Carries o c (done c to []) (at c from []) (keep_offsets setting at_ targets)
-    keeps_carry [] kinds from to at_ are less code_ = subst (λ to. Carries o c (done c to []) (at c from []) (gives tt)) (sym code_) (gives_carries o c (done c from []) tt tt)
-    keeps_carry (target ∷ targets) [] from to at_ are less code_ = absurd are
-    keeps_carry (target ∷ targets) (of ∷ kinds) from to at_ are less code_ =
-        bind_carries o c (on_top c code_.0 []) (done c to []) (at c from []) (offset setting target) (λ found. next (put_cell at_ found) (keep_offsets setting (at_ + 1) targets))
-        (found_carries from code_.0 target of are.0 (omega (arith, less)) code_.1) (λ found there.
-        bind_carries o c (done c (code_.0 + 1) []) (done c to []) (at c code_.0 (found ∷ [])) (put_cell at_ found) (λ it. keep_offsets setting (at_ + 1) targets)
-        (store_carries o c code_.0 at_ found [] code_.2) (λ it done_.
-        keeps_carry targets kinds (code_.0 + 1) to (at_ + 1) are.1 (omega (arith, less)) code_.3))
+    keeps_carry : (targets : List PlainVariable) (kinds : List Kind) (from to keeping : ℕ) → AllZip (IsVariable around) targets kinds → of_variables calls targets ≤ below →
+        KeptAt setting (code_of o c.routine) from keeping targets to → Carries o c (done c to []) (at c from []) (keep_offsets setting keeping targets)
+    keeps_carry [] kinds from to keeping are less found_code = subst (λ to. Carries o c (done c to []) (at c from []) (gives tt)) (sym found_code) (gives_carries o c (done c from []) tt tt)
+    keeps_carry (target ∷ targets) [] from to keeping are less found_code = absurd are
+    keeps_carry (target ∷ targets) (of ∷ kinds) from to keeping are less found_code =
+        bind_carries o c (on_top c found_code.0 []) (done c to []) (at c from []) (offset setting target) (λ found. next (put_cell keeping found) (keep_offsets setting (keeping + 1) targets))
+        (found_carries from found_code.0 target of are.0 (omega (arith, less)) found_code.1) (λ found there.
+        bind_carries o c (done c (found_code.0 + 1) []) (done c to []) (at c found_code.0 (found ∷ [])) (put_cell keeping found) (λ it. keep_offsets setting (keeping + 1) targets)
+        (store_carries o c found_code.0 keeping found [] found_code.2) (λ it stored.
+        keeps_carry targets kinds (found_code.0 + 1) to (keeping + 1) are.1 (omega (arith, less)) found_code.3))
 
 -- the cells behind those for values are there
 room_is : (all : List CellKind) (targets : List PlainVariable) (kinds : List Kind) (cell : ℕ) → length kinds ≡ length targets →
@@ -474,7 +474,7 @@ gets_carry o c setting around below placed code out from to targets device forma
     let count : (items : List Item) → slice_get setting.program.formats format ≡ Some items → data_count items ≡ length kinds = λ items found.
     let fits : FitsSome (Some items) sound = subst (λ found. FitsSome found sound) (ap (λ formats. slice_get formats format) placed.formats ∙ found) is.3 in
     sym (suits-length items sound fits.suits) ∙ same ∙ sym long in
-    let room = room_of_ o c setting placed.known.tables cell targets around.cells (room_is around.cells targets sound cell same is.4) (ap length placed.known.cells) in
+    let room = room_within o c setting placed.known.tables cell targets around.cells (room_is around.cells targets sound cell same is.4) (ap length placed.known.cells) in
     subst (λ known. Carries o c (ways c to out setting.result) (at c from []) (eval_given known (λ kinds. next (keep_offsets setting (cell + length targets) targets)
     (next (put_cells cell (map blank_of kinds)) (bind (ask (action.Get device format (record { items = kinds }))) (λ answer.
     next (put_cells cell (heard_values answer)) (write_targets setting cell (cell + length targets) targets))))))) (sym stands.1)

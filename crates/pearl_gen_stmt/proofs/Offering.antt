@@ -72,8 +72,8 @@ module _ (leads : RowsLead) (keeps : KeepsTask) (p : PlainProg) (o : Object) (ge
       by (suc n) comes = (n, subst (λ step. Onward (λ frames rest. ComesIn o n frames rest a) step rest a) e comes)
 
   -- from a stack where code is after the answers before, to the action behind the others
-  abbrev Comes_ : (before : List Answer) → List Frame → Type 0
-  Comes_ before frames = (rest : List Answer) → Comes o frames rest (offer p t (before ++ rest))
+  abbrev ComesAfter : (before : List Answer) → List Frame → Type 0
+  ComesAfter before frames = (rest : List Answer) → Comes o frames rest (offer p t (before ++ rest))
 
   offers_on : (step : Step) (frames : List Frame) → row o frames ≡ step → (rest : List Answer) (a : Action) → (n : ℕ) → Further (λ frames rest. OffersIn o n frames rest a) step rest a → OffersAfter o frames rest a
   offers_on step frames e rest a n on = record { rows = suc n; offers = subst (λ step. Further (λ frames rest. OffersIn o n frames rest a) step rest a) (sym e) on }
@@ -82,31 +82,31 @@ module _ (leads : RowsLead) (keeps : KeepsTask) (p : PlainProg) (o : Object) (ge
   behind : (before : List Answer) (answer : Answer) (rest : List Answer) → offer p t ((before ++ answer ∷ []) ++ rest) ≡ offer p t (before ++ (answer ∷ rest))
   behind before answer rest = ap (λ answers. offer p t answers) (append_assoc before (answer ∷ []) rest)
 
-  comes_next : (before : List Answer) (frames next : List Frame) → row o frames ≡ Silent next → Comes_ before frames → Comes_ before next
+  comes_next : (before : List Answer) (frames next : List Frame) → row o frames ≡ Silent next → ComesAfter before frames → ComesAfter before next
   comes_next before frames next e comes = λ rest. let on = further frames (Silent next) rest (offer p t (before ++ rest)) e (comes rest) in record { rows = on.0; comes = on.1 }
 
-  comes_behind : (before : List Answer) (frames : List Frame) (offered : Action) (go : Answer → List Frame) (answer : Answer) → row o frames ≡ Offers offered go → Comes_ before frames →
-      Comes_ (before ++ answer ∷ []) (go answer)
+  comes_behind : (before : List Answer) (frames : List Frame) (offered : Action) (go : Answer → List Frame) (answer : Answer) → row o frames ≡ Offers offered go → ComesAfter before frames →
+      ComesAfter (before ++ answer ∷ []) (go answer)
   comes_behind before frames offered go answer e comes = λ rest.
       let on = further frames (Offers offered go) (answer ∷ rest) (offer p t (before ++ (answer ∷ rest))) e (comes (answer ∷ rest)) in
       subst (λ a. Comes o (go answer) rest a) (sym (behind before answer rest)) (record { rows = on.0; comes = on.1 })
 
   -- what is offered where these answers are left, once the next action is offered
-  module _ (before rest : List Answer) (asked : (frames : List Frame) (offered : Action) (go : Answer → List Frame) → row o frames ≡ Offers offered go → IsHere frames → Comes_ before frames →
+  module _ (before rest : List Answer) (asked : (frames : List Frame) (offered : Action) (go : Answer → List Frame) → row o frames ≡ Offers offered go → IsHere frames → ComesAfter before frames →
       offered ≡ offer p t (before ++ []) → OffersAfter o frames rest (offer p t (before ++ rest))) where
-    settle : (n : ℕ) (frames : List Frame) → IsHere frames → Comes_ before frames → ComesIn o n frames [] (offer p t (before ++ [])) → OffersAfter o frames rest (offer p t (before ++ rest))
+    settle : (n : ℕ) (frames : List Frame) → IsHere frames → ComesAfter before frames → ComesIn o n frames [] (offer p t (before ++ [])) → OffersAfter o frames rest (offer p t (before ++ rest))
     settle zero frames here comes within = absurd within
     settle (suc n) frames here comes within = by (row o frames) refl (leads_on frames here) within (λ next. settle n next)
       where
         by : (step : Step) → row o frames ≡ step → LeadsOn step → Onward (λ frames rest. ComesIn o n frames rest (offer p t (before ++ []))) step [] (offer p t (before ++ [])) →
-            ((next : List Frame) → IsHere next → Comes_ before next → ComesIn o n next [] (offer p t (before ++ [])) → OffersAfter o next rest (offer p t (before ++ rest))) →
+            ((next : List Frame) → IsHere next → ComesAfter before next → ComesIn o n next [] (offer p t (before ++ [])) → OffersAfter o next rest (offer p t (before ++ rest))) →
             OffersAfter o frames rest (offer p t (before ++ rest))
         by (Silent next) e leads within on =
             let later = on next leads (comes_next before frames next e comes) within in offers_on (Silent next) frames e rest (offer p t (before ++ rest)) later.rows later.offers
         by (Offers offered go) e leads within on = asked frames offered go e here comes within
         by Missing e leads within on = absurd leads
 
-  offers : (rest before : List Answer) (frames : List Frame) → IsHere frames → Comes_ before frames → HeardAfter p t before rest → OffersAfter o frames rest (offer p t (before ++ rest))
+  offers : (rest before : List Answer) (frames : List Frame) → IsHere frames → ComesAfter before frames → HeardAfter p t before rest → OffersAfter o frames rest (offer p t (before ++ rest))
   offers [] before frames here comes heard =
       settle before [] (λ frames offered go e here comes is. offers_on (Offers offered go) frames e [] (offer p t (before ++ [])) zero is) (comes []).rows frames here comes (comes []).comes
   offers (answer ∷ rest) before frames here comes heard =

@@ -160,7 +160,7 @@ module _ (p : PlainProg) (o : Object) (sound : IsSound p) (generated : IsGenerat
         returns = refl;
       }
 
-      abbrev code : IsCode p procedure.result procedure.routine (last_of procedure.result) (code_of o number)
+      abbrev code : IsCode p o number procedure.result procedure.routine (last_of procedure.result)
       code = generated.procedures number procedure there
 
       body_carries : CallsCarry o setting number → Carries o inner (ways inner code.end code.end procedure.result) (at inner 0 []) (exec_all setting procedure.routine.body)
@@ -187,10 +187,10 @@ module _ (p : PlainProg) (o : Object) (sound : IsSound p) (generated : IsGenerat
           (subst (λ kind. RowMeets o c back_at frames (Offers (action.Trap Range) (λ answer. frames)) rest (next drop_frame (result_at_end kind) (record { task = task; frames = own ∷ cells ∷ more }) rest)) (sym is)
           (stops_meets o c back_at frames Range rest))
 
-      leaves_meets : (flow_ : Flow) → IsFlow procedure.result flow_ → (task : ℕ) (frames : List (List Cell)) (rest : List Answer) → IsStoreOf o inner (record { task = task; frames = frames }) →
-          Meets o c back_at (flow_stack inner code.end code.end flow_ (record { task = task; frames = frames })) rest (next drop_frame (result_of_flow procedure.result flow_) (record { task = task; frames = frames }) rest)
-      leaves_meets flow_ flows task [] rest of = absurd of.cells
-      leaves_meets flow_ flows task (own ∷ []) rest of = absurd of.cells.1
+      leaves_meets : (way : Flow) → IsFlow procedure.result way → (task : ℕ) (frames : List (List Cell)) (rest : List Answer) → IsStoreOf o inner (record { task = task; frames = frames }) →
+          Meets o c back_at (flow_stack inner code.end code.end way (record { task = task; frames = frames })) rest (next drop_frame (result_of_flow procedure.result way) (record { task = task; frames = frames }) rest)
+      leaves_meets way flows task [] rest of = absurd of.cells
+      leaves_meets way flows task (own ∷ []) rest of = absurd of.cells.1
       leaves_meets Normal flows task (own ∷ cells ∷ more) rest of = ends_meets procedure.result refl task cells own more rest (record { cells = of.cells.1; task = of.task })
       leaves_meets Exit flows task (own ∷ cells ∷ more) rest of = ends_meets procedure.result refl task cells own more rest (record { cells = of.cells.1; task = of.task })
       leaves_meets (Return result) flows task (own ∷ cells ∷ more) rest of =
@@ -211,7 +211,7 @@ module _ (p : PlainProg) (o : Object) (sound : IsSound p) (generated : IsGenerat
           let fits : IsStoreOf o inner store = record { cells = (wide, of.cells); task = of.task } in
           bind_within o inner c (ways inner code.end code.end procedure.result) back_at (at inner 0 [] store) rest (exec_all setting procedure.routine.body store rest)
           (λ flow. next drop_frame (result_of_flow procedure.result flow)) ((body_carries smaller_carry).over store rest fits)
-          (λ flow_ after left there. leaves_meets flow_ there.of after.task after.frames left there.cells)
+          (λ way after left there. leaves_meets way there.of after.task after.frames left there.cells)
 
       called_is : (arguments : List Cell) → length arguments ≡ procedure.params → (task : ℕ) (cells : List Cell) (more : List (List Cell)) →
           called number found (frame_at c place (pushed arguments operands) cells ∷ stack c.callers more) (pushed arguments operands)
@@ -237,20 +237,20 @@ module _ (p : PlainProg) (o : Object) (sound : IsSound p) (generated : IsGenerat
       (c : Context) (place : ℕ) → Is (code_of o c.routine) place (instr.Call number) → (arguments operands : List Cell) → length arguments ≡ procedure.params →
       Carries o c (result_on_top c (place + 1) operands procedure.result) (at c place (pushed arguments operands)) (call_within p (length p.procedures) number arguments)
   call_carries number procedure there smaller_carry c place is arguments operands long =
-      let end_ = result_on_top c (place + 1) operands procedure.result in let depth = length p.procedures in
+      let ending = result_on_top c (place + 1) operands procedure.result in let depth = length p.procedures in
       let body : Does Flow = exec_all (within_program p procedure.result procedure.routine) procedure.routine.body in
-      let then_ : Answer → Does (Option Cell) = λ answer. next (push_frame (entered procedure arguments)) (bind body (λ flow. next drop_frame (result_of_flow procedure.result flow))) in
-      instr_carries o c end_ place (pushed arguments operands) (instr.Call number) (call_within p depth number arguments) is (λ task cells more rest of.
+      let onward : Answer → Does (Option Cell) = λ answer. next (push_frame (entered procedure arguments)) (bind body (λ flow. next drop_frame (result_of_flow procedure.result flow))) in
+      instr_carries o c ending place (pushed arguments operands) (instr.Call number) (call_within p depth number arguments) is (λ task cells more rest of.
       let f = frame_at c place (pushed arguments operands) cells in let lower = stack c.callers more in let store : Store = record { task = task; frames = cells ∷ more } in
-      given_meets o c end_ (f ∷ lower) (slice_get o.procedures number)
+      given_meets o c ending (f ∷ lower) (slice_get o.procedures number)
       (λ (found : Procedure). needed (nat_le found.params (length (pushed arguments operands))) (Offers action.Enter (λ answer. called number found (f ∷ lower) (pushed arguments operands)))) rest
       (call_within p depth number arguments store rest) (λ found here.
-      needed_meets o c end_ (f ∷ lower) (nat_le found.params (length (pushed arguments operands))) (Offers action.Enter (λ answer. called number found (f ∷ lower) (pushed arguments operands))) rest
+      needed_meets o c ending (f ∷ lower) (nat_le found.params (length (pushed arguments operands))) (Offers action.Enter (λ answer. called number found (f ∷ lower) (pushed arguments operands))) rest
       (call_within p depth number arguments store rest) (λ enough.
-      subst (RowMeets o c end_ (f ∷ lower) (Offers action.Enter (λ answer. called number found (f ∷ lower) (pushed arguments operands))) rest)
+      subst (RowMeets o c ending (f ∷ lower) (Offers action.Enter (λ answer. called number found (f ∷ lower) (pushed arguments operands))) rest)
       (sym (calls_run p sound.order number depth procedure there (in_list p.procedures number procedure there) arguments store rest))
-      (asked_meets o c end_ (f ∷ lower) action.Enter (λ answer. called number found (f ∷ lower) (pushed arguments operands)) store then_ rest (λ answer left.
-      subst (λ frames. Meets o c end_ frames left (then_ answer store left)) (sym (called_is number procedure there found here c place operands arguments long task cells more))
+      (asked_meets o c ending (f ∷ lower) action.Enter (λ answer. called number found (f ∷ lower) (pushed arguments operands)) store onward rest (λ answer left.
+      subst (λ frames. Meets o c ending frames left (onward answer store left)) (sym (called_is number procedure there found here c place operands arguments long task cells more))
       (entered_meets number procedure there found here c place operands smaller_carry arguments long task cells more left of))))))
 
   -- where calls are the same, what is known of them is the same
@@ -258,7 +258,7 @@ module _ (p : PlainProg) (o : Object) (sound : IsSound p) (generated : IsGenerat
   calls_as one two routine other below all = record { called = all.called }
 
   fewer_calls : (result : Option Kind) (routine : PlainRoutine) (below number : ℕ) → number ≤ below → CallsCarry o (within_program p result routine) below → CallsCarry o (within_program p result routine) number
-  fewer_calls result routine below number less all = record { called = λ other smaller_. all.called other (omega (arith, smaller_, less)) }
+  fewer_calls result routine below number less all = record { called = λ other lesser. all.called other (omega (arith, lesser, less)) }
 
   calls_carry : (below : ℕ) (result : Option Kind) (routine : PlainRoutine) → CallsCarry o (within_program p result routine) below
   calls_carry zero result routine = record { called = λ number less. absurd (omega (arith, less)) }

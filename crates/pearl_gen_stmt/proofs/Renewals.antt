@@ -1,4 +1,4 @@
--- A row of cells gets values: by one instruction where they are unset, else one after the other.
+-- A row of cells gets values: by one instruction where they are unset, else one after the other, the last one again and again.
 use Rattle.std.specs.Prelude.{◌≡◌, ℕ, zero, suc, ◌+◌, ◌-◌, ◌≤◌, nat_le, List, [], ◌∷◌, ◌++◌, length, take, drop, replicate, Some, slice_get, slice_set}
 use Rattle.std.proofs.Common.{refl, sym, subst, ap, ◌∙◌, arith, append-nil}
 use Rattle.std.proofs.lemmas.List.{length-set, length-replicate, length-append, length-drop, take-append-drop}
@@ -15,13 +15,13 @@ use Rattle.pearl_instructions.specs.Cells.{filled}
 use Rattle.pearl_meaning.specs.Frames.{Store}
 use Rattle.pearl_meaning.specs.Evaluation.{Value, gives, put_cells}
 use Rattle.pearl_meaning.specs.Setting.{Setting}
-use Rattle.pearl_gen_expr.specs.Contexts.{stack, Context, at}
+use Rattle.pearl_gen_expr.specs.Contexts.{stack, Context, at, IsStoreOf}
 use Rattle.pearl_gen_expr.specs.Carrying.{Meets, Carries}
 use Rattle.pearl_gen_expr.specs.ExprCode.{code_of, Is}
-use Rattle.pearl_gen_expr.specs.Ends.{done}
+use Rattle.pearl_gen_expr.specs.Ends.{on_top, done}
 use Rattle.pearl_gen_expr.proofs.Moves.{frame_at, RowMeets, gives_carries, instr_carries, same_carries, silent_meets, given_meets, needed_meets}
-use Rattle.pearl_gen_stmt.specs.StmtCode.{StoresAt, RenewAt}
-use Rattle.pearl_gen_stmt.proofs.Single.{more_cells, goes_meets, const_carries}
+use Rattle.pearl_gen_stmt.specs.StmtCode.{StoresAt, RepeatsAt, RenewAt}
+use Rattle.pearl_gen_stmt.proofs.Single.{given_value, more_cells, goes_meets, load_carries, const_carries}
 
 -- LISTS
 
@@ -66,6 +66,12 @@ pub put_more : (cells : List Cell) (cell : ℕ) (x : Cell) (xs : List Cell) (old
     put_in (cell + 1) xs (slice_set cells cell x) ≡ put_in cell (x ∷ xs) cells
 put_more cells cell x xs old found = sym (put_one_more cells cell (cell + length (x ∷ xs)) (cell + 1) (cell + 1 + length xs) x xs old found refl refl refl)
 
+-- where it is put it stands
+set_there : (cells : List Cell) (cell : ℕ) (x old : Cell) → slice_get cells cell ≡ Some old → slice_get (slice_set cells cell x) cell ≡ Some x
+set_there [] cell x old found = cc
+set_there (y ∷ cells) zero x old found = refl
+set_there (y ∷ cells) (suc cell) x old found = set_there cells cell x old found
+
 -- CODE
 
 module _ (o : Object) (c : Context) where
@@ -92,24 +98,62 @@ module _ (o : Object) (c : Context) where
       same task [] rest = refl
       same task (cells ∷ more) rest = ap (λ cells. Value tt (record { task = task; frames = cells ∷ more }) rest) (sym (put_none cell cells))
 
-  -- the values are put into their cells one after the other
-  pub stores_carry : (setting : Setting) (from cell : ℕ) (xs : List Cell) (to : ℕ) → StoresAt setting (code_of o c.routine) from cell xs to →
-      Carries o c (done c to []) (at c from []) (put_cells cell xs)
-  stores_carry setting from cell [] to code = no_cells to from cell code
-  stores_carry setting from cell (x ∷ xs) to code =
-      let behind : Carries o c (done c to []) (at c (from + 2) []) (put_cells (cell + 1) xs) = stores_carry setting (from + 2) (cell + 1) xs to code.2 in
-      let two : from + 2 ≡ from + 1 + 1 = omega arith in
-      const_carries o c (done c to []) from x [] (put_cells cell (x ∷ xs)) code.0
-      (instr_carries o c (done c to []) (from + 1) (x ∷ []) (instr.Store cell) (put_cells cell (x ∷ xs)) code.1 (λ task cells more rest of.
-      let lower = stack c.callers more in let f = frame_at c (from + 1) (x ∷ []) cells in
+  -- a value is put into a cell, where it stands then, and others behind it
+  store_then : (place cell to : ℕ) (x : Cell) (xs : List Cell) → Is (code_of o c.routine) place (instr.Store cell) →
+      ((task : ℕ) (cells : List Cell) (more : List (List Cell)) (rest : List Answer) → IsStoreOf o c (record { task = task; frames = cells ∷ more }) → slice_get cells cell ≡ Some x →
+      let store : Store = record { task = task; frames = cells ∷ more } in
+      Meets o c (done c to []) (at c (place + 1) [] store) rest (put_cells (cell + 1) xs store rest)) →
+      Carries o c (done c to []) (at c place (x ∷ [])) (put_cells cell (x ∷ xs))
+  store_then place cell to x xs is behind = instr_carries o c (done c to []) place (x ∷ []) (instr.Store cell) (put_cells cell (x ∷ xs)) is (λ task cells more rest of.
+      let lower = stack c.callers more in let f = frame_at c place (x ∷ []) cells in
       let middle : Store = record { task = task; frames = slice_set cells cell x ∷ more } in
       let long : length (slice_set cells cell x) ≡ length cells = length-set cells cell x in
-      given_meets o c (done c to []) (f ∷ lower) (slice_get cells cell) (λ old. Silent (frame_at c (from + 1 + 1) [] (slice_set cells cell x) ∷ lower)) rest
+      given_meets o c (done c to []) (f ∷ lower) (slice_get cells cell) (λ old. Silent (frame_at c (place + 1) [] (slice_set cells cell x) ∷ lower)) rest
       (put_cells cell (x ∷ xs) (record { task = task; frames = cells ∷ more }) rest) (λ old found.
-      subst (λ cells. RowMeets o c (done c to []) (f ∷ lower) (Silent (at c (from + 1 + 1) [] middle)) rest (Value tt (record { task = task; frames = cells ∷ more }) rest)) (put_more cells cell x xs old found)
-      (goes_meets o c (done c to []) (f ∷ lower) (at c (from + 1 + 1) [] middle) rest (put_cells (cell + 1) xs middle rest)
-      (subst (λ place. Meets o c (done c to []) (at c place [] middle) rest (put_cells (cell + 1) xs middle rest)) two
-      (behind.over middle rest (more_cells (slice_set cells cell x) of (omega (arith, long)))))))))
+      subst (λ cells. RowMeets o c (done c to []) (f ∷ lower) (Silent (at c (place + 1) [] middle)) rest (Value tt (record { task = task; frames = cells ∷ more }) rest)) (put_more cells cell x xs old found)
+      (goes_meets o c (done c to []) (f ∷ lower) (at c (place + 1) [] middle) rest (put_cells (cell + 1) xs middle rest)
+      (behind task (slice_set cells cell x) more rest (more_cells (slice_set cells cell x) of (omega (arith, long))) (set_there cells cell x old found)))))
+
+  -- a value that stands in a cell is put into those behind it
+  repeats_meet : (setting : Setting) (from cell n to : ℕ) (x : Cell) → RepeatsAt setting (code_of o c.routine) from cell n to →
+      (task : ℕ) (cells : List Cell) (more : List (List Cell)) (rest : List Answer) → IsStoreOf o c (record { task = task; frames = cells ∷ more }) → slice_get cells cell ≡ Some x →
+      let store : Store = record { task = task; frames = cells ∷ more } in
+      Meets o c (done c to []) (at c from [] store) rest (put_cells (cell + 1) (replicate n x) store rest)
+  repeats_meet setting from cell zero to x code task cells more rest of found =
+      (no_cells to from (cell + 1) code).over (record { task = task; frames = cells ∷ more }) rest of
+  repeats_meet setting from cell (suc n) to x code task cells more rest of found =
+      let store : Store = record { task = task; frames = cells ∷ more } in
+      let two : from + 2 ≡ from + 1 + 1 = omega arith in
+      let next : Carries o c (done c to []) (at c (from + 1) (x ∷ [])) (put_cells (cell + 1) (x ∷ replicate n x)) =
+      store_then (from + 1) (cell + 1) to x (replicate n x) code.1 (λ task cells more rest of found.
+      let store : Store = record { task = task; frames = cells ∷ more } in
+      subst (λ place. Meets o c (done c to []) (at c place [] store) rest (put_cells (cell + 1 + 1) (replicate n x) store rest)) two
+      (repeats_meet setting (from + 2) (cell + 1) n to x code.2 task cells more rest of found)) in
+      let first : Meets o c (on_top c (from + 1) []) (at c from [] store) rest (Value x store rest) =
+      subst (λ found. Meets o c (on_top c (from + 1) []) (at c from [] store) rest (given_value found store rest)) found
+      ((load_carries o c from cell [] code.0).over store rest of) in
+      λ action on. first action (λ here. next.over store rest of action on)
+
+  -- the values are put into their cells one after the other, and the last one into the cells behind them
+  pub stores_carry : (setting : Setting) (from cell : ℕ) (x : Cell) (xs : List Cell) (end n to : ℕ) → StoresAt setting (code_of o c.routine) from cell (x ∷ xs) end →
+      RepeatsAt setting (code_of o c.routine) end (cell + length xs) n to →
+      Carries o c (done c to []) (at c from []) (put_cells cell (x ∷ xs ++ replicate n (last_or x xs)))
+  stores_carry setting from cell x [] end n to code repeated =
+      let two : end ≡ from + 1 + 1 = let is = code.2 in omega (arith, is) in
+      let same : cell + length {A = Cell} [] ≡ cell = omega arith in
+      let again : RepeatsAt setting (code_of o c.routine) (from + 1 + 1) cell n to =
+      subst (λ place. RepeatsAt setting (code_of o c.routine) place cell n to) two (subst (λ cell. RepeatsAt setting (code_of o c.routine) end cell n to) same repeated) in
+      const_carries o c (done c to []) from x [] (put_cells cell (x ∷ replicate n x)) code.0
+      (store_then (from + 1) cell to x (replicate n x) code.1 (repeats_meet setting (from + 1 + 1) cell n to x again))
+  stores_carry setting from cell x (y ∷ ys) end n to code repeated =
+      let two : from + 2 ≡ from + 1 + 1 = omega arith in
+      let one : cell + length (y ∷ ys) ≡ cell + 1 + length ys = omega arith in
+      let all = y ∷ ys ++ replicate n (last_or y ys) in
+      let behind : Carries o c (done c to []) (at c (from + 1 + 1) []) (put_cells (cell + 1) all) =
+      subst (λ place. Carries o c (done c to []) (at c place []) (put_cells (cell + 1) all)) two
+      (stores_carry setting (from + 2) (cell + 1) y ys end n to code.2 (subst (λ cell. RepeatsAt setting (code_of o c.routine) end cell n to) one repeated)) in
+      const_carries o c (done c to []) from x [] (put_cells cell (x ∷ all)) code.0
+      (store_then (from + 1) cell to x all code.1 (λ task cells more rest of found. behind.over (record { task = task; frames = cells ∷ more }) rest of))
 
   -- a renewal
   pub renew_carries : (setting : Setting) (from cell : ℕ) (values : PlainValues) (constants : List Cell) (to : ℕ) → values.constants ≡ constants →
@@ -121,4 +165,9 @@ module _ (o : Object) (c : Context) where
       subst (λ to. Carries o c (done c to []) (at c from []) (put_cells cell (first_cells values))) (sym code.1)
       (subst (λ xs. Carries o c (done c (from + 1) []) (at c from []) (put_cells cell xs)) (sym (all ∙ ap (λ n. replicate n blank) count))
       (fill_carries from cell values.count values.kind code.0))
-  renew_carries setting from cell values (x ∷ xs) to some code = stores_carry setting from cell (first_cells values) to code
+  renew_carries setting from cell values (x ∷ xs) to some code =
+      let blank = blank_of values.kind in
+      let n = values.count - length (x ∷ xs) in
+      let all : first_cells values ≡ x ∷ xs ++ replicate n (last_or x xs) = ap (λ cs. cs ++ replicate (values.count - length cs) (last_or blank cs)) some in
+      subst (λ cells. Carries o c (done c to []) (at c from []) (put_cells cell cells)) (sym all)
+      (stores_carry setting from cell x xs code.0 n to code.1 code.2)

@@ -276,15 +276,15 @@ module _ (o : Object) (c : Context) (setting : Setting) (Fine : PlainExpr → Ty
       (values duration from middle operands one code) (λ x of.
       bind_carries o c (on_top c to (x ∷ operands)) end (at c middle (x ∷ operands)) (eval setting time) (λ y. on (Until (lapse_of x) (moment_of y)))
       (values time middle to (x ∷ operands) two more.1) (λ y of. all (x ∷ y ∷ []) refl)))
-  ended_carries end from middle to duration (Some (OfDuring length_)) form operands on one two code more carries =
+  ended_carries end from middle to duration (Some (OfDuring lasting)) form operands on one two code more carries =
       let all : RepeatThen end to operands on again.During = subst (RepeatThen end to operands on) more.0 carries in
-      alike_does end (at c from operands) (bind (eval setting duration) (λ x. bind (eval setting length_) (λ y. on (During (lapse_of x) (lapse_of y)))))
-      (bind (bind (lapse setting duration) (λ p. with_end setting (Some (OfDuring length_)) p)) on)
-      (told_of_two (eval setting duration) (eval setting length_) lapse_of lapse_of (λ p t. During p t) on)
-      (bind_carries o c (on_top c middle operands) end (at c from operands) (eval setting duration) (λ x. bind (eval setting length_) (λ y. on (During (lapse_of x) (lapse_of y))))
+      alike_does end (at c from operands) (bind (eval setting duration) (λ x. bind (eval setting lasting) (λ y. on (During (lapse_of x) (lapse_of y)))))
+      (bind (bind (lapse setting duration) (λ p. with_end setting (Some (OfDuring lasting)) p)) on)
+      (told_of_two (eval setting duration) (eval setting lasting) lapse_of lapse_of (λ p t. During p t) on)
+      (bind_carries o c (on_top c middle operands) end (at c from operands) (eval setting duration) (λ x. bind (eval setting lasting) (λ y. on (During (lapse_of x) (lapse_of y))))
       (values duration from middle operands one code) (λ x of.
-      bind_carries o c (on_top c to (x ∷ operands)) end (at c middle (x ∷ operands)) (eval setting length_) (λ y. on (During (lapse_of x) (lapse_of y)))
-      (values length_ middle to (x ∷ operands) two more.1) (λ y of. all (x ∷ y ∷ []) refl)))
+      bind_carries o c (on_top c to (x ∷ operands)) end (at c middle (x ∷ operands)) (eval setting lasting) (λ y. on (During (lapse_of x) (lapse_of y)))
+      (values lasting middle to (x ∷ operands) two more.1) (λ y of. all (x ∷ y ∷ []) refl)))
 
   period_carries : {X : Type 0} (end : End X) (from to : ℕ) (period : Option PlainPeriod) (form : RepeatForm) (operands : List Cell) (on : Repeat → Does X) → FinePeriod period →
       PeriodAt setting (code_of o c.routine) from period form to → RepeatThen end to operands on form → Carries o c end (at c from operands) (bind (repeat_of setting period) on)
@@ -381,9 +381,9 @@ module _ (o : Object) (c : Context) (place to leave : ℕ) (returns : Option Kin
       (action.Activate task_number (when_of form ws) (how_of how ps) (option_map unsigned_abs (urgent_of given us))) (record { task = task; frames = cells ∷ more }) rest)
   activate_meets number form how given ws ps us operands cells more task rest one two three is of =
       let f = frame_at c place operands cells in let lower = stack c.callers more in let store : Store = record { task = task; frames = cells ∷ more } in
-      let when = when_of form ws in let again_ = how_of how ps in let urgent = urgent_of given us in
-      let offered : Action = action.Activate number when again_ (option_map unsigned_abs urgent) in
-      let test = is_start when && is_repeat again_ && is_priority urgent in
+      let when = when_of form ws in let repeating = how_of how ps in let urgent = urgent_of given us in
+      let offered : Action = action.Activate number when repeating (option_map unsigned_abs urgent) in
+      let test = is_start when && is_repeat repeating && is_priority urgent in
       let m = acts_if test offered store rest in
       let last : List Cell → Start → Repeat → Option ℕ → Step = λ left when how priority. steps.acts (action.Activate number when how priority) f lower left in
       let go : List Cell → List Cell → Step = λ values left. started form values f lower (λ when more.
@@ -400,11 +400,11 @@ module _ (o : Object) (c : Context) (place to leave : ℕ) (returns : Option Kin
       (λ when more. repeated how more f lower (λ how rest. with_priority given rest f lower (last [] when how))) one
       (λ e. repeat_case (λ step. RowMeets o c end (f ∷ lower) step rest m) lost f lower how ps us
       (λ how rest. with_priority given rest f lower (last [] when how)) two
-      (λ e2. priority_case (λ step. RowMeets o c end (f ∷ lower) step rest m) lost f lower given us (last [] when again_) three
-      (λ e3. in_meets offered test operands cells more task rest of (all_true (is_start when) (is_repeat again_) (is_priority urgent) e e2 e3))
-      (λ e3. out_meets offered test operands cells more task rest (third_false (is_start when) (is_repeat again_) (is_priority urgent) e e2 e3)))
-      (λ e2. out_meets offered test operands cells more task rest (second_false (is_start when) (is_repeat again_) (is_priority urgent) e e2)))
-      (λ e. out_meets offered test operands cells more task rest (first_false (is_start when) (is_repeat again_) (is_priority urgent) e)))
+      (λ e2. priority_case (λ step. RowMeets o c end (f ∷ lower) step rest m) lost f lower given us (last [] when repeating) three
+      (λ e3. in_meets offered test operands cells more task rest of (all_true (is_start when) (is_repeat repeating) (is_priority urgent) e e2 e3))
+      (λ e3. out_meets offered test operands cells more task rest (third_false (is_start when) (is_repeat repeating) (is_priority urgent) e e2 e3)))
+      (λ e2. out_meets offered test operands cells more task rest (second_false (is_start when) (is_repeat repeating) (is_priority urgent) e e2)))
+      (λ e. out_meets offered test operands cells more task rest (first_false (is_start when) (is_repeat repeating) (is_priority urgent) e)))
 
 module _ (o : Object) (c : Context) (setting : Setting) (Fine : PlainExpr → Type 0) (values : (e : PlainExpr) (from to : ℕ) (operands : List Cell) → Fine e →
     ExprAt setting.program (code_of o c.routine) from e to → Carries o c (on_top c to operands) (at c from operands) (eval setting e)) (from to leave : ℕ) where
@@ -415,12 +415,12 @@ module _ (o : Object) (c : Context) (setting : Setting) (Fine : PlainExpr → Ty
       FineStart o c setting Fine values begin → FinePeriod o c setting Fine values period → FinePriority o c setting Fine values priority →
       ActivateAt setting (code_of o c.routine) from task begin period priority to → Carries o c end_of (at c from []) (activates setting task begin period priority)
   activates_carries task begin period priority one two three code =
-      let form = code.0 in let how = code.1 in let given = code.2 in let begun = code.3 in let repeated_ = code.4 in let place = code.5 in
+      let form = code.0 in let how = code.1 in let given = code.2 in let begun = code.3 in let repeated_to = code.4 in let place = code.5 in
       when_carries o c setting Fine values end_of from begun begin form [] (λ when. bind (repeat_of setting period) (λ how. bind (priority_of setting priority) (λ urgent.
       acts_if (is_start when && is_repeat how && is_priority urgent) (action.Activate task when how (option_map unsigned_abs urgent))))) one code.6 (λ ws long.
-      period_carries o c setting Fine values end_of begun repeated_ period how (pushed ws []) (λ how. bind (priority_of setting priority) (λ urgent.
+      period_carries o c setting Fine values end_of begun repeated_to period how (pushed ws []) (λ how. bind (priority_of setting priority) (λ urgent.
       acts_if (is_start (when_of form ws) && is_repeat how && is_priority urgent) (action.Activate task (when_of form ws) how (option_map unsigned_abs urgent)))) two code.7 (λ ps longer.
-      urgent_carries o c setting Fine values end_of repeated_ place priority given (pushed ps (pushed ws [])) (λ urgent.
+      urgent_carries o c setting Fine values end_of repeated_to place priority given (pushed ps (pushed ws [])) (λ urgent.
       acts_if (is_start (when_of form ws) && is_repeat (how_of how ps) && is_priority urgent) (action.Activate task (when_of form ws) (how_of how ps) (option_map unsigned_abs urgent))) three code.8 (λ us longest.
       let operands = pushed us (pushed ps (pushed ws [])) in
       let test = is_start (when_of form ws) && is_repeat (how_of how ps) && is_priority (urgent_of given us) in

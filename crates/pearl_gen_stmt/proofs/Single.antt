@@ -28,7 +28,7 @@ use Rattle.pearl_gen_expr.specs.Ends.{on_top, done}
 use Rattle.pearl_gen_expr.proofs.Moves.{silent_from, offered_from, heard_from, frame_at, RowMeets, instr_carries, missing_meets, silent_meets, given_meets, needed_meets, makes_meets}
 
 -- what a cell holds, where it is there
-abbrev given_value : Option Cell → Does Cell
+abbrev pub given_value : Option Cell → Does Cell
 given_value found = eval_given found gives
 
 -- the frame at work gets cells that are no fewer

@@ -56,16 +56,16 @@ abbrev place_or : Option ℕ → ℕ → ℕ
 place_or None next = next
 place_or (Some place) next = place
 
-module _ (o : Object) (c : Context) (out : ℕ) (returns_ : Option Kind) where
+module _ (o : Object) (c : Context) (out : ℕ) (returning : Option Kind) where
   abbrev ends : ℕ → End Flow
-  ends to = ways c to out returns_
+  ends to = ways c to out returning
 
   -- what ends at a jump ends where that leads
   ends_on : (from : Store → List Frame) (end to : ℕ) (does : Does Flow) → Is (code_of o c.routine) end (instr.Jump to) → Carries o c (ends end) from does → Carries o c (ends to) from does
   ends_on from end to does is carries = then_gives o c (ends end) (ends to) from does carries each
     where
-      each : (flow : Flow) → IsFlow returns_ flow → Carries o c (ends to) (flow_stack c end out flow) (gives flow)
-      each Normal of = jump_carries o c (ends to) end to [] (gives Normal) is (normal_carries o c to out returns_)
+      each : (flow : Flow) → IsFlow returning flow → Carries o c (ends to) (flow_stack c end out flow) (gives flow)
+      each Normal of = jump_carries o c (ends to) end to [] (gives Normal) is (normal_carries o c to out returning)
       each Exit of = gives_carries o c (ends to) Exit tt
       each (Return result) of = gives_carries o c (ends to) (Return result) of
 
@@ -73,13 +73,13 @@ module _ (o : Object) (c : Context) (out : ℕ) (returns_ : Option Kind) where
   alone_carries : (from to : ℕ) (instr : Instr) (offered : Action) → Is (code_of o c.routine) from instr → to ≡ from + 1 →
       ((cells : List Cell) (low : List Frame) → act o instr (frame_at c from [] cells) low ≡ Offers offered (λ answer. frame_at c (from + 1) [] cells ∷ low)) →
       Carries o c (ends to) (at c from []) (acts offered)
-  alone_carries from to instr offered is to_is acts = acts_carries o c to out returns_ from [] instr offered is
+  alone_carries from to instr offered is to_is acts = acts_carries o c to out returning from [] instr offered is
       (λ cells low. acts cells low ∙ ap (λ place. Offers offered (λ answer. frame_at c place [] cells ∷ low)) (sym to_is))
 
   own_carries : (from to : ℕ) (instr : Instr) (action : ℕ → Action) → Is (code_of o c.routine) from instr → to ≡ from + 1 →
       ((cells : List Cell) (low : List Frame) → act o instr (frame_at c from [] cells) low ≡ Offers (action (own_task o (frame_at c from [] cells) low)) (λ answer. frame_at c (from + 1) [] cells ∷ low)) →
       Carries o c (ends to) (at c from []) (acts_on action None)
-  own_carries from to instr action is to_is acts = acts_own_carries o c to out returns_ from instr action is
+  own_carries from to instr action is to_is acts = acts_own_carries o c to out returning from instr action is
       (λ cells low. acts cells low ∙ ap (λ place. Offers (action (own_task o (frame_at c from [] cells) low)) (λ answer. frame_at c place [] cells ∷ low)) (sym to_is))
 
   suspends : (from to : ℕ) (task : Option ℕ) → Is (code_of o c.routine) from (on_task instr.Suspend instr.SuspendOwn task) → to ≡ from + 1 → Carries o c (ends to) (at c from []) (acts_on action.Suspend task)
@@ -91,7 +91,7 @@ module _ (o : Object) (c : Context) (out : ℕ) (returns_ : Option Kind) where
   prevents from to (Some task) is to_is = alone_carries from to (instr.Prevent task) (action.Prevent task) is to_is (λ cells low. refl)
 
   terminates_carries : (from to : ℕ) (task : Option ℕ) → Is (code_of o c.routine) from (on_task instr.Terminate instr.TerminateOwn task) → to ≡ from + 1 → Carries o c (ends to) (at c from []) (terminates task)
-  terminates_carries from to None is to_is = stop_own_carries o c to out returns_ from is
+  terminates_carries from to None is to_is = stop_own_carries o c to out returning from is
   terminates_carries from to (Some task) is to_is = alone_carries from to (instr.Terminate task) (action.Terminate task) is to_is (λ cells low. refl)
 
   requests : (from to : ℕ) (semaphores : List ℕ) (list : Box (Listing ℕ) Global) → list.value ≡ semaphores → Is (code_of o c.routine) from (instr.Request list) → to ≡ from + 1 →
@@ -181,10 +181,10 @@ module _ (expressions : ExpressionsCarry) (gets_carry : GetsCarry) (o : Object) 
   abbrev known : (around : Around) → Placed around → CodeCarries o c setting around below
   known around placed = expressions o c setting around below placed.known
 
-  abbrev Fine_ : Around → PlainExpr → Type 0
-  Fine_ around e = (kind : Kind) × HasKind around e kind × (of_expr calls e ≤ below)
+  abbrev FineIn : Around → PlainExpr → Type 0
+  FineIn around e = (kind : Kind) × HasKind around e kind × (of_expr calls e ≤ below)
 
-  abbrev values : (around : Around) → Placed around → (e : PlainExpr) (from to : ℕ) (operands : List Cell) → Fine_ around e → ExprAt setting.program (code_of o c.routine) from e to →
+  abbrev values : (around : Around) → Placed around → (e : PlainExpr) (from to : ℕ) (operands : List Cell) → FineIn around e → ExprAt setting.program (code_of o c.routine) from e to →
       Carries o c (on_top c to operands) (at c from operands) (eval setting e)
   values around placed e from to operands fine code = (known around placed).expr from to e fine.0 operands fine.1 fine.2 code
 
@@ -202,7 +202,7 @@ module _ (expressions : ExpressionsCarry) (gets_carry : GetsCarry) (o : Object) 
   module _ (around : Around) where
     abbrev Fine_if : Option PlainExpr → Type 0
     Fine_if None = Unit {0}
-    Fine_if (Some e) = Fine_ around e
+    Fine_if (Some e) = FineIn around e
 
     fixed_if : (e : Option PlainExpr) → IsIf (IsFixed around) e → Below (of_if calls (of_expr calls) e) → Fine_if e
     fixed_if None is less = tt
@@ -226,10 +226,10 @@ module _ (expressions : ExpressionsCarry) (gets_carry : GetsCarry) (o : Object) 
 
     abbrev Fine_start : Option PlainStart → Type 0
     Fine_start None = Unit {0}
-    Fine_start (Some (OfAt time)) = Fine_ around time
-    Fine_start (Some (OfAfter duration)) = Fine_ around duration
+    Fine_start (Some (OfAt time)) = FineIn around time
+    Fine_start (Some (OfAfter duration)) = FineIn around duration
     Fine_start (Some (OfWhen interrupt)) = Unit {0}
-    Fine_start (Some (OfWhenAfter interrupt duration)) = Fine_ around duration
+    Fine_start (Some (OfWhenAfter interrupt duration)) = FineIn around duration
 
     fine_start : (start : Option PlainStart) → IsIf (IsStart around) start → Below (of_if calls (of_start calls) start) → Fine_start start
     fine_start None is less = tt
@@ -239,8 +239,8 @@ module _ (expressions : ExpressionsCarry) (gets_carry : GetsCarry) (o : Object) 
     fine_start (Some (OfWhenAfter interrupt duration)) is less = (of_span, is.1, less)
 
     abbrev Fine_once : PlainOnce → Type 0
-    Fine_once (OnceAt time) = Fine_ around time
-    Fine_once (OnceAfter duration) = Fine_ around duration
+    Fine_once (OnceAt time) = FineIn around time
+    Fine_once (OnceAfter duration) = FineIn around duration
     Fine_once (OnceWhen interrupt) = Unit {0}
 
     fine_once : (once : PlainOnce) → IsOnce around once → Below (of_once calls once) → Fine_once once
@@ -258,8 +258,8 @@ module _ (expressions : ExpressionsCarry) (gets_carry : GetsCarry) (o : Object) 
 
     abbrev Fine_end : Option PlainPeriodEnd → Type 0
     Fine_end None = Unit {0}
-    Fine_end (Some (OfUntil time)) = Fine_ around time
-    Fine_end (Some (OfDuring duration)) = Fine_ around duration
+    Fine_end (Some (OfUntil time)) = FineIn around time
+    Fine_end (Some (OfDuring duration)) = FineIn around duration
 
     fine_end : (end : Option PlainPeriodEnd) → IsIf (IsPeriodEnd around) end → Below (of_if calls (of_period_end calls) end) → Fine_end end
     fine_end None is less = tt
@@ -268,7 +268,7 @@ module _ (expressions : ExpressionsCarry) (gets_carry : GetsCarry) (o : Object) 
 
     abbrev Fine_period : Option PlainPeriod → Type 0
     Fine_period None = Unit {0}
-    Fine_period (Some period) = Fine_ around period.duration × Fine_end period.end
+    Fine_period (Some period) = FineIn around period.duration × Fine_end period.end
 
     fine_period : (period : Option PlainPeriod) → IsIf (IsPeriod around) period → Below (of_if calls (of_period calls) period) → Fine_period period
     fine_period None is less = tt
@@ -329,12 +329,12 @@ module _ (expressions : ExpressionsCarry) (gets_carry : GetsCarry) (o : Object) 
       WhileAt setting (code_of o c.routine) counted to condition begin → AdvanceAt setting (code_of o c.routine) end top counter to →
       Carries o c (Ends end to) (at c begin []) body →
       Done from to out (next (begins setting counter) (repeats (goes_on setting counter condition) body (advances counter)))
-  loops around placed counter condition body from to out top counted begin end is asks less fewer begins_ turn counts whiles adds carries =
+  loops around placed counter condition body from to out top counted begin end is asks less fewer beginning turn counts whiles adds carries =
       let inner = within around counter in let placed_in = placed_within counter placed in
       bind_carries o c (done c top []) (Ends to out) (at c from []) (begins setting counter) (λ it. repeats (goes_on setting counter condition) body (advances counter))
-      (begins_carries o c setting (Fine_ around) (values around placed) from top counter (fine_counter around counter is less) begins_) (λ it of.
+      (begins_carries o c setting (FineIn around) (values around placed) from top counter (fine_counter around counter is less) beginning) (λ it of.
       repeats_carry o c top begin end to out setting.result (goes_on setting counter condition) body (advances counter) turn
-      (goes_on_carries o c setting (Fine_ inner) (values inner placed_in) (top + 1) counted to begin counter condition (condition_if inner condition asks fewer) counts whiles)
+      (goes_on_carries o c setting (FineIn inner) (values inner placed_in) (top + 1) counted to begin counter condition (condition_if inner condition asks fewer) counts whiles)
       carries (advance_carries o c setting end top to counter adds))
 
   mutual
@@ -371,12 +371,12 @@ module _ (expressions : ExpressionsCarry) (gets_carry : GetsCarry) (o : Object) 
     stmt_carries OfExit around placed leave out from to leads is less code = leaves leave out from to code.0 leads code.1 code.2.0
     stmt_carries (OfReturn value) around placed leave out from to leads is less code = returned around placed from to out value is less code
     stmt_carries (OfActivate task start period priority) around placed leave out from to leads is less code =
-        activates_carries o c setting (Fine_ around) (values around placed) from to out task start period priority
+        activates_carries o c setting (FineIn around) (values around placed) from to out task start period priority
         (fine_start around start is.starts (omega (arith, less))) (fine_period around period is.repeats (omega (arith, less))) (fixed_if around priority is.urgent (omega (arith, less))) code
     stmt_carries (OfContinue task once) around placed leave out from to leads is less code =
-        continues_carries o c setting (Fine_ around) (values around placed) from to out task once (fine_later around once is.1 less) code
+        continues_carries o c setting (FineIn around) (values around placed) from to out task once (fine_later around once is.1 less) code
     stmt_carries (OfResume once) around placed leave out from to leads is less code =
-        resumes_carries o c setting (Fine_ around) (values around placed) from to out once (fine_once around once is less) code
+        resumes_carries o c setting (FineIn around) (values around placed) from to out once (fine_once around once is less) code
     stmt_carries (OfSuspend task) around placed leave out from to leads is less code = suspends o c out setting.result from to task code.0 code.1
     stmt_carries (OfTerminate task) around placed leave out from to leads is less code = terminates_carries o c out setting.result from to task code.0 code.1
     stmt_carries (OfPrevent task) around placed leave out from to leads is less code = prevents o c out setting.result from to task code.0 code.1

@@ -28,7 +28,6 @@ use Rattle.pearl_meaning.specs.Programs.{unset, store_at_start, next_action, off
 use Rattle.pearl_gen_expr.specs.Comes.{Comes}
 use Rattle.pearl_gen_expr.specs.Contexts.{stack, Context, at, IsStoreOf}
 use Rattle.pearl_gen_expr.specs.Carrying.{Meets, Carries}
-use Rattle.pearl_gen_expr.specs.ExprCode.{code_of}
 use Rattle.pearl_gen_expr.specs.Ends.{flow_stack, ways}
 use Rattle.pearl_gen_expr.proofs.Moves.{by_row, missing_from, stopped, frame_at, row_is}
 use Rattle.pearl_gen_expr.proofs.Tables.{each}
@@ -82,7 +81,7 @@ module _ (p : PlainProg) (o : Object) (sound : IsSound p) (generated : IsGenerat
       (sym (slice_get-map (λ (task : Task). task.code.cells) o.tasks t) ∙ (ap (λ all. slice_get all t) generated.tables.task_cells ∙
       (slice_get-map (λ (task : PlainTask). task.routine.cells) p.tasks t ∙ ap (option_map (λ (task : PlainTask). task.routine.cells)) there)))
 
-  abbrev code : IsCode p None task.routine instr.End (code_of o number)
+  abbrev code : IsCode p o number None task.routine instr.End
   code = generated.tasks t task there
 
   placed : IsPlaced o context setting around (length p.procedures)

@@ -124,8 +124,8 @@ module _ (o : Object) (c : Context) where
         Carries o c (on_top c end operands) (at c from operands) (bind (eval setting e) (λ x. convert kind x))
     converted_code = converted_carries o c setting Fine fine_carries
 
-    abbrev end_ : End Flow
-    end_ = ways c to leave setting.result
+    abbrev ending : End Flow
+    ending = ways c to leave setting.result
 
     -- ASSIGNMENT AND TAKE
 
@@ -133,23 +133,23 @@ module _ (o : Object) (c : Context) where
         WayAt setting.program (code_of o c.routine) from target middle →
         ((operands : List Cell) → Carries o c (on_top c end operands) (at c middle operands) (bind value (λ x. convert (variable_kind setting target) x))) →
         Is (code_of o c.routine) end (writing_to target) → to ≡ end + 1 →
-        Carries o c end_ (at c from []) (bind (take_variable setting target) (λ r. bind value (λ x. delivers setting target r x)))
+        Carries o c ending (at c from []) (bind (take_variable setting target) (λ r. bind value (λ x. delivers setting target r x)))
     written_carries from middle end target kind value is less way value_carries writes to_is =
-        alike_carries end_ (at c from []) (next (bind (take_variable setting target) (λ r. bind (bind value (λ x. convert (variable_kind setting target) x)) (λ y. write_reference r y))) (gives Normal))
+        alike_carries ending (at c from []) (next (bind (take_variable setting target) (λ r. bind (bind value (λ x. convert (variable_kind setting target) x)) (λ y. write_reference r y))) (gives Normal))
         (bind (take_variable setting target) (λ r. bind value (λ x. delivers setting target r x)))
         (delivered (take_variable setting target) value (variable_kind setting target))
-        (bind_carries o c (done c (end + 1) []) end_ (at c from []) (bind (take_variable setting target) (λ r. bind (bind value (λ x. convert (variable_kind setting target) x)) (λ y. write_reference r y)))
+        (bind_carries o c (done c (end + 1) []) ending (at c from []) (bind (take_variable setting target) (λ r. bind (bind value (λ x. convert (variable_kind setting target) x)) (λ y. write_reference r y)))
         (λ it. gives Normal) (code.write from middle end target kind (bind value (λ x. convert (variable_kind setting target) x)) [] is less way value_carries writes)
-        (λ it of. subst (λ place. Carries o c end_ (at c place []) (gives Normal)) to_is (normal_carries o c to leave setting.result)))
+        (λ it of. subst (λ place. Carries o c ending (at c place []) (gives Normal)) to_is (normal_carries o c to leave setting.result)))
 
     pub assign_carries : (from : ℕ) (target : PlainVariable) (kind : Kind) (e : PlainExpr) → IsVariable around target kind → of_variable calls target ≤ below → Fine e →
-        AssignAt setting (code_of o c.routine) from target e to → Carries o c end_ (at c from []) (assigns setting target e)
+        AssignAt setting (code_of o c.routine) from target e to → Carries o c ending (at c from []) (assigns setting target e)
     assign_carries from target kind e is less fine stands =
         written_carries from stands.0 stands.1 target kind (eval setting e) is less stands.2
         (λ operands. converted_code stands.0 stands.1 e (variable_kind setting target) operands fine stands.3) stands.4 stands.5
 
     pub takes_carries : (from : ℕ) (target : PlainVariable) (kind : Kind) (device : ℕ) → IsVariable around target kind → of_variable calls target ≤ below →
-        TakeAt setting (code_of o c.routine) from target device to → Carries o c end_ (at c from []) (takes setting target device)
+        TakeAt setting (code_of o c.routine) from target device to → Carries o c ending (at c from []) (takes setting target device)
     takes_carries from target kind device is less stands =
         let value = stands.0 in
         let three : to ≡ value + 1 + 1 + 1 = let e = stands.7 in omega (arith, e) in
@@ -163,42 +163,42 @@ module _ (o : Object) (c : Context) where
     -- SEND AND RETURN
 
     pub sends_carries : (from : ℕ) (e : PlainExpr) (device : ℕ) → Fine e → SendAt setting (code_of o c.routine) from e device to →
-        Carries o c end_ (at c from []) (sends setting e device)
+        Carries o c ending (at c from []) (sends setting e device)
     sends_carries from e device fine stands =
-        alike_carries end_ (at c from []) (bind (bind (eval setting e) (λ x. convert (sent_kind setting device) x)) (λ y. acts (action.Send device y))) (sends setting e device)
+        alike_carries ending (at c from []) (bind (bind (eval setting e) (λ x. convert (sent_kind setting device) x)) (λ y. acts (action.Send device y))) (sends setting e device)
         (nested (eval setting e) (λ x. convert (sent_kind setting device) x) (λ y. acts (action.Send device y)))
-        (bind_carries o c (on_top c stands.0 []) end_ (at c from []) (bind (eval setting e) (λ x. convert (sent_kind setting device) x)) (λ y. acts (action.Send device y))
+        (bind_carries o c (on_top c stands.0 []) ending (at c from []) (bind (eval setting e) (λ x. convert (sent_kind setting device) x)) (λ y. acts (action.Send device y))
         (converted_code from stands.0 e (sent_kind setting device) [] fine stands.1) (λ y of.
         acts_carries o c to leave setting.result stands.0 (y ∷ []) (instr.Send device) (action.Send device y) stands.2.0
         (λ cells low. ap (λ place. Offers (action.Send device y) (λ answer. frame_at c place [] cells ∷ low)) (sym stands.2.1))))
 
     pub returns_carries : (from : ℕ) (e : PlainExpr) (kind : Kind) → setting.result ≡ Some kind → result_of o c.routine ≡ setting.result → Fine e →
-        ReturnAt setting (code_of o c.routine) from (Some e) to → Carries o c end_ (at c from []) (returns setting (Some e))
+        ReturnAt setting (code_of o c.routine) from (Some e) to → Carries o c ending (at c from []) (returns setting (Some e))
     returns_carries from e kind some known fine stands =
-        alike_carries end_ (at c from []) (bind (bind (eval setting e) (λ x. convert setting.result x)) (λ y. gives (Return (Some y)))) (returns setting (Some e))
+        alike_carries ending (at c from []) (bind (bind (eval setting e) (λ x. convert setting.result x)) (λ y. gives (Return (Some y)))) (returns setting (Some e))
         (nested (eval setting e) (λ x. convert setting.result x) (λ y. gives (Return (Some y))))
-        (bind_carries o c (on_top c stands.0 []) end_ (at c from []) (bind (eval setting e) (λ x. convert setting.result x)) (λ y. gives (Return (Some y)))
+        (bind_carries o c (on_top c stands.0 []) ending (at c from []) (bind (eval setting e) (λ x. convert setting.result x)) (λ y. gives (Return (Some y)))
         (converted_code from stands.0 e setting.result [] fine stands.1) (λ y of.
         return_value_carries o c to leave setting.result stands.0 kind y some known stands.2.0))
 
     -- CALLS
 
     drop_carries : (end : ℕ) (result : Option Kind) (y : Option Cell) → IsResult result y → DroppedAt setting (code_of o c.routine) end result to →
-        Carries o c end_ (at c end (option_to_list y ++ [])) (gives Normal)
-    drop_carries end None None of stands = subst (λ place. Carries o c end_ (at c place []) (gives Normal)) stands (normal_carries o c to leave setting.result)
+        Carries o c ending (at c end (option_to_list y ++ [])) (gives Normal)
+    drop_carries end None None of stands = subst (λ place. Carries o c ending (at c place []) (gives Normal)) stands (normal_carries o c to leave setting.result)
     drop_carries end (Some kind) None of stands = absurd of
     drop_carries end None (Some x) of stands = absurd of
     drop_carries end (Some kind) (Some x) of stands =
-        silent_carries o c end_ end (end + 1) (x ∷ []) [] instr.Drop (gives Normal) stands.0 (λ cells low. refl)
-        (subst (λ place. Carries o c end_ (at c place []) (gives Normal)) stands.1 (normal_carries o c to leave setting.result))
+        silent_carries o c ending end (end + 1) (x ∷ []) [] instr.Drop (gives Normal) stands.0 (λ cells low. refl)
+        (subst (λ place. Carries o c ending (at c place []) (gives Normal)) stands.1 (normal_carries o c to leave setting.result))
 
     pub call_of_carries : (from number : ℕ) (found : Option PlainProcedure) (arguments : PlainArguments) → slice_get setting.program.procedures number ≡ found →
         ((procedure : PlainProcedure) → found ≡ Some procedure → Suit around (params_of procedure) arguments) → number + 1 ≤ below → of_arguments calls arguments ≤ below →
         CallOfAt setting (code_of o c.routine) from number found arguments to →
-        Carries o c end_ (at c from []) (next (values.calls setting number (λ params. hand_over setting params arguments)) (gives Normal))
+        Carries o c ending (at c from []) (next (values.calls setting number (λ params. hand_over setting params arguments)) (gives Normal))
     call_of_carries from number None handed found suit less few stands = absurd stands
     call_of_carries from number (Some procedure) handed found suit less few stands =
-        bind_carries o c (result_on_top c stands.0 [] procedure.result) end_ (at c from []) (values.calls setting number (λ params. hand_over setting params handed)) (λ it. gives Normal)
+        bind_carries o c (result_on_top c stands.0 [] procedure.result) ending (at c from []) (values.calls setting number (λ params. hand_over setting params handed)) (λ it. gives Normal)
         (code.call from stands.0 number procedure handed [] found (suit procedure refl) less few stands.1)
         (λ y of. drop_carries stands.0 procedure.result y of stands.2)
 
@@ -206,23 +206,23 @@ module _ (o : Object) (c : Context) where
 
     pub puts_carries : (from : ℕ) (es : PlainExprs) (kinds : List Kind) (device format : ℕ) → HaveKinds around es kinds → of_exprs calls es ≤ below →
         FitsSome (slice_get setting.program.formats format) kinds → o.formats ≡ setting.program.formats →
-        PutAt setting (code_of o c.routine) from es device format to → Carries o c end_ (at c from []) (puts setting es device format)
+        PutAt setting (code_of o c.routine) from es device format to → Carries o c ending (at c from []) (puts setting es device format)
     puts_carries from es kinds device format have less fits tables stands =
         let end = stands.0 in
-        bind_carries o c (all_on_top c end (length kinds) []) end_ (at c from []) (eval_all setting es) (λ xs. puts_text device (text_of (items_of setting format) xs))
+        bind_carries o c (all_on_top c end (length kinds) []) ending (at c from []) (eval_all setting es) (λ xs. puts_text device (text_of (items_of setting format) xs))
         (code.all from end es kinds [] have less stands.1) (λ xs long.
-        instr_carries o c end_ end (pushed xs []) (instr.Put device format) (puts_text device (text_of (items_of setting format) xs)) stands.2.0 (λ task cells more rest of.
+        instr_carries o c ending end (pushed xs []) (instr.Put device format) (puts_text device (text_of (items_of setting format) xs)) stands.2.0 (λ task cells more rest of.
         let f = frame_at c end (pushed xs []) cells in let lower = stack c.callers more in let store : Store = record { task = task; frames = cells ∷ more } in
-        given_meets o c end_ (f ∷ lower) (items_at o format) (λ items. taken (data_count items) (pushed xs []) (λ values left.
+        given_meets o c ending (f ∷ lower) (items_at o format) (λ items. taken (data_count items) (pushed xs []) (λ values left.
         given (value_kinds values) (λ kinds. needed (items_suit items kinds) (put_text device (text_of items values) f lower left)))) rest
         (puts_text device (text_of (items_of setting format) xs) store rest) (λ items found.
         let there : slice_get setting.program.formats format ≡ Some items = ap (λ formats. slice_get formats format) (sym tables) ∙ found in
         let fit : FitsSome (Some items) kinds = subst (λ found. FitsSome found kinds) there fits in
         let count : data_count items ≡ length xs = sym (suits-length items kinds fit.suits) ∙ sym long in
-        subst (λ step. RowMeets o c end_ (f ∷ lower) step rest (puts_text device (text_of (items_of setting format) xs) store rest))
+        subst (λ step. RowMeets o c ending (f ∷ lower) step rest (puts_text device (text_of (items_of setting format) xs) store rest))
         (sym (taken_pushed (data_count items) xs [] (λ values left. given (value_kinds values) (λ kinds. needed (items_suit items kinds) (put_text device (text_of items values) f lower left))) count))
-        (given_meets o c end_ (f ∷ lower) (value_kinds xs) (λ kinds. needed (items_suit items kinds) (put_text device (text_of items xs) f lower [])) rest
+        (given_meets o c ending (f ∷ lower) (value_kinds xs) (λ kinds. needed (items_suit items kinds) (put_text device (text_of items xs) f lower [])) rest
         (puts_text device (text_of (items_of setting format) xs) store rest) (λ kinds known.
-        needed_meets o c end_ (f ∷ lower) (items_suit items kinds) (put_text device (text_of items xs) f lower []) rest (puts_text device (text_of (items_of setting format) xs) store rest) (λ suits.
-        subst (λ known. RowMeets o c end_ (f ∷ lower) (put_text device (text_of items xs) f lower []) rest (puts_text device (text_of (items_or_none known) xs) store rest)) (sym there)
+        needed_meets o c ending (f ∷ lower) (items_suit items kinds) (put_text device (text_of items xs) f lower []) rest (puts_text device (text_of (items_of setting format) xs) store rest) (λ suits.
+        subst (λ known. RowMeets o c ending (f ∷ lower) (put_text device (text_of items xs) f lower []) rest (puts_text device (text_of (items_or_none known) xs) store rest)) (sym there)
         (put_meets to leave setting.result device end (pushed xs []) (text_of items xs) stands.2.1 task cells more rest of)))))))

@@ -1,4 +1,4 @@
--- What the code of statements does: it does what they mean.
+-- What the code of statements does: it does what they mean, or comes to where there is no row.
 use Rattle.std.specs.Prelude.{◌≡◌, ℕ, ◌≤◌, [], Option, Some, IfSome}
 use Rattle.pearl_program.specs.PlainStatements.{PlainStmts}
 use Rattle.pearl_program.specs.Typing.{Around}
@@ -15,8 +15,8 @@ use Rattle.pearl_gen_expr.specs.Ends.{ways}
 use Rattle.pearl_gen_expr.specs.Calls.{IsKnown}
 use Rattle.pearl_gen_stmt.specs.StmtCode.{StmtsAt}
 
--- Statements stand in the routine at work of a sound program, of which the object has the tables; what RETURNS says is the same in both,
--- and calls of smaller procedures are known to be right.
+-- Statements stand in the routine at work of a sound program, of which the object has the tables; what RETURNS says is
+-- the same in both, and calls of smaller procedures are known to be right.
 pub record IsPlaced (o : Object) (c : Context) (setting : Setting) (around : Around) (below : ℕ) : Type 0 where
   pub known : IsKnown o c setting around below
   pub formats : around.formats ≡ setting.program.formats
@@ -27,9 +27,10 @@ pub record IsPlaced (o : Object) (c : Context) (setting : Setting) (around : Aro
 abbrev pub LeadsOut : Option ℕ → ℕ → Type 0
 LeadsOut leave out = (past : ℕ) → leave ≡ Some past → past ≡ out
 
--- sound statements: their code does what they mean
+-- sound statements: their code does what they mean, or comes to where there is no row
 abbrev pub StatementsCarry : Type 0
-StatementsCarry = (o : Object) (c : Context) (setting : Setting) (around : Around) (below : ℕ) → IsPlaced o c setting around below →
-    (leave : Option ℕ) (out from to : ℕ) (statements : PlainStmts) → LeadsOut leave out → AreStmts around statements → greatest_of_all calls statements ≤ below →
+StatementsCarry = (o : Object) (c : Context) (setting : Setting) (around : Around) (below : ℕ) →
+    IsPlaced o c setting around below → (leave : Option ℕ) (out from to : ℕ) (statements : PlainStmts) →
+    LeadsOut leave out → AreStmts around statements → greatest_of_all calls statements ≤ below →
     StmtsAt setting (code_of o c.routine) leave from statements to →
     Carries o c (ways c to out setting.result) (at c from []) (exec_all setting statements)

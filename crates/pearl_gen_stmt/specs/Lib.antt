@@ -2,7 +2,7 @@
 pub mod StmtCode
 -- what the code of statements does
 pub mod Laws
--- which objects a program becomes, and that their code does what its tasks mean
+-- which objects a program becomes, and that their code does what its tasks mean, or comes to where there is no row
 pub mod Generated
 -- which action code offers over some answers
 pub mod Offering

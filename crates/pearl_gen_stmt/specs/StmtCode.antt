@@ -1,5 +1,6 @@
--- Which code stands for a statement: it stands from one place of the code up to another, and at both the routine has no operands.
-use Rattle.std.specs.Prelude.{◌≡◌, ℕ, ◌+◌, pos, Bool, true, false, List, [], ◌∷◌, length, Option, Some, None, slice_get}
+-- Which code stands for a statement: it stands from one place of the code up to another, and at both the routine has
+-- no operands.
+use Rattle.std.specs.Prelude.{◌≡◌, ℕ, zero, suc, ◌+◌, ◌-◌, pos, Bool, true, false, List, [], ◌∷◌, length, Option, Some, None, slice_get}
 use Rattle.std.proofs.Common.{Box, Global}
 use Rattle.pearl_value.specs.declared.kind.Kind.{Kind}
 use Rattle.pearl_value.specs.declared.cell.Cell.{Cell}
@@ -9,7 +10,6 @@ use Rattle.pearl_value.specs.declared.listing.Listing.{Listing}
 use Rattle.pearl_program.specs.declared.expression.Target.{Target}
 use Rattle.pearl_program.specs.declared.expression.Target.TheVariants.{Leaf, Own, Param}
 use Rattle.pearl_program.specs.declared.expression.Bound.{Bound}
-use Rattle.pearl_program.specs.FirstCells.{first_cells}
 use Rattle.pearl_program.specs.Typing.{elements}
 use Rattle.pearl_program.specs.PlainExpressions.{PlainExpr, PlainVariable, OfVariable, PlainExprs, PlainArguments}
 use Rattle.pearl_program.specs.PlainStatements.{PlainValues, PlainPeriodEnd, OfUntil, OfDuring, PlainPeriod, PlainStart, OfAt, OfAfter, OfWhen, OfWhenAfter, PlainOnce, OnceAt, OnceAfter, OnceWhen, PlainCounter, PlainStmt, OfRenew, OfAssign, OfCallOf, OfIf, OfCase, OfRepeat, OfExit, OfReturn, OfActivate, OfContinue, OfResume, OfSuspend, OfTerminate, OfPrevent, OfRequest, OfRelease, OfEnable, OfDisable, OfTrigger, OfPut, OfGet, OfSend, OfTake, PlainStmts, NoStmts, MoreStmts, PlainBranches, NoBranches, MoreBranches}
@@ -34,7 +34,7 @@ abbrev pub on_task : (ℕ → Instr) → Instr → Option ℕ → Instr
 on_task other own None = own
 on_task other own (Some task) = other task
 
--- the instruction that takes an offset and a value off and puts the value into the element at the offset; or a reference and a value
+-- the instruction that takes an offset and a value off, or a reference and a value, and puts the value there
 abbrev pub writing_at : Target → List Bound → Instr
 writing_at (Leaf number) bounds = instr.WriteAt number
 writing_at (Own cell) bounds = instr.StoreAt cell (elements bounds)
@@ -61,21 +61,31 @@ module _ (setting : Setting) (code : List Instr) where
   StoresAt from cell (x ∷ xs) to =
       IsConst code from x × Stands (from + 1) (instr.Store cell) × StoresAt (from + 2) (cell + 1) xs to
 
-  -- all constants, or else what is unset
+  -- what a cell holds is put into so many cells behind it, from each into the next
+  abbrev pub RepeatsAt : (from cell more to : ℕ) → Type 0
+  RepeatsAt from cell zero to = to ≡ from
+  RepeatsAt from cell (suc more) to =
+      Stands from (instr.Load cell) × Stands (from + 1) (instr.Store (cell + 1)) ×
+      RepeatsAt (from + 2) (cell + 1) more to
+
+  -- all constants, and the last of them in the cells that are left; without constants what is unset
   abbrev pub RenewAt : (from cell : ℕ) → PlainValues → List Cell → (to : ℕ) → Type 0
   RenewAt from cell values [] to = Stands from (instr.Fill cell values.count values.kind) × (to ≡ from + 1)
-  RenewAt from cell values (x ∷ xs) to = StoresAt from cell (first_cells values) to
+  RenewAt from cell values (x ∷ xs) to =
+      (end : ℕ) × StoresAt from cell (x ∷ xs) end × RepeatsAt end (cell + length xs) (values.count - length (x ∷ xs)) to
 
   -- VARIABLES
 
   -- an expression, and its value converted to this kind
   abbrev pub ConvertedAt : (from : ℕ) → PlainExpr → Option Kind → (to : ℕ) → Type 0
-  ConvertedAt from e kind to = (end : ℕ) × (of : Kind) × (kind ≡ Some of) × Expr from e end × Stands end (instr.Conv of) × (to ≡ end + 1)
+  ConvertedAt from e kind to =
+      (end : ℕ) × (of : Kind) × (kind ≡ Some of) × Expr from e end × Stands end (instr.Conv of) × (to ≡ end + 1)
 
   -- the way to the target, then the value, and then it is written
   abbrev pub AssignAt : (from : ℕ) → PlainVariable → PlainExpr → (to : ℕ) → Type 0
   AssignAt from target e to =
-      (value : ℕ) × (end : ℕ) × WayAt setting.program code from target value × ConvertedAt value e (variable_kind setting target) end ×
+      (value : ℕ) × (end : ℕ) × WayAt setting.program code from target value ×
+      ConvertedAt value e (variable_kind setting target) end ×
       Stands end (writing_to target) × (to ≡ end + 1)
 
   abbrev pub TakeAt : (from : ℕ) → PlainVariable → (device to : ℕ) → Type 0
@@ -112,7 +122,8 @@ module _ (setting : Setting) (code : List Instr) where
   BeginsAt from None to = to ≡ from
   BeginsAt from (Some counter) to =
       (begun : ℕ) × (step : ℕ) × CountedAt from counter counter.begin begun × Stands begun (instr.Store counter.cell) ×
-      CountedAt (begun + 1) counter counter.step step × Stands step instr.NonZero × Stands (step + 1) (instr.Store (counter.cell + 1)) ×
+      CountedAt (begun + 1) counter counter.step step × Stands step instr.NonZero ×
+      Stands (step + 1) (instr.Store (counter.cell + 1)) ×
       LimitAt (step + 2) counter counter.end to
 
   -- a jump to the loop's end where the bit on top is 0
@@ -134,7 +145,8 @@ module _ (setting : Setting) (code : List Instr) where
   -- Where a sum leaves the kind the loop ends where there is TO; else Overflow is trapped.
   abbrev pub PassedAt : (from top : ℕ) → PlainCounter → Option PlainExpr → (past : ℕ) → Type 0
   PassedAt from top counter None past =
-      Stands from (instr.Advance counter.cell (from + 2)) × Stands (from + 1) (instr.Jump top) × Stands (from + 2) (instr.Trap Overflow) × (past ≡ from + 3)
+      Stands from (instr.Advance counter.cell (from + 2)) × Stands (from + 1) (instr.Jump top) ×
+      Stands (from + 2) (instr.Trap Overflow) × (past ≡ from + 3)
   PassedAt from top counter (Some e) past =
       Stands from (instr.Advance counter.cell past) × Stands (from + 1) (instr.Jump top) × (past ≡ from + 2)
 
@@ -150,7 +162,8 @@ module _ (setting : Setting) (code : List Instr) where
   WhenAt from (Some (OfAt time)) form to = (form ≡ start.At) × Expr from time to
   WhenAt from (Some (OfAfter duration)) form to = (form ≡ start.After) × Expr from duration to
   WhenAt from (Some (OfWhen interrupt)) form to = (form ≡ start.When interrupt) × (to ≡ from)
-  WhenAt from (Some (OfWhenAfter interrupt duration)) form to = (form ≡ start.WhenAfter interrupt) × Expr from duration to
+  WhenAt from (Some (OfWhenAfter interrupt duration)) form to =
+      (form ≡ start.WhenAfter interrupt) × Expr from duration to
 
   abbrev pub LaterAt : (from : ℕ) → PlainOnce → OnceForm → (to : ℕ) → Type 0
   LaterAt from (OnceAt time) form to = (form ≡ once.At) × Expr from time to
@@ -174,11 +187,13 @@ module _ (setting : Setting) (code : List Instr) where
   PriorityAt from None given to = (given ≡ false) × (to ≡ from)
   PriorityAt from (Some e) given to = (given ≡ true) × Expr from e to
 
-  abbrev pub ActivateAt : (from task : ℕ) → Option PlainStart → Option PlainPeriod → Option PlainExpr → (to : ℕ) → Type 0
+  abbrev pub ActivateAt : (from task : ℕ) → Option PlainStart → Option PlainPeriod → Option PlainExpr →
+      (to : ℕ) → Type 0
   ActivateAt from task begin period priority to =
       (form : StartForm) × (how : RepeatForm) × (given : Bool) × (begun : ℕ) × (repeated : ℕ) × (end : ℕ) ×
       WhenAt from begin form begun × PeriodAt begun period how repeated × PriorityAt repeated priority given end ×
-      (activation : Box Activation Global) × (activation.value ≡ record { task = task; start = form; repeat = how; priority = given }) ×
+      (activation : Box Activation Global) ×
+      (activation.value ≡ record { task = task; start = form; repeat = how; priority = given }) ×
       Stands end (instr.Activate activation) × (to ≡ end + 1)
 
   abbrev pub ContinueAt : (from task : ℕ) → Option PlainOnce → (to : ℕ) → Type 0
@@ -188,7 +203,8 @@ module _ (setting : Setting) (code : List Instr) where
       Stands end (instr.Continue continuation) × (to ≡ end + 1)
 
   abbrev pub ResumeAt : (from : ℕ) → PlainOnce → (to : ℕ) → Type 0
-  ResumeAt from later to = (form : OnceForm) × (end : ℕ) × LaterAt from later form end × Stands end (instr.Resume form) × (to ≡ end + 1)
+  ResumeAt from later to =
+      (form : OnceForm) × (end : ℕ) × LaterAt from later form end × Stands end (instr.Resume form) × (to ≡ end + 1)
 
   -- GET
 
@@ -213,7 +229,8 @@ module _ (setting : Setting) (code : List Instr) where
   abbrev pub WrittenAt : (from cell at : ℕ) → List PlainVariable → (to : ℕ) → Type 0
   WrittenAt from cell at [] to = to ≡ from
   WrittenAt from cell at (OfVariable target bounds subscripts ∷ targets) to =
-      Stands from (instr.Load (kept_in target at)) × Stands (from + 1) (instr.Load cell) × Stands (from + 2) (writing_at target bounds) ×
+      Stands from (instr.Load (kept_in target at)) × Stands (from + 1) (instr.Load cell) ×
+      Stands (from + 2) (writing_at target bounds) ×
       WrittenAt (from + 3) (cell + 1) (at + 1) targets to
 
   abbrev pub GetAt : (from : ℕ) → List PlainVariable → (device format cell to : ℕ) → Type 0
@@ -237,27 +254,32 @@ module _ (setting : Setting) (code : List Instr) where
   ReturnAt from (Some e) to = (end : ℕ) × ConvertedAt from e setting.result end × Alone end instr.Return to
 
   abbrev pub PutAt : (from : ℕ) → PlainExprs → (device format to : ℕ) → Type 0
-  PutAt from values device format to = (end : ℕ) × AllAt setting.program code from values end × Alone end (instr.Put device format) to
+  PutAt from values device format to =
+      (end : ℕ) × AllAt setting.program code from values end × Alone end (instr.Put device format) to
 
   abbrev pub SendAt : (from : ℕ) → PlainExpr → (device to : ℕ) → Type 0
-  SendAt from e device to = (end : ℕ) × ConvertedAt from e (sent_kind setting device) end × Alone end (instr.Send device) to
+  SendAt from e device to =
+      (end : ℕ) × ConvertedAt from e (sent_kind setting device) end × Alone end (instr.Send device) to
 
   -- Within a loop `leave` is the place behind it.
   abbrev mutual
     pub StmtAt : (leave : Option ℕ) → (from : ℕ) → PlainStmt → (to : ℕ) → Type 0
     StmtAt leave from (OfRenew cell values) to = RenewAt from cell values values.constants to
     StmtAt leave from (OfAssign target value) to = AssignAt from target value to
-    StmtAt leave from (OfCallOf procedure arguments) to = CallOfAt from procedure (slice_get setting.program.procedures procedure) arguments to
+    StmtAt leave from (OfCallOf procedure arguments) to =
+        CallOfAt from procedure (slice_get setting.program.procedures procedure) arguments to
     StmtAt leave from (OfIf condition statements otherwise) to =
         (tested : ℕ) × (other : ℕ) × (end : ℕ) × Expr from condition tested × Stands tested (instr.JumpZero other) ×
         StmtsAt leave (tested + 1) statements end × ElseAt leave end other otherwise to
     StmtAt leave from (OfCase selector alternatives otherwise) to =
-        (selected : ℕ) × (end : ℕ) × (targets : Box (Listing ℕ) Global) × Expr from selector selected × Stands selected (instr.Case targets) ×
+        (selected : ℕ) × (end : ℕ) × (targets : Box (Listing ℕ) Global) × Expr from selector selected ×
+        Stands selected (instr.Case targets) ×
         StmtsAt leave (selected + 1) otherwise end × Stands end (instr.Jump to) ×
         BranchesAt leave (end + 1) targets.value alternatives to
     StmtAt leave from (OfRepeat counter condition statements) to =
         (top : ℕ) × (counted : ℕ) × (begin : ℕ) × (end : ℕ) × BeginsAt from counter top × Stands top instr.Turn ×
-        CountsAt (top + 1) to counter counted × WhileAt counted to condition begin × StmtsAt (Some to) begin statements end ×
+        CountsAt (top + 1) to counter counted × WhileAt counted to condition begin ×
+        StmtsAt (Some to) begin statements end ×
         AdvanceAt end top counter to
     StmtAt leave from OfExit to = (past : ℕ) × (leave ≡ Some past) × Alone from (instr.Jump past) to
     StmtAt leave from (OfReturn value) to = ReturnAt from value to
@@ -280,17 +302,20 @@ module _ (setting : Setting) (code : List Instr) where
     -- statements in order
     pub StmtsAt : (leave : Option ℕ) → (from : ℕ) → PlainStmts → (to : ℕ) → Type 0
     StmtsAt leave from NoStmts to = to ≡ from
-    StmtsAt leave from (MoreStmts statement rest) to = (end : ℕ) × StmtAt leave from statement end × StmtsAt leave end rest to
+    StmtsAt leave from (MoreStmts statement rest) to =
+        (end : ℕ) × StmtAt leave from statement end × StmtsAt leave end rest to
 
     -- behind the statements of IF, where there is ELSE, stands a jump behind its statements
     pub ElseAt : (leave : Option ℕ) → (from other : ℕ) → PlainStmts → (to : ℕ) → Type 0
     ElseAt leave from other NoStmts to = (other ≡ from) × (to ≡ from)
     ElseAt leave from other (MoreStmts statement rest) to =
-        (end : ℕ) × Stands from (instr.Jump to) × (other ≡ from + 1) × StmtAt leave (from + 1) statement end × StmtsAt leave end rest to
+        (end : ℕ) × Stands from (instr.Jump to) × (other ≡ from + 1) × StmtAt leave (from + 1) statement end ×
+        StmtsAt leave end rest to
 
     -- behind the statements of each alternative stands a jump behind CASE
     pub BranchesAt : (leave : Option ℕ) → (from : ℕ) → List ℕ → PlainBranches → (to : ℕ) → Type 0
     BranchesAt leave from [] NoBranches to = to ≡ from
     BranchesAt leave from (target ∷ targets) (MoreBranches statements rest) to =
-        (end : ℕ) × (target ≡ from) × StmtsAt leave from statements end × Stands end (instr.Jump to) × BranchesAt leave (end + 1) targets rest to
+        (end : ℕ) × (target ≡ from) × StmtsAt leave from statements end × Stands end (instr.Jump to) ×
+        BranchesAt leave (end + 1) targets rest to
     BranchesAt leave from _ _ to = ⊥

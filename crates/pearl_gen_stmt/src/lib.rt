@@ -1,4 +1,5 @@
-// Which code stands for the statements of a program, and that it does what they mean. The definitions stand in specs/.
+// Which code stands for the statements of a program, and that it does what they mean, or comes to where there is no
+// row. The definitions stand in specs/.
 #![tactic(auto)]
 
 pub mod laws;
