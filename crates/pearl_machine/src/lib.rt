@@ -3,3 +3,4 @@
 
 pub mod scheduler;
 pub mod tables;
+pub mod task;
