@@ -6,3 +6,7 @@ pub mod Steps
 pub mod Goes
 pub mod Marking
 pub mod LastValue
+pub mod Slots
+pub mod Performing
+pub mod Runs
+pub mod Closing

@@ -6,3 +6,5 @@ pub mod Seen
 pub mod Stacks
 -- what a run keeps of the object's one task, and what actions do to it
 pub mod Task
+-- what a sink has taken of the lines that a run tells
+pub mod Told
