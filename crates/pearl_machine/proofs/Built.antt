@@ -9,7 +9,7 @@ use Rattle.pearl_value.specs.declared.cell.Cell.TheVariants.{Fixed, Bits, Ref}
 use Rattle.pearl_value.specs.declared.cell.Place.TheVariants as place
 use Rattle.pearl_value.specs.declared.kind.Kind.{Kind}
 use Rattle.pearl_value.specs.declared.trap.Trap.{Trap}
-use Rattle.pearl_value.specs.declared.trap.Trap.TheVariants.{Index as IndexTrap, Range}
+use Rattle.pearl_value.specs.declared.trap.Trap.TheVariants.{Index as IndexTrap}
 use Rattle.pearl_value.specs.Conversions.{fits_fixed}
 use Rattle.pearl_rules.specs.declared.action.Action.{Action}
 use Rattle.pearl_rules.specs.declared.action.Answer.{Answer}
@@ -18,7 +18,7 @@ use Rattle.pearl_instructions.specs.declared.instr.Instr.{Instr}
 use Rattle.pearl_instructions.specs.declared.instr.Instr.TheVariants.{Const, Load, Store, Fill, Drop, Conv, Index, LoadAt, StoreAt, Read, Write, ReadAt, WriteAt, RefSlot, RefSlotAt, RefCell, RefCellAt, ReadRef, WriteRef, Jump, JumpZero, Case, Turn, Call, Return, End, Trap as TrapOf, Within, Advance, NonZero, Monadic, Dyadic, Put}
 use Rattle.pearl_instructions.specs.declared.object.Code.{Code}
 use Rattle.pearl_instructions.specs.declared.object.Object.{Object}
-use Rattle.pearl_instructions.specs.Objects.{routines, routine_at, result_of, items_at}
+use Rattle.pearl_instructions.specs.Objects.{routines, result_of, items_at}
 use Rattle.pearl_instructions.specs.Steps.{value_kind, Step, Silent, Offers, Missing, given, needed, popped, taken, next, leaves, traps, makes, within}
 use Rattle.pearl_value.specs.Rows.{row1, row2}
 use Rattle.pearl_format.specs.Items.{data_count}

@@ -1,5 +1,5 @@
 -- What an offered action is by the tables, and what it hears.
-use Rattle.std.proofs.Common.{◌≡◌, ℕ, ◌<◌, List, Option, Some, None, length, slice_get, refl, sym, subst, arith}
+use Rattle.std.proofs.Common.{◌≡◌, ℕ, ◌<◌, List, Option, Some, None, length, slice_get, refl, sym, subst}
 use Rattle.std.specs.List.{AllZip}
 use Rattle.std.proofs.lemmas.Option.{slice_get_within}
 use Rattle.pearl_value.specs.declared.cell.Cell.{Cell}
@@ -17,7 +17,6 @@ use Rattle.pearl_instructions.specs.Actions.{IsOffered}
 use Rattle.pearl_instructions.specs.Lawful.{IsObject}
 use Rattle.pearl_instructions.specs.Rows.{row}
 use Rattle.pearl_instructions.specs.Stacks.{Answers}
-use Rattle.pearl_instructions.specs.Steps.{Offers}
 use Rattle.pearl_solo.specs.Answered.{CanHear}
 use Rattle.pearl_engine.specs.Setups.{setup_of}
 use Rattle.pearl_engine.specs.Laws.{IsKnown}

@@ -1,5 +1,5 @@
 -- What a run keeps of the object's one task, and what its actions do to it and to the slots.
-use Rattle.std.specs.Prelude.{◌≡◌, ◌+◌, List, [], Option, Some, None, length, slice_set}
+use Rattle.std.specs.Prelude.{◌≡◌, ◌+◌, List, Option, Some, None, length, slice_set}
 use Rattle.std.specs.List.{AllZip}
 use Rattle.pearl_value.specs.declared.cell.Cell.{Cell}
 use Rattle.pearl_rules.specs.declared.action.Action.{Action}

@@ -157,12 +157,7 @@ impl Machine {
     {
         let mut line = ArrayVec::new();
         let shown = self.shown();
-        state_line(
-            self.moment,
-            name_of_task(self.setup()),
-            &shown,
-            &mut line,
-        );
+        state_line(self.moment, name_of_task(self.setup()), &shown, &mut line);
         put_all(sink, line.as_slice())?;
         close_line(self.moment, &mut line);
         put_all(sink, line.as_slice())

@@ -17,15 +17,9 @@ use pearl_rules::event::Event;
 use pearl_rules::row::Mode;
 use pearl_value::cell::{Cell, copy_of};
 
-/// Does the task's action, and answers the event that tells it; a read, a write, a turn and an entry of a
-/// procedure tell none. Where the task goes on it
-/// offers its next action.
-pub fn perform(
-    code: &Valid,
-    slots: &mut [Cell],
-    task: &mut Task,
-    action: Action,
-) -> Option<Event>
+/// Does the task's action, and answers the event that tells it; a read, a write, a turn and an entry of a procedure tell
+/// none. Where the task goes on it offers its next action.
+pub fn perform(code: &Valid, slots: &mut [Cell], task: &mut Task, action: Action) -> Option<Event>
     requires object { IsObject code.now }
     requires named { 0 < length code.now.tasks }
     requires built { OnlyBuilt code.now }

@@ -1,11 +1,11 @@
 use Rattle.std.proofs.Common.{◌≡◌, refl, ◌∙◌}
 use Rattle.pearl_rules.specs.declared.action.Action.TheVariants as action
-use Rattle.pearl_rules.specs.declared.action.Answer.TheVariants.{Nothing, One}
+use Rattle.pearl_rules.specs.declared.action.Answer.TheVariants.{One}
 use Rattle.pearl_rules.specs.Core.{value_at}
 use Rattle.pearl_instructions.specs.Stacks.{task_of}
 use Rattle.pearl_engine.specs.Setups.{setup_of}
 use Rattle.pearl_machine.specs.Task.{Resumes}
-use Rattle.pearl_machine.proofs.Performing.{hears, fitting, reads, takes_device}
+use Rattle.pearl_machine.proofs.Performing.{fitting, reads, takes_device}
 use Rattle.pearl_machine.proofs.Slots.{slot_there, slot_value, write_kinds}
 use Rattle.pearl_machine.proofs.perform.perform.Goals as goal
 

@@ -1,4 +1,4 @@
-use Rattle.std.proofs.Common.{◌≡◌, sym, ap, subst}
+use Rattle.std.proofs.Common.{sym, ap, subst}
 use Rattle.pearl_stack.specs.Frames.{Stack}
 use Rattle.pearl_machine.specs.Stacks.{IsReady}
 use Rattle.pearl_machine.proofs.Ready.{ready}
