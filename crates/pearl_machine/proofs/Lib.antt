@@ -1,2 +1,12 @@
 pub mod Scheduling
+pub mod Built
+pub mod Depth
+pub mod Ready
+pub mod Steps
+pub mod Goes
+pub mod Marking
 pub mod LastValue
+pub mod Slots
+pub mod Performing
+pub mod Runs
+pub mod Closing
