@@ -3,13 +3,10 @@
 use Rattle.std.specs.Prelude.{ℕ, Bool, true, false, ◌||◌, if◌then◌else◌, List, [], ◌∷◌, Option, Some, None}
 use Rattle.std.specs.List.{list_any}
 use Rattle.std.specs.Option.{option_or}
-use Rattle.pearl_tree.specs.declared.declaration.Class.TheVariants.{Alphic, Basic}
-use Rattle.pearl_tree.specs.declared.declaration.Direction.{Direction}
-use Rattle.pearl_tree.specs.declared.declaration.Direction.TheVariants as direction
 use Rattle.pearl_tree.specs.declared.tree.TaskHead.{TaskHead}
 use Rattle.pearl_tree.specs.declared.tree.TaskHead.TheVariants.{PrioFirst, MainFirst}
 use Rattle.pearl_tree.specs.ShownExpressions.{ShownExpr, OfOperand, OfDyadic, ShownPrimary, OfLiteral, OfRef, OfGroup, OfNow, OfTry, OfLimit, ShownSelectors, NoSelectors, MoreSelectors, ShownSelector, OfSubscripts, OfComponent, ShownExprs, NoExprs, MoreExprs, ShownRef}
-use Rattle.pearl_tree.specs.ShownDeclarations.{ShownDeclared, OfItem, OfSema, ShownSpec, OfInterrupt, OfDation}
+use Rattle.pearl_tree.specs.ShownDeclarations.{ShownDeclared, OfItem, OfSema}
 use Rattle.pearl_tree.specs.ShownStatements.{ShownStmt, OfEmpty, OfAssign, OfCall, OfIf, OfCase, OfRepeat, OfExit, OfBegin, OfReturn, OfActivate, OfContinue, OfResume, OfOnTask, OfOnSemas, OfOnInterrupt, OfPut, OfGet, OfSend, OfTake, ShownStmts, NoStmts, MoreStmts, ShownBranches, NoBranches, MoreBranches, ShownOtherwise, NoOtherwise, OfOtherwise}
 use Rattle.pearl_tree.specs.ShownModules.{ShownBody, ShownDecl, OfLength, OfType, OfDeclare, OfSpecify, OfTask, OfProc, ShownTree}
 
@@ -97,16 +94,6 @@ abbrev pub declared_is_unbuilt : ShownDeclared → Bool
 declared_is_unbuilt (OfItem item) = false
 declared_is_unbuilt (OfSema sema) = true
 
-abbrev pub is_input_alone : Direction → Bool
-is_input_alone direction.In = true
-is_input_alone direction.Out = false
-is_input_alone direction.InOut = false
-
-abbrev pub spec_is_unbuilt : ShownSpec → Bool
-spec_is_unbuilt (OfInterrupt names place) = true
-spec_is_unbuilt (OfDation names direction (Alphic word) control place) = is_input_alone direction
-spec_is_unbuilt (OfDation names direction (Basic basic word) control place) = true
-
 abbrev pub is_task : ShownDecl → Bool
 is_task (OfTask name head body place) = true
 is_task decl = false
@@ -115,12 +102,12 @@ is_task decl = false
 abbrev pub if_any : {X : Type 0} → (X → Bool) → List X → (place : ℕ) → Option ℕ
 if_any is_unbuilt parts place = if list_any is_unbuilt parts then Some place else None
 
--- One task alone is executed, so each behind another one is unbuilt.
+-- A module may specify any device: what is done with it is asked. One task alone is executed, so each behind another one is unbuilt.
 abbrev pub in_decl : (behind_task : Bool) → ShownDecl → Option ℕ
 in_decl behind_task (OfLength sort number place) = None
 in_decl behind_task (OfType name part place) = None
 in_decl behind_task (OfDeclare declared place) = if_any declared_is_unbuilt declared place
-in_decl behind_task (OfSpecify specs place) = if_any spec_is_unbuilt specs place
+in_decl behind_task (OfSpecify specs place) = None
 in_decl behind_task (OfTask name head body place) = if behind_task then Some place else in_body body
 in_decl behind_task (OfProc name params returns body place) = in_body body
 

@@ -1,7 +1,6 @@
 // Which form of a module isn't carried out yet. Built is what one task does with variables, procedures and terminals that
 // texts go to. Unbuilt are statements on tasks, semaphores and interrupts, GET, SEND and TAKE, the operands NOW and TRY,
-// declarations with a semaphore, an interrupt, a dation of BASIC or one of texts that only come in, and each task behind
-// the first.
+// declarations with a semaphore, and each task behind the first. A module may specify any device.
 #![tactic(auto)]
 
 mod expression;

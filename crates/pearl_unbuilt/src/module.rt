@@ -3,12 +3,12 @@
 ghost use Rattle.std.specs.Prelude.{◌≡◌, false, map};
 ghost use Rattle.std.specs.List.{list_any};
 ghost use Rattle.std.specs.Result.{result_err};
-ghost use Rattle.pearl_tree.specs.ShownDeclarations.{shown_declared, shown_spec};
+ghost use Rattle.pearl_tree.specs.ShownDeclarations.{shown_declared};
 ghost use Rattle.pearl_tree.specs.ShownModules.{shown_decl, shown_tree};
 ghost use Rattle.pearl_unbuilt.specs.Unbuilt as spec;
 
 use crate::statement::check_stmts;
-use pearl_tree::declaration::{Class, Declared, Direction, Spec};
+use pearl_tree::declaration::Declared;
 use pearl_tree::tree::{Decl, TaskHead, Tree};
 
 fn declared_is_unbuilt(declared: &Declared) -> bool
@@ -17,23 +17,6 @@ fn declared_is_unbuilt(declared: &Declared) -> bool
     match declared {
         Declared::Item(_) => false,
         Declared::Sema(_) => true,
-    }
-}
-
-fn spec_is_unbuilt(specified: &Spec) -> bool
-    ensures { result ≡ spec.spec_is_unbuilt (shown_spec specified.now) }
-{
-    match specified {
-        Spec::Interrupt { .. } => true,
-        Spec::Dation {
-            direction,
-            class: Class::Alphic { .. },
-            ..
-        } => *direction == Direction::In,
-        Spec::Dation {
-            class: Class::Basic { .. },
-            ..
-        } => true,
     }
 }
 
@@ -48,17 +31,6 @@ fn check_declared(declared: &[Declared], place: u32) -> Result<(), u32>
     Ok(())
 }
 
-fn check_specs(specs: &[Spec], place: u32) -> Result<(), u32>
-    ensures { result_err result ≡ spec.if_any spec.spec_is_unbuilt (map shown_spec specs.now) place }
-{
-    for part in specs {
-        if spec_is_unbuilt(part) {
-            return Err(place);
-        }
-    }
-    Ok(())
-}
-
 fn check_decl(behind_task: bool, decl: &Decl) -> Result<(), u32>
     ensures { result_err result ≡ spec.in_decl behind_task (shown_decl decl.now) }
 {
@@ -66,7 +38,7 @@ fn check_decl(behind_task: bool, decl: &Decl) -> Result<(), u32>
         Decl::Length { .. } => Ok(()),
         Decl::Type { .. } => Ok(()),
         Decl::Declare { declared, place } => check_declared(declared.as_slice(), *place),
-        Decl::Specify { specs, place } => check_specs(specs.as_slice(), *place),
+        Decl::Specify { .. } => Ok(()),
         Decl::Task { body, place, .. } => {
             if behind_task {
                 Err(*place)
