@@ -210,7 +210,7 @@ module _ (o : Object) (r : ℕ) (code : Code) (p : PlainProg) (around : Around) 
       let leaf = leaf_there number bounds kind typed.0 in let end = is.0 in let last = is.3 in
       let many = many_values around bounds es typed.2 in
       let before = offset_keeps bounds es from end (of_exprs values es) s (on typed.2) (are_bounds around bounds es typed.2) typed.1 (few_elements number bounds kind typed.0) many
-        (omega (arith, room)) (first_quiet o r code from end to quiet (omega (arith, last))) is.1 in
+      (omega (arith, room)) (first_quiet o r code from end to quiet (omega (arith, last))) is.1 in
       then_one o r code from end to s (offset_shape bounds s) (Plain kind ∷ s) last before
       (subst (λ kind. Keeps o r code end (end + 1) (offset_shape bounds s) (Plain kind ∷ s)) leaf.2
       (leaf_read number bounds end s leaf.0 leaf.1 is.2 (last_quiet o r code from end to quiet before.forward last) (omega (arith, room))))
@@ -219,7 +219,7 @@ module _ (o : Object) (r : ℕ) (code : Code) (p : PlainProg) (around : Around) 
       let are : AreCells code.cells first (elements bounds) (Plain kind) = subst (λ cells. AreCells cells first (elements bounds) (Plain kind)) placed.cells own.0 in
       let many = many_values around bounds es own.2 in
       let before = offset_keeps bounds es from end (of_exprs values es) s (on own.2) (are_bounds around bounds es own.2) own.1
-        (few_cells first bounds kind (1 + of_exprs values es) s are room) many (omega (arith, room)) (first_quiet o r code from end to quiet (omega (arith, last))) is.1 in
+      (few_cells first bounds kind (1 + of_exprs values es) s are room) many (omega (arith, room)) (first_quiet o r code from end to quiet (omega (arith, last))) is.1 in
       then_one o r code from end to s (offset_shape bounds s) (Plain kind ∷ s) last before
       (own_read first bounds kind end s are is.2 (last_quiet o r code from end to quiet before.forward last) (omega (arith, room)))
   read_keeps_on (Param first) bounds es kind from to s on (inr typed) room quiet is = absurd typed
@@ -227,7 +227,7 @@ module _ (o : Object) (r : ℕ) (code : Code) (p : PlainProg) (around : Around) 
       let param = param_typed (slice_get around.cells first) bounds es kind typed in let end = is.0 in let last = is.3 in let one = is.1.1 in
       let there : slice_get code.cells first ≡ Some (RefTo kind) = ap (λ cells. slice_get cells first) (sym placed.cells) ∙ param in
       let before = just_one o r code from end s (RefTo kind ∷ s) one (load_keeps o r code from (last_quiet o r code from from end (first_quiet o r code from end to quiet (omega (arith, last))) (omega arith) one)
-        first (RefTo kind) s is.1.0 there (omega (arith, room))) in
+      first (RefTo kind) s is.1.0 there (omega (arith, room))) in
       then_one o r code from end to s (RefTo kind ∷ s) (Plain kind ∷ s) last before
       (read_ref_keeps o r code end (last_quiet o r code from end to quiet before.forward last) kind s is.2 (omega (arith, room)))
 
@@ -239,7 +239,7 @@ module _ (o : Object) (r : ℕ) (code : Code) (p : PlainProg) (around : Around) 
       let leaf = leaf_there number bounds kind typed.0 in let end = is.0 in let last = is.3 in
       let many = many_values around bounds es typed.2 in
       let before = offset_keeps bounds es from end (of_exprs values es) s (on typed.2) (are_bounds around bounds es typed.2) typed.1 (few_elements number bounds kind typed.0) many
-        (omega (arith, room)) (first_quiet o r code from end to quiet (omega (arith, last))) is.1 in
+      (omega (arith, room)) (first_quiet o r code from end to quiet (omega (arith, last))) is.1 in
       then_one o r code from end to s (offset_shape bounds s) (RefTo kind ∷ s) last before
       (subst (λ kind. Keeps o r code end (end + 1) (offset_shape bounds s) (RefTo kind ∷ s)) leaf.2
       (leaf_refers number bounds end s leaf.0 leaf.1 is.2 (last_quiet o r code from end to quiet before.forward last) (omega (arith, room))))
@@ -248,7 +248,7 @@ module _ (o : Object) (r : ℕ) (code : Code) (p : PlainProg) (around : Around) 
       let are : AreCells code.cells first (elements bounds) (Plain kind) = subst (λ cells. AreCells cells first (elements bounds) (Plain kind)) placed.cells typed.0.0 in
       let many = many_values around bounds es typed.2 in
       let before = offset_keeps bounds es from end (of_exprs values es) s (on typed.2) (are_bounds around bounds es typed.2) typed.1
-        (few_cells first bounds kind (1 + of_exprs values es) s are room) many (omega (arith, room)) (first_quiet o r code from end to quiet (omega (arith, last))) is.1 in
+      (few_cells first bounds kind (1 + of_exprs values es) s are room) many (omega (arith, room)) (first_quiet o r code from end to quiet (omega (arith, last))) is.1 in
       then_one o r code from end to s (offset_shape bounds s) (RefTo kind ∷ s) last before
       (own_refers first bounds kind end s are is.2 (last_quiet o r code from end to quiet before.forward last) (omega (arith, room)))
   refer_keeps (Param first) bounds es kind from to s on typed room quiet is =
@@ -286,7 +286,7 @@ module _ (o : Object) (r : ℕ) (code : Code) (p : PlainProg) (around : Around) 
       let params : callee.params ≡ procedure.params = ap (λ (head : Head). head.params) heads in
       let cells : callee.code.cells ≡ procedure.routine.cells = ap (λ (head : Head). head.cells) heads in
       let few : callee.params ≤ length callee.code.cells =
-        subst (λ cells. callee.params ≤ length cells) (sym cells) (subst (λ n. n ≤ length procedure.routine.cells) (sym params) (each (IsProcedure p) p.procedures number procedure placed.sound.procedures there).few) in
+      subst (λ cells. callee.params ≤ length cells) (sym cells) (subst (λ n. n ≤ length procedure.routine.cells) (sym params) (each (IsProcedure p) p.procedures number procedure placed.sound.procedures there).few) in
       let same : take callee.params callee.code.cells ≡ params_of procedure = ap (λ n. take n callee.code.cells) params ∙ ap (take procedure.params) cells in
       let depth = depth_of number callee found.1 in
       let long = handed_length (params_of procedure) s in
@@ -336,11 +336,11 @@ module _ (o : Object) (r : ℕ) (code : Code) (p : PlainProg) (around : Around) 
         let some = some_values left in let more = some_values right in
         let to_left = expr_forward p code.instructions left from middle is.2 in let to_right = expr_forward p code.instructions right middle end is.3 in
         let one = expr_keeps left typed.0 from middle s typed.2 (less_left (of_expr calls left) (of_expr calls right) below small)
-          (less_left (of_expr (callees (depths o)) left) (of_expr (callees (depths o)) right) most deep) (omega (arith, room))
-          (first_quiet o r code from middle to quiet (omega (arith, to_right, last))) is.2 in
+        (less_left (of_expr (callees (depths o)) left) (of_expr (callees (depths o)) right) most deep) (omega (arith, room))
+        (first_quiet o r code from middle to quiet (omega (arith, to_right, last))) is.2 in
         let two = expr_keeps right typed.1 middle end (Plain typed.0 ∷ s) typed.3 (less_right (of_expr calls left) (of_expr calls right) below small)
-          (less_right (of_expr (callees (depths o)) left) (of_expr (callees (depths o)) right) most deep) (omega (arith, room, some))
-          (then_quiet o r code from middle end (first_quiet o r code from end to quiet (omega (arith, last))) to_left) is.3 in
+        (less_right (of_expr (callees (depths o)) left) (of_expr (callees (depths o)) right) most deep) (omega (arith, room, some))
+        (then_quiet o r code from middle end (first_quiet o r code from end to quiet (omega (arith, last))) to_left) is.3 in
         then_one o r code from end to s (Plain typed.1 ∷ Plain typed.0 ∷ s) (Plain kind ∷ s) last
         (both_keep o r code from middle end s (Plain typed.0 ∷ s) (Plain typed.1 ∷ Plain typed.0 ∷ s) one two)
         (dyadic_keeps o r code end (last_quiet o r code from end to quiet (omega (arith, to_left, to_right)) last) op typed.0 typed.1 kind s is.4 typed.4 (omega (arith, room, some, more)))
@@ -376,9 +376,9 @@ module _ (o : Object) (r : ℕ) (code : Code) (p : PlainProg) (around : Around) 
         let middle = is.0 in let len = are.1.0 in let some = some_values e in
         let first = expr_forward p code.instructions e from middle is.1 in let then = all_forward p code.instructions rest middle to is.2 in
         let one = expr_keeps e (kind_.Fixed len) from middle s are.1.1 (less_left (of_expr calls e) (of_exprs calls rest) below small)
-          (less_left (of_expr (callees (depths o)) e) (of_exprs (callees (depths o)) rest) most deep) (omega (arith, room)) (first_quiet o r code from middle to quiet then) is.1 in
+        (less_left (of_expr (callees (depths o)) e) (of_exprs (callees (depths o)) rest) most deep) (omega (arith, room)) (first_quiet o r code from middle to quiet then) is.1 in
         let more = subscripts_keep rest bounds middle to (Plain (kind_.Fixed len) ∷ s) are.2 (less_right (of_expr calls e) (of_exprs calls rest) below small)
-          (less_right (of_expr (callees (depths o)) e) (of_exprs (callees (depths o)) rest) most deep) (omega (arith, room, some)) (then_quiet o r code from middle to quiet first) is.2 in
+        (less_right (of_expr (callees (depths o)) e) (of_exprs (callees (depths o)) rest) most deep) (omega (arith, room, some)) (then_quiet o r code from middle to quiet first) is.2 in
         (more.0, both_keep o r code from middle to s (Plain (kind_.Fixed len) ∷ s) more.0 one more.1, fixed_more (length bounds) more.0 s len more.2)
 
     pub arguments_keep : (arguments : PlainArguments) (params : List CellKind) (from to : ℕ) (s : Shape) → Suit around params arguments → of_arguments calls arguments ≤ below →
@@ -391,9 +391,9 @@ module _ (o : Object) (r : ℕ) (code : Code) (p : PlainProg) (around : Around) 
         let middle = is.0 in let some = argument_values param argument suit.0 in
         let first = argument_forward p code.instructions argument param from middle is.1 in let then = arguments_forward p code.instructions rest params middle to is.2 in
         let one = argument_keeps argument param from middle s suit.0 (less_left (of_argument calls argument) (of_arguments calls rest) below small)
-          (less_left (of_argument (callees (depths o)) argument) (of_arguments (callees (depths o)) rest) most deep) (omega (arith, room)) (first_quiet o r code from middle to quiet then) is.1 in
+        (less_left (of_argument (callees (depths o)) argument) (of_arguments (callees (depths o)) rest) most deep) (omega (arith, room)) (first_quiet o r code from middle to quiet then) is.1 in
         let more = arguments_keep rest params middle to (param ∷ s) suit.1 (less_right (of_argument calls argument) (of_arguments calls rest) below small)
-          (less_right (of_argument (callees (depths o)) argument) (of_arguments (callees (depths o)) rest) most deep) (omega (arith, room, some)) (then_quiet o r code from middle to quiet first) is.2 in
+        (less_right (of_argument (callees (depths o)) argument) (of_arguments (callees (depths o)) rest) most deep) (omega (arith, room, some)) (then_quiet o r code from middle to quiet first) is.2 in
         both_keep o r code from middle to s (param ∷ s) (handed params (param ∷ s)) one more
 
     argument_keeps : (argument : PlainArgument) (param : CellKind) (from to : ℕ) (s : Shape) → SuitsParam around param argument → of_argument calls argument ≤ below →
