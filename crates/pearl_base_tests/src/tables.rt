@@ -1,9 +1,9 @@
 // Rows of the tables, by hand.
 
-use pearl_tables::family::*;
-use pearl_tables::opcode::*;
-use pearl_tables::operator::{OPS, find_op};
-use pearl_tables::word::{WORDS, find_word, words};
+use pearl_tree::family::*;
+use pearl_tree::opcode::*;
+use pearl_tree::operator::{OPS, find_op};
+use pearl_tree::word::{WORDS, find_word, words};
 
 // Texts with the codes of the words that they are.
 fn spellings() -> &'static [(&'static [u8], Option<u8>)] {

@@ -7,13 +7,13 @@ use pearl_parse_decl::list::{Readable, list};
 use pearl_parse_decl::specification::device;
 use pearl_parse_expr::reading::{Halt, Reading};
 use pearl_parse_expr::standing::is_word;
-use pearl_tables::word_code::{DCL, LENGTH, SPC, TYPE};
 use pearl_tree::declaration::{Declared, Item, Param, Spec};
 use pearl_tree::format::Fmt;
 use pearl_tree::literal::Const;
 use pearl_tree::name::{Name, Number};
 use pearl_tree::token::Token;
 use pearl_tree::typing::Bound;
+use pearl_tree::word_code::{DCL, LENGTH, SPC, TYPE};
 use std::alloc::{AllocError, Global};
 use std::fmt;
 

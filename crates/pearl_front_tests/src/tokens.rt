@@ -3,8 +3,8 @@
 use crate::cases::{STOP, place_of, places_of, source_of, tokens_of};
 use pearl_lex::fault::LexFault;
 use pearl_lex::lexer::tokens;
-use pearl_tables::word_code::{DCL, MODULE};
 use pearl_tree::token::{Token, What};
+use pearl_tree::word_code::{DCL, MODULE};
 use std::alloc::{AllocError, Global};
 use std::test::Fail;
 

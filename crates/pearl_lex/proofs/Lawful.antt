@@ -11,9 +11,9 @@ use Rattle.std.proofs.lemmas.Slice.Eq.{bytes_eq-Decides}
 use Rattle.std.proofs.lemmas.List.Elements.{All-nil, All-cons}
 use Rattle.pearl_tree.specs.declared.token.What.{What}
 use Rattle.pearl_tree.specs.declared.token.What.TheVariants as what
-use Rattle.pearl_tables.specs.Words.{words, meanings, code_count}
-use Rattle.pearl_tables.specs.Symbols.{symbol_count}
-use Rattle.pearl_tables.specs.declared.symbol.TheConstants as s
+use Rattle.pearl_tree.specs.Words.{words, meanings, code_count}
+use Rattle.pearl_tree.specs.Symbols.{symbol_count}
+use Rattle.pearl_tree.specs.declared.symbol.TheConstants as s
 use Rattle.pearl_tree.specs.Tokens.{IsDigit, IsIdByte, BeginsWithLetter, IsLawfulWhat}
 use Rattle.pearl_lex.specs.declared.front.Front.{Front}
 use Rattle.pearl_lex.specs.Spelling.{is_id_byte, sized, meaning, id_of, word_or_id, double_symbol, single_symbol, longer_symbol, symbol_front}

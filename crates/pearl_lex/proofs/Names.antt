@@ -9,9 +9,9 @@ use Rattle.std.proofs.lemmas.Slice.Eq.{bytes_eq-Decides}
 use Rattle.std.proofs.lemmas.List.Folds.{length-prefix_len}
 use Rattle.pearl_tree.specs.declared.token.What.TheVariants as what
 use Rattle.pearl_tree.specs.Tokens.{IsIdByte, BeginsWithLetter}
-use Rattle.pearl_tables.specs.declared.symbol.TheConstants as s
-use Rattle.pearl_tables.specs.Symbols.{symbol_texts, symbol_text, symbol_count}
-use Rattle.pearl_tables.specs.Words.{words, meanings, IsWord}
+use Rattle.pearl_tree.specs.declared.symbol.TheConstants as s
+use Rattle.pearl_tree.specs.Symbols.{symbol_texts, symbol_text, symbol_count}
+use Rattle.pearl_tree.specs.Words.{words, meanings, IsWord}
 use Rattle.pearl_lex.specs.Spelling.{is_id_byte, sized, meaning, word_or_id, id_of, double_symbol, single_symbol, longer_symbol, symbol_front}
 use Rattle.pearl_lex.specs.Literals.{numeral}
 use Rattle.pearl_lex.specs.Quoted.{quoted}

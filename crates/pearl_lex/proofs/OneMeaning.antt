@@ -13,8 +13,8 @@ use Rattle.std.proofs.lemmas.Slice.Eq.{bytes_eq-Decides}
 use Rattle.pearl_tree.specs.declared.token.What.{What}
 use Rattle.pearl_tree.specs.declared.token.What.TheVariants as what
 use Rattle.pearl_tree.specs.Tokens.{IsIdByte, IsId}
-use Rattle.pearl_tables.specs.Words.{words, IsWord}
-use Rattle.pearl_tables.specs.Symbols.{symbol_text, symbol_count}
+use Rattle.pearl_tree.specs.Words.{words, IsWord}
+use Rattle.pearl_tree.specs.Symbols.{symbol_text, symbol_count}
 use Rattle.pearl_lex.specs.declared.front.Front.{Front}
 use Rattle.pearl_lex.specs.Spelling.{is_id_byte, sized, meaning, word_or_id, id_of, double_symbol, single_symbol, longer_symbol}
 use Rattle.pearl_lex.specs.Literals.{value_of, value_within, digit_count, digits_of, after_digits, next_part, begins_part, begins_clock, decimals_of, decimals_len, thousandths, decimal_by, milliseconds, clock_of, clock_front, decimal_front, number_front, numeral}

@@ -6,9 +6,9 @@ use Rattle.std.proofs.lemmas.Bool.{eqb-true}
 use Rattle.std.proofs.lemmas.Bool.Decides.{Decides-by_and, Decides-by_or}
 use Rattle.std.proofs.lemmas.Slice.Eq.{bytes_eq-Decides}
 use Rattle.std.proofs.lemmas.List.Elements.{All-contains, Decides-contains}
-use Rattle.pearl_tables.specs.declared.word.WordRow.{WordRow}
-use Rattle.pearl_tables.specs.Words.{meanings, IsWord, AreTheWords}
-use Rattle.pearl_tables.specs.Words.{words}
+use Rattle.pearl_tree.specs.declared.word.WordRow.{WordRow}
+use Rattle.pearl_tree.specs.Words.{meanings, IsWord, AreTheWords}
+use Rattle.pearl_tree.specs.Words.{words}
 use Rattle.pearl_lex.specs.Spelling.{meaning}
 use Rattle.pearl_lex.proofs.Passes.{and_front, and_back}
 

@@ -2,7 +2,7 @@
 use Rattle.std.specs.Prelude.{ℕ, ◌==◌, if◌then◌else◌, List, take, drop, slice_index, Option}
 use Rattle.std.specs.Char.{is_ascii_alphabetic, is_ascii_digit}
 use Rattle.std.specs.List.{prefix_len}
-use Rattle.pearl_tables.specs.Words.{words}
+use Rattle.pearl_tree.specs.Words.{words}
 use Rattle.pearl_lex.specs.declared.front.Front.{Front}
 use Rattle.pearl_lex.specs.Spelling.{is_id_byte, sized, meaning, word_or_id, symbol_front}
 use Rattle.pearl_lex.specs.Literals.{numeral}

@@ -4,8 +4,8 @@ use Rattle.std.specs.List.{flat_map}
 use Rattle.pearl_tree.specs.declared.token.What.{What}
 use Rattle.pearl_tree.specs.declared.token.What.TheVariants as what
 use Rattle.pearl_tree.specs.Tokens.{IsDigit, IsIdByte, IsId, BeginsWithLetter, IsText}
-use Rattle.pearl_tables.specs.Symbols.{symbol_count, symbol_text}
-use Rattle.pearl_tables.specs.Words.{IsWord}
+use Rattle.pearl_tree.specs.Symbols.{symbol_count, symbol_text}
+use Rattle.pearl_tree.specs.Words.{IsWord}
 use Rattle.pearl_lex.specs.declared.front.Front.{Front}
 use Rattle.pearl_lex.specs.Literals.{value_of}
 use Rattle.pearl_lex.specs.Quoted.{digit_value, bits_value}

@@ -2,14 +2,14 @@
 
 ghost use Rattle.std.specs.Prelude.{◌≡◌, ◌≢◌, ◌+◌, ◌-◌, ◌<◌, ◌≤◌, ◌^◌, true, length, take, drop, slice_index, nat_le, IfSome, if◌then◌else◌, Some, None};
 ghost use Rattle.std.specs.List.{prefix_len};
-ghost use Rattle.pearl_tables.specs.Words.{words};
+ghost use Rattle.pearl_tree.specs.Words.{words};
 ghost use Rattle.pearl_lex.specs.Spelling as spec;
 
 use crate::front::Front;
 use arrayvec::ArrayVec;
-use pearl_tables::symbol;
-use pearl_tables::word::{find_word, words};
+use pearl_tree::symbol;
 use pearl_tree::token::What;
+use pearl_tree::word::{find_word, words};
 
 const ID_MAX: usize = 63;
 

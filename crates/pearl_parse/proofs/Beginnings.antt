@@ -6,8 +6,8 @@ use Rattle.pearl_tree.specs.declared.token.Token.{Token}
 use Rattle.pearl_tree.specs.Standing.{SpellsName, SpellsList}
 use Rattle.pearl_tree.specs.Declarations.{SpellsSpec}
 use Rattle.pearl_tree.specs.Modules.{SpellsModuleName, SpellsSystem, SpellsDecl, SpellsTree}
-use Rattle.pearl_tables.specs.declared.symbol.TheConstants as s
-use Rattle.pearl_tables.specs.declared.word_code.TheConstants as w
+use Rattle.pearl_tree.specs.declared.symbol.TheConstants as s
+use Rattle.pearl_tree.specs.declared.word_code.TheConstants as w
 use Rattle.pearl_parse_expr.specs.Least.{ReachesIn}
 use Rattle.pearl_parse.proofs.Steps.{Rest, Then}
 use Rattle.pearl_parse.proofs.LeafRests.{Spelled}

@@ -8,8 +8,8 @@ use Rattle.pearl_tree.specs.Standing.{Spelling, HasWord, HasSymbol, SpellsMaybe,
 use Rattle.pearl_tree.specs.Declarations.{SpellsParam}
 use Rattle.pearl_tree.specs.Statements.{SpellsWholeBody}
 use Rattle.pearl_tree.specs.Modules.{SpellsTaskHead, SpellsReturns, SpellsBlock}
-use Rattle.pearl_tables.specs.declared.symbol.TheConstants as s
-use Rattle.pearl_tables.specs.declared.word_code.TheConstants as w
+use Rattle.pearl_tree.specs.declared.symbol.TheConstants as s
+use Rattle.pearl_tree.specs.declared.word_code.TheConstants as w
 use Rattle.pearl_parse_expr.specs.declared.reading.Halt.{Halt}
 use Rattle.pearl_parse_expr.specs.declared.reading.Halt.TheVariants.{Refused, NoMemory}
 use Rattle.pearl_parse_expr.specs.Stops.{IsLongest, IsHalted, is_word}

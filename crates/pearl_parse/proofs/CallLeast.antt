@@ -7,8 +7,8 @@ use Rattle.pearl_tree.specs.declared.token.Token.{Token}
 use Rattle.pearl_tree.specs.Standing.{HasWord, HasSymbol, IsName, SpellsMaybe, SpellsList}
 use Rattle.pearl_tree.specs.Expressions.{SpellsWhole, SpellsOwnRef}
 use Rattle.pearl_tree.specs.Statements.{SpellsValue, HasBecomes}
-use Rattle.pearl_tables.specs.declared.symbol.TheConstants as s
-use Rattle.pearl_tables.specs.declared.word_code.TheConstants as w
+use Rattle.pearl_tree.specs.declared.symbol.TheConstants as s
+use Rattle.pearl_tree.specs.declared.word_code.TheConstants as w
 use Rattle.pearl_parse_expr.proofs.Reaching.{IsLocal}
 use Rattle.pearl_parse_decl.proofs.LocalLists.{local_of, maybe_keeps, list_keeps}
 use Rattle.pearl_parse_decl.proofs.LocalDeclarations.{whole_keeps}

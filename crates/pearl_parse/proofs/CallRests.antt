@@ -11,8 +11,8 @@ use Rattle.pearl_tree.specs.declared.token.Token.{Token}
 use Rattle.pearl_tree.specs.Standing.{IsAt, HasWord, HasSymbol, IsName, SpellsFlag, SpellsMaybe, SpellsEach, SpellsList, SpellsMaybeBracketed, what_at}
 use Rattle.pearl_tree.specs.Expressions.{SpellsWhole, SpellsSelector}
 use Rattle.pearl_tree.specs.Statements.{SpellsStmt, SpellsValue}
-use Rattle.pearl_tables.specs.declared.symbol.TheConstants as s
-use Rattle.pearl_tables.specs.declared.word_code.TheConstants as w
+use Rattle.pearl_tree.specs.declared.symbol.TheConstants as s
+use Rattle.pearl_tree.specs.declared.word_code.TheConstants as w
 use Rattle.pearl_tree.proofs.ExpressionLists.{spells_subscripts}
 use Rattle.pearl_tree.proofs.OneStatement.{group_of}
 use Rattle.pearl_parse_expr.specs.declared.reading.Halt.{Halt}

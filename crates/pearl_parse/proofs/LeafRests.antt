@@ -11,8 +11,8 @@ use Rattle.pearl_tree.specs.declared.token.Token.{Token}
 use Rattle.pearl_tree.specs.Standing.{what_at, HasWord, HasSymbol, SpellsName, SpellsMaybe}
 use Rattle.pearl_tree.specs.Expressions.{SpellsWhole}
 use Rattle.pearl_tree.specs.Statements.{SpellsStmt, task_word, interrupt_word}
-use Rattle.pearl_tables.specs.declared.symbol.TheConstants as s
-use Rattle.pearl_tables.specs.declared.word_code.TheConstants as w
+use Rattle.pearl_tree.specs.declared.symbol.TheConstants as s
+use Rattle.pearl_tree.specs.declared.word_code.TheConstants as w
 use Rattle.pearl_tree.proofs.OneStatement.{group_of}
 use Rattle.pearl_parse_expr.specs.Stops.{is_name}
 use Rattle.pearl_parse.specs.Stops.{SpellsOwnNamed, SpellsOptional}

@@ -2,7 +2,7 @@
 use Rattle.std.proofs.Common.{ℕ, ◌+◌, ◌*◌, ◌<◌, ◌≤◌, List, [], ◌∷◌, ◌++◌, length, refl, ◌∙◌, arith}
 use Rattle.pearl_tree.specs.declared.token.Token.{Token}
 use Rattle.pearl_tree.specs.Standing.{Spelling, HasSymbol, SpellsEach, SpellsSome, SpellsList}
-use Rattle.pearl_tables.specs.declared.symbol.TheConstants as s
+use Rattle.pearl_tree.specs.declared.symbol.TheConstants as s
 use Rattle.pearl_parse_expr.specs.Least.{AlikeBefore, ReachesIn}
 use Rattle.pearl_parse_expr.proofs.Local as local
 use Rattle.pearl_parse_expr.proofs.Lists.{each_one_more, list_one_more}

@@ -8,7 +8,7 @@ use Rattle.pearl_tree.specs.declared.token.Token.{Token}
 use Rattle.pearl_tree.specs.Standing.{what_at, place_at, IsName, IsNumber}
 use Rattle.pearl_tree.specs.Declarations.{SpellsDevice, SpellsDeclared, SpellsSpec, SpellsParam}
 use Rattle.pearl_tree.specs.Modules.{SpellsReturns, SpellsBlock, SpellsDecl, SpellsModuleName, SpellsSystem, SpellsTree}
-use Rattle.pearl_tables.specs.declared.symbol.TheConstants as s
+use Rattle.pearl_tree.specs.declared.symbol.TheConstants as s
 use Rattle.pearl_parse_expr.specs.Least.{AlikeBefore}
 use Rattle.pearl_parse_expr.proofs.Local as local
 use Rattle.pearl_parse_expr.proofs.Reaching.{IsLocal}

@@ -5,7 +5,7 @@ use Rattle.pearl_tree.specs.Standing.{Spelling, what_at, SpellsName, SpellsMaybe
 use Rattle.pearl_tree.specs.Expressions.{SpellsWhole}
 use Rattle.pearl_tree.specs.Formats.{SpellsFmt}
 use Rattle.pearl_tree.specs.Statements.{SpellsAfter, SpellsFor, SpellsBodyDecl, SpellsStmt}
-use Rattle.pearl_tables.specs.declared.word_code.TheConstants as w
+use Rattle.pearl_tree.specs.declared.word_code.TheConstants as w
 use Rattle.pearl_parse_expr.specs.Least.{AlikeBefore}
 use Rattle.pearl_parse_expr.proofs.Local as local
 use Rattle.pearl_parse_decl.proofs.LocalLists.{Keeps}

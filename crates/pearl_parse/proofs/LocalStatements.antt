@@ -17,7 +17,7 @@ use Rattle.pearl_tree.specs.Expressions.{SpellsWhole, SpellsOwnRef}
 use Rattle.pearl_tree.specs.Formats.{SpellsFmt}
 use Rattle.pearl_tree.specs.Declarations.{SpellsItem}
 use Rattle.pearl_tree.specs.Statements.{HasBecomes, SpellsAfter, SpellsFor, SpellsValue, SpellsMaybeList, SpellsPeriodEnd, SpellsPeriod, SpellsStart, SpellsOnce, SpellsBodyDecl, SpellsStmt, SpellsStmts, SpellsAlternatives, SpellsMoreAlternatives, SpellsOtherwise, SpellsBranch, SpellsBody, SpellsWholeBody}
-use Rattle.pearl_tables.specs.declared.word_code.TheConstants as w
+use Rattle.pearl_tree.specs.declared.word_code.TheConstants as w
 use Rattle.pearl_parse_expr.specs.Least.{AlikeBefore}
 use Rattle.pearl_parse_expr.proofs.Local as local
 use Rattle.pearl_parse_decl.proofs.LocalLists.{Keeps}

@@ -17,8 +17,8 @@ use Rattle.pearl_tree.specs.Expressions.{SpellsWhole, SpellsOwnRef}
 use Rattle.pearl_tree.specs.Formats.{SpellsFmt}
 use Rattle.pearl_tree.specs.Declarations.{SpellsItem}
 use Rattle.pearl_tree.specs.Statements.{HasBecomes, SpellsAfter, SpellsValue, SpellsMaybeList, SpellsStart, SpellsOnce, task_word, sema_word, interrupt_word, SpellsBodyDecl, SpellsStmt}
-use Rattle.pearl_tables.specs.declared.symbol.TheConstants as s
-use Rattle.pearl_tables.specs.declared.word_code.TheConstants as w
+use Rattle.pearl_tree.specs.declared.symbol.TheConstants as s
+use Rattle.pearl_tree.specs.declared.word_code.TheConstants as w
 use Rattle.pearl_parse_expr.proofs.Reaching.{placed, placed_within}
 use Rattle.pearl_parse_expr.proofs.Trees.{boxed, parts_of}
 use Rattle.pearl_parse_decl.proofs.LocalLists.{after_of, list_long, maybe_bracketed_long}

@@ -9,8 +9,8 @@ use Rattle.pearl_tree.specs.declared.tree.ModuleName.TheVariants.{Bracketed}
 use Rattle.pearl_tree.specs.declared.token.Token.{Token}
 use Rattle.pearl_tree.specs.Standing.{Spelling, HasWord, HasSymbol, IsName, SpellsName, SpellsMaybe, SpellsEach, SpellsSymbolFlag}
 use Rattle.pearl_tree.specs.Modules.{SpellsDecl, SpellsModuleName, SpellsSystem, SpellsTree}
-use Rattle.pearl_tables.specs.declared.symbol.TheConstants as s
-use Rattle.pearl_tables.specs.declared.word_code.TheConstants as w
+use Rattle.pearl_tree.specs.declared.symbol.TheConstants as s
+use Rattle.pearl_tree.specs.declared.word_code.TheConstants as w
 use Rattle.pearl_parse_expr.specs.declared.reading.Halt.{Halt}
 use Rattle.pearl_parse_expr.specs.Stops.{IsHalted, is_word, is_symbol, is_name}
 use Rattle.pearl_parse_expr.specs.Least.{GoesIn, HaltsIn}

@@ -12,8 +12,8 @@ use Rattle.pearl_tree.specs.Stops.{SomeBegins}
 use Rattle.pearl_tree.specs.Types.{SpellsWholeTyping, sort_word}
 use Rattle.pearl_tree.specs.Declarations.{SpellsDeclared, SpellsSpec, SpellsParam}
 use Rattle.pearl_tree.specs.Modules.{SpellsTaskHead, SpellsReturns, SpellsBlock, SpellsDecl, SpellsModuleName, SpellsSystem, SpellsTree}
-use Rattle.pearl_tables.specs.declared.symbol.TheConstants as s
-use Rattle.pearl_tables.specs.declared.word_code.TheConstants as w
+use Rattle.pearl_tree.specs.declared.symbol.TheConstants as s
+use Rattle.pearl_tree.specs.declared.word_code.TheConstants as w
 use Rattle.pearl_parse_expr.specs.Least.{ReachesIn}
 use Rattle.pearl_parse_expr.proofs.Reaching.{placed, placed_within}
 use Rattle.pearl_parse_expr.proofs.Trees.{parts_of}

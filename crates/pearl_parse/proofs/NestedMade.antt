@@ -11,7 +11,7 @@ use Rattle.pearl_tree.specs.declared.token.What.TheVariants as what
 use Rattle.pearl_tree.specs.declared.token.Token.{Token}
 use Rattle.pearl_tree.specs.Standing.{Spelling, IsAt, SpellsEach, SpellsSome, SpellsMaybe}
 use Rattle.pearl_tree.specs.Statements.{SpellsAfter, SpellsBodyDecl, SpellsStmt, SpellsBranch, SpellsBody}
-use Rattle.pearl_tables.specs.declared.word_code.TheConstants as w
+use Rattle.pearl_tree.specs.declared.word_code.TheConstants as w
 use Rattle.pearl_parse_expr.proofs.Reaching.{placed, placed_within}
 use Rattle.pearl_parse_expr.proofs.Trees.{boxed, parts_of}
 use Rattle.pearl_parse_decl.proofs.LocalLists.{after_of, each_long}

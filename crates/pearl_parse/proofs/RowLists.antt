@@ -6,7 +6,7 @@ use Rattle.pearl_tree.specs.declared.statement.Case.{Row_of-Branch, end_of-Branc
 use Rattle.pearl_tree.specs.declared.token.Token.{Token}
 use Rattle.pearl_tree.specs.Standing.{what_at, SpellsEach}
 use Rattle.pearl_tree.specs.Statements.{SpellsStmts, SpellsAlternatives, SpellsMoreAlternatives, SpellsOtherwise}
-use Rattle.pearl_tables.specs.declared.word_code.TheConstants as w
+use Rattle.pearl_tree.specs.declared.word_code.TheConstants as w
 use Rattle.pearl_parse_expr.specs.Stops.{is_word}
 use Rattle.pearl_parse.specs.Bodies.{SpellsStatements, SpellsHeaded, SpellsOptionalHeaded, SpellsChoices}
 

@@ -8,8 +8,8 @@ use Rattle.pearl_tree.specs.declared.token.What.TheVariants as what
 use Rattle.pearl_tree.specs.declared.token.Token.{Token}
 use Rattle.pearl_tree.specs.Standing.{Spelling, what_at, HasWord, HasSymbol, IsName, SpellsName}
 use Rattle.pearl_tree.specs.Statements.{SpellsPeriodEnd, SpellsPeriod}
-use Rattle.pearl_tables.specs.declared.symbol.TheConstants as s
-use Rattle.pearl_tables.specs.declared.word_code.TheConstants as w
+use Rattle.pearl_tree.specs.declared.symbol.TheConstants as s
+use Rattle.pearl_tree.specs.declared.word_code.TheConstants as w
 use Rattle.pearl_parse_expr.specs.declared.reading.Halt.{Halt}
 use Rattle.pearl_parse_expr.specs.Stops.{is_word, is_name}
 use Rattle.pearl_parse_expr.specs.Least.{AlikeBefore, ReachesIn}

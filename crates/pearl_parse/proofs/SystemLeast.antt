@@ -6,8 +6,8 @@ use Rattle.pearl_tree.specs.declared.token.Token.{Token}
 use Rattle.pearl_tree.specs.Standing.{Spelling, HasWord, HasSymbol, SpellsEach}
 use Rattle.pearl_tree.specs.Declarations.{SpellsDevice}
 use Rattle.pearl_tree.specs.Modules.{SpellsSystem}
-use Rattle.pearl_tables.specs.declared.symbol.TheConstants as s
-use Rattle.pearl_tables.specs.declared.word_code.TheConstants as w
+use Rattle.pearl_tree.specs.declared.symbol.TheConstants as s
+use Rattle.pearl_tree.specs.declared.word_code.TheConstants as w
 use Rattle.pearl_parse_expr.specs.declared.reading.Halt.{Halt}
 use Rattle.pearl_parse_expr.specs.Stops.{IsHalted, is_word, is_symbol}
 use Rattle.pearl_parse_expr.specs.Least.{GoesIn, HaltsIn}

@@ -13,8 +13,8 @@ use Rattle.pearl_tree.specs.Expressions.{SpellsWhole}
 use Rattle.pearl_tree.specs.Formats.{SpellsFmt}
 use Rattle.pearl_tree.specs.Statements.{HasBecomes, SpellsPeriod, SpellsBranch}
 use Rattle.pearl_tree.specs.Modules.{SpellsBlock, SpellsModuleName, SpellsSystem, SpellsDecl}
-use Rattle.pearl_tables.specs.declared.symbol.TheConstants as s
-use Rattle.pearl_tables.specs.declared.word_code.TheConstants as w
+use Rattle.pearl_tree.specs.declared.symbol.TheConstants as s
+use Rattle.pearl_tree.specs.declared.word_code.TheConstants as w
 use Rattle.pearl_parse_expr.proofs.Ids.{letter_token, letter_lawful}
 use Rattle.pearl_parse_expr.proofs.Reaching.{placed, token_of}
 use Rattle.pearl_parse_expr.proofs.Trees.{parts_of}

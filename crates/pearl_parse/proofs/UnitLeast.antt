@@ -14,8 +14,8 @@ use Rattle.pearl_tree.specs.Standing.{Spelling, HasWord, HasSymbol, IsName, Spel
 use Rattle.pearl_tree.specs.Declarations.{SpellsItem, SpellsParam}
 use Rattle.pearl_tree.specs.Statements.{SpellsBodyDecl, SpellsWholeBody}
 use Rattle.pearl_tree.specs.Modules.{SpellsTaskHead, SpellsReturns, SpellsBlock, SpellsDecl}
-use Rattle.pearl_tables.specs.declared.symbol.TheConstants as s
-use Rattle.pearl_tables.specs.declared.word_code.TheConstants as w
+use Rattle.pearl_tree.specs.declared.symbol.TheConstants as s
+use Rattle.pearl_tree.specs.declared.word_code.TheConstants as w
 use Rattle.pearl_parse_expr.specs.declared.reading.Halt.{Halt}
 use Rattle.pearl_parse_expr.specs.declared.reading.Halt.TheVariants.{Refused, NoMemory}
 use Rattle.pearl_parse_expr.specs.declared.reading.Reading.{Reading}

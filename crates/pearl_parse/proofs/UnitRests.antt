@@ -6,8 +6,8 @@ use Rattle.pearl_tree.specs.declared.token.What.{What}
 use Rattle.pearl_tree.specs.declared.token.Token.{Token}
 use Rattle.pearl_tree.specs.Standing.{what_at, HasWord, HasSymbol}
 use Rattle.pearl_tree.specs.Modules.{SpellsDecl}
-use Rattle.pearl_tables.specs.declared.symbol.TheConstants as s
-use Rattle.pearl_tables.specs.declared.word_code.TheConstants as w
+use Rattle.pearl_tree.specs.declared.symbol.TheConstants as s
+use Rattle.pearl_tree.specs.declared.word_code.TheConstants as w
 use Rattle.pearl_parse_expr.specs.Stops.{IsLongest, Stuck, is_name, is_word}
 use Rattle.pearl_parse_decl.specs.Readings.{by_bracket}
 use Rattle.pearl_parse_expr.proofs.Primaries.{clash}

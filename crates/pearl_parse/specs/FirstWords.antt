@@ -3,7 +3,7 @@ use Rattle.std.specs.Prelude.{ℕ, true, false, List, [], ◌∷◌, map}
 use Rattle.pearl_tree.specs.declared.statement.TaskWord.TheVariants.{Suspend, Terminate, Prevent}
 use Rattle.pearl_tree.specs.declared.statement.SemaWord.TheVariants.{Request, Release}
 use Rattle.pearl_tree.specs.declared.statement.InterruptWord.TheVariants.{Enable, Disable, Trigger}
-use Rattle.pearl_tables.specs.declared.word_code.TheConstants as w
+use Rattle.pearl_tree.specs.declared.word_code.TheConstants as w
 use Rattle.pearl_parse.specs.declared.first.Simple.TheVariants as simple
 use Rattle.pearl_parse.specs.declared.first.First.{First}
 use Rattle.pearl_parse.specs.declared.first.First.TheVariants as first

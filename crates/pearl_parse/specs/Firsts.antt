@@ -5,8 +5,8 @@ use Rattle.pearl_tree.specs.declared.token.What.TheVariants as what
 use Rattle.pearl_tree.specs.declared.token.Token.{Token}
 use Rattle.pearl_tree.specs.Standing.{what_at, HasWord, HasSymbol}
 use Rattle.pearl_tree.specs.Statements.{task_word, sema_word, interrupt_word}
-use Rattle.pearl_tables.specs.declared.symbol.TheConstants as s
-use Rattle.pearl_tables.specs.declared.word_code.TheConstants as w
+use Rattle.pearl_tree.specs.declared.symbol.TheConstants as s
+use Rattle.pearl_tree.specs.declared.word_code.TheConstants as w
 use Rattle.pearl_parse_expr.specs.Stops.{is_name}
 use Rattle.pearl_parse.specs.declared.first.Simple.{Simple}
 use Rattle.pearl_parse.specs.declared.first.Simple.TheVariants as simple

@@ -14,8 +14,8 @@ use Rattle.pearl_tree.specs.Statements.{SpellsMaybeList}
 use Rattle.pearl_tree.specs.Formats.{SpellsFmt}
 use Rattle.pearl_tree.specs.declared.name.Name.{Name}
 use Rattle.pearl_tree.specs.declared.format.Fmt.{Fmt}
-use Rattle.pearl_tables.specs.declared.symbol.TheConstants as s
-use Rattle.pearl_tables.specs.declared.word_code.TheConstants as w
+use Rattle.pearl_tree.specs.declared.symbol.TheConstants as s
+use Rattle.pearl_tree.specs.declared.word_code.TheConstants as w
 
 -- a part that begins at `from` and may be empty was read, and was stopped within the tokens, no earlier than at
 -- `least_stop`, where what stands before it was stopped

@@ -10,10 +10,10 @@ use crate::body::whole_body;
 use crate::step::{symbol, word};
 use pearl_parse_decl::list::behind;
 use pearl_parse_expr::reading::{Halt, Reading};
-use pearl_tables::symbol::SEMICOLON;
-use pearl_tables::word_code::END;
 use pearl_tree::statement::Body;
+use pearl_tree::symbol::SEMICOLON;
 use pearl_tree::token::Token;
+use pearl_tree::word_code::END;
 use std::alloc::Global;
 
 /// `";" body END ";"`

@@ -3,7 +3,7 @@
 ghost use Rattle.std.specs.Prelude.{◌≡◌, ◌+◌, ◌<◌, ◌≤◌, length, IfOk, IfErr};
 ghost use Rattle.std.proofs.Common.{ap};
 ghost use Rattle.pearl_tree.specs.Statements.{SpellsBodyDecl, SpellsWholeBody};
-ghost use Rattle.pearl_tables.specs.declared.word_code.TheConstants as w;
+ghost use Rattle.pearl_tree.specs.declared.word_code.TheConstants as w;
 ghost use Rattle.pearl_parse_expr.specs.Stops.{IsLongest, IsOnly, IsAhead, IsHalted, is_word};
 ghost use Rattle.pearl_parse.specs.Stops.{StopsWithin};
 ghost use Rattle.pearl_parse_expr.specs.Least.{IsLeastIn};
@@ -17,12 +17,12 @@ use crate::step::{symbol, word};
 use pearl_parse_decl::list::list;
 use pearl_parse_expr::reading::{Halt, Reading};
 use pearl_parse_expr::standing::place_at;
-use pearl_tables::symbol::SEMICOLON;
-use pearl_tables::word_code::DCL;
 use pearl_tree::limit::NESTED_MAX;
 use pearl_tree::parts::Parts;
 use pearl_tree::statement::{Body, BodyDecl};
+use pearl_tree::symbol::SEMICOLON;
 use pearl_tree::token::Token;
+use pearl_tree::word_code::DCL;
 use std::alloc::Global;
 
 /// `DCL item { "," item } ";"`

@@ -4,8 +4,8 @@ ghost use Rattle.std.specs.Prelude.{◌≡◌, ◌+◌, ◌<◌, ◌≤◌, ℕ,
 ghost use Rattle.pearl_tree.specs.Standing.{what_at, HasWord, HasSymbol, SpellsMaybeBracketed, SpellsMaybe};
 ghost use Rattle.pearl_tree.specs.Expressions.{SpellsWhole};
 ghost use Rattle.pearl_tree.specs.Statements.{SpellsStmt, SpellsValue, HasBecomes};
-ghost use Rattle.pearl_tables.specs.declared.word_code.TheConstants as w;
-ghost use Rattle.pearl_tables.specs.declared.symbol.TheConstants as s;
+ghost use Rattle.pearl_tree.specs.declared.word_code.TheConstants as w;
+ghost use Rattle.pearl_tree.specs.declared.symbol.TheConstants as s;
 ghost use Rattle.pearl_parse_expr.specs.Stops.{IsOnly, IsAhead, IsHalted, is_name, is_symbol};
 ghost use Rattle.pearl_parse.specs.Stops as spec;
 ghost use Rattle.pearl_parse.specs.Calls as calls;
@@ -17,10 +17,10 @@ use pearl_parse_decl::expression::own_reference;
 use pearl_parse_decl::list::list;
 use pearl_parse_expr::reading::{Halt, Reading, boxed};
 use pearl_parse_expr::standing::{is_symbol, place_at};
-use pearl_tables::symbol::{BECOMES, EQUALS_SIGN, LEFT_ROUND, RIGHT_ROUND, SEMICOLON};
 use pearl_tree::expression::Expr;
 use pearl_tree::parts::Parts;
 use pearl_tree::statement::{Assign, Call, Return, Stmt};
+use pearl_tree::symbol::{BECOMES, EQUALS_SIGN, LEFT_ROUND, RIGHT_ROUND, SEMICOLON};
 use pearl_tree::token::Token;
 use std::alloc::Global;
 

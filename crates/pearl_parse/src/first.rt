@@ -6,10 +6,10 @@ ghost use Rattle.pearl_parse.specs.Stops.{begins_statement};
 ghost use Rattle.pearl_parse.specs.FirstWords.{first_words};
 ghost use Rattle.pearl_parse.specs.Firsts as spec;
 
-use pearl_tables::symbol::SEMICOLON;
-use pearl_tables::word_code::*;
 use pearl_tree::statement::{InterruptWord, SemaWord, TaskWord};
+use pearl_tree::symbol::SEMICOLON;
 use pearl_tree::token::{Token, What};
+use pearl_tree::word_code::*;
 
 /// A statement that holds no others.
 #[derive(Clone, Copy)]

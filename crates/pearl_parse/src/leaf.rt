@@ -3,7 +3,7 @@
 ghost use Rattle.std.specs.Prelude.{◌≡◌, ◌≢◌, ◌+◌, ◌<◌, ◌≤◌, ℕ, length, IfOk, IfErr};
 ghost use Rattle.pearl_tree.specs.Standing.{HasWord};
 ghost use Rattle.pearl_tree.specs.Statements.{SpellsStmt, task_word, sema_word, interrupt_word};
-ghost use Rattle.pearl_tables.specs.declared.word_code.TheConstants as w;
+ghost use Rattle.pearl_tree.specs.declared.word_code.TheConstants as w;
 ghost use Rattle.pearl_parse_expr.specs.declared.reading.Halt.{Halt};
 ghost use Rattle.pearl_parse_expr.specs.Stops.{IsOnly, IsAhead, IsHalted};
 ghost use Rattle.pearl_parse_expr.specs.Least.{IsLeastIn};
@@ -12,10 +12,10 @@ use crate::step::{expr, maybe_name, name, symbol, word as word_here};
 use pearl_parse_decl::expression::own_reference;
 use pearl_parse_expr::reading::{Halt, Reading, boxed};
 use pearl_parse_expr::standing::place_at;
-use pearl_tables::symbol::SEMICOLON;
-use pearl_tables::word_code::*;
 use pearl_tree::statement::{InterruptWord, OnInterrupt, OnTask, Send, Stmt, Take, TaskWord};
+use pearl_tree::symbol::SEMICOLON;
 use pearl_tree::token::Token;
+use pearl_tree::word_code::*;
 use std::alloc::Global;
 
 /// `EXIT ";"`

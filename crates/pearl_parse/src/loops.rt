@@ -12,10 +12,10 @@ ghost use Rattle.pearl_parse.specs.Bodies as bodies;
 use crate::step::{maybe_after, name, word};
 use pearl_parse_expr::reading::{Halt, Reading};
 use pearl_parse_expr::standing::is_word;
-use pearl_tables::word_code::*;
 use pearl_tree::expression::Expr;
 use pearl_tree::name::Name;
 use pearl_tree::token::Token;
+use pearl_tree::word_code::*;
 use std::alloc::Global;
 
 /// The heads of a loop, each of which may be missing.

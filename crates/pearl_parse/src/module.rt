@@ -15,11 +15,11 @@ use crate::step::{name, symbol, word};
 use crate::system::opening;
 use pearl_parse_expr::reading::{Halt, Reading};
 use pearl_parse_expr::standing::{is_symbol, name_at, place_at};
-use pearl_tables::symbol::{LEFT_ROUND, RIGHT_ROUND, SEMICOLON};
-use pearl_tables::word_code::{MODEND, MODULE};
 use pearl_tree::parts::Parts;
+use pearl_tree::symbol::{LEFT_ROUND, RIGHT_ROUND, SEMICOLON};
 use pearl_tree::token::Token;
 use pearl_tree::tree::{ModuleName, Tree};
+use pearl_tree::word_code::{MODEND, MODULE};
 use std::alloc::Global;
 
 /// `[ "(" id ")" | id ]`

@@ -2,8 +2,8 @@
 
 ghost use Rattle.std.specs.Prelude.{◌≡◌, ◌≢◌, ◌+◌, ◌<◌, ◌≤◌, length, IfOk, IfErr, OnOk};
 ghost use Rattle.pearl_tree.specs.Standing.{HasWord, HasSymbol};
-ghost use Rattle.pearl_tables.specs.declared.word_code.TheConstants as w;
-ghost use Rattle.pearl_tables.specs.declared.symbol.TheConstants as s;
+ghost use Rattle.pearl_tree.specs.declared.word_code.TheConstants as w;
+ghost use Rattle.pearl_tree.specs.declared.symbol.TheConstants as s;
 ghost use Rattle.pearl_parse_expr.specs.declared.reading.Halt.{Halt};
 ghost use Rattle.pearl_parse_expr.specs.Stops.{IsOnly, IsAhead, IsHalted};
 ghost use Rattle.pearl_parse.specs.Stops as spec;
@@ -15,10 +15,10 @@ ghost use Rattle.pearl_parse.specs.Reached.{HaltsBehind};
 
 use crate::step::{after, symbol, word as word_here};
 use pearl_parse_expr::reading::{Halt, Reading};
-use pearl_tables::symbol::SEMICOLON;
-use pearl_tables::word_code::*;
 use pearl_tree::expression::Expr;
+use pearl_tree::symbol::SEMICOLON;
 use pearl_tree::token::Token;
+use pearl_tree::word_code::*;
 use std::alloc::Global;
 
 /// `IF expr THEN`

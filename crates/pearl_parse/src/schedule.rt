@@ -3,7 +3,7 @@
 ghost use Rattle.std.specs.Prelude.{◌≡◌, ◌≢◌, ℕ, ◌+◌, ◌<◌, ◌≤◌, length, IfOk, IfErr};
 ghost use Rattle.pearl_tree.specs.Standing.{HasWord, SpellsMaybe};
 ghost use Rattle.pearl_tree.specs.Statements.{SpellsPeriodEnd, SpellsPeriod, SpellsStmt};
-ghost use Rattle.pearl_tables.specs.declared.word_code.TheConstants as w;
+ghost use Rattle.pearl_tree.specs.declared.word_code.TheConstants as w;
 ghost use Rattle.pearl_parse_expr.specs.declared.reading.Halt.{Halt};
 ghost use Rattle.pearl_parse_expr.specs.Stops.{IsLongest, IsOnly, IsAhead, IsHalted, extends_expression};
 ghost use Rattle.pearl_parse.specs.Stops as spec;
@@ -14,12 +14,12 @@ ghost use Rattle.pearl_parse.specs.Reached.{IsLeastBehind};
 use crate::step::{after, maybe_after, name, symbol, word};
 use pearl_parse_expr::reading::{Halt, Reading, boxed};
 use pearl_parse_expr::standing::{is_word, place_at};
-use pearl_tables::symbol::SEMICOLON;
-use pearl_tables::word_code::*;
 use pearl_tree::expression::Expr;
 use pearl_tree::name::Name;
 use pearl_tree::statement::{Activate, Continue, Period, PeriodEnd, Start, Stmt};
+use pearl_tree::symbol::SEMICOLON;
 use pearl_tree::token::Token;
+use pearl_tree::word_code::*;
 use std::alloc::Global;
 
 /// `[ UNTIL expr | DURING expr ]`

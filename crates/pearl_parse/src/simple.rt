@@ -3,7 +3,7 @@
 ghost use Rattle.std.specs.Prelude.{ℕ, ◌<◌, ◌≤◌, length, IfOk, IfErr};
 ghost use Rattle.pearl_tree.specs.Standing.{HasSymbol};
 ghost use Rattle.pearl_tree.specs.Statements.{SpellsStmt};
-ghost use Rattle.pearl_tables.specs.declared.symbol.TheConstants as s;
+ghost use Rattle.pearl_tree.specs.declared.symbol.TheConstants as s;
 ghost use Rattle.pearl_parse_expr.specs.Stops.{IsOnly, IsAhead, IsHalted};
 ghost use Rattle.pearl_parse_expr.specs.Least.{GoesIn, IsLeastIn};
 ghost use Rattle.pearl_parse.specs.Firsts.{BeginsSimple};

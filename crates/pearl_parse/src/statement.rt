@@ -3,7 +3,7 @@
 ghost use Rattle.std.specs.Prelude.{◌≡◌, ℕ, ◌+◌, ◌<◌, ◌≤◌, length, IfOk, IfErr, true};
 ghost use Rattle.pearl_tree.specs.Standing.{what_at, HasWord, SpellsMaybe, SpellsSome};
 ghost use Rattle.pearl_tree.specs.Statements.{SpellsStmt, SpellsBranch, SpellsBody};
-ghost use Rattle.pearl_tables.specs.declared.word_code.TheConstants as w;
+ghost use Rattle.pearl_tree.specs.declared.word_code.TheConstants as w;
 ghost use Rattle.pearl_parse_expr.specs.declared.reading.Halt.{Halt};
 ghost use Rattle.pearl_parse_expr.specs.Stops.{IsLongest, IsOnly, IsAhead, IsHalted};
 ghost use Rattle.pearl_parse.specs.Stops as spec;
@@ -19,10 +19,10 @@ use crate::simple::simple;
 use crate::step::after;
 use pearl_parse_expr::reading::{Halt, Reading, append, boxed};
 use pearl_parse_expr::standing::{is_word, place_at};
-use pearl_tables::word_code::*;
 use pearl_tree::parts::Parts;
 use pearl_tree::statement::{Begin, Body, BodyDecl, Branch, Case, If, Repeat, Stmt};
 use pearl_tree::token::Token;
+use pearl_tree::word_code::*;
 use std::alloc::Global;
 
 /// `{ stmt }`

@@ -4,7 +4,7 @@ ghost use Rattle.std.specs.Prelude.{◌≡◌, ◌+◌, ◌<◌, ◌≤◌, leng
 ghost use Rattle.pearl_tree.specs.Standing.{HasWord, SpellsMaybe};
 ghost use Rattle.pearl_tree.specs.Declarations.{SpellsDevice};
 ghost use Rattle.pearl_tree.specs.Modules.{SpellsSystem};
-ghost use Rattle.pearl_tables.specs.declared.word_code.TheConstants as w;
+ghost use Rattle.pearl_tree.specs.declared.word_code.TheConstants as w;
 ghost use Rattle.pearl_parse_expr.specs.Stops.{IsLongest, IsOnly, IsAhead, IsHalted, is_name};
 ghost use Rattle.pearl_parse_expr.specs.Least.{IsLeastIn};
 ghost use Rattle.pearl_parse.specs.Stops as spec;
@@ -15,11 +15,11 @@ use crate::step::{symbol, word};
 use pearl_parse_decl::specification::device;
 use pearl_parse_expr::reading::{Halt, Reading};
 use pearl_parse_expr::standing::is_word;
-use pearl_tables::symbol::SEMICOLON;
-use pearl_tables::word_code::{PROBLEM, SYSTEM};
 use pearl_tree::declaration::Device;
 use pearl_tree::parts::Parts;
+use pearl_tree::symbol::SEMICOLON;
 use pearl_tree::token::Token;
+use pearl_tree::word_code::{PROBLEM, SYSTEM};
 use std::alloc::Global;
 
 impl Repeated for Device {

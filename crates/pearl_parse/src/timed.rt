@@ -12,11 +12,11 @@ use crate::schedule::begin;
 use crate::step::{after, name, symbol};
 use pearl_parse_expr::reading::{Halt, Reading, boxed};
 use pearl_parse_expr::standing::{is_word, place_at};
-use pearl_tables::symbol::SEMICOLON;
-use pearl_tables::word_code::*;
 use pearl_tree::expression::Expr;
 use pearl_tree::statement::{Activate, Continue, Once, Period, Resume, Start, Stmt};
+use pearl_tree::symbol::SEMICOLON;
 use pearl_tree::token::Token;
+use pearl_tree::word_code::*;
 use std::alloc::Global;
 
 fn time_word(later: bool) -> u8

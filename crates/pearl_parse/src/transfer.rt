@@ -4,7 +4,7 @@ ghost use Rattle.std.specs.Prelude.{◌≡◌, ◌+◌, ◌<◌, ◌≤◌, ℕ,
 ghost use Rattle.pearl_tree.specs.Standing.{HasWord, SpellsList, SpellsName};
 ghost use Rattle.pearl_tree.specs.Formats.{SpellsFmt};
 ghost use Rattle.pearl_tree.specs.Statements.{SpellsStmt, sema_word};
-ghost use Rattle.pearl_tables.specs.declared.word_code.TheConstants as w;
+ghost use Rattle.pearl_tree.specs.declared.word_code.TheConstants as w;
 ghost use Rattle.pearl_parse_expr.specs.Stops.{IsLongest, IsOnly, IsAhead, IsHalted};
 ghost use Rattle.pearl_parse_decl.specs.Readings.{by_comma, never};
 ghost use Rattle.pearl_parse_expr.specs.Least.{IsLeast, IsLeastIn};
@@ -16,13 +16,13 @@ use crate::step::{name, symbol, word as word_here};
 use pearl_parse_decl::list::list;
 use pearl_parse_expr::reading::{Halt, Reading, boxed};
 use pearl_parse_expr::standing::{is_symbol, place_at};
-use pearl_tables::symbol::SEMICOLON;
-use pearl_tables::word_code::*;
 use pearl_tree::format::Fmt;
 use pearl_tree::name::Name;
 use pearl_tree::parts::Parts;
 use pearl_tree::statement::{Get, OnSemas, Put, SemaWord, Stmt};
+use pearl_tree::symbol::SEMICOLON;
 use pearl_tree::token::Token;
+use pearl_tree::word_code::*;
 use std::alloc::Global;
 
 /// `id { "," id }`

@@ -3,8 +3,8 @@
 ghost use Rattle.std.specs.Prelude.{◌≡◌, ◌+◌, ◌<◌, ◌≤◌, length, max, IfOk, IfErr, false};
 ghost use Rattle.pearl_tree.specs.Standing.{what_at, HasWord, HasSymbol, IsName};
 ghost use Rattle.pearl_tree.specs.Modules.{SpellsDecl};
-ghost use Rattle.pearl_tables.specs.declared.symbol.TheConstants as s;
-ghost use Rattle.pearl_tables.specs.declared.word_code.TheConstants as w;
+ghost use Rattle.pearl_tree.specs.declared.symbol.TheConstants as s;
+ghost use Rattle.pearl_tree.specs.declared.word_code.TheConstants as w;
 ghost use Rattle.pearl_parse_expr.specs.Stops.{IsOnly, IsAhead, IsHalted};
 ghost use Rattle.pearl_parse_expr.specs.Least.{IsLeastIn};
 ghost use Rattle.pearl_parse.specs.Modules as modules;
@@ -17,12 +17,12 @@ use pearl_parse_decl::head::{returns, task_head};
 use pearl_parse_decl::list::maybe_bracketed;
 use pearl_parse_expr::reading::{Halt, Reading};
 use pearl_parse_expr::standing::{is_word, name_at, place_at};
-use pearl_tables::symbol::COLON;
-use pearl_tables::word_code::*;
 use pearl_tree::name::Name;
 use pearl_tree::parts::Parts;
+use pearl_tree::symbol::COLON;
 use pearl_tree::token::Token;
 use pearl_tree::tree::Decl;
+use pearl_tree::word_code::*;
 use std::alloc::Global;
 
 /// `id ":" TASK ( [ prio ] [ MAIN ] | MAIN prio ) ";" body END ";"`, where its first three tokens stand.

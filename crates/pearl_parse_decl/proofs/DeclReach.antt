@@ -21,8 +21,8 @@ use Rattle.pearl_tree.specs.Expressions.{SpellsConst}
 use Rattle.pearl_tree.specs.Types.{SpellsNames, SpellsBounds, SpellsBasic, SpellsWholeTyping}
 use Rattle.pearl_tree.specs.Declarations.{SpellsItem, SpellsSema, SpellsDeclared, SpellsClass, SpellsControl, SpellsSpec, SpellsParam, direction_word}
 use Rattle.pearl_tree.specs.Modules.{SpellsDecl}
-use Rattle.pearl_tables.specs.declared.symbol.TheConstants as s
-use Rattle.pearl_tables.specs.declared.word_code.TheConstants as w
+use Rattle.pearl_tree.specs.declared.symbol.TheConstants as s
+use Rattle.pearl_tree.specs.declared.word_code.TheConstants as w
 use Rattle.pearl_parse_expr.specs.Least.{AlikeBefore, ReachesIn, GoesIn, Reaches}
 use Rattle.pearl_parse_expr.proofs.Ids.{x_name, x_token, x_lawful}
 use Rattle.pearl_parse_expr.proofs.Local as local

@@ -9,7 +9,7 @@ use Rattle.pearl_tree.specs.declared.token.Token.{Token}
 use Rattle.pearl_tree.specs.Tokens.{IsLawfulWhat}
 use Rattle.pearl_tree.specs.Standing.{what_at, IsName, IsNumber, HasSymbol, SpellsBracketedNumber}
 use Rattle.pearl_tree.specs.Declarations.{IsDeviceWord, SpellsDevice}
-use Rattle.pearl_tables.specs.declared.symbol.TheConstants as s
+use Rattle.pearl_tree.specs.declared.symbol.TheConstants as s
 use Rattle.pearl_parse_expr.specs.Least.{AlikeBefore, Reaches}
 use Rattle.pearl_parse_expr.proofs.Ids.{x_name, x_token, letter_lawful}
 use Rattle.pearl_parse_expr.proofs.Local as local

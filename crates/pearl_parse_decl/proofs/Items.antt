@@ -12,7 +12,7 @@ use Rattle.pearl_tree.specs.Standing.{what_at, SpellsFlag, SpellsMaybeBracketed,
 use Rattle.pearl_tree.specs.Expressions.{SpellsConst}
 use Rattle.pearl_tree.specs.Types.{SpellsNames, SpellsBound, SpellsBounds, SpellsTyping}
 use Rattle.pearl_tree.specs.Declarations.{SpellsItem, SpellsSema, SpellsDeclared}
-use Rattle.pearl_tables.specs.declared.word_code.TheConstants as w
+use Rattle.pearl_tree.specs.declared.word_code.TheConstants as w
 use Rattle.pearl_tree.specs.Stops.{BeginAlike}
 use Rattle.pearl_parse_expr.specs.Stops.{IsLongest, IsOnly, EndsEarly, is_word}
 use Rattle.pearl_parse_decl.specs.Readings.{by_bracket, extends_item}

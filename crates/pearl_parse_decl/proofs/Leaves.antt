@@ -25,8 +25,8 @@ use Rattle.pearl_tree.specs.Types.{SpellsInt, SpellsUpper, SpellsBound, SpellsBa
 use Rattle.pearl_tree.specs.Formats.{SpellsFmt, free_text, wide_text}
 use Rattle.pearl_tree.specs.Declarations.{SpellsClass, SpellsPrio}
 use Rattle.pearl_tree.specs.Modules.{SpellsTaskHead, SpellsReturns, SpellsDecl}
-use Rattle.pearl_tables.specs.declared.symbol.TheConstants as s
-use Rattle.pearl_tables.specs.declared.word_code.TheConstants as w
+use Rattle.pearl_tree.specs.declared.symbol.TheConstants as s
+use Rattle.pearl_tree.specs.declared.word_code.TheConstants as w
 use Rattle.pearl_tree.proofs.LiteralEnds.{literal_after}
 use Rattle.pearl_tree.specs.Stops.{BeginAlike}
 use Rattle.pearl_tree.specs.declared.limit.TheConstants as limit

@@ -4,7 +4,7 @@ use Rattle.pearl_tree.specs.declared.token.What.{What}
 use Rattle.pearl_tree.specs.declared.token.What.TheVariants as what
 use Rattle.pearl_tree.specs.declared.token.Token.{Token}
 use Rattle.pearl_tree.specs.Standing.{Spelling, what_at, HasSymbol, SpellsMore, SpellsList, SpellsBracketed, SpellsMaybeBracketed, SpellsMaybeHeaded}
-use Rattle.pearl_tables.specs.declared.symbol.TheConstants as s
+use Rattle.pearl_tree.specs.declared.symbol.TheConstants as s
 use Rattle.pearl_tree.specs.Stops.{BeginAlike}
 use Rattle.pearl_parse_expr.specs.Stops.{IsLongest, Stuck, IsOnly, EndsEarly, is_symbol, is_word}
 use Rattle.pearl_parse_decl.specs.Readings.{by_bracket, by_comma}

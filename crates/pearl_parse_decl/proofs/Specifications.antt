@@ -11,7 +11,7 @@ use Rattle.pearl_tree.specs.declared.token.Token.{Token}
 use Rattle.pearl_tree.specs.Standing.{what_at, HasWord}
 use Rattle.pearl_tree.specs.Types.{SpellsNames}
 use Rattle.pearl_tree.specs.Declarations.{IsDeviceWord, SpellsClass, SpellsControl, SpellsSpec, direction_word}
-use Rattle.pearl_tables.specs.declared.word_code.TheConstants as w
+use Rattle.pearl_tree.specs.declared.word_code.TheConstants as w
 use Rattle.pearl_parse_expr.specs.Stops.{EndsEarly, is_name, is_word}
 use Rattle.pearl_parse_decl.specs.Readings.{by_bracket, extends_spec, is_device_word}
 use Rattle.pearl_parse_expr.proofs.Primaries.{clash}

@@ -13,8 +13,8 @@ use Rattle.pearl_tree.specs.declared.token.What.TheVariants as what
 use Rattle.pearl_tree.specs.declared.token.Token.{Token}
 use Rattle.pearl_tree.specs.Standing.{Spelling, what_at, place_at, IsAt, HasWord, HasSymbol, SpellsName, SpellsList, SpellsBracketed, SpellsMaybeBracketed}
 use Rattle.pearl_tree.specs.Types.{SpellsNames, SpellsBound, SpellsBounds, SpellsBasic, SpellsTyping, SpellsField}
-use Rattle.pearl_tables.specs.declared.symbol.TheConstants as s
-use Rattle.pearl_tables.specs.declared.word_code.TheConstants as w
+use Rattle.pearl_tree.specs.declared.symbol.TheConstants as s
+use Rattle.pearl_tree.specs.declared.word_code.TheConstants as w
 use Rattle.pearl_tree.proofs.TypeLists.{spells_struct}
 use Rattle.pearl_parse_expr.specs.Least.{ReachesIn, GoesIn, Reaches}
 use Rattle.pearl_parse_expr.proofs.Ids.{x_name, x_token, x_lawful}

@@ -15,8 +15,8 @@ use Rattle.pearl_tree.specs.declared.token.What.TheVariants as what
 use Rattle.pearl_tree.specs.declared.token.Token.{Token}
 use Rattle.pearl_tree.specs.Standing.{what_at, HasWord, HasSymbol, SpellsName, SpellsMore, SpellsList, SpellsBracketed}
 use Rattle.pearl_tree.specs.Types.{SpellsNames, SpellsBounds, sort_word, SpellsBasic, SpellsTyping, SpellsFields, SpellsMoreFields, SpellsField}
-use Rattle.pearl_tables.specs.declared.symbol.TheConstants as s
-use Rattle.pearl_tables.specs.declared.word_code.TheConstants as w
+use Rattle.pearl_tree.specs.declared.symbol.TheConstants as s
+use Rattle.pearl_tree.specs.declared.word_code.TheConstants as w
 use Rattle.pearl_tree.specs.Stops.{BeginAlike}
 use Rattle.pearl_parse_expr.specs.Stops.{IsLongest, Stuck, IsOnly, is_symbol, is_word, is_name}
 use Rattle.pearl_parse_decl.specs.Readings.{by_bracket, by_comma}

@@ -3,8 +3,8 @@ use Rattle.std.specs.Prelude.{ℕ, ◌+◌, ◌≤◌, ◌||◌, max, Bool, fals
 use Rattle.pearl_tree.specs.declared.token.What.{What}
 use Rattle.pearl_tree.specs.declared.token.Token.{Token}
 use Rattle.pearl_tree.specs.Standing.{Spelling}
-use Rattle.pearl_tables.specs.declared.symbol.TheConstants as s
-use Rattle.pearl_tables.specs.declared.word_code.TheConstants as w
+use Rattle.pearl_tree.specs.declared.symbol.TheConstants as s
+use Rattle.pearl_tree.specs.declared.word_code.TheConstants as w
 use Rattle.pearl_parse_expr.specs.declared.reading.Halt.{Halt}
 use Rattle.pearl_parse_expr.specs.declared.reading.Halt.TheVariants.{Refused, NoMemory}
 use Rattle.pearl_parse_expr.specs.Stops.{is_name, is_symbol, is_word}

@@ -12,8 +12,8 @@ use crate::list::{Readable, behind};
 use pearl_parse_expr::literal::literal;
 use pearl_parse_expr::reading::{Halt, Reading};
 use pearl_parse_expr::standing::{is_symbol, place_at};
-use pearl_tables::symbol::{MINUS, PLUS};
 use pearl_tree::literal::{Const, Sign};
+use pearl_tree::symbol::{MINUS, PLUS};
 use pearl_tree::token::Token;
 use std::alloc::Global;
 

@@ -4,7 +4,7 @@ ghost use Rattle.std.specs.Prelude.{◌≡◌, ◌+◌, ◌<◌, ◌≤◌, List
 ghost use Rattle.pearl_tree.specs.Standing.{HasWord, SpellsMaybe};
 ghost use Rattle.pearl_tree.specs.Declarations as grammar;
 ghost use Rattle.pearl_tree.specs.Modules as modules;
-ghost use Rattle.pearl_tables.specs.declared.word_code.TheConstants as w;
+ghost use Rattle.pearl_tree.specs.declared.word_code.TheConstants as w;
 ghost use Rattle.pearl_parse_expr.specs.Stops as stops;
 ghost use Rattle.pearl_parse_expr.specs.Least.{Reaches, GoesTo, IsLeast};
 ghost use Rattle.pearl_parse_expr.proofs.PartsBegin as parts;
@@ -16,12 +16,12 @@ use crate::name::names;
 use crate::typing::basic;
 use pearl_parse_expr::reading::{Halt, Reading};
 use pearl_parse_expr::standing::{is_symbol, is_word, number_at, place_at};
-use pearl_tables::symbol::{LEFT_ROUND, RIGHT_ROUND};
-use pearl_tables::word_code::{IDENT, MAIN, PRIO, RETURNS};
 use pearl_tree::declaration::{Param, Prio};
+use pearl_tree::symbol::{LEFT_ROUND, RIGHT_ROUND};
 use pearl_tree::token::Token;
 use pearl_tree::tree::TaskHead;
 use pearl_tree::typing::Basic;
+use pearl_tree::word_code::{IDENT, MAIN, PRIO, RETURNS};
 use std::alloc::Global;
 
 /// `names basic [ IDENT ]`

@@ -4,7 +4,7 @@ ghost use Rattle.std.specs.Prelude.{◌≡◌, ◌+◌, ◌≤◌, List, length,
 ghost use Rattle.pearl_tree.specs.Standing.{HasWord};
 ghost use Rattle.pearl_tree.specs.Types as types;
 ghost use Rattle.pearl_tree.specs.Declarations as grammar;
-ghost use Rattle.pearl_tables.specs.declared.word_code.TheConstants as w;
+ghost use Rattle.pearl_tree.specs.declared.word_code.TheConstants as w;
 ghost use Rattle.pearl_parse_expr.specs.Stops as stops;
 ghost use Rattle.pearl_parse_expr.specs.Least.{GoesIn, IsLeast};
 ghost use Rattle.pearl_parse_expr.proofs.PartsBegin as parts;
@@ -16,13 +16,13 @@ use crate::name::names;
 use crate::typing::{bounds, typing};
 use pearl_parse_expr::reading::{Halt, Reading};
 use pearl_parse_expr::standing::{is_word, place_at};
-use pearl_tables::word_code::{INIT, INV, PRESET, SEMA};
 use pearl_tree::declaration::{Declared, Item, Sema};
 use pearl_tree::limit::STRUCTS_MAX;
 use pearl_tree::literal::Const;
 use pearl_tree::name::{Names, Number};
 use pearl_tree::parts::Parts;
 use pearl_tree::token::Token;
+use pearl_tree::word_code::{INIT, INV, PRESET, SEMA};
 use std::alloc::Global;
 
 // An item whose names were read.

@@ -5,7 +5,7 @@ ghost use Rattle.pearl_tree.specs.declared.token.Token.{Token};
 ghost use Rattle.pearl_tree.specs.declared.token.What.{What};
 ghost use Rattle.pearl_tree.specs.declared.token.What.TheVariants as what;
 ghost use Rattle.pearl_tree.specs.Standing.{Spelling, HasWord, HasSymbol, SpellsList, SpellsBracketed, SpellsMaybeBracketed, SpellsMaybeHeaded};
-ghost use Rattle.pearl_tables.specs.declared.symbol.TheConstants as s;
+ghost use Rattle.pearl_tree.specs.declared.symbol.TheConstants as s;
 ghost use Rattle.pearl_parse_expr.specs.declared.reading.Halt.{Halt};
 ghost use Rattle.pearl_parse_expr.specs.Stops as stops;
 ghost use Rattle.pearl_parse_expr.specs.Least.{IsLeast, IsLeastIn};
@@ -13,7 +13,7 @@ ghost use Rattle.pearl_parse_decl.specs.Readings as spec;
 
 use pearl_parse_expr::reading::{Halt, Reading, append};
 use pearl_parse_expr::standing::{is_symbol, is_word};
-use pearl_tables::symbol::{COMMA, LEFT_ROUND, RIGHT_ROUND};
+use pearl_tree::symbol::{COMMA, LEFT_ROUND, RIGHT_ROUND};
 use pearl_tree::token::Token;
 use std::alloc::Global;
 

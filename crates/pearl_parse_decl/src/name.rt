@@ -12,9 +12,9 @@ ghost use Rattle.pearl_parse_decl.specs.Readings as spec;
 use crate::list::{Readable, bracketed};
 use pearl_parse_expr::reading::{Halt, Reading};
 use pearl_parse_expr::standing::{is_symbol, name_at, number_at, place_at};
-use pearl_tables::symbol::{LEFT_ROUND, RIGHT_ROUND};
 use pearl_tree::name::{Name, Names, Number};
 use pearl_tree::parts::Parts;
+use pearl_tree::symbol::{LEFT_ROUND, RIGHT_ROUND};
 use pearl_tree::token::Token;
 use std::alloc::Global;
 

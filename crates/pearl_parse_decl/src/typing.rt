@@ -5,8 +5,8 @@ ghost use Rattle.pearl_tree.specs.Standing.{what_at, HasWord, HasSymbol, SpellsM
 ghost use Rattle.pearl_tree.specs.Types as grammar;
 ghost use Rattle.pearl_tree.specs.declared.typing.Sort.{Sort};
 ghost use Rattle.pearl_tree.specs.declared.typing.Field.{Field};
-ghost use Rattle.pearl_tables.specs.declared.symbol.TheConstants as s;
-ghost use Rattle.pearl_tables.specs.declared.word_code.TheConstants as w;
+ghost use Rattle.pearl_tree.specs.declared.symbol.TheConstants as s;
+ghost use Rattle.pearl_tree.specs.declared.word_code.TheConstants as w;
 ghost use Rattle.pearl_parse_expr.specs.declared.reading.Halt.{Halt};
 ghost use Rattle.pearl_parse_expr.specs.Stops as stops;
 ghost use Rattle.pearl_parse_expr.specs.Least.{Reaches, GoesTo, IsLeast, IsLeastIn};
@@ -17,12 +17,12 @@ use crate::list::{Readable, behind, maybe_bracketed};
 use crate::name::{maybe_number, names};
 use pearl_parse_expr::reading::{Halt, Reading, append};
 use pearl_parse_expr::standing::{is_symbol, is_word, name_at, number_at, place_at};
-use pearl_tables::symbol::{COLON, COMMA, LEFT_SQUARE, MINUS, RIGHT_SQUARE};
-use pearl_tables::word_code::{BIT, CHAR, CLOCK, DURATION, FIXED, STRUCT};
 use pearl_tree::name::Name;
 use pearl_tree::parts::Parts;
+use pearl_tree::symbol::{COLON, COMMA, LEFT_SQUARE, MINUS, RIGHT_SQUARE};
 use pearl_tree::token::Token;
 use pearl_tree::typing::{Basic, Bound, Field, Int, Sort, Typing};
+use pearl_tree::word_code::{BIT, CHAR, CLOCK, DURATION, FIXED, STRUCT};
 use std::alloc::Global;
 
 /// `[ "-" ] number`, or the number of a token with which none begins.

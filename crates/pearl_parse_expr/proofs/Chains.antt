@@ -9,8 +9,8 @@ use Rattle.pearl_tree.specs.declared.token.What.TheVariants as what
 use Rattle.pearl_tree.specs.declared.token.Token.{Token}
 use Rattle.pearl_tree.specs.Standing.{what_at}
 use Rattle.pearl_tree.specs.Expressions.{SpellsTerms, SpellsExpr, HasDyad, dyad_of, dyad_count}
-use Rattle.pearl_tables.specs.declared.word_code.TheConstants as w
-use Rattle.pearl_tables.specs.declared.symbol.TheConstants as s
+use Rattle.pearl_tree.specs.declared.word_code.TheConstants as w
+use Rattle.pearl_tree.specs.declared.symbol.TheConstants as s
 use Rattle.pearl_parse_expr.specs.declared.reading.Halt.{Halt}
 use Rattle.pearl_parse_expr.specs.declared.reading.Halt.TheVariants.{Refused, NoMemory}
 use Rattle.pearl_tree.specs.Following.{lengthens_operand}

@@ -8,7 +8,7 @@ use Rattle.pearl_tree.specs.declared.token.What.TheVariants as what
 use Rattle.pearl_tree.specs.declared.token.Token.{Token}
 use Rattle.pearl_tree.specs.Standing.{what_at, HasSymbol}
 use Rattle.pearl_tree.specs.Expressions.{SpellsPrimary, SpellsSelector, SpellsExpr}
-use Rattle.pearl_tables.specs.declared.symbol.TheConstants as s
+use Rattle.pearl_tree.specs.declared.symbol.TheConstants as s
 use Rattle.pearl_tree.specs.Stops.{BeginAlike}
 use Rattle.pearl_parse_expr.specs.Stops.{IsLongest, EndsEarly, extends_expression, extends_list, is_symbol, SpellsSubscriptsList}
 use Rattle.pearl_parse_expr.proofs.Primaries.{clash, only_group, only_bracketed}

@@ -20,8 +20,8 @@ use Rattle.pearl_tree.specs.declared.token.What.TheVariants as what
 use Rattle.pearl_tree.specs.declared.token.Token.{Token}
 use Rattle.pearl_tree.specs.Standing.{Spelling, what_at, IsAt, IsName, HasWord, HasSymbol, SpellsEach, SpellsMore, SpellsList, SpellsMaybe, SpellsNumber}
 use Rattle.pearl_tree.specs.Expressions.{SpellsMonadic, SpellsTerms, SpellsExpr, SpellsPrimary, SpellsSelector, SpellsRef, HasDyad, dyad_count, side_word}
-use Rattle.pearl_tables.specs.declared.symbol.TheConstants as s
-use Rattle.pearl_tables.specs.declared.word_code.TheConstants as w
+use Rattle.pearl_tree.specs.declared.symbol.TheConstants as s
+use Rattle.pearl_tree.specs.declared.word_code.TheConstants as w
 use Rattle.pearl_tree.proofs.ExpressionLists.{spells_ref, spells_limit, spells_subscripts}
 use Rattle.pearl_tree.proofs.ExpressionsForward.{terms_after, selector_after, primary_after, monadics_after}
 use Rattle.pearl_parse_expr.specs.Stops.{EndsEarly, IsAhead, SpellsSigned, SpellsNamed, SpellsSelectorsList, SpellsSubscriptsList, SomeGoesOn, is_name}

@@ -11,8 +11,8 @@ use Rattle.pearl_tree.specs.declared.token.What.TheVariants as what
 use Rattle.pearl_tree.specs.declared.token.Token.{Token}
 use Rattle.pearl_tree.specs.Standing.{IsAt, IsNumber, HasWord, HasSymbol, SpellsMaybe}
 use Rattle.pearl_tree.specs.Expressions.{SpellsPrimary, SpellsSelector, SpellsSecs, SpellsSeconds, SpellsMinutes, SpellsDuration, SpellsLiteral}
-use Rattle.pearl_tables.specs.declared.symbol.TheConstants as s
-use Rattle.pearl_tables.specs.declared.word_code.TheConstants as w
+use Rattle.pearl_tree.specs.declared.symbol.TheConstants as s
+use Rattle.pearl_tree.specs.declared.word_code.TheConstants as w
 use Rattle.pearl_parse_expr.specs.Stops.{SpellsNamed, is_name}
 use Rattle.pearl_parse_expr.specs.Least.{Reaches}
 use Rattle.pearl_parse_expr.proofs.Ids.{x_name, x_token, x_lawful}

@@ -15,8 +15,8 @@ use Rattle.pearl_tree.specs.declared.token.What.TheVariants as what
 use Rattle.pearl_tree.specs.declared.token.Token.{Token}
 use Rattle.pearl_tree.specs.Standing.{what_at, HasWord, SpellsEach, SpellsMaybe, SpellsNumber}
 use Rattle.pearl_tree.specs.Expressions.{SpellsPrimary, SpellsMonadic, side_word, monad_what}
-use Rattle.pearl_tables.specs.declared.word_code.TheConstants as w
-use Rattle.pearl_tables.specs.declared.symbol.TheConstants as s
+use Rattle.pearl_tree.specs.declared.word_code.TheConstants as w
+use Rattle.pearl_tree.specs.declared.symbol.TheConstants as s
 use Rattle.pearl_tree.specs.Stops.{BeginAlike}
 use Rattle.pearl_parse_expr.specs.Stops.{IsLongest, Stuck, EndsEarly, is_number, is_side, is_literal, is_name, is_symbol, is_word, monad_of, extends_operand, SpellsNamed, SpellsSigned}
 use Rattle.pearl_parse_expr.proofs.Primaries.{clash, or_absurd, side_head, Head, first_token, only_limit, only_counted_limit}

@@ -4,7 +4,7 @@ use Rattle.pearl_tree.specs.declared.expression.Monadic.{Monadic}
 use Rattle.pearl_tree.specs.declared.token.Token.{Token}
 use Rattle.pearl_tree.specs.Standing.{Spelling, HasSymbol, SpellsEach, SpellsMore, SpellsList}
 use Rattle.pearl_tree.specs.Expressions.{SpellsMonadic}
-use Rattle.pearl_tables.specs.declared.symbol.TheConstants as s
+use Rattle.pearl_tree.specs.declared.symbol.TheConstants as s
 
 pub each_one_more : {X : Type 0} (spells : Spelling X) (xs : List X) (from m to : ℕ) (x : X) →
     SpellsEach spells from xs m → spells m x to → SpellsEach spells from (xs ++ x ∷ []) to

@@ -6,7 +6,7 @@ use Rattle.pearl_tree.specs.declared.token.What.{What}
 use Rattle.pearl_tree.specs.declared.token.Token.{Token}
 use Rattle.pearl_tree.specs.Standing.{what_at, HasSymbol, SpellsMore}
 use Rattle.pearl_tree.specs.Expressions.{SpellsSelector, SpellsExpr}
-use Rattle.pearl_tables.specs.declared.symbol.TheConstants as s
+use Rattle.pearl_tree.specs.declared.symbol.TheConstants as s
 use Rattle.pearl_tree.specs.Stops.{BeginAlike}
 use Rattle.pearl_parse_expr.specs.Stops.{IsLongest, Stuck, IsOnly, EndsEarly, is_symbol, extends_operand, extends_expression, extends_list, SpellsSelectorsList, SpellsSubscriptsList}
 use Rattle.pearl_parse_expr.proofs.Primaries.{clash}

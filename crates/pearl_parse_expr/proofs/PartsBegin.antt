@@ -20,8 +20,8 @@ use Rattle.pearl_tree.specs.Expressions.{SpellsConst, SpellsWhole, SpellsOwnRef}
 use Rattle.pearl_tree.specs.Types.{SpellsBound}
 use Rattle.pearl_tree.specs.Formats.{SpellsFmt}
 use Rattle.pearl_tree.specs.Declarations.{SpellsItem, SpellsDeclared, SpellsSpec, SpellsParam}
-use Rattle.pearl_tables.specs.declared.symbol.TheConstants as s
-use Rattle.pearl_tables.specs.declared.word_code.TheConstants as w
+use Rattle.pearl_tree.specs.declared.symbol.TheConstants as s
+use Rattle.pearl_tree.specs.declared.word_code.TheConstants as w
 use Rattle.pearl_parse_expr.specs.Least.{ReachesIn}
 use Rattle.pearl_parse_expr.proofs.Ids.{x_name, x_token, x_lawful, letter_token, letter_lawful}
 use Rattle.pearl_parse_expr.proofs.Reaching.{begun, completed_in, one_lawful, none_lawful, token_of, what_stands, place_stands}

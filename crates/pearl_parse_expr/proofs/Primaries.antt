@@ -19,8 +19,8 @@ use Rattle.pearl_tree.specs.declared.token.What.TheVariants as what
 use Rattle.pearl_tree.specs.declared.token.Token.{Token}
 use Rattle.pearl_tree.specs.Standing.{what_at, HasWord, HasSymbol}
 use Rattle.pearl_tree.specs.Expressions.{SpellsSecs, SpellsDuration, SpellsLiteral, SpellsPrimary, SpellsSelector, SpellsExpr, side_word}
-use Rattle.pearl_tables.specs.declared.word_code.TheConstants as w
-use Rattle.pearl_tables.specs.declared.symbol.TheConstants as s
+use Rattle.pearl_tree.specs.declared.word_code.TheConstants as w
+use Rattle.pearl_tree.specs.declared.symbol.TheConstants as s
 use Rattle.pearl_tree.specs.Stops.{BeginAlike}
 use Rattle.pearl_tree.proofs.ExpressionLists.{selectors, subscripts}
 use Rattle.pearl_parse_expr.specs.declared.reading.Halt.{Halt}

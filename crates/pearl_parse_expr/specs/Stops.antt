@@ -20,8 +20,8 @@ use Rattle.pearl_parse_expr.specs.declared.reading.Halt.TheVariants.{Refused, No
 use Rattle.pearl_tree.specs.Following.{lengthens_operand, lengthens_expr}
 use Rattle.pearl_tree.specs.Stops.{BeginAlike}
 use Rattle.pearl_parse_expr.specs.Least.{LawfulFrom}
-use Rattle.pearl_tables.specs.declared.symbol.TheConstants as s
-use Rattle.pearl_tables.specs.declared.word_code.TheConstants as w
+use Rattle.pearl_tree.specs.declared.symbol.TheConstants as s
+use Rattle.pearl_tree.specs.declared.word_code.TheConstants as w
 
 -- a token of this kind; the end is of none
 abbrev pub is_one_of : (What → Bool) → Option What → Bool

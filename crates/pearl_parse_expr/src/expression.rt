@@ -8,8 +8,8 @@ ghost use Rattle.pearl_tree.specs.declared.expression.Expr.{Expr};
 ghost use Rattle.pearl_tree.specs.Standing.{what_at, IsAt, HasWord, HasSymbol, SpellsEach, SpellsMaybe, SpellsNumber};
 ghost use Rattle.pearl_tree.specs.Expressions as grammar;
 ghost use Rattle.pearl_tree.specs.Following.{lengthens_expr, HasOneOf};
-ghost use Rattle.pearl_tables.specs.declared.word_code.TheConstants as w;
-ghost use Rattle.pearl_tables.specs.declared.symbol.TheConstants as s;
+ghost use Rattle.pearl_tree.specs.declared.word_code.TheConstants as w;
+ghost use Rattle.pearl_tree.specs.declared.symbol.TheConstants as s;
 ghost use Rattle.pearl_parse_expr.specs.declared.reading.Halt.{Halt};
 ghost use Rattle.pearl_parse_expr.specs.Stops as spec;
 ghost use Rattle.pearl_parse_expr.specs.Least.{IsLeast};
@@ -22,12 +22,12 @@ use crate::leaf::{
 use crate::operator::dyadic_at;
 use crate::reading::{Halt, Reading, append, boxed};
 use crate::standing::{is_name, is_symbol, is_word, name_at, place_at};
-use pearl_tables::symbol::{COMMA, LEFT_ROUND, PERIOD, RIGHT_ROUND};
-use pearl_tables::word_code::{NOW, TRY};
 use pearl_tree::expression::{Expr, Operand, Primary, Ref, Selector};
 use pearl_tree::limit::{BRACKETS_MAX, DYADS_MAX};
 use pearl_tree::parts::Parts;
+use pearl_tree::symbol::{COMMA, LEFT_ROUND, PERIOD, RIGHT_ROUND};
 use pearl_tree::token::Token;
+use pearl_tree::word_code::{NOW, TRY};
 use std::alloc::Global;
 
 // The place that is told where the tokens run out.

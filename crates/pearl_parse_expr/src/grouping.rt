@@ -8,8 +8,8 @@ ghost use Rattle.pearl_tree.specs.Expressions as grammar;
 ghost use Rattle.pearl_parse_expr.specs.declared.reading.Halt.{Halt};
 
 use crate::reading::{Halt, boxed};
-use pearl_tables::operator::rank;
 use pearl_tree::expression::{Dyadic, Expr, Operand};
+use pearl_tree::operator::rank;
 use std::alloc::Global;
 
 fn first_place(expr: &Expr) -> u32

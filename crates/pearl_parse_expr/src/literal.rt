@@ -3,7 +3,7 @@
 ghost use Rattle.std.specs.Prelude.{◌≡◌, ◌≢◌, ◌+◌, ◌<◌, ◌≤◌, length, IfOk, IfErr, IfSome, Some, None, true, false};
 ghost use Rattle.pearl_tree.specs.Standing.{what_at, IsNumber, HasWord};
 ghost use Rattle.pearl_tree.specs.Expressions.{SpellsSecs, SpellsSeconds, SpellsDuration, SpellsLiteral};
-ghost use Rattle.pearl_tables.specs.declared.word_code.TheConstants as w;
+ghost use Rattle.pearl_tree.specs.declared.word_code.TheConstants as w;
 ghost use Rattle.pearl_tree.specs.declared.literal.Duration.{Duration};
 ghost use Rattle.pearl_parse_expr.specs.declared.reading.Halt.{Halt};
 ghost use Rattle.pearl_parse_expr.specs.Least.{Reaches, GoesTo, IsLeast};
@@ -11,10 +11,10 @@ ghost use Rattle.pearl_parse_expr.specs.Stops.{IsLongest, Stuck, IsAhead, IsHalt
 
 use crate::reading::{Halt, Reading, boxed};
 use crate::standing::{is_word, number_at};
-use pearl_tables::word_code::{HRS, MIN, SEC};
 use pearl_tree::literal::{Duration, Literal, Secs};
 use pearl_tree::name::Number;
 use pearl_tree::token::{Token, What};
+use pearl_tree::word_code::{HRS, MIN, SEC};
 use std::alloc::Global;
 
 // A literal of one token.

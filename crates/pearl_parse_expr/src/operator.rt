@@ -6,10 +6,10 @@ ghost use Rattle.pearl_tree.specs.Standing.{what_at, IsAt, HasWord};
 ghost use Rattle.pearl_tree.specs.Expressions as grammar;
 ghost use Rattle.pearl_parse_expr.specs.Stops as spec;
 
-use pearl_tables::symbol::*;
-use pearl_tables::word_code::*;
 use pearl_tree::expression::{Dyadic, Monadic, Side};
+use pearl_tree::symbol::*;
 use pearl_tree::token::{Token, What};
+use pearl_tree::word_code::*;
 use pearl_value::operator::{Dyad, Monad};
 
 fn dyad_of_symbol(symbol: u8) -> Option<Dyad>

@@ -14,9 +14,9 @@ use Rattle.pearl_tree.specs.declared.format.FreeCode.TheVariants.{A, B, B1, B2, 
 use Rattle.pearl_tree.specs.declared.format.WideCode.{WideCode}
 use Rattle.pearl_tree.specs.declared.format.WideCode.TheVariants.{F, T, D}
 use Rattle.pearl_tree.specs.Formats.{free_text, wide_text}
-use Rattle.pearl_tables.specs.declared.symbol.TheConstants as s
-use Rattle.pearl_tables.specs.Symbols.{symbol_count}
-use Rattle.pearl_tables.specs.Words.{code_count, meanings, words}
+use Rattle.pearl_tree.specs.declared.symbol.TheConstants as s
+use Rattle.pearl_tree.specs.Symbols.{symbol_count}
+use Rattle.pearl_tree.specs.Words.{code_count, meanings, words}
 use Rattle.pearl_tree.specs.Tokens.{IsIdByte, IsLawfulWhat}
 use Rattle.pearl_tree.specs.Lawful.{IsLawfulName, IsLawfulNumber}
 use Rattle.pearl_lex.proofs.Passes.{and_front, and_back}

@@ -15,8 +15,8 @@ use Rattle.pearl_tree.specs.Standing.{HasWord, HasSymbol, IsNumber}
 use Rattle.pearl_tree.specs.Declarations.{IsDeviceWord, SpellsDevice, SpellsPrio, SpellsItem, SpellsSema, SpellsDeclared, direction_word, SpellsClass, SpellsSpec, SpellsParam}
 use Rattle.pearl_tree.specs.ShownLiterals.{shown_const}
 use Rattle.pearl_tree.specs.ShownDeclarations.{OfItem, OfSema, OfInterrupt, OfDation, shown_item, shown_sema, shown_declared, shown_spec, shown_param}
-use Rattle.pearl_tables.specs.declared.symbol.TheConstants as s
-use Rattle.pearl_tables.specs.declared.word_code.TheConstants as w
+use Rattle.pearl_tree.specs.declared.symbol.TheConstants as s
+use Rattle.pearl_tree.specs.declared.word_code.TheConstants as w
 use Rattle.pearl_print.specs.Lists.{word, symbol, number_tokens, maybe_headed, flag, bracketed_number}
 use Rattle.pearl_print.specs.Expressions.{const_tokens}
 use Rattle.pearl_print.specs.Types.{names_tokens, bounds_tokens, basic_tokens, typing_tokens}

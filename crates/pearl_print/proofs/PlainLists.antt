@@ -8,7 +8,7 @@ use Rattle.pearl_tree.specs.declared.token.What.{What}
 use Rattle.pearl_tree.specs.declared.token.Token.{Token}
 use Rattle.pearl_tree.specs.Standing.{Spelling, SpellsName, SpellsNumber, SpellsBracketedNumber, SpellsEach, SpellsMore, SpellsList, SpellsBracketed, SpellsMaybeBracketed, SpellsMaybeHeaded, SpellsMaybe, SpellsFlag, HasSymbol}
 use Rattle.pearl_tree.specs.Statements.{SpellsMaybeList}
-use Rattle.pearl_tables.specs.declared.symbol.TheConstants as s
+use Rattle.pearl_tree.specs.declared.symbol.TheConstants as s
 use Rattle.pearl_print.specs.Lists.{symbol, name_tokens, number_tokens, after_commas, listed, bracketed, maybe_bracketed, maybe_headed, maybe, flag, bracketed_number}
 use Rattle.pearl_print.specs.Plain.{plain_name, plain_number}
 use Rattle.pearl_print.proofs.TokenRanges.{place_of, here, HasTokens, cut, plus_two, plus_three}

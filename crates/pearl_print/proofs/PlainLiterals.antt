@@ -25,7 +25,7 @@ use Rattle.pearl_tree.specs.Standing.{SpellsSymbolFlag, SpellsMaybe, SpellsBrack
 use Rattle.pearl_tree.specs.Expressions.{SpellsMinutes, SpellsSeconds, SpellsDuration, SpellsLiteral, SpellsSign, SpellsConst}
 use Rattle.pearl_tree.specs.Types.{SpellsNames, SpellsInt, SpellsUpper, SpellsBound, SpellsBounds, SpellsBasic, SpellsTyping, SpellsFields, SpellsMoreFields}
 use Rattle.pearl_tree.specs.Formats.{SpellsFmt}
-use Rattle.pearl_tables.specs.declared.symbol.TheConstants as s
+use Rattle.pearl_tree.specs.declared.symbol.TheConstants as s
 use Rattle.pearl_tree.specs.ShownLiterals.{OfNumber, OfDuration, shown_literal, shown_const}
 use Rattle.pearl_tree.specs.ShownDeclarations.{shown_names, OfOne, OfSeveral, shown_typing, shown_fields, OfBasic, OfStruct, OfNamed, MoreFields}
 use Rattle.pearl_print.specs.Lists.{symbol, number_tokens, maybe, bracketed_number}

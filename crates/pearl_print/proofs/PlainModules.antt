@@ -24,8 +24,8 @@ use Rattle.pearl_tree.specs.Declarations.{SpellsDevice, SpellsParam}
 use Rattle.pearl_tree.specs.Modules.{SpellsTaskHead, SpellsReturns, SpellsBlock, SpellsDecl, SpellsModuleName, SpellsSystem, SpellsTree, Spells}
 use Rattle.pearl_tree.specs.ShownDeclarations.{shown_declared, shown_spec, shown_param}
 use Rattle.pearl_tree.specs.ShownModules.{OfType, OfDeclare, OfSpecify, OfTask, OfProc, shown_body, shown_decl, shown_devices, shown_tree}
-use Rattle.pearl_tables.specs.declared.symbol.TheConstants as s
-use Rattle.pearl_tables.specs.declared.word_code.TheConstants as w
+use Rattle.pearl_tree.specs.declared.symbol.TheConstants as s
+use Rattle.pearl_tree.specs.declared.word_code.TheConstants as w
 use Rattle.pearl_print.specs.Lists.{word, symbol, listed, maybe_bracketed, maybe, flag}
 use Rattle.pearl_print.specs.Types.{basic_tokens, typing_tokens}
 use Rattle.pearl_print.specs.Declarations.{prio_tokens, declared_tokens, spec_tokens, param_tokens}

@@ -20,8 +20,8 @@ use Rattle.pearl_tree.specs.Statements.{SpellsAfter, SpellsFor, SpellsValue, Spe
 use Rattle.pearl_tree.specs.ShownExpressions.{ShownExpr, shown_expr}
 use Rattle.pearl_tree.specs.ShownDeclarations.{shown_item}
 use Rattle.pearl_tree.specs.ShownStatements.{OfUntil, OfDuring, OfAt, OfAfter, OfWhen, OfAll, OnceAt, OnceAfter, shown_period_end, shown_period, shown_start, shown_once, shown_body_decl}
-use Rattle.pearl_tables.specs.declared.symbol.TheConstants as s
-use Rattle.pearl_tables.specs.declared.word_code.TheConstants as w
+use Rattle.pearl_tree.specs.declared.symbol.TheConstants as s
+use Rattle.pearl_tree.specs.declared.word_code.TheConstants as w
 use Rattle.pearl_print.specs.Lists.{symbol, listed, maybe}
 use Rattle.pearl_print.specs.Expressions.{expr_tokens}
 use Rattle.pearl_print.specs.Formats.{fmt_tokens, by_tokens}

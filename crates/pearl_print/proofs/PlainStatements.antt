@@ -13,8 +13,8 @@ use Rattle.pearl_tree.specs.Statements.{SpellsAfter, SpellsStmt, SpellsStmts, Sp
 use Rattle.pearl_tree.specs.ShownExpressions.{shown_expr, shown_ref}
 use Rattle.pearl_tree.specs.ShownStatements.{OfAssign, OfCall, OfIf, OfCase, OfRepeat, OfBegin, OfReturn, OfActivate, OfContinue, OfResume, OfOnTask, OfOnSemas, OfPut, OfGet, OfSend, OfTake, MoreStmts, MoreBranches, OfOtherwise, shown_start, shown_once, shown_stmt, shown_stmts, shown_branches, shown_otherwise}
 use Rattle.pearl_tree.specs.ShownModules.{shown_body}
-use Rattle.pearl_tables.specs.declared.symbol.TheConstants as s
-use Rattle.pearl_tables.specs.declared.word_code.TheConstants as w
+use Rattle.pearl_tree.specs.declared.symbol.TheConstants as s
+use Rattle.pearl_tree.specs.declared.word_code.TheConstants as w
 use Rattle.pearl_print.specs.Lists.{word, symbol, name_tokens, listed, maybe_bracketed, maybe}
 use Rattle.pearl_print.specs.Expressions.{expr_tokens, ref_tokens}
 use Rattle.pearl_print.specs.Formats.{by_tokens}

@@ -13,8 +13,8 @@ use Rattle.pearl_tree.specs.declared.expression.Primary as primary
 use Rattle.pearl_tree.specs.declared.expression.Selector.{Selector, Subscripts, Subscripts', Row_of-Expr, end_of-Expr, more_of-Expr, items-the_row-Expr, items_hidden-the_row-Expr-1}
 use Rattle.pearl_tree.specs.declared.expression.Ref.{Ref, Row_of-Selector, end_of-Selector, more_of-Selector, items-the_row-Selector, items_hidden-the_row-Selector-0}
 use Rattle.pearl_tree.specs.Expressions.{side_word}
-use Rattle.pearl_tables.specs.declared.symbol.TheConstants as s
-use Rattle.pearl_tables.specs.declared.word_code.TheConstants as w
+use Rattle.pearl_tree.specs.declared.symbol.TheConstants as s
+use Rattle.pearl_tree.specs.declared.word_code.TheConstants as w
 use Rattle.pearl_print.specs.Lists.{word, symbol, name_tokens, number_tokens, after_commas, listed, bracketed, maybe}
 use Rattle.pearl_print.specs.Types.{names_tokens, bounds_tokens, typing_tokens, fields_tokens, more_fields_tokens, field_tokens, struct_tokens}
 use Rattle.pearl_print.specs.Expressions.{expr_tokens, primary_tokens, selectors_tokens, selector_tokens, subscripts_tokens, more_subscripts_tokens, ref_tokens, limit_tokens}

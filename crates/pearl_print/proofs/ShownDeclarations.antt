@@ -15,8 +15,8 @@ use Rattle.pearl_tree.specs.declared.token.What.{What}
 use Rattle.pearl_tree.specs.Declarations.{direction_word}
 use Rattle.pearl_tree.specs.ShownLiterals.{ShownConst, shown_const}
 use Rattle.pearl_tree.specs.ShownDeclarations.{ShownNames, OfOne, OfSeveral, shown_names, ShownTyping, OfBasic, OfStruct, OfNamed, ShownFields, NoFields, MoreFields, shown_typing, shown_fields, ShownItem, shown_item, ShownSema, shown_sema, ShownDeclared, OfItem, OfSema, shown_declared, ShownSpec, OfInterrupt, OfDation, shown_spec, ShownParam, shown_param}
-use Rattle.pearl_tables.specs.declared.symbol.TheConstants as s
-use Rattle.pearl_tables.specs.declared.word_code.TheConstants as w
+use Rattle.pearl_tree.specs.declared.symbol.TheConstants as s
+use Rattle.pearl_tree.specs.declared.word_code.TheConstants as w
 use Rattle.pearl_print.specs.Lists.{word, symbol, name_tokens, number_tokens, bracketed, maybe_headed, maybe, flag}
 use Rattle.pearl_print.specs.Expressions.{sign_tokens, literal_tokens, const_tokens}
 use Rattle.pearl_print.specs.Types.{names_tokens, bounds_tokens, basic_tokens, typing_tokens, fields_tokens, more_fields_tokens}

@@ -11,7 +11,7 @@ use Rattle.pearl_tree.specs.declared.statement.Once.TheVariants as once
 use Rattle.pearl_tree.specs.declared.token.What.{What}
 use Rattle.pearl_tree.specs.ShownExpressions.{ShownExpr, shown_expr}
 use Rattle.pearl_tree.specs.ShownStatements.{ShownPeriodEnd, OfUntil, OfDuring, shown_period_end, ShownPeriod, shown_period, ShownStart, OfAt, OfAfter, OfWhen, OfAll, shown_start, ShownOnce, OnceAt, OnceAfter, OnceWhen, shown_once}
-use Rattle.pearl_tables.specs.declared.word_code.TheConstants as w
+use Rattle.pearl_tree.specs.declared.word_code.TheConstants as w
 use Rattle.pearl_print.specs.Lists.{word, name_tokens, maybe}
 use Rattle.pearl_print.specs.Schedules.{after_tokens, period_end_tokens, period_tokens, start_tokens, once_tokens}
 use Rattle.pearl_print.proofs.ShownLists.{maybe_same}

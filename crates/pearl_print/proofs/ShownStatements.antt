@@ -15,8 +15,8 @@ use Rattle.pearl_tree.specs.Statements.{task_word, sema_word, interrupt_word}
 use Rattle.pearl_tree.specs.ShownExpressions.{ShownExpr, shown_expr, shown_ref}
 use Rattle.pearl_tree.specs.ShownDeclarations.{shown_item}
 use Rattle.pearl_tree.specs.ShownStatements.{shown_start, shown_once, ShownBodyDecl, shown_body_decl, ShownStmt, OfEmpty, OfAssign, OfCall, OfIf, OfCase, OfRepeat, OfExit, OfBegin, OfReturn, OfActivate, OfContinue, OfResume, OfOnTask, OfOnSemas, OfOnInterrupt, OfPut, OfGet, OfSend, OfTake, ShownStmts, NoStmts, MoreStmts, ShownBranches, NoBranches, MoreBranches, ShownOtherwise, NoOtherwise, OfOtherwise, shown_stmt, shown_stmts, shown_branches, shown_otherwise}
-use Rattle.pearl_tables.specs.declared.symbol.TheConstants as s
-use Rattle.pearl_tables.specs.declared.word_code.TheConstants as w
+use Rattle.pearl_tree.specs.declared.symbol.TheConstants as s
+use Rattle.pearl_tree.specs.declared.word_code.TheConstants as w
 use Rattle.pearl_print.specs.Lists.{word, symbol, name_tokens, listed, maybe_bracketed, maybe}
 use Rattle.pearl_print.specs.Expressions.{expr_tokens, ref_tokens}
 use Rattle.pearl_print.specs.Formats.{fmt_tokens, by_tokens}

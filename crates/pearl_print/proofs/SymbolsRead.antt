@@ -1,6 +1,6 @@
 -- Symbols are read back as they are written.
 use Rattle.std.proofs.Common.{◌<◌, ℕ, zero, suc, refl, arith}
-use Rattle.pearl_tables.specs.Symbols.{symbol_texts, symbol_text, symbol_count}
+use Rattle.pearl_tree.specs.Symbols.{symbol_texts, symbol_text, symbol_count}
 use Rattle.pearl_tree.specs.declared.token.What.TheVariants as what
 use Rattle.pearl_lex.specs.Front.{front}
 use Rattle.pearl_print.specs.Spelled.{spelled}

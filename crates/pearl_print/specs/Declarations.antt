@@ -15,8 +15,8 @@ use Rattle.pearl_tree.specs.declared.declaration.Spec.TheVariants as spec
 use Rattle.pearl_tree.specs.declared.declaration.Param.{Param}
 use Rattle.pearl_tree.specs.declared.token.What.{What}
 use Rattle.pearl_tree.specs.Declarations.{direction_word}
-use Rattle.pearl_tables.specs.declared.symbol.TheConstants as s
-use Rattle.pearl_tables.specs.declared.word_code.TheConstants as w
+use Rattle.pearl_tree.specs.declared.symbol.TheConstants as s
+use Rattle.pearl_tree.specs.declared.word_code.TheConstants as w
 use Rattle.pearl_print.specs.Lists.{word, symbol, name_tokens, number_tokens, maybe_headed, flag, bracketed_number}
 use Rattle.pearl_print.specs.Expressions.{const_tokens}
 use Rattle.pearl_print.specs.Types.{names_tokens, bounds_tokens, basic_tokens, typing_tokens}

@@ -21,8 +21,8 @@ use Rattle.pearl_tree.specs.declared.token.What.TheVariants as what
 use Rattle.pearl_tree.specs.Durations.{milliseconds_of}
 use Rattle.pearl_tree.specs.Expressions.{monad_what, side_word}
 use Rattle.pearl_tree.specs.ShownLiterals.{ShownLiteral, OfNumber, OfBits, OfText, OfClock, OfDuration, shown_literal}
-use Rattle.pearl_tables.specs.declared.symbol.TheConstants as s
-use Rattle.pearl_tables.specs.declared.word_code.TheConstants as w
+use Rattle.pearl_tree.specs.declared.symbol.TheConstants as s
+use Rattle.pearl_tree.specs.declared.word_code.TheConstants as w
 use Rattle.pearl_print.specs.Lists.{word, symbol, name_tokens, number_tokens, maybe}
 
 -- number HRS number MIN decimal SEC, with minutes and seconds below 60

@@ -6,8 +6,8 @@ use Rattle.pearl_tree.specs.declared.format.Fmt.{Fmt}
 use Rattle.pearl_tree.specs.declared.format.Fmt.TheVariants.{Free, Wide}
 use Rattle.pearl_tree.specs.declared.token.What.{What}
 use Rattle.pearl_tree.specs.Formats.{free_text, wide_text}
-use Rattle.pearl_tables.specs.declared.symbol.TheConstants as s
-use Rattle.pearl_tables.specs.declared.word_code.TheConstants as w
+use Rattle.pearl_tree.specs.declared.symbol.TheConstants as s
+use Rattle.pearl_tree.specs.declared.word_code.TheConstants as w
 use Rattle.pearl_print.specs.Lists.{word, symbol, id, name_tokens, listed, maybe, bracketed_number}
 
 -- fmt = ( "A" | "B" | "B1" | "B2" | "B3" | "B4" | "X" | "SKIP" ) [ "(" number ")" ] | ( "F" | "T" | "D" ) "(" number ")"

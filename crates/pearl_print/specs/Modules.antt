@@ -16,8 +16,8 @@ use Rattle.pearl_tree.specs.declared.tree.ModuleName.TheVariants.{Bracketed, Bar
 use Rattle.pearl_tree.specs.declared.tree.Tree.{Tree}
 use Rattle.pearl_tree.specs.declared.token.What.{What}
 use Rattle.pearl_tree.specs.Types.{sort_word}
-use Rattle.pearl_tables.specs.declared.symbol.TheConstants as s
-use Rattle.pearl_tables.specs.declared.word_code.TheConstants as w
+use Rattle.pearl_tree.specs.declared.symbol.TheConstants as s
+use Rattle.pearl_tree.specs.declared.word_code.TheConstants as w
 use Rattle.pearl_print.specs.Lists.{word, symbol, name_tokens, listed, maybe_bracketed, maybe, flag, bracketed_number}
 use Rattle.pearl_print.specs.Types.{basic_tokens, typing_tokens}
 use Rattle.pearl_print.specs.Declarations.{device_tokens, prio_tokens, declared_tokens, spec_tokens, param_tokens}

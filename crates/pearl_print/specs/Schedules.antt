@@ -9,7 +9,7 @@ use Rattle.pearl_tree.specs.declared.statement.Start.TheVariants as start
 use Rattle.pearl_tree.specs.declared.statement.Once.{Once}
 use Rattle.pearl_tree.specs.declared.statement.Once.TheVariants as once
 use Rattle.pearl_tree.specs.declared.token.What.{What}
-use Rattle.pearl_tables.specs.declared.word_code.TheConstants as w
+use Rattle.pearl_tree.specs.declared.word_code.TheConstants as w
 use Rattle.pearl_print.specs.Lists.{word, name_tokens, maybe}
 use Rattle.pearl_print.specs.Expressions.{expr_tokens}
 

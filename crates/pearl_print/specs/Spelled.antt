@@ -4,9 +4,9 @@ use Rattle.std.specs.Fmt.{decimal}
 use Rattle.std.specs.List.{flat_map}
 use Rattle.pearl_tree.specs.declared.token.What.{What}
 use Rattle.pearl_tree.specs.declared.token.What.TheVariants as what
-use Rattle.pearl_tables.specs.declared.symbol.TheConstants as s
-use Rattle.pearl_tables.specs.Symbols.{symbol_text}
-use Rattle.pearl_tables.specs.Words.{word_text}
+use Rattle.pearl_tree.specs.declared.symbol.TheConstants as s
+use Rattle.pearl_tree.specs.Symbols.{symbol_text}
+use Rattle.pearl_tree.specs.Words.{word_text}
 use Rattle.pearl_lex.specs.Spells.{doubled}
 
 -- the last digit of a number

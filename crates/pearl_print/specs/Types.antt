@@ -11,8 +11,8 @@ use Rattle.pearl_tree.specs.declared.typing.Typing as typing
 use Rattle.pearl_tree.specs.declared.typing.Field.{Field}
 use Rattle.pearl_tree.specs.declared.token.What.{What}
 use Rattle.pearl_tree.specs.Types.{sort_word}
-use Rattle.pearl_tables.specs.declared.symbol.TheConstants as s
-use Rattle.pearl_tables.specs.declared.word_code.TheConstants as w
+use Rattle.pearl_tree.specs.declared.symbol.TheConstants as s
+use Rattle.pearl_tree.specs.declared.word_code.TheConstants as w
 use Rattle.pearl_print.specs.Lists.{word, symbol, name_tokens, number_tokens, listed, bracketed, maybe_bracketed, maybe, bracketed_number}
 
 -- names = id | "(" id { "," id } ")"

@@ -11,14 +11,14 @@ ghost use Rattle.pearl_print.specs.Expressions.{monadic_tokens, dyad_what, expr_
 use crate::lists::{Part, put_each, put_maybe};
 use crate::literal::put_literal;
 use crate::put::{put_symbol, put_word};
-use pearl_tables::symbol::{
-    AT_LEAST, AT_MOST, COMMA, CONCATENATE, DIVIDE, EQUAL, GREATER, LEFT_ROUND, LESS, MINUS, PERIOD,
-    PLUS, POWER, RIGHT_ROUND, ROTATE, TIMES, UNEQUAL,
-};
-use pearl_tables::word_code::{ABS, AND, EXOR, LWB, NOT, NOW, OR, REM, SHIFT, SIGN, TRY, UPB};
 use pearl_tree::expression::{Expr, Monadic, Operand, Primary, Ref, Selector, Side};
 use pearl_tree::name::Number;
 use pearl_tree::parts::Parts;
+use pearl_tree::symbol::{
+    AT_LEAST, AT_MOST, COMMA, CONCATENATE, DIVIDE, EQUAL, GREATER, LEFT_ROUND, LESS, MINUS, PERIOD,
+    PLUS, POWER, RIGHT_ROUND, ROTATE, TIMES, UNEQUAL,
+};
+use pearl_tree::word_code::{ABS, AND, EXOR, LWB, NOT, NOW, OR, REM, SHIFT, SIGN, TRY, UPB};
 use pearl_value::operator::{Dyad, Monad};
 use std::alloc::AllocError as NoMemory;
 

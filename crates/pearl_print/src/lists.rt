@@ -4,13 +4,13 @@
 ghost use Rattle.std.specs.Prelude.{◌≡◌, ◌<◌, ◌++◌, List, OnOk};
 ghost use Rattle.std.specs.List.{flat_map};
 ghost use Rattle.pearl_tree.specs.declared.token.What.{What};
-ghost use Rattle.pearl_tables.specs.Words.{code_count};
+ghost use Rattle.pearl_tree.specs.Words.{code_count};
 ghost use Rattle.pearl_print.specs.Spelled.{text_of_tokens};
 ghost use Rattle.pearl_print.specs.Lists.{listed, bracketed, maybe_bracketed, maybe_headed, maybe, flag, bracketed_number, name_tokens, number_tokens};
 
 use crate::put::{put_id, put_symbol, put_value, put_word};
-use pearl_tables::symbol::{COMMA, LEFT_ROUND, RIGHT_ROUND};
 use pearl_tree::name::{Name, Number};
+use pearl_tree::symbol::{COMMA, LEFT_ROUND, RIGHT_ROUND};
 use std::alloc::AllocError as NoMemory;
 
 /// A part of a tree that stands in lists.

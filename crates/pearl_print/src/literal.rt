@@ -8,9 +8,9 @@ ghost use Rattle.pearl_print.specs.Expressions.{carried, literal_tokens, sign_to
 
 use crate::lists::Part;
 use crate::put::{put_bits, put_clock, put_decimal, put_symbol, put_text, put_value, put_word};
-use pearl_tables::symbol::{MINUS, PLUS};
-use pearl_tables::word_code::{HRS, MIN, SEC};
 use pearl_tree::literal::{Const, Literal, Sign};
+use pearl_tree::symbol::{MINUS, PLUS};
+use pearl_tree::word_code::{HRS, MIN, SEC};
 use std::alloc::AllocError as NoMemory;
 
 fn put_carried(into: &mut Vec<u8>, milliseconds: u128) -> Result<(), NoMemory>

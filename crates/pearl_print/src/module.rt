@@ -12,16 +12,16 @@ use crate::lists::{
 use crate::put::{put_symbol, put_word};
 use crate::statement::put_body;
 use crate::typing::{put_basic, put_typing, sort_word};
-use pearl_tables::symbol::{COLON, LEFT_ROUND, RIGHT_ROUND, SEMICOLON};
-use pearl_tables::word_code::{
-    DCL, END, LENGTH, MAIN, MODEND, MODULE, PROBLEM, PROC, RETURNS, SPC, SYSTEM, TASK, TYPE,
-};
 use pearl_tree::declaration::{Device, Param};
 use pearl_tree::name::Name;
 use pearl_tree::parts::Parts;
 use pearl_tree::statement::Body;
+use pearl_tree::symbol::{COLON, LEFT_ROUND, RIGHT_ROUND, SEMICOLON};
 use pearl_tree::tree::{Decl, ModuleName, TaskHead, Tree};
 use pearl_tree::typing::Basic;
+use pearl_tree::word_code::{
+    DCL, END, LENGTH, MAIN, MODEND, MODULE, PROBLEM, PROC, RETURNS, SPC, SYSTEM, TASK, TYPE,
+};
 use std::alloc::AllocError as NoMemory;
 
 fn put_head(into: &mut Vec<u8>, head: &TaskHead) -> Result<(), NoMemory>

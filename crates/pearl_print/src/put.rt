@@ -4,16 +4,16 @@
 ghost use Rattle.std.specs.Prelude.{◌≡◌, ◌<◌, ◌+◌, ◌/◌, ◌%◌, ◌^◌, ◌++◌, [], ◌∷◌, codes, OnOk};
 ghost use Rattle.std.specs.Fmt.{decimal};
 ghost use Rattle.pearl_tree.specs.declared.token.What.TheVariants as what;
-ghost use Rattle.pearl_tables.specs.Symbols.{symbol_count};
-ghost use Rattle.pearl_tables.specs.Words.{code_count};
+ghost use Rattle.pearl_tree.specs.Symbols.{symbol_count};
+ghost use Rattle.pearl_tree.specs.Words.{code_count};
 ghost use Rattle.pearl_lex.specs.Spells.{doubled};
 ghost use Rattle.pearl_print.specs.Spelled.{binary, two_digits, three_digits, clock_text, fraction, text_of_tokens};
 ghost use Rattle.pearl_print.specs.Lists.{word, symbol, id};
 
 use arrayvec::ArrayVec;
 use itoa::Buffer;
-use pearl_tables::symbol::{SEMICOLON, symbol_text};
-use pearl_tables::word::word_text;
+use pearl_tree::symbol::{SEMICOLON, symbol_text};
+use pearl_tree::word::word_text;
 use std::alloc::AllocError as NoMemory;
 
 pub(crate) fn put_word(into: &mut Vec<u8>, code: u8) -> Result<(), NoMemory>

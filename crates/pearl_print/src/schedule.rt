@@ -2,7 +2,7 @@
 #![tactic(auto, using(crate::proofs::Texts::text_steps, std::proofs::lemmas::Grind::common_steps))]
 
 ghost use Rattle.std.specs.Prelude.{◌≡◌, ◌<◌, ◌++◌, OnOk};
-ghost use Rattle.pearl_tables.specs.Words.{code_count};
+ghost use Rattle.pearl_tree.specs.Words.{code_count};
 ghost use Rattle.pearl_print.specs.Lists.{maybe};
 ghost use Rattle.pearl_print.specs.Spelled.{text_of_tokens};
 ghost use Rattle.pearl_print.specs.Schedules.{after_tokens, period_end_tokens, period_tokens, start_tokens, once_tokens};
@@ -10,9 +10,9 @@ ghost use Rattle.pearl_print.specs.Schedules.{after_tokens, period_end_tokens, p
 use crate::expression::put_expr;
 use crate::lists::{Part, put_maybe};
 use crate::put::put_word;
-use pearl_tables::word_code::{AFTER, ALL, AT, DURING, UNTIL, WHEN};
 use pearl_tree::expression::Expr;
 use pearl_tree::statement::{Once, Period, PeriodEnd, Start};
+use pearl_tree::word_code::{AFTER, ALL, AT, DURING, UNTIL, WHEN};
 use std::alloc::AllocError as NoMemory;
 
 pub(crate) fn put_after(into: &mut Vec<u8>, code: u8, expr: &Expr) -> Result<(), NoMemory>

@@ -3,9 +3,9 @@
 
 ghost use Rattle.std.specs.Prelude.{◌≡◌, ◌<◌, ◌++◌, OnOk};
 ghost use Rattle.std.specs.List.{flat_map};
-ghost use Rattle.pearl_tables.specs.declared.symbol.TheConstants as s;
-ghost use Rattle.pearl_tables.specs.declared.word_code.TheConstants as w;
-ghost use Rattle.pearl_tables.specs.Words.{code_count};
+ghost use Rattle.pearl_tree.specs.declared.symbol.TheConstants as s;
+ghost use Rattle.pearl_tree.specs.declared.word_code.TheConstants as w;
+ghost use Rattle.pearl_tree.specs.Words.{code_count};
 ghost use Rattle.pearl_print.specs.Lists.{word, symbol, maybe};
 ghost use Rattle.pearl_print.specs.Spelled.{text_of_tokens};
 ghost use Rattle.pearl_print.specs.Statements.{assign_tokens, call_tokens, return_tokens, value_tokens, body_decl_tokens, for_tokens, loop_tokens, stmt_tokens, branch_tokens, body_tokens, block_tokens};
@@ -18,15 +18,15 @@ use crate::tasking::{
     put_activate, put_continue, put_on_interrupt, put_on_semas, put_on_task, put_resume,
 };
 use crate::transfer::{put_get, put_put, put_send, put_take};
-use pearl_tables::symbol::{BECOMES, LEFT_ROUND, RIGHT_ROUND, SEMICOLON};
-use pearl_tables::word_code::{
-    ALT, BEGIN, BY, CALL, CASE, DCL, ELSE, END, EXIT, FIN, FOR, FROM, IF, OUT, REPEAT, RETURN,
-    THEN, TO, WHILE,
-};
 use pearl_tree::expression::Expr;
 use pearl_tree::name::Name;
 use pearl_tree::parts::Parts;
 use pearl_tree::statement::{Assign, Body, BodyDecl, Branch, Call, Repeat, Return, Stmt};
+use pearl_tree::symbol::{BECOMES, LEFT_ROUND, RIGHT_ROUND, SEMICOLON};
+use pearl_tree::word_code::{
+    ALT, BEGIN, BY, CALL, CASE, DCL, ELSE, END, EXIT, FIN, FOR, FROM, IF, OUT, REPEAT, RETURN,
+    THEN, TO, WHILE,
+};
 use std::alloc::AllocError as NoMemory;
 
 impl Part for BodyDecl {

@@ -9,13 +9,13 @@ ghost use Rattle.pearl_print.specs.Statements.{activate_tokens, continue_tokens,
 use crate::lists::{Part, put_listed, put_maybe};
 use crate::put::{put_symbol, put_word};
 use crate::schedule::put_maybe_after;
-use pearl_tables::symbol::SEMICOLON;
-use pearl_tables::word_code::{
-    ACTIVATE, CONTINUE, DISABLE, ENABLE, PREVENT, PRIO, RELEASE, REQUEST, RESUME, SUSPEND,
-    TERMINATE, TRIGGER,
-};
 use pearl_tree::statement::{
     Activate, Continue, InterruptWord, OnInterrupt, OnSemas, OnTask, Resume, SemaWord, TaskWord,
+};
+use pearl_tree::symbol::SEMICOLON;
+use pearl_tree::word_code::{
+    ACTIVATE, CONTINUE, DISABLE, ENABLE, PREVENT, PRIO, RELEASE, REQUEST, RESUME, SUSPEND,
+    TERMINATE, TRIGGER,
 };
 use std::alloc::AllocError as NoMemory;
 

@@ -10,12 +10,12 @@ use crate::expression::put_ref;
 use crate::lists::{Part, put_listed};
 use crate::put::{put_symbol, put_word};
 use crate::schedule::put_after;
-use pearl_tables::symbol::SEMICOLON;
-use pearl_tables::word_code::{BY, FROM, GET, PUT, SEND, TAKE, TO};
 use pearl_tree::format::Fmt;
 use pearl_tree::name::Name;
 use pearl_tree::parts::Parts;
 use pearl_tree::statement::{Get, Put, Send, Take};
+use pearl_tree::symbol::SEMICOLON;
+use pearl_tree::word_code::{BY, FROM, GET, PUT, SEND, TAKE, TO};
 use std::alloc::AllocError as NoMemory;
 
 fn put_by(into: &mut Vec<u8>, name: &Name, formats: &Parts<Fmt>) -> Result<(), NoMemory>

@@ -9,11 +9,11 @@ ghost use Rattle.pearl_print.specs.Types.{names_tokens, int_tokens, bound_tokens
 
 use crate::lists::{Part, put_bracketed, put_bracketed_number, put_maybe_bracketed};
 use crate::put::{put_symbol, put_word};
-use pearl_tables::symbol::{COLON, COMMA, LEFT_SQUARE, MINUS, RIGHT_SQUARE};
-use pearl_tables::word_code::{BIT, CHAR, CLOCK, DURATION, FIXED, STRUCT};
 use pearl_tree::name::Names;
 use pearl_tree::parts::Parts;
+use pearl_tree::symbol::{COLON, COMMA, LEFT_SQUARE, MINUS, RIGHT_SQUARE};
 use pearl_tree::typing::{Basic, Bound, Field, Int, Sort, Typing};
+use pearl_tree::word_code::{BIT, CHAR, CLOCK, DURATION, FIXED, STRUCT};
 use std::alloc::AllocError as NoMemory;
 
 pub(crate) fn put_names(into: &mut Vec<u8>, names: &Names) -> Result<(), NoMemory>

@@ -16,8 +16,8 @@ use Rattle.pearl_tree.specs.Standing.{IsAt, SpellsEach, what_at}
 use Rattle.pearl_tree.specs.Expressions.{SpellsTerms, SpellsPrimary, SpellsRef, dyad_of, dyad_count, HasDyad}
 use Rattle.pearl_tree.specs.Chains.{SpellsOperand, Link, SpellsLink, first_operand, links, IsLongestOperand, SpellsLongestLink, HasLongestOperands, HasNoLink, HasNoOperand, HasNoTerms, IsLongestExpr}
 use Rattle.pearl_tree.specs.Following.{lengthens_ref, lengthens_operand, lengthens_expr, HasOneOf, Meet}
-use Rattle.pearl_tables.specs.declared.symbol.TheConstants as s
-use Rattle.pearl_tables.specs.declared.word_code.TheConstants as w
+use Rattle.pearl_tree.specs.declared.symbol.TheConstants as s
+use Rattle.pearl_tree.specs.declared.word_code.TheConstants as w
 use Rattle.pearl_tree.proofs.ExpressionsForward.{primary_after, monadics_after}
 use Rattle.pearl_tree.proofs.ListEnds.{each_joined}
 use Rattle.pearl_tree.proofs.OperandEnds.{ExprsMeet, operand_meets, primary_meets, ref_meets, has_also}

@@ -18,8 +18,8 @@ use Rattle.pearl_tree.specs.declared.tree.Decl.{Decl}
 use Rattle.pearl_tree.specs.Statements.{SpellsStmt}
 use Rattle.pearl_tree.specs.Modules.{Spells}
 use Rattle.pearl_tree.proofs.StatementLists.{spells_if}
-use Rattle.pearl_tables.specs.declared.symbol.TheConstants as s
-use Rattle.pearl_tables.specs.declared.word_code.TheConstants as w
+use Rattle.pearl_tree.specs.declared.symbol.TheConstants as s
+use Rattle.pearl_tree.specs.declared.word_code.TheConstants as w
 
 abbrev token : ℕ → What → Token
 token place what = record { place = place; what = what }

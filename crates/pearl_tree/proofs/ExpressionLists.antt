@@ -15,7 +15,7 @@ use Rattle.pearl_tree.specs.declared.expression.Ref.{Ref, Row_of-Selector, end_o
 use Rattle.pearl_tree.specs.declared.token.Token.{Token}
 use Rattle.pearl_tree.specs.Standing.{IsAt, HasWord, HasSymbol, IsName, SpellsEach, SpellsMore, SpellsList, SpellsMaybe, SpellsNumber}
 use Rattle.pearl_tree.specs.Expressions.{SpellsTerms, SpellsExpr, SpellsPrimary, SpellsRef, SpellsSelectors, SpellsSelector, SpellsSubscripts, SpellsMoreSubscripts, SpellsMonadic, HasDyad, rank, rank_of, side_word}
-use Rattle.pearl_tables.specs.declared.symbol.TheConstants as s
+use Rattle.pearl_tree.specs.declared.symbol.TheConstants as s
 
 module _ (tokens : List Token) where
   pub selectors : (depth from : ℕ) (n : _) (row : Row_of-Selector n) (to : ℕ) →

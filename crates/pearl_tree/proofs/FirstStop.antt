@@ -6,7 +6,7 @@ use Rattle.pearl_tree.specs.Laws.{HasOneStop, StopsHaveNoTree}
 
 -- of two such numbers none is less
 not_less : (tokens : List Token) (k n : ℕ) → NoneBegins tokens k → SomeBegins tokens n → k < n → ⊥
-not_less tokens k n none some below = none some.0 some.1 (λ j within. some.2 j (omega (arith, within, below))) some.3
+not_less tokens k n none some below = none some.0 some.1 (λ j within. some.2 j (omega (arith, within, below))) some.4
 
 pub one_stop : HasOneStop
 one_stop tokens k n h g = by (split k n)

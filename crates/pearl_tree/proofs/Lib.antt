@@ -1,3 +1,8 @@
+pub mod Rising
+pub mod Orders
+pub mod TableOfOperators
+pub mod TableOfWords
+pub mod Shown
 pub mod ExpressionLists
 pub mod TypeLists
 pub mod StatementLists

@@ -16,7 +16,7 @@ use Rattle.pearl_tree.specs.declared.token.Token.{Token}
 use Rattle.pearl_tree.specs.Standing.{HasWord, HasSymbol, SpellsMaybe, what_at}
 use Rattle.pearl_tree.specs.Expressions.{SpellsSecs, SpellsSeconds, SpellsMinutes, SpellsDuration, SpellsLiteral, SpellsSign, SpellsConst}
 use Rattle.pearl_tree.specs.Following.{lengthens_literal, HasOneOf, Meet}
-use Rattle.pearl_tables.specs.declared.word_code.TheConstants as w
+use Rattle.pearl_tree.specs.declared.word_code.TheConstants as w
 use Rattle.pearl_tree.proofs.Meeting.{has_one, has_none, same_word}
 
 -- what a literal begins with

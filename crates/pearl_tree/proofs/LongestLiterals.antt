@@ -10,7 +10,7 @@ use Rattle.pearl_tree.specs.declared.token.What.TheVariants as what
 use Rattle.pearl_tree.specs.declared.token.Token.{Token}
 use Rattle.pearl_tree.specs.Standing.{HasWord, SpellsMaybe, what_at}
 use Rattle.pearl_tree.specs.Expressions.{SpellsSeconds, SpellsMinutes, SpellsDuration, SpellsLiteral}
-use Rattle.pearl_tables.specs.declared.word_code.TheConstants as w
+use Rattle.pearl_tree.specs.declared.word_code.TheConstants as w
 use Rattle.pearl_tree.proofs.Meeting.{same_word}
 use Rattle.pearl_tree.proofs.LiteralEnds.{seconds_end, literal_ends_or, unit_of, unit_stands}
 

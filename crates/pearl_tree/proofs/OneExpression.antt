@@ -22,8 +22,8 @@ use Rattle.pearl_tree.specs.Expressions.{SpellsLiteral, SpellsMonadic, SpellsTer
 use Rattle.pearl_tree.specs.Chains.{SpellsOperand, Link, SpellsLink, first_operand, links}
 use Rattle.pearl_tree.specs.Following.{lengthens_operand, lengthens_expr, HasOneOf, Meet}
 use Rattle.pearl_tree.specs.ShownExpressions.{OfLiteral, OfRef, OfGroup, OfNow, OfTry, OfLimit, MoreSelectors, OfSubscripts, OfComponent, MoreExprs, shown_expr, shown_primary, shown_selectors, shown_selector, shown_exprs, shown_selector_list, shown_ref}
-use Rattle.pearl_tables.specs.declared.symbol.TheConstants as s
-use Rattle.pearl_tables.specs.declared.word_code.TheConstants as w
+use Rattle.pearl_tree.specs.declared.symbol.TheConstants as s
+use Rattle.pearl_tree.specs.declared.word_code.TheConstants as w
 use Rattle.pearl_tree.proofs.Meeting.{meets_once, has_none, same_word, same_symbol}
 use Rattle.pearl_tree.proofs.LiteralEnds.{literal_begins, begins_literal, literal_single}
 use Rattle.pearl_tree.proofs.ExpressionsForward.{selector_after, monadics_after}

@@ -18,8 +18,8 @@ use Rattle.pearl_tree.specs.Standing.{IsAt, HasSymbol, IsName, IsNumber, SpellsM
 use Rattle.pearl_tree.specs.ShownLiterals.{OfNumber, OfBits, OfText, OfClock, OfDuration, shown_literal, shown_const}
 use Rattle.pearl_tree.specs.Expressions.{SpellsSecs, SpellsSeconds, SpellsMinutes, SpellsDuration, SpellsLiteral, SpellsSign, SpellsConst}
 use Rattle.pearl_tree.specs.Following.{HasOneOf}
-use Rattle.pearl_tables.specs.declared.symbol.TheConstants as s
-use Rattle.pearl_tables.specs.declared.word_code.TheConstants as w
+use Rattle.pearl_tree.specs.declared.symbol.TheConstants as s
+use Rattle.pearl_tree.specs.declared.word_code.TheConstants as w
 use Rattle.pearl_tree.proofs.Meeting.{has_one, has_none, same_word, same_symbol}
 use Rattle.pearl_tree.proofs.LiteralEnds.{seconds_end, unit_of, unit_stands, no_literal}
 

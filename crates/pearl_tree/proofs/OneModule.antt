@@ -42,8 +42,8 @@ use Rattle.pearl_tree.specs.Modules.{SpellsTaskHead, SpellsReturns, SpellsBlock,
 use Rattle.pearl_tree.specs.ShownDeclarations.{shown_sema, OfItem, OfSema, shown_declared, OfInterrupt, OfDation, shown_spec, shown_param}
 use Rattle.pearl_tree.specs.ShownStatements.{shown_body_decl, shown_stmt}
 use Rattle.pearl_tree.specs.ShownModules.{shown_body, OfLength, OfType, OfDeclare, OfSpecify, OfTask, OfProc, shown_decl, shown_devices, shown_tree}
-use Rattle.pearl_tables.specs.declared.symbol.TheConstants as s
-use Rattle.pearl_tables.specs.declared.word_code.TheConstants as w
+use Rattle.pearl_tree.specs.declared.symbol.TheConstants as s
+use Rattle.pearl_tree.specs.declared.word_code.TheConstants as w
 use Rattle.pearl_tree.proofs.Meeting.{same_word, same_symbol}
 use Rattle.pearl_tree.proofs.OneLiteral.{same_place, same_name, same_number}
 use Rattle.pearl_tree.proofs.OneList.{symbol_no_word, each_one, list_one, maybe_one, maybe_bracketed_one, maybe_headed_one, flag_one, as_they_are, option_as_it_is}

@@ -27,7 +27,7 @@ use Rattle.pearl_tree.specs.Statements.{SpellsAfter, SpellsPeriodEnd, SpellsPeri
 use Rattle.pearl_tree.specs.Following.{is_monadic, lengthens_ref, lengthens_expr, HasOneOf}
 use Rattle.pearl_tree.specs.ShownExpressions.{shown_expr, shown_ref}
 use Rattle.pearl_tree.specs.ShownStatements.{OfUntil, OfDuring, shown_period_end, shown_period, OfAt, OfAfter, OfWhen, OfAll, shown_start, OnceAt, OnceAfter, OnceWhen, shown_once}
-use Rattle.pearl_tables.specs.declared.word_code.TheConstants as w
+use Rattle.pearl_tree.specs.declared.word_code.TheConstants as w
 use Rattle.pearl_tree.proofs.Meeting.{same_word, has_none, meets_once}
 use Rattle.pearl_tree.proofs.Chains.{exprs_meet, refs_meet, no_terms}
 use Rattle.pearl_tree.proofs.Operands.{Reads, no_primary, no_operand}

@@ -35,8 +35,8 @@ use Rattle.pearl_tree.specs.Following.{lengthens_ref, lengthens_expr, HasOneOf}
 use Rattle.pearl_tree.specs.ShownExpressions.{shown_expr, shown_ref}
 use Rattle.pearl_tree.specs.ShownDeclarations.{shown_item}
 use Rattle.pearl_tree.specs.ShownStatements.{OfEmpty, OfAssign, OfCall, OfIf, OfCase, OfRepeat, OfExit, OfBegin, OfReturn, OfActivate, OfContinue, OfResume, OfOnTask, OfOnSemas, OfOnInterrupt, OfPut, OfGet, OfSend, OfTake, MoreStmts, MoreBranches, OfOtherwise, shown_start, shown_once, shown_body_decl, shown_stmt, shown_stmts, shown_branches, shown_otherwise}
-use Rattle.pearl_tables.specs.declared.symbol.TheConstants as s
-use Rattle.pearl_tables.specs.declared.word_code.TheConstants as w
+use Rattle.pearl_tree.specs.declared.symbol.TheConstants as s
+use Rattle.pearl_tree.specs.declared.word_code.TheConstants as w
 use Rattle.pearl_tree.proofs.ExpressionLists.{spells_subscripts}
 use Rattle.pearl_tree.proofs.Meeting.{same_word, same_symbol, has_none, meets_once}
 use Rattle.pearl_tree.proofs.Chains.{exprs_meet}

@@ -24,8 +24,8 @@ use Rattle.pearl_tree.specs.Declarations.{SpellsItem}
 use Rattle.pearl_tree.specs.Following.{lengthens_literal, HasOneOf}
 use Rattle.pearl_tree.specs.ShownLiterals.{shown_const}
 use Rattle.pearl_tree.specs.ShownDeclarations.{OfOne, OfSeveral, shown_names, OfBasic, OfStruct, OfNamed, MoreFields, shown_typing, shown_fields, shown_item}
-use Rattle.pearl_tables.specs.declared.symbol.TheConstants as s
-use Rattle.pearl_tables.specs.declared.word_code.TheConstants as w
+use Rattle.pearl_tree.specs.declared.symbol.TheConstants as s
+use Rattle.pearl_tree.specs.declared.word_code.TheConstants as w
 use Rattle.pearl_tree.proofs.Meeting.{same_word, same_symbol, has_none, meets_once}
 use Rattle.pearl_tree.proofs.LiteralEnds.{const_ends}
 use Rattle.pearl_tree.proofs.OneLiteral.{same_place, same_name, same_number, same_const}

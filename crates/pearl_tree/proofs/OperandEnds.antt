@@ -21,8 +21,8 @@ use Rattle.pearl_tree.specs.Standing.{HasWord, HasSymbol, SpellsEach, SpellsList
 use Rattle.pearl_tree.specs.Expressions.{SpellsLiteral, SpellsMonadic, SpellsTerms, SpellsExpr, SpellsPrimary, SpellsSelector, SpellsRef, monad_what, dyad_count, side_word}
 use Rattle.pearl_tree.specs.Chains.{SpellsOperand}
 use Rattle.pearl_tree.specs.Following.{is_monadic, lengthens_literal, lengthens_ref, lengthens_operand, lengthens_expr, HasOneOf, Meet}
-use Rattle.pearl_tables.specs.declared.symbol.TheConstants as s
-use Rattle.pearl_tables.specs.declared.word_code.TheConstants as w
+use Rattle.pearl_tree.specs.declared.symbol.TheConstants as s
+use Rattle.pearl_tree.specs.declared.word_code.TheConstants as w
 use Rattle.pearl_tree.proofs.ExpressionLists.{selectors, subscripts}
 use Rattle.pearl_tree.proofs.Meeting.{meets_as, meets_once, has_one, has_none, same_word, same_symbol}
 use Rattle.pearl_tree.proofs.LiteralEnds.{literal_single, literal_ends, literal_begins, begins_literal}

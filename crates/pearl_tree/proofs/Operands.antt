@@ -12,7 +12,7 @@ use Rattle.pearl_tree.specs.Standing.{HasSymbol, SpellsEach, SpellsMore, SpellsL
 use Rattle.pearl_tree.specs.Expressions.{SpellsMonadic, SpellsPrimary, SpellsTerms, SpellsExpr, SpellsSelector, dyad_count}
 use Rattle.pearl_tree.specs.Chains.{SpellsOperand, IsLongestPrimary, HasNoPrimary, IsLongestOperand, HasNoOperand, IsLongestExpr, HasNoTerms}
 use Rattle.pearl_tree.specs.Following.{is_monadic, lengthens_operand, lengthens_expr, HasOneOf, Meet}
-use Rattle.pearl_tables.specs.declared.symbol.TheConstants as s
+use Rattle.pearl_tree.specs.declared.symbol.TheConstants as s
 use Rattle.pearl_tree.proofs.Meeting.{meets_after, same_symbol, has_none}
 use Rattle.pearl_tree.proofs.OperandEnds as ends
 use Rattle.pearl_tree.proofs.Chains.{exprs_meet, primaries_meet}

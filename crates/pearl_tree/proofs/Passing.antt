@@ -3,7 +3,7 @@
 use Rattle.std.proofs.Common.{◌≡◌, ℕ, ◌+◌, List, [], ◌∷◌, subst}
 use Rattle.pearl_tree.specs.declared.token.Token.{Token}
 use Rattle.pearl_tree.specs.Standing.{Spelling, HasSymbol, SpellsEach, SpellsMore, SpellsList}
-use Rattle.pearl_tables.specs.declared.symbol.TheConstants as s
+use Rattle.pearl_tree.specs.declared.symbol.TheConstants as s
 
 -- { part }: `closes` holds of the tokens before which such a list may end, and no part begins with one of them
 module _ {X : Type 0} (spells : Spelling X) (closes : ℕ → Type 0)

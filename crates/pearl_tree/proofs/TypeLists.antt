@@ -7,8 +7,8 @@ use Rattle.pearl_tree.specs.declared.typing.Typing.{Typing, Struct, Struct', Row
 use Rattle.pearl_tree.specs.declared.token.Token.{Token}
 use Rattle.pearl_tree.specs.Standing.{IsAt, HasWord, HasSymbol, SpellsMore, SpellsList}
 use Rattle.pearl_tree.specs.Types.{SpellsTyping, SpellsFields, SpellsMoreFields, SpellsField}
-use Rattle.pearl_tables.specs.declared.symbol.TheConstants as s
-use Rattle.pearl_tables.specs.declared.word_code.TheConstants as w
+use Rattle.pearl_tree.specs.declared.symbol.TheConstants as s
+use Rattle.pearl_tree.specs.declared.word_code.TheConstants as w
 
 module _ (tokens : List Token) where
   more_fields : (depth from : ℕ) (n : _) (row : Row_of-Field n) (to : ℕ) →

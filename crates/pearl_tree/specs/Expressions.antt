@@ -29,9 +29,9 @@ use Rattle.pearl_tree.specs.declared.token.What.{What}
 use Rattle.pearl_tree.specs.declared.token.What.TheVariants as what
 use Rattle.pearl_tree.specs.declared.token.Token.{Token}
 use Rattle.pearl_tree.specs.Standing.{Spelling, IsAt, HasWord, HasSymbol, IsName, IsNumber, SpellsEach, SpellsMaybe, SpellsNumber, what_at}
-use Rattle.pearl_tables.specs.declared.symbol.TheConstants as s
-pub use Rattle.pearl_tables.specs.Operators.{rank}
-use Rattle.pearl_tables.specs.declared.word_code.TheConstants as w
+use Rattle.pearl_tree.specs.declared.symbol.TheConstants as s
+pub use Rattle.pearl_tree.specs.Operators.{rank}
+use Rattle.pearl_tree.specs.declared.word_code.TheConstants as w
 
 -- secs = number | decimal
 abbrev pub SpellsSecs : List Token → Spelling Secs

@@ -1,3 +1,13 @@
+-- lists that rise strictly
+pub mod Rising
+-- the words of the language, and what a row of the table of words says
+pub mod Words
+-- the symbols of the language, by their codes
+pub mod Symbols
+-- the operators of the language, and what a row of the table of operators says
+pub mod Operators
+-- what the tables of words, symbols and operators have
+pub mod TableLaws
 -- what stands at a token, and the forms that the rules of the grammar share
 pub mod Standing
 -- which tokens a literal, a reference or an expression spells

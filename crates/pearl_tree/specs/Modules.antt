@@ -16,8 +16,8 @@ use Rattle.pearl_tree.specs.Standing.{Spelling, IsAt, HasWord, HasSymbol, IsName
 use Rattle.pearl_tree.specs.Types.{SpellsWholeTyping, SpellsBasic, sort_word}
 use Rattle.pearl_tree.specs.Declarations.{SpellsDevice, SpellsPrio, SpellsDeclared, SpellsSpec, SpellsParam}
 use Rattle.pearl_tree.specs.Statements.{SpellsWholeBody}
-use Rattle.pearl_tables.specs.declared.symbol.TheConstants as s
-use Rattle.pearl_tables.specs.declared.word_code.TheConstants as w
+use Rattle.pearl_tree.specs.declared.symbol.TheConstants as s
+use Rattle.pearl_tree.specs.declared.word_code.TheConstants as w
 
 -- [ prio ] [ MAIN ] | MAIN prio
 abbrev pub SpellsTaskHead : List Token → Spelling TaskHead

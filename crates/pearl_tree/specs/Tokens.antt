@@ -3,8 +3,8 @@ use Rattle.std.specs.Prelude.{◌≡◌, ◌≢◌, ℕ, ◌+◌, ◌-◌, ◌*�
 use Rattle.pearl_tree.specs.declared.token.What.{What}
 use Rattle.pearl_tree.specs.declared.token.What.TheVariants as what
 use Rattle.pearl_tree.specs.declared.token.Token.{Token}
-use Rattle.pearl_tables.specs.Symbols.{symbol_count}
-use Rattle.pearl_tables.specs.Words.{code_count, words}
+use Rattle.pearl_tree.specs.Symbols.{symbol_count}
+use Rattle.pearl_tree.specs.Words.{code_count, words}
 
 -- a letter A to Z or a to z
 abbrev pub IsLetter : ℕ → Type 0

@@ -16,8 +16,8 @@ use Rattle.pearl_tree.specs.declared.parts.Parts.{Parts}
 use Rattle.pearl_tree.specs.declared.token.Token.{Token}
 use Rattle.pearl_tree.specs.declared.limit.TheConstants as limit
 use Rattle.pearl_tree.specs.Standing.{Spelling, IsAt, HasWord, HasSymbol, IsNumber, SpellsName, SpellsMaybe, SpellsBracketed, SpellsMaybeBracketed, SpellsBracketedNumber, SpellsSymbolFlag}
-use Rattle.pearl_tables.specs.declared.symbol.TheConstants as s
-use Rattle.pearl_tables.specs.declared.word_code.TheConstants as w
+use Rattle.pearl_tree.specs.declared.symbol.TheConstants as s
+use Rattle.pearl_tree.specs.declared.word_code.TheConstants as w
 
 -- names = id | "(" id { "," id } ")"
 abbrev pub SpellsNames : List Token → Spelling Names

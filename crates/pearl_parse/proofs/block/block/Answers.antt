@@ -1,8 +1,8 @@
 use Rattle.std.proofs.Common.{◌+◌, sym, ap, subst, ◌<◌, ◌^◌, length, rules, ◌≤◌, arith}
 use Rattle.pearl_tree.specs.Statements.{SpellsWholeBody}
 use Rattle.pearl_tree.specs.Modules.{SpellsBlock}
-use Rattle.pearl_tables.specs.declared.symbol.TheConstants as s
-use Rattle.pearl_tables.specs.declared.word_code.TheConstants as w
+use Rattle.pearl_tree.specs.declared.symbol.TheConstants as s
+use Rattle.pearl_tree.specs.declared.word_code.TheConstants as w
 use Rattle.pearl_parse_expr.specs.Stops.{is_symbol, is_word}
 use Rattle.pearl_parse.specs.Stops.{IsStopped}
 use Rattle.pearl_parse_decl.specs.Readings.{behind}

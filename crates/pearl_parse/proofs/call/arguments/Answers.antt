@@ -1,7 +1,7 @@
 use Rattle.std.proofs.Common.{◌+◌, refl, ap, ◌<◌, ◌^◌, length, rules, arith}
 use Rattle.pearl_tree.specs.Standing.{SpellsList}
 use Rattle.pearl_tree.specs.Expressions.{SpellsWhole}
-use Rattle.pearl_tables.specs.declared.symbol.TheConstants as s
+use Rattle.pearl_tree.specs.declared.symbol.TheConstants as s
 use Rattle.pearl_parse_expr.specs.Stops.{is_symbol}
 use Rattle.pearl_parse_expr.proofs.Halts.{stuck_of}
 use Rattle.pearl_parse.specs.Calls.{SpellsArguments}

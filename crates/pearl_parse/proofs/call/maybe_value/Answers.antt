@@ -1,6 +1,6 @@
 use Rattle.std.proofs.Common.{sym, refl, inl, arith}
 use Rattle.pearl_tree.specs.Statements.{SpellsValue}
-use Rattle.pearl_tables.specs.declared.symbol.TheConstants as s
+use Rattle.pearl_tree.specs.declared.symbol.TheConstants as s
 use Rattle.pearl_parse_expr.specs.Stops.{is_symbol}
 use Rattle.pearl_parse.proofs.Steps.{optional_is_only, optional_is_halted}
 use Rattle.pearl_parse.proofs.Comes.{Maybe}

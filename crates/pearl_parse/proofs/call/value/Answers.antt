@@ -1,7 +1,7 @@
 use Rattle.std.proofs.Common.{◌+◌, ◌<◌, ◌^◌, length, rules, arith}
 use Rattle.pearl_tree.specs.Expressions.{SpellsWhole}
 use Rattle.pearl_tree.specs.Statements.{SpellsValue}
-use Rattle.pearl_tables.specs.declared.symbol.TheConstants as s
+use Rattle.pearl_tree.specs.declared.symbol.TheConstants as s
 use Rattle.pearl_parse_expr.specs.Stops.{is_symbol}
 use Rattle.pearl_parse.proofs.Steps.{Ends}
 use Rattle.pearl_parse.proofs.Comes.{BehindSymbol}

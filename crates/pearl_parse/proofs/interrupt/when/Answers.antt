@@ -1,6 +1,6 @@
 use Rattle.std.proofs.Common.{◌≡◌, true, ◌+◌, refl, sym, ap, subst, ◌<◌, ◌^◌, length, rules, arith}
 use Rattle.pearl_tree.specs.Standing.{HasSymbol, what_at}
-use Rattle.pearl_tables.specs.declared.symbol.TheConstants as s
+use Rattle.pearl_tree.specs.declared.symbol.TheConstants as s
 use Rattle.pearl_parse_expr.specs.Stops.{extends_expression, is_symbol, is_name}
 use Rattle.pearl_parse.specs.Schedules.{SpellsOptionalAfter, SpellsBegun, SpellsAnyBegun}
 use Rattle.pearl_parse.proofs.Steps.{Ends, err_told, past, past_only, missing, no_part, ends, Then}
@@ -8,7 +8,7 @@ use Rattle.pearl_parse.proofs.LeafRests.{Spelled}
 use Rattle.pearl_parse.proofs.ScheduleRests.{continue_rest}
 use Rattle.pearl_parse.proofs.TimedRests.{resume_rest, begun_rest}
 use Rattle.pearl_parse.proofs.WhenRests.{when_rest, avoids_begun, when_goes, when_continues, when_resumes, when_begins}
-use Rattle.pearl_tables.specs.declared.word_code.TheConstants as w
+use Rattle.pearl_tree.specs.declared.word_code.TheConstants as w
 use Rattle.pearl_parse.proofs.Comes.{Maybe, ends_fill}
 use Rattle.pearl_parse.proofs.ScheduleMade.{After}
 use Rattle.pearl_parse.proofs.ScheduleLeast.{maybe_after_is_local, begun_is_local, begun_fills, interrupt_missing, interrupt_continues, interrupt_resumes, interrupt_late, interrupt_begins}

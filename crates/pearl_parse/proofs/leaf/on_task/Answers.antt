@@ -1,6 +1,6 @@
 use Rattle.std.proofs.Common.{◌+◌, ap, ◌<◌, ◌^◌, length, rules, inl, arith}
 use Rattle.pearl_tree.specs.Standing.{SpellsName}
-use Rattle.pearl_tables.specs.declared.symbol.TheConstants as s
+use Rattle.pearl_tree.specs.declared.symbol.TheConstants as s
 use Rattle.pearl_parse_expr.specs.Stops.{is_symbol, is_name}
 use Rattle.pearl_parse.specs.Stops.{SpellsOptional}
 use Rattle.pearl_parse.proofs.Steps.{err_told, past_only, missing, ends}

@@ -1,7 +1,7 @@
 use Rattle.std.proofs.Common.{◌+◌, ap, ◌<◌, ◌^◌, length, rules, arith}
 use Rattle.pearl_tree.specs.Expressions.{SpellsWhole}
-use Rattle.pearl_tables.specs.declared.symbol.TheConstants as s
-use Rattle.pearl_tables.specs.declared.word_code.TheConstants as w
+use Rattle.pearl_tree.specs.declared.symbol.TheConstants as s
+use Rattle.pearl_tree.specs.declared.word_code.TheConstants as w
 use Rattle.pearl_parse_expr.specs.Stops.{extends_expression, is_symbol, is_word, is_name}
 use Rattle.pearl_parse.proofs.Steps.{err_told, past, missing, no_part, ends}
 use Rattle.pearl_parse.proofs.LeafRests.{Spelled, station_rest, send_goes}

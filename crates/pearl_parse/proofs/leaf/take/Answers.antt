@@ -1,8 +1,8 @@
 use Rattle.std.proofs.Common.{◌+◌, ap, ◌<◌, ◌^◌, length, rules, arith}
 use Rattle.pearl_tree.specs.Expressions.{SpellsOwnRef}
 use Rattle.pearl_parse.specs.Stops.{SpellsOwnNamed}
-use Rattle.pearl_tables.specs.declared.symbol.TheConstants as s
-use Rattle.pearl_tables.specs.declared.word_code.TheConstants as w
+use Rattle.pearl_tree.specs.declared.symbol.TheConstants as s
+use Rattle.pearl_tree.specs.declared.word_code.TheConstants as w
 use Rattle.pearl_parse_expr.specs.Stops.{extends_operand, is_symbol, is_word, is_name}
 use Rattle.pearl_parse.proofs.Steps.{err_told, past, missing, no_first, ends}
 use Rattle.pearl_parse.proofs.LeafRests.{Spelled, station_rest, take_goes}

@@ -1,5 +1,5 @@
 use Rattle.std.proofs.Common.{◌+◌, ap, ◌<◌, ◌^◌, length, rules, ◌≤◌, arith}
-use Rattle.pearl_tables.specs.declared.word_code.TheConstants as w
+use Rattle.pearl_tree.specs.declared.word_code.TheConstants as w
 use Rattle.pearl_parse_expr.specs.Stops.{extends_expression, is_word}
 use Rattle.pearl_parse.specs.Bodies.{SpellsOptionalFor, SpellsHeads}
 use Rattle.pearl_parse.proofs.Steps.{err_told, past, past_only, missing, no_first, no_part, ends, Ends}

@@ -1,5 +1,5 @@
 use Rattle.std.proofs.Common.{◌+◌, refl, sym, ap, ◌<◌, ◌≤◌, ◌^◌, length, rules, arith}
-use Rattle.pearl_tables.specs.declared.word_code.TheConstants as w
+use Rattle.pearl_tree.specs.declared.word_code.TheConstants as w
 use Rattle.pearl_parse_expr.specs.Stops.{is_word}
 use Rattle.pearl_parse.specs.Modules.{SpellsEnding, is_end}
 use Rattle.pearl_parse.proofs.Steps.{err_told, missing_is_refused, missing_behind}

@@ -1,6 +1,6 @@
 use Rattle.std.proofs.Common.{◌+◌, ap, ◌<◌, ◌≤◌, ◌^◌, length, rules, refl, arith}
-use Rattle.pearl_tables.specs.declared.symbol.TheConstants as s
-use Rattle.pearl_tables.specs.declared.word_code.TheConstants as w
+use Rattle.pearl_tree.specs.declared.symbol.TheConstants as s
+use Rattle.pearl_tree.specs.declared.word_code.TheConstants as w
 use Rattle.pearl_parse_expr.specs.Stops.{is_symbol, is_word}
 use Rattle.pearl_parse.specs.Modules.{SpellsOptionalName, SpellsHead, SpellsTitle}
 use Rattle.pearl_parse.proofs.Steps.{err_told, missing_is_refused, past_only, missing, no_first, ends}

@@ -1,7 +1,7 @@
 use Rattle.std.proofs.Common.{◌+◌, refl, sym, ap, ◌<◌, ◌≤◌, ◌^◌, length, rules, arith}
 use Rattle.pearl_tree.specs.Standing.{what_at, SpellsMaybe}
 use Rattle.pearl_tree.specs.Modules.{SpellsModuleName}
-use Rattle.pearl_tables.specs.declared.symbol.TheConstants as s
+use Rattle.pearl_tree.specs.declared.symbol.TheConstants as s
 use Rattle.pearl_parse_expr.specs.Stops.{is_name, is_symbol}
 use Rattle.pearl_parse.specs.Modules.{begins_module_name, SpellsOptionalName}
 use Rattle.pearl_parse.proofs.Steps.{err_told, missing_is_refused, missing, ends, optional_is_none}

@@ -1,5 +1,5 @@
 use Rattle.std.proofs.Common.{◌<◌, ◌^◌, length, rules, arith, ◌+◌}
-use Rattle.pearl_tables.specs.declared.symbol.TheConstants as s
+use Rattle.pearl_tree.specs.declared.symbol.TheConstants as s
 use Rattle.pearl_parse_expr.specs.Stops.{is_symbol, is_word}
 use Rattle.pearl_parse_expr.proofs.Halts.{err_map}
 use Rattle.pearl_parse.proofs.Steps.{err_told, missing_is_refused}

@@ -1,6 +1,6 @@
 use Rattle.std.proofs.Common.{◌+◌, ap, ◌<◌, ◌^◌, length, rules, arith}
 use Rattle.pearl_tree.specs.Statements.{SpellsAfter}
-use Rattle.pearl_tables.specs.declared.word_code.TheConstants as w
+use Rattle.pearl_tree.specs.declared.word_code.TheConstants as w
 use Rattle.pearl_parse_expr.specs.Stops.{extends_expression, is_word}
 use Rattle.pearl_parse.specs.Bodies.{SpellsCondition}
 use Rattle.pearl_parse.proofs.Steps.{err_told, past, missing, no_part, ends, Ends}

@@ -1,13 +1,13 @@
 use Rattle.std.proofs.Common.{◌+◌, ap, ◌<◌, ◌^◌, length, rules, arith}
-use Rattle.pearl_tables.specs.declared.symbol.TheConstants as s
+use Rattle.pearl_tree.specs.declared.symbol.TheConstants as s
 use Rattle.pearl_parse_expr.specs.Stops.{extends_expression, is_symbol, is_word, is_name}
 use Rattle.pearl_parse.specs.Schedules.{SpellsOptionalPriority, SpellsActivation}
 use Rattle.pearl_parse.proofs.Steps.{err_told, past, missing_behind, no_part_behind, ends, Ends, Then}
 use Rattle.pearl_parse.proofs.LeafRests.{exit_rest}
 use Rattle.pearl_parse.proofs.ScheduleRests.{activation_goes}
 use Rattle.pearl_tree.specs.Standing.{SpellsName}
-use Rattle.pearl_tables.specs.declared.word_code.TheConstants as w
-use Rattle.pearl_tables.specs.declared.symbol.TheConstants as s
+use Rattle.pearl_tree.specs.declared.word_code.TheConstants as w
+use Rattle.pearl_tree.specs.declared.symbol.TheConstants as s
 use Rattle.pearl_parse.proofs.Comes.{Maybe}
 use Rattle.pearl_parse.proofs.Made.{semicolon}
 use Rattle.pearl_parse.proofs.ScheduleMade.{After, activation}

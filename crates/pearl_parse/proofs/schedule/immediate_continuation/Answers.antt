@@ -1,11 +1,11 @@
 use Rattle.std.proofs.Common.{◌+◌, ap, ◌<◌, ◌^◌, length, rules, arith}
-use Rattle.pearl_tables.specs.declared.symbol.TheConstants as s
+use Rattle.pearl_tree.specs.declared.symbol.TheConstants as s
 use Rattle.pearl_parse_expr.specs.Stops.{is_symbol, is_name}
 use Rattle.pearl_parse.proofs.Steps.{err_told, missing, ends, Then}
 use Rattle.pearl_parse.proofs.LeafRests.{Spelled}
 use Rattle.pearl_parse.proofs.ScheduleRests.{continue_rest, continue_goes}
 use Rattle.pearl_tree.specs.Standing.{SpellsName}
-use Rattle.pearl_tables.specs.declared.word_code.TheConstants as w
+use Rattle.pearl_tree.specs.declared.word_code.TheConstants as w
 use Rattle.pearl_parse.proofs.Made.{semicolon}
 use Rattle.pearl_parse.proofs.ScheduleMade.{continuation}
 use Rattle.pearl_parse.proofs.ScheduleLeast.{continuation_made}

@@ -1,5 +1,5 @@
 use Rattle.std.proofs.Common.{sym, arith}
-use Rattle.pearl_tables.specs.declared.word_code.TheConstants as w
+use Rattle.pearl_tree.specs.declared.word_code.TheConstants as w
 use Rattle.pearl_parse_expr.specs.Stops.{extends_expression, is_word}
 use Rattle.pearl_parse.specs.Schedules.{SpellsLongPeriod}
 use Rattle.pearl_parse.proofs.Steps.{optional_is_longest, optional_is_stopped}

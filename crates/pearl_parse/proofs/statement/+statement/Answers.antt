@@ -1,7 +1,7 @@
 use Rattle.std.proofs.Common.{◌+◌, ◌-◌, ◌<◌, ◌≤◌, refl, sym, ap, subst, ◌∙◌, ◌^◌, length, rules, inr, arith}
 use Rattle.pearl_tree.specs.Standing.{SpellsEach, SpellsSome, SpellsMaybe}
 use Rattle.pearl_tree.specs.Statements.{SpellsStmt, SpellsAfter, SpellsBranch, SpellsBodyDecl}
-use Rattle.pearl_tables.specs.declared.word_code.TheConstants as w
+use Rattle.pearl_tree.specs.declared.word_code.TheConstants as w
 use Rattle.pearl_parse_expr.specs.Stops.{IsHalted, extends_expression, is_word}
 use Rattle.pearl_parse_expr.proofs.Lists.{each_one_more}
 use Rattle.pearl_parse_expr.proofs.Halts.{stuck_of, at_depth, ok_map}

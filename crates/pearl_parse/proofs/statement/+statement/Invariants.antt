@@ -1,7 +1,7 @@
 use Rattle.std.proofs.Common.{◌+◌, ◌-◌, ◌*◌, length}
 use Rattle.pearl_tree.specs.Standing.{SpellsEach}
 use Rattle.pearl_tree.specs.Statements.{SpellsStmt, SpellsBranch}
-use Rattle.pearl_tables.specs.declared.word_code.TheConstants as w
+use Rattle.pearl_tree.specs.declared.word_code.TheConstants as w
 use Rattle.pearl_parse.specs.Reached.{GoesBehind}
 use Rattle.pearl_parse.specs.Stops.{StopsWithin, begins_statement}
 use Rattle.pearl_parse.specs.Bodies.{SpellsStatements}

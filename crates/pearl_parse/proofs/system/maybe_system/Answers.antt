@@ -1,6 +1,6 @@
 use Rattle.std.proofs.Common.{sym, inl, refl, arith}
 use Rattle.pearl_tree.specs.Modules.{SpellsSystem}
-use Rattle.pearl_tables.specs.declared.word_code.TheConstants as w
+use Rattle.pearl_tree.specs.declared.word_code.TheConstants as w
 use Rattle.pearl_parse_expr.specs.Stops.{is_name, is_word}
 use Rattle.pearl_parse.specs.Modules.{SpellsOptionalSystem}
 use Rattle.pearl_parse.proofs.Steps.{only_is_longest, optional_is_none, optional_is_longest, optional_is_halted}

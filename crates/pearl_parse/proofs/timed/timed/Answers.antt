@@ -1,5 +1,5 @@
 use Rattle.std.proofs.Common.{◌+◌, refl, sym, ap, ◌<◌, ◌^◌, length, rules, arith}
-use Rattle.pearl_tables.specs.declared.symbol.TheConstants as s
+use Rattle.pearl_tree.specs.declared.symbol.TheConstants as s
 use Rattle.pearl_parse_expr.specs.Stops.{is_symbol, is_name}
 use Rattle.pearl_parse.specs.Schedules.{SpellsBegun, SpellsAnyBegun}
 use Rattle.pearl_parse.proofs.Steps.{Ends, err_told, past_only, missing, no_part, ends, Then}
@@ -7,7 +7,7 @@ use Rattle.pearl_parse.proofs.LeafRests.{Spelled}
 use Rattle.pearl_parse.proofs.ScheduleRests.{continue_rest}
 use Rattle.pearl_parse.proofs.TimedRests.{resume_rest, no_time, continued_goes, resumed_goes, begins_goes}
 use Rattle.pearl_tree.specs.Standing.{SpellsName}
-use Rattle.pearl_tables.specs.declared.word_code.TheConstants as w
+use Rattle.pearl_tree.specs.declared.word_code.TheConstants as w
 use Rattle.pearl_parse.proofs.Comes.{ends_fill}
 use Rattle.pearl_parse.proofs.Made.{semicolon}
 use Rattle.pearl_parse.proofs.ScheduleLeast.{begun_is_local, timed_halts, timed_continues, timed_resumes, timed_begins}

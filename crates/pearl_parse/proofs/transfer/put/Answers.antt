@@ -1,6 +1,6 @@
 use Rattle.std.proofs.Common.{◌+◌, ◌<◌, ◌^◌, length, rules, arith}
 use Rattle.pearl_tree.specs.Expressions.{SpellsWhole}
-use Rattle.pearl_tables.specs.declared.word_code.TheConstants as w
+use Rattle.pearl_tree.specs.declared.word_code.TheConstants as w
 use Rattle.pearl_parse.specs.Stops.{SpellsBefore, SpellsStation}
 use Rattle.pearl_parse.proofs.Steps.{Ends, err_told, past_only, no_first, no_part, Then}
 use Rattle.pearl_parse.proofs.LeafRests.{Spelled}

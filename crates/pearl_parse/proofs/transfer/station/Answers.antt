@@ -2,7 +2,7 @@ use Rattle.std.proofs.Common.{◌<◌, ◌^◌, length, rules, ◌+◌, arith}
 use Rattle.pearl_parse.proofs.Steps.{err_told, Ends, Then}
 use Rattle.pearl_parse.proofs.TransferRests.{station_stopped}
 use Rattle.pearl_tree.specs.Standing.{SpellsName}
-use Rattle.pearl_tables.specs.declared.word_code.TheConstants as w
+use Rattle.pearl_tree.specs.declared.word_code.TheConstants as w
 use Rattle.pearl_parse_expr.specs.Stops.{is_name, is_word}
 use Rattle.pearl_parse.specs.Stops.{SpellsFormats, SpellsStation}
 use Rattle.pearl_parse.proofs.Comes.{BehindWord, ends_fill}

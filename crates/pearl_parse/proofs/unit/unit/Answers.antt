@@ -1,7 +1,7 @@
 use Rattle.std.proofs.Common.{◌+◌, sym, ap, ◌<◌, ◌^◌, length, rules, arith}
 use Rattle.pearl_tree.specs.Modules.{SpellsDecl}
-use Rattle.pearl_tables.specs.declared.symbol.TheConstants as s
-use Rattle.pearl_tables.specs.declared.word_code.TheConstants as w
+use Rattle.pearl_tree.specs.declared.symbol.TheConstants as s
+use Rattle.pearl_tree.specs.declared.word_code.TheConstants as w
 use Rattle.pearl_parse_expr.specs.Stops.{is_name, is_symbol, is_word}
 use Rattle.pearl_parse.proofs.Steps.{err_told, missing}
 use Rattle.pearl_parse.proofs.UnitRests.{unit_rest, word_rest, unit_goes, word_goes}

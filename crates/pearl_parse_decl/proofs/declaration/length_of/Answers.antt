@@ -1,5 +1,5 @@
 use Rattle.std.proofs.Common.{◌+◌, sym, ◌∙◌, arith}
-use Rattle.pearl_tables.specs.declared.word_code.TheConstants as w
+use Rattle.pearl_tree.specs.declared.word_code.TheConstants as w
 use Rattle.pearl_parse_expr.proofs.Primaries.{word_within}
 use Rattle.pearl_parse_decl.proofs.Leaves.{length_begins, length_reaches, length_open, only_length}
 use Rattle.pearl_parse_decl.proofs.declaration.length_of.Goals as goal

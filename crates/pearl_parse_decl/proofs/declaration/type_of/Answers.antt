@@ -1,7 +1,7 @@
 use Rattle.std.proofs.Common.{◌+◌, arith}
 use Rattle.pearl_tree.specs.Types.{SpellsTyping}
 use Rattle.pearl_tree.specs.Modules.{SpellsDecl}
-use Rattle.pearl_tables.specs.declared.word_code.TheConstants as w
+use Rattle.pearl_tree.specs.declared.word_code.TheConstants as w
 use Rattle.pearl_parse_expr.proofs.Primaries.{word_within}
 use Rattle.pearl_parse_expr.proofs.Reaching.{goes_max, halts_as, reach_of}
 use Rattle.pearl_parse_decl.proofs.DeclReach.{type_begins, type_reaches}

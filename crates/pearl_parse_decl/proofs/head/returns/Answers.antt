@@ -1,5 +1,5 @@
 use Rattle.pearl_tree.specs.Modules.{SpellsReturns}
-use Rattle.pearl_tables.specs.declared.word_code.TheConstants as w
+use Rattle.pearl_tree.specs.declared.word_code.TheConstants as w
 use Rattle.pearl_parse_expr.specs.Stops.{is_word}
 use Rattle.pearl_parse_decl.proofs.Behind.{maybe_is_none, maybe_is_longest}
 use Rattle.std.proofs.Common.{ap, arith}

@@ -1,7 +1,7 @@
 use Rattle.std.proofs.Common.{◌≡◌, ◌≤◌, ◌⊎◌, sym, ap, subst, ◌∙◌, arith}
 use Rattle.pearl_tree.specs.Types.{SpellsNames}
 use Rattle.pearl_tree.specs.Declarations as grammar
-use Rattle.pearl_tables.specs.declared.word_code.TheConstants as w
+use Rattle.pearl_tree.specs.declared.word_code.TheConstants as w
 use Rattle.pearl_parse_expr.specs.Stops as stops
 use Rattle.pearl_parse_expr.proofs.Parts.{shorter, or_first, or_second}
 use Rattle.pearl_parse_expr.proofs.Reaching.{goes_as, halts_as}

@@ -3,7 +3,7 @@ use Rattle.pearl_tree.specs.Standing.{SpellsMaybeHeaded}
 use Rattle.pearl_tree.specs.Expressions.{SpellsConst}
 use Rattle.pearl_tree.specs.Types.{SpellsTyping}
 use Rattle.pearl_tree.specs.Declarations as grammar
-use Rattle.pearl_tables.specs.declared.word_code.TheConstants as w
+use Rattle.pearl_tree.specs.declared.word_code.TheConstants as w
 use Rattle.pearl_parse_expr.specs.Stops as stops
 use Rattle.pearl_parse_expr.specs.Least.{HaltsIn}
 use Rattle.pearl_parse_expr.proofs.Parts.{shorter}

@@ -1,7 +1,7 @@
 use Rattle.std.proofs.Common.{rules, ◌+◌, refl, arith}
 use Rattle.pearl_tree.specs.Standing.{SpellsMaybeHeaded, SpellsNumber}
 use Rattle.pearl_tree.specs.Declarations.{SpellsSema}
-use Rattle.pearl_tables.specs.declared.word_code.TheConstants as w
+use Rattle.pearl_tree.specs.declared.word_code.TheConstants as w
 use Rattle.pearl_parse_expr.proofs.Reaching.{goes, reach_of, reaches_max}
 use Rattle.pearl_parse_decl.proofs.DeclReach.{presets_are_local, sema_names, sema_preset}
 use Rattle.pearl_parse_decl.proofs.ListReach.{no_memory_least}

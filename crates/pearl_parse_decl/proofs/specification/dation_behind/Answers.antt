@@ -1,6 +1,6 @@
 use Rattle.std.proofs.Common.{◌+◌, ◌≤◌, length, refl, sym, ap, subst, ◌∙◌, arith}
 use Rattle.pearl_tree.specs.Declarations.{SpellsClass, SpellsControl, SpellsSpec}
-use Rattle.pearl_tables.specs.declared.word_code.TheConstants as w
+use Rattle.pearl_tree.specs.declared.word_code.TheConstants as w
 use Rattle.pearl_parse_expr.specs.Stops.{IsHalted, is_word}
 use Rattle.pearl_parse_expr.specs.Least.{HaltsIn}
 use Rattle.pearl_parse_expr.proofs.Parts.{shorter}

@@ -1,7 +1,7 @@
 use Rattle.std.proofs.Common.{◌+◌, ◌≤◌, inl, sym, ap, ◌∙◌, arith}
 use Rattle.pearl_tree.specs.Types.{SpellsNames}
 use Rattle.pearl_tree.specs.Declarations.{SpellsSpec}
-use Rattle.pearl_tables.specs.declared.word_code.TheConstants as w
+use Rattle.pearl_tree.specs.declared.word_code.TheConstants as w
 use Rattle.pearl_parse_expr.specs.Stops.{is_word}
 use Rattle.pearl_parse_expr.proofs.Parts.{shorter}
 use Rattle.pearl_parse_expr.proofs.Reaching.{goes_max, halts_as}

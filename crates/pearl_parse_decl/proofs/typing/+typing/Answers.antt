@@ -1,8 +1,8 @@
 use Rattle.std.proofs.Common.{rules, ◌+◌, ◌-◌, ◌<◌, ◌≤◌, length, [], ◌∷◌, ◌++◌, inl, refl, sym, ap, subst, ◌∙◌, arith}
 use Rattle.pearl_tree.specs.Standing.{SpellsList}
 use Rattle.pearl_tree.specs.Types as grammar
-use Rattle.pearl_tables.specs.declared.word_code.TheConstants as w
-use Rattle.pearl_tables.specs.declared.symbol.TheConstants as s
+use Rattle.pearl_tree.specs.declared.word_code.TheConstants as w
+use Rattle.pearl_tree.specs.declared.symbol.TheConstants as s
 use Rattle.pearl_tree.proofs.TypeLists.{spells_struct}
 use Rattle.pearl_parse_expr.specs.Stops as stops
 use Rattle.pearl_parse_expr.proofs.Lists.{list_one_more}

@@ -1,6 +1,6 @@
 use Rattle.std.proofs.Common.{Err, ◌≡◌, ℕ, ◌+◌, ◌-◌, ◌<◌, ◌≤◌, length, inl, refl, sym, ap, subst, ◌∙◌, arith, rules, [], ◌∷◌, ◌++◌}
 use Rattle.pearl_tree.specs.Expressions as grammar
-use Rattle.pearl_tables.specs.declared.symbol.TheConstants as s
+use Rattle.pearl_tree.specs.declared.symbol.TheConstants as s
 use Rattle.pearl_tree.proofs.ExpressionLists.{spells_ref, spells_limit, spells_subscripts}
 use Rattle.pearl_parse_expr.specs.Stops as spec
 use Rattle.pearl_parse_expr.proofs.Primaries.{clash, symbol_within, only_group, only_bracketed, only_named, only_now, no_selector, selector_extends}

@@ -1,5 +1,5 @@
 use Rattle.std.proofs.Common.{◌+◌, refl, sym, inl, arith, ap, ◌∙◌}
-use Rattle.pearl_tables.specs.declared.word_code.TheConstants as w
+use Rattle.pearl_tree.specs.declared.word_code.TheConstants as w
 use Rattle.pearl_parse_expr.specs.Stops.{is_name}
 use Rattle.pearl_parse_expr.proofs.Primaries.{clash, word_within, only_try}
 use Rattle.pearl_parse_expr.proofs.Leaves.{availability_reaches}

@@ -7,8 +7,8 @@ use Rattle.pearl_tree.specs.declared.statement.Case.{out-Case}
 use Rattle.pearl_tree.specs.declared.statement.If as if_
 use Rattle.pearl_tree.specs.declared.statement.If.{out-If}
 use Rattle.pearl_tree.specs.declared.statement.Repeat.{Repeat}
-use Rattle.pearl_tables.specs.declared.symbol.TheConstants as s
-use Rattle.pearl_tables.specs.declared.word_code.TheConstants as w
+use Rattle.pearl_tree.specs.declared.symbol.TheConstants as s
+use Rattle.pearl_tree.specs.declared.word_code.TheConstants as w
 use Rattle.pearl_print.specs.Lists.{word, symbol, maybe}
 use Rattle.pearl_print.specs.Schedules.{after_tokens}
 use Rattle.pearl_print.specs.Spelled.{text_of_tokens}

@@ -1,6 +1,6 @@
 use Rattle.std.proofs.Common.{◌≡◌, ◌++◌, take}
 use Rattle.std.specs.List.{flat_map}
-use Rattle.pearl_tables.specs.declared.word_code.TheConstants as w
+use Rattle.pearl_tree.specs.declared.word_code.TheConstants as w
 use Rattle.pearl_print.specs.Spelled.{text_of_tokens}
 use Rattle.pearl_print.specs.Statements.{stmt_tokens, branch_tokens}
 use Rattle.pearl_print.proofs.statement.«+statement».Given as goal
