@@ -1,0 +1,2 @@
+-- what the expressions of a statement need
+pub mod Needs
