@@ -1,7 +1,8 @@
 -- What the expressions of a statement need: how many values stand in them, and the greatest weight of a procedure that
 -- they call.
 use Rattle.std.specs.Prelude.{ℕ, ◌+◌, max, List}
-use Rattle.pearl_program.specs.Weights.{Sizes, values, callees}
+use Rattle.pearl_program.specs.PlainExpressions.{PlainArguments}
+use Rattle.pearl_program.specs.Weights.{Sizes, values, callees, of_arguments}
 use Rattle.pearl_generate.specs.declared.need.Need.{Need}
 
 -- what is taken together so, where procedures have these weights
@@ -15,3 +16,7 @@ both_needs a b = record { values = a.values + b.values; deepest = max a.deepest 
 -- the greatest of two statements
 abbrev pub greater_need : Need → Need → Need
 greater_need a b = record { values = max a.values b.values; deepest = max a.deepest b.deepest }
+
+-- of a call, apart from its result
+abbrev pub of_call : ℕ → PlainArguments → Sizes → ℕ
+of_call procedure arguments sizes = sizes.both (sizes.call procedure) (of_arguments sizes arguments)
