@@ -1,1 +1,6 @@
 pub mod Sums
+pub mod StatementNodes
+pub mod SmallerCalls
+pub mod Weights
+pub mod Zips
+pub mod Whole

@@ -35,6 +35,11 @@ pub sum_ends : (weights : List ℕ) (need : Need) (left whole : Sizes → ℕ) �
 sum_ends weights need left whole h v d =
     need_is need (need_of weights whole) (omega (arith, h.values, v)) (omega (arith, h.deepest, d))
 
+-- the greatest so far, and of what is left, is that of the whole
+pub record IsGreatestOf (weights : List ℕ) (need : Need) (left whole : Sizes → ℕ) : Type 0 where
+  pub values : max need.values (left values) ≡ whole values
+  pub deepest : max need.deepest (left (callees weights)) ≡ whole (callees weights)
+
 -- a value beside what is needed else
 pub value_beside : (weights : List ℕ) (inner need : Need) (here : Sizes → ℕ) → inner ≡ need_of weights here →
     need ≡ both_needs (record { values = 1; deepest = 0 }) inner → need ≡ need_of weights (λ sizes. sizes.both sizes.one (here sizes))

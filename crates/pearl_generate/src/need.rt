@@ -1,6 +1,6 @@
 // What the expressions of a statement need.
 
-ghost use Rattle.std.specs.Prelude.{◌≡◌, IfOk};
+ghost use Rattle.std.specs.Prelude.{◌≡◌, ◌+◌, IfOk};
 ghost use Rattle.pearl_generate.specs.Needs.{need_of, both_needs, greater_need};
 
 use std::alloc::AllocError as NoMemory;
@@ -10,6 +10,16 @@ use std::alloc::AllocError as NoMemory;
 pub struct Need {
     pub values: u64,
     pub deepest: u64,
+}
+
+/// The sum. One that has no room counts as want of memory.
+pub fn sum(one: u64, other: u64) -> Result<u64, NoMemory>
+    ensures { IfOk result (λ both. both ≡ one + other) }
+{
+    match one.checked_add(other) {
+        Some(both) => Ok(both),
+        None => Err(NoMemory),
+    }
 }
 
 impl Need {
@@ -26,13 +36,11 @@ impl Need {
     pub fn with(self, other: Need) -> Result<Need, NoMemory>
         ensures { IfOk result (λ need. need ≡ both_needs self other) }
     {
-        match self.values.checked_add(other.values) {
-            Some(values) => Ok(Need {
-                values,
-                deepest: self.deepest.max(other.deepest),
-            }),
-            None => Err(NoMemory),
-        }
+        let values = sum(self.values, other.values)?;
+        Ok(Need {
+            values,
+            deepest: self.deepest.max(other.deepest),
+        })
     }
 
     /// The greatest of two statements.
