@@ -4,3 +4,4 @@ pub mod SmallerCalls
 pub mod Weights
 pub mod Zips
 pub mod Whole
+pub mod Routines

@@ -1,9 +1,8 @@
 -- Needs that are taken together one after another.
-use Rattle.std.proofs.Common.{◌≡◌, ℕ, suc, ◌+◌, ◌<◌, ◌≤◌, max, List, [], ◌∷◌, length, drop, get_or, sym, ap, ◌∙◌, subst, refl, arith, drop-cons}
-use Rattle.std.proofs.Math.ListN.{drop_of_length-le}
+use Rattle.std.proofs.Common.{◌≡◌, ℕ, suc, ◌+◌, ◌<◌, max, List, ◌∷◌, length, drop, get_or, sym, ap, ◌∙◌, arith, drop-cons}
 use Rattle.pearl_program.specs.Weights.{Sizes, values, callees}
 use Rattle.pearl_generate.specs.declared.need.Need.{Need}
-use Rattle.pearl_generate.specs.Needs.{need_of, both_needs, greater_need}
+use Rattle.pearl_generate.specs.Needs.{need_of, both_needs}
 
 -- the elements that are left, where one is there
 pub one_left : {X : Type 0} (xs : List X) (i : ℕ) (x : X) → i < length xs → x ≡ get_or xs i x → drop i xs ≡ x ∷ drop (i + 1) xs

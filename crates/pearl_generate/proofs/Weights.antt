@@ -1,11 +1,11 @@
 -- The weight of each procedure, where those of all are told.
-use Rattle.std.proofs.Common.{◌≡◌, ℕ, zero, suc, ◌+◌, ◌<◌, ◌≤◌, List, [], ◌∷◌, ◌++◌, length, get_or, drop, map, Option, Some, None, slice_get, refl, sym, ap, ◌∙◌, subst, absurd, arith, length-append}
+use Rattle.std.proofs.Common.{◌≡◌, ℕ, zero, suc, ◌+◌, ◌<◌, List, [], ◌∷◌, ◌++◌, length, get_or, drop, map, Some, slice_get, refl, sym, ap, ◌∙◌, subst, arith, length-append}
 use Rattle.std.proofs.lemmas.Option.{none-some, slice_get-get_or, get_or_from_slice_get}
 use Rattle.std.specs.Prelude.{unwrap_or}
 use Rattle.pearl_program.specs.declared.program.Procedure.{Procedure}
 use Rattle.pearl_program.specs.PlainPrograms.{PlainProcedure, plain_procedure}
 use Rattle.pearl_program.specs.Sound.{CallSmaller}
-use Rattle.pearl_program.specs.Weights.{values, callees, greatest_of_all, weight, weights_behind, weights_of}
+use Rattle.pearl_program.specs.Weights.{values, greatest_of_all, weight, weights_behind, weights_of}
 use Rattle.pearl_generate.proofs.SmallerCalls.{AreAlike, all_same}
 use Rattle.pearl_generate.proofs.Sums.{one_left}
 

@@ -1,12 +1,10 @@
 -- An object with a program's tables and routines is one that the program becomes.
-use Rattle.std.proofs.Common.{◌≡◌, ℕ, suc, ◌+◌, List, [], ◌∷◌, ◌++◌, length, map, Option, Some, None, slice_get, option_map, refl, sym, ap, ◌∙◌, subst, absurd, arith}
+use Rattle.std.proofs.Common.{◌≡◌, ℕ, suc, ◌+◌, List, [], ◌∷◌, ◌++◌, length, map, Option, Some, None, slice_get, option_map, refl, sym, ap, ◌∙◌, subst, arith}
 use Rattle.std.specs.Prelude.{IfSome}
 use Rattle.std.specs.List.{AllZip}
 use Rattle.std.proofs.lemmas.List.{length-map}
 use Rattle.std.proofs.lemmas.Option.{none-some, slice_get-map}
 use Rattle.pearl_value.specs.declared.kind.Kind.{Kind}
-use Rattle.pearl_program.specs.declared.program.Procedure.{Procedure}
-use Rattle.pearl_program.specs.declared.program.Task.{Task}
 use Rattle.pearl_program.specs.declared.program.Program.{Program}
 use Rattle.pearl_program.specs.PlainPrograms.{PlainRoutine, PlainProcedure, PlainTask, PlainProg, plain_prog, plain_procedure, plain_task}
 use Rattle.pearl_meaning.specs.ProgramRuns.{device_of, entry_of}
@@ -18,7 +16,7 @@ use Rattle.pearl_instructions.specs.declared.object.Task as code_task
 use Rattle.pearl_instructions.specs.declared.object.Object.{Object}
 use Rattle.pearl_instructions.specs.Objects.{routines, routine_at}
 use Rattle.pearl_gen_expr.specs.ExprCode.{Is, instructions_or_none, code_of}
-use Rattle.pearl_gen_expr.specs.Tables.{Head, plain_leaf, head_of, code_head, code_entry, HasTables}
+use Rattle.pearl_gen_expr.specs.Tables.{plain_leaf, head_of, code_head, code_entry}
 use Rattle.pearl_gen_stmt.specs.StmtCode.{StmtsAt}
 use Rattle.pearl_gen_stmt.specs.Generated.{within_program, last_of, IsStated, IsCode, IsGenerated}
 use Rattle.pearl_gen_stmt.proofs.Procedures.{procedure_routine}
@@ -61,7 +59,7 @@ record IsFrom {X Y : Type 0} (f : X → Y) (xs : List X) (k : ℕ) (y : Y) : Typ
   pub is : f from ≡ y
 
 mapped_at : {X Y : Type 0} (f : X → Y) (xs : List X) (k : ℕ) (y : Y) → slice_get (map f xs) k ≡ Some y → IsFrom f xs k y
-mapped_at f xs k y is = by (slice_get xs k) refl
+mapped_at {X = X} f xs k y is = by (slice_get xs k) refl
   where
     by : (found : Option X) → slice_get xs k ≡ found → IsFrom f xs k y
     by None e = absurd (none-some y (ap (option_map f) (sym e) ∙ (sym (slice_get-map f xs k) ∙ is)))

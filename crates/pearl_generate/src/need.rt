@@ -27,6 +27,7 @@ impl Need {
         values: 0,
         deepest: 0,
     };
+
     pub const VALUE: Need = Need {
         values: 1,
         deepest: 0,

@@ -9,7 +9,9 @@ ghost use Rattle.pearl_program.specs.declared.statement.Case.{out-Case};
 
 use crate::expression::{call_need, expr_need, exprs_need, variable_need};
 use crate::need::Need;
-use crate::schedule::{maybe_expr_need, maybe_once_need, maybe_period_need, maybe_start_need, once_need};
+use crate::schedule::{
+    maybe_expr_need, maybe_once_need, maybe_period_need, maybe_start_need, once_need,
+};
 use pearl_program::expression::Variable;
 use pearl_program::statement::{Activate, Assign, Branch, Case, Counter, If, Repeat, Stmt};
 use std::alloc::AllocError as NoMemory;

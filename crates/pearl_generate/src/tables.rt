@@ -6,6 +6,7 @@ ghost use Rattle.pearl_gen_expr.specs.Tables.{plain_leaf as leaf_said};
 ghost use Rattle.pearl_program.specs.PlainExpressions.{cell_of};
 ghost use Rattle.pearl_program.specs.PlainPrograms.{plain_leaf};
 
+use arrayvec::ArrayVec;
 use pearl_format::item::Item;
 use pearl_instructions::object::Leaf;
 use pearl_program::literal::Literal;
@@ -94,4 +95,12 @@ pub fn formats_of(alloc: Global, formats: &[Listing<Item>]) -> Result<Vec<Listin
         made.push(Listing::new(items))?;
     }
     Ok(made)
+}
+
+/// The name of a task, as it is.
+pub fn name_of(name: &ArrayVec<u8, 63>) -> Result<ArrayVec<u8, 63>, NoMemory>
+    ensures { IfOk result (λ copy. copy ≡ name.now) }
+{
+    let copy = name.clone()?;
+    Ok(copy)
 }
