@@ -6,7 +6,7 @@ use Rattle.pearl_value.specs.declared.cell.Cell.{Cell}
 use Rattle.pearl_value.specs.Cells.{kind_of}
 use Rattle.pearl_value.specs.WellFormed.{IsValueOf}
 use Rattle.pearl_rules.specs.declared.action.Action.{Action}
-use Rattle.pearl_rules.specs.declared.action.Action.TheVariants.{Read, Write, Put, End, Trap}
+use Rattle.pearl_rules.specs.declared.action.Action.TheVariants.{Read, Write, Turn, Enter, Put, End, Trap}
 use Rattle.pearl_rules.specs.declared.action.Answer.{Answer}
 use Rattle.pearl_rules.specs.declared.action.Answer.TheVariants.{Nothing, One, Many}
 use Rattle.pearl_rules.specs.declared.setup.Setup.{Setup}
@@ -20,6 +20,8 @@ slot_kind setup slot = kind_of (value_at setup.slots slot)
 abbrev pub Suits : Setup → Action → Answer → Type 0
 Suits setup (Read slot) answer = (x : Cell) × (answer ≡ One x) × IsValueOf (slot_kind setup slot) x
 Suits setup (Write slot value) answer = answer ≡ Nothing
+Suits setup Turn answer = answer ≡ Nothing
+Suits setup Enter answer = answer ≡ Nothing
 Suits setup (Put device text) answer = answer ≡ Nothing
 Suits setup action answer = ⊥
 
@@ -34,6 +36,8 @@ heard_value (Many xs) = cell_or_zero None
 abbrev pub Fits : Setup → Action → Type 0
 Fits setup (Read slot) = slot < length setup.slots
 Fits setup (Write slot value) = (slot < length setup.slots) × IsValueOf (slot_kind setup slot) value
+Fits setup Turn = Unit {0}
+Fits setup Enter = Unit {0}
 Fits setup (Put device text) = Unit {0}
 Fits setup End = Unit {0}
 Fits setup (Trap trap) = Unit {0}
