@@ -114,7 +114,7 @@ ends_unheard answer e = cc
 
 -- what a task hears suits its action
 pub effect-answers : (setup : Setup) (core : Core) (t : ℕ) (action : Action) (answer : Answer) → HasKinds setup core → Fits setup action →
-    (effect core t action).reply ≡ Hears answer → Suits setup action answer
+    (effect core t action).reply ≡ Hears answer → Suits setup t action answer
 unfolding effect
 effect-answers setup core t (Read slot) answer kinds fits e =
     (value_at core.slots slot, same_answer (One (value_at core.slots slot)) answer e, value_kind setup.slots core.slots slot kinds fits)

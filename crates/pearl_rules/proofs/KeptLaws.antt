@@ -77,11 +77,13 @@ module _ (X Y : Type 0) (Same : ℕ → X → Y → Type 0) where
   pub refreshed_at : (f : ℕ → X) (g : ℕ → Y) (t : ℕ) (rows : List TaskRow) → ((u : ℕ) → u < t + length rows → Same u (f u) (g u)) →
       (xs : List (Option X)) (ys : List (Option Y)) → AllAt t xs ys → AllAt t (refreshed f t rows xs) (refreshed g t rows ys)
   refreshed_at f g t [] begins xs ys all = tt
-  refreshed_at f g t (row ∷ rows) begins [] [] all =
-      (kept_both (is_active_row (Some row)) t (f t) (g t) (begins t (omega arith)) None None tt,
-      refreshed_at f g (t + 1) rows (λ u less. begins u (omega (arith, less))) [] [] tt)
+  refreshed_at f g t (row ∷ rows) begins [] [] all = (
+    kept_both (is_active_row (Some row)) t (f t) (g t) (begins t (omega arith)) None None tt,
+    refreshed_at f g (t + 1) rows (λ u less. begins u (omega (arith, less))) [] [] tt,
+  )
   refreshed_at f g t (row ∷ rows) begins [] (y ∷ ys) all = absurd all
   refreshed_at f g t (row ∷ rows) begins (x ∷ xs) [] all = absurd all
-  refreshed_at f g t (row ∷ rows) begins (x ∷ xs) (y ∷ ys) all =
-      (kept_both (is_active_row (Some row)) t (f t) (g t) (begins t (omega arith)) x y all.0,
-      refreshed_at f g (t + 1) rows (λ u less. begins u (omega (arith, less))) xs ys all.1)
+  refreshed_at f g t (row ∷ rows) begins (x ∷ xs) (y ∷ ys) all = (
+    kept_both (is_active_row (Some row)) t (f t) (g t) (begins t (omega arith)) x y all.0,
+    refreshed_at f g (t + 1) rows (λ u less. begins u (omega (arith, less))) xs ys all.1,
+  )

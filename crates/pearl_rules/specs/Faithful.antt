@@ -35,7 +35,7 @@ pub record Alone (setup : Setup) (offer : Supplier) {S : Type 0} (engine : Engin
   pub fits : (t : ℕ) (heard : List Answer) (stack : S) (action : Action) → Stands t heard stack → engine.step t stack ≡ Offers action →
       Fits setup action
   pub answered : (t : ℕ) (heard : List Answer) (stack : S) (action : Action) (answer : Answer) →
-      Stands t heard stack → engine.step t stack ≡ Offers action → Suits setup action answer →
+      Stands t heard stack → engine.step t stack ≡ Offers action → Suits setup t action answer →
       Stands t (heard ++ answer ∷ []) (engine.answer t stack answer)
 
 -- From where the code of one of `count` tasks stands it offers an action within `rows` instructions: a weight falls at each silent one.

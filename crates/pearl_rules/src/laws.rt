@@ -36,7 +36,7 @@ pub fn keeps_kinds()
     ensures slots { (setup : Setup) (core : Core) (t : ℕ) (action : Action) → HasKinds setup core → Fits setup action →
         HasKinds setup (effect core t action).core }
     ensures answers { (setup : Setup) (core : Core) (t : ℕ) (action : Action) (answer : Answer) → HasKinds setup core → Fits setup action →
-        (effect core t action).reply ≡ Hears answer → Suits setup action answer }
+        (effect core t action).reply ≡ Hears answer → Suits setup t action answer }
 {}
 
 /// Some code, with a relation that says where each task's code stands after its answers, and a weight that falls at each
