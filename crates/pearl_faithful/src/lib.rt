@@ -1,2 +1,4 @@
-// That an object's runs are those of the program that it was made of.
+// That the object of a program runs as the program means. The definitions stand in specs/.
 #![tactic(auto)]
+
+pub mod laws;
