@@ -191,30 +191,30 @@ module _ (setup : Setup) (depth : ℕ) (code : List Unboxed) (stack : Stack) whe
 
   -- THE ANSWER
 
-  no_answer : (offered : Action) (answer : Answer) (result : Result Cell Trap) (left : List Cell) → pushes stack left result ≡ Offers offered → Suits setup offered answer → ⊥
-  no_answer offered answer (Ok y) left e suits = let no : ⊥ = cc in no
-  no_answer offered answer (Err trap) left e suits =
-      let is : offered ≡ action.Trap trap = cc in subst (λ offered. Suits setup offered answer) is suits
+  no_answer : (own : ℕ) (offered : Action) (answer : Answer) (result : Result Cell Trap) (left : List Cell) → pushes stack left result ≡ Offers offered → Suits setup own offered answer → ⊥
+  no_answer own offered answer (Ok y) left e suits = let no : ⊥ = cc in no
+  no_answer own offered answer (Err trap) left e suits =
+      let is : offered ≡ action.Trap trap = cc in subst (λ offered. Suits setup own offered answer) is suits
 
   -- after its answer a text that was put is done
-  text_done : (device : ℕ) (text : Option (List ℕ)) (answer : Answer) (store : Store) (rest : List Answer) (go : Store → List Answer → Evaluation Flow) →
-      Suits setup (put_action device text) answer → bind (put_text device text store (answer ∷ rest)) (λ flow store rest. go store rest) ≡ go store rest
-  text_done device None answer store rest go suits = absurd suits
-  text_done device (Some text) answer store rest go suits = refl
+  text_done : (own device : ℕ) (text : Option (List ℕ)) (answer : Answer) (store : Store) (rest : List Answer) (go : Store → List Answer → Evaluation Flow) →
+      Suits setup own (put_action device text) answer → bind (put_text device text store (answer ∷ rest)) (λ flow store rest. go store rest) ≡ go store rest
+  text_done own device None answer store rest go suits = absurd suits
+  text_done own device (Some text) answer store rest go suits = refl
 
-  pub answered : (x : Unboxed) (offered : Action) (answer : Answer) (kinds : List CellKind) → AreOf kinds stack.operands → UnboxedRuns setup depth (Some kinds) (x ∷ code) →
-      unboxed_executed setup (Some x) stack ≡ Offers offered → Suits setup offered answer →
+  pub answered : (own : ℕ) (x : Unboxed) (offered : Action) (answer : Answer) (kinds : List CellKind) → AreOf kinds stack.operands → UnboxedRuns setup depth (Some kinds) (x ∷ code) →
+      unboxed_executed setup (Some x) stack ≡ Offers offered → Suits setup own offered answer →
       Moved setup depth x code (answer ∷ []) stack (unboxed_continued setup (Some x) stack answer)
-  answered (Const value) offered answer kinds are runs e suits = let no : ⊥ = cc in absurd no
-  answered (Conv to) offered answer kinds are runs e suits =
-      absurd (no_answer offered answer (converted (last stack.operands) to) (below 1 stack.operands) e suits)
-  answered (Dyadic op) offered answer kinds are runs e suits =
-      absurd (no_answer offered answer (applied2 op (second stack.operands) (last stack.operands)) (below 2 stack.operands) e suits)
-  answered End offered answer kinds are runs e suits =
-      let is : offered ≡ action.End = cc in absurd (subst (λ offered. Suits setup offered answer) is suits)
-  answered (Read slot) offered answer kinds are runs e suits =
+  answered own (Const value) offered answer kinds are runs e suits = let no : ⊥ = cc in absurd no
+  answered own (Conv to) offered answer kinds are runs e suits =
+      absurd (no_answer own offered answer (converted (last stack.operands) to) (below 1 stack.operands) e suits)
+  answered own (Dyadic op) offered answer kinds are runs e suits =
+      absurd (no_answer own offered answer (applied2 op (second stack.operands) (last stack.operands)) (below 2 stack.operands) e suits)
+  answered own End offered answer kinds are runs e suits =
+      let is : offered ≡ action.End = cc in absurd (subst (λ offered. Suits setup own offered answer) is suits)
+  answered own (Read slot) offered answer kinds are runs e suits =
       let is : offered ≡ action.Read slot = cc in
-      let s : Suits setup (action.Read slot) answer = subst (λ offered. Suits setup offered answer) is suits in
+      let s : Suits setup own (action.Read slot) answer = subst (λ offered. Suits setup own offered answer) is suits in
       let heard : heard_value answer ≡ s.0 = ap heard_value s.1 in
       record {
         place = refl;
@@ -224,21 +224,21 @@ module _ (setup : Setup) (depth : ℕ) (code : List Unboxed) (stack : Stack) whe
         runs = runs.1;
         meant = λ store rest. refl;
       }
-  answered (Write slot) offered answer kinds are runs e suits =
+  answered own (Write slot) offered answer kinds are runs e suits =
       let left = runs.0 in
       let t = has_last left (slot_kind setup slot) stack.operands (subst (λ kinds. AreOf kinds stack.operands) runs.1.stacked are) in
       record { place = refl; kinds = left; are = t.under; runs = runs.2; meant = λ store rest. refl }
-  answered (Put device format) offered answer kinds are runs e suits =
+  answered own (Put device format) offered answer kinds are runs e suits =
       let items = format_of setup format in
       let left = runs.0 in let takes = runs.1 in
       let text = text_of items (top (data_count items) stack.operands) in
       let is : offered ≡ put_action device text = cc in
-      let s : Suits setup (put_action device text) answer = subst (λ offered. Suits setup offered answer) is suits in
+      let s : Suits setup own (put_action device text) answer = subst (λ offered. Suits setup own offered answer) is suits in
       record {
         place = refl;
         kinds = left;
         are = put_left left (map Plain takes.values) stack.operands (data_count items) (subst (λ kinds. AreOf kinds stack.operands) takes.stacked are)
             (length-map takes.values Plain ∙ suits-length items takes.values takes.suits);
         runs = runs.2;
-        meant = λ store rest. text_done device text answer store rest (λ store rest. run_unboxed setup code (below (data_count items) stack.operands) store rest) s;
+        meant = λ store rest. text_done own device text answer store rest (λ store rest. run_unboxed setup code (below (data_count items) stack.operands) store rest) s;
       }

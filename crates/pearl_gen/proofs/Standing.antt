@@ -108,18 +108,18 @@ fits_so p o t heard stack offered [] b e = let is : action.End ≡ offered = cc 
 fits_so p o t heard stack offered (x ∷ code) b e = fits o.setup b.depth code stack x offered b.kinds b.are b.runs e
 
 answered_so : (p : Program) (o : Object) (t : ℕ) (heard : List Answer) (stack : Stack) (offered : Action) (answer : Answer) (left : List Unboxed) (b : Before p o t heard stack left) →
-    unboxed_executed o.setup (first_of left) stack ≡ Offers offered → Suits o.setup offered answer →
+    unboxed_executed o.setup (first_of left) stack ≡ Offers offered → Suits o.setup t offered answer →
     Stands p o t (heard ++ answer ∷ []) (unboxed_continued o.setup (first_of left) stack answer)
 answered_so p o t heard stack offered answer [] b e suits =
-    let is : offered ≡ action.End = cc in absurd (subst (λ offered. Suits o.setup offered answer) is suits)
+    let is : offered ≡ action.End = cc in absurd (subst (λ offered. Suits o.setup t offered answer) is suits)
 answered_so p o t heard stack offered answer (x ∷ code) b e suits =
     behind p o t heard (answer ∷ []) stack (unboxed_continued o.setup (Some x) stack answer) x code b
-    (answered o.setup b.depth code stack x offered answer b.kinds b.are b.runs e suits)
+    (answered o.setup b.depth code stack t x offered answer b.kinds b.are b.runs e suits)
 
 -- Code that stands at the start of each task does what the task rules say.
 pub alone : (p : Program) (o : Object) → ((t : ℕ) → Stands p o t [] (record { place = 0; operands = [] })) → Alone o.setup (offer p) (engine o) (Stands p o)
 alone p o begins = record {
-  begins = begins;
+  begins = λ t there. begins t;
   goes = λ t heard stack after s e. goes_on p o t heard stack after s.left s.before (sym (step-unboxed p o t heard stack s.left s.before) ∙ e);
   offers = λ t heard stack offered s e. offers_so p o t heard stack offered s.left s.before (sym (step-unboxed p o t heard stack s.left s.before) ∙ e);
   fits = λ t heard stack offered s e. fits_so p o t heard stack offered s.left s.before (sym (step-unboxed p o t heard stack s.left s.before) ∙ e);

@@ -86,10 +86,10 @@ length-code_of setup (code ∷ codes) zero = omega arith
 length-code_of setup (code ∷ codes) (suc t) = let less : length (code_of (record { setup = setup; tasks = codes }) t) ≤ total_rows codes = length-code_of setup codes t in omega arith
 
 soon : (p : Program) (setup : Setup) (codes : List Code) (rows : ℕ) → total_rows codes ≤ rows → 0 < rows →
-    Soon (engine (record { setup = setup; tasks = codes })) (Stands p (record { setup = setup; tasks = codes })) (weight (record { setup = setup; tasks = codes })) rows
-soon p setup codes rows most some = let o : Object = record { setup = setup; tasks = codes } in record {
-  bounded = λ t heard stack s. let less : length (code_of o t) ≤ total_rows codes = length-code_of setup codes t in omega arith;
-  falls = falls p o;
+    (count : ℕ) → Soon count (engine (record { setup = setup; tasks = codes })) (Stands p (record { setup = setup; tasks = codes })) (weight (record { setup = setup; tasks = codes })) rows
+soon p setup codes rows most some count = let o : Object = record { setup = setup; tasks = codes } in record {
+  bounded = λ t heard stack there s. let less : length (code_of o t) ≤ total_rows codes = length-code_of setup codes t in omega arith;
+  falls = λ t heard stack after there s e. falls p o t heard stack after s e;
 }
 
 -- a task's code has at least its end
@@ -106,7 +106,7 @@ some_rows setup routine code is =
 runs_in : (p : Program) (codes : List Code) (rows : ℕ) → IsSound p → AllZip (IsCodeOf p.setup) p.tasks codes → total_rows codes ≤ rows → 0 < rows →
     IsFaithful (offer p) (engine (record { setup = p.setup; tasks = codes })) p.setup (length p.setup.tasks) rows
 runs_in p codes rows sound all most some = let o : Object = record { setup = p.setup; tasks = codes } in
-    faithful (offer p) (engine o) (Stands p o) (weight o) p.setup rows sound.setup.slots (alone p o (begins p codes sound all)) (soon p p.setup codes rows most some)
+    faithful (offer p) (engine o) (Stands p o) (weight o) p.setup rows sound.setup.slots (alone p o (begins p codes sound all)) (soon p p.setup codes rows most some (length p.setup.tasks))
 
 -- with no tasks any bound on the rows is the same
 no_rows : (p : Program) (o : Object) → IsFaithful (offer p) (engine o) p.setup 0 1 → IsFaithful (offer p) (engine o) p.setup 0 0
@@ -142,5 +142,5 @@ pub means_alone : (p : Program) (setup : Setup) (codes : List Code) → IsSound 
 means_alone p setup codes sound same all = subst (λ setup. MeansAlone p (record { setup = setup; tasks = codes })) (sym same) record {
   offers = let o : Object = record { setup = p.setup; tasks = codes } in
       offers_alone p.setup (offer p) (engine o) (Stands p o) (weight o) (total_rows codes) (alone p o (begins p codes sound all))
-      (soon p p.setup codes (total_rows codes + 1) (omega arith) (omega arith));
+      (soon p p.setup codes (total_rows codes + 1) (omega arith) (omega arith)) (begins p codes sound all);
 }

@@ -14,7 +14,7 @@ use Rattle.pearl_code.specs.MachineRun.{total_rows}
 abbrev pub HeardAfter : Setup → Supplier → ℕ → List Answer → List Answer → Type 0
 HeardAfter setup offer t before [] = Unit {0}
 HeardAfter setup offer t before (answer ∷ answers) =
-    Suits setup (offer t before) answer × HeardAfter setup offer t (before ++ answer ∷ []) answers
+    Suits setup t (offer t before) answer × HeardAfter setup offer t (before ++ answer ∷ []) answers
 
 -- task t can have these answers since its start: each suits the action that it does after the ones before
 abbrev pub Heard : Setup → Supplier → ℕ → List Answer → Type 0

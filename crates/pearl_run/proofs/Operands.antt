@@ -312,7 +312,7 @@ pub hears_value : (o : Object) (stack : Stack) (slot : ℕ) (answer : Answer) �
     IsValueOf (slot_kind o.setup slot) (heard_value answer)
 hears_value o stack slot answer e hears =
     let same : hears.0 ≡ action.Read slot = offers_same (executed o (fetched o 0 stack) stack) (action.Read slot) hears.0 (ap (λ i. executed o i stack) e) hears.1 in
-    let suits : SuitsAction o.setup (action.Read slot) answer = subst (λ a. SuitsAction o.setup a answer) same hears.2 in
+    let suits : SuitsAction o.setup 0 (action.Read slot) answer = subst (λ a. SuitsAction o.setup 0 a answer) same hears.2 in
     subst (λ x. IsValueOf (slot_kind o.setup slot) (heard_value x)) (sym suits.1) suits.2
 
 -- the stack is ready at this state

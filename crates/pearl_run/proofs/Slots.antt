@@ -26,7 +26,7 @@ core_with slots = record { moment = 0; tasks = []; slots = slots; last = None; t
 
 -- a read is answered by a value of its slot's kind
 pub read_suits : (setup : Setup) (slots : List Cell) (slot : ℕ) → AllZip IsLike setup.slots slots → slot < length setup.slots →
-    Suits setup (action.Read slot) (One (value_at slots slot))
+    Suits setup 0 (action.Read slot) (One (value_at slots slot))
 unfolding effect
 read_suits setup slots slot kinds named = effect-answers setup (core_with slots) 0 (action.Read slot) (One (value_at slots slot)) kinds named refl
 

@@ -70,4 +70,4 @@ pub record IsOffer (o : Object) (stack : Stack) (action : Action) : Type 0 where
 
 -- an answer that this action can have
 abbrev pub CanHear : Object → Stack → Answer → Type 0
-CanHear o stack answer = (action : Action) × (executed o (fetched o 0 stack) stack ≡ Offers action) × Suits o.setup action answer
+CanHear o stack answer = (action : Action) × (executed o (fetched o 0 stack) stack ≡ Offers action) × Suits o.setup 0 action answer
