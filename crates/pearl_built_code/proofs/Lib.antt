@@ -1,0 +1,4 @@
+pub mod Stretches
+pub mod BuiltExpressions
+pub mod BuiltStatements
+pub mod BuiltObjects
