@@ -2,3 +2,7 @@ pub mod BuiltParts
 pub mod BuiltExpressions
 pub mod BuiltStatements
 pub mod BuiltModules
+pub mod Stretches
+pub mod ExpressionCode
+pub mod StatementCode
+pub mod ObjectCode

@@ -1,4 +1,0 @@
-pub mod Stretches
-pub mod BuiltExpressions
-pub mod BuiltStatements
-pub mod BuiltObjects

@@ -1,4 +1,0 @@
-// That the machine carries out the code of each program that is carried out. The definitions stand in specs/.
-#![tactic(auto)]
-
-pub mod laws;

@@ -1,0 +1,4 @@
+pub mod Setups
+pub mod Offering
+pub mod Answers
+pub mod Standing
