@@ -11,8 +11,6 @@ use Rattle.pearl_value.specs.declared.kind.Kind.{Kind}
 use Rattle.pearl_value.specs.declared.trap.Trap.{Trap}
 use Rattle.pearl_value.specs.declared.trap.Trap.TheVariants.{Index as IndexTrap}
 use Rattle.pearl_value.specs.Conversions.{fits_fixed}
-use Rattle.pearl_rules.specs.declared.action.Action.{Action}
-use Rattle.pearl_rules.specs.declared.action.Answer.{Answer}
 use Rattle.pearl_stack.specs.Frames.{Frame, cell_at, with_cell}
 use Rattle.pearl_instructions.specs.declared.instr.Instr.{Instr}
 use Rattle.pearl_instructions.specs.declared.instr.Instr.TheVariants.{Const, Load, Store, Fill, Drop, Conv, Index, LoadAt, StoreAt, Read, Write, ReadAt, WriteAt, RefSlot, RefSlotAt, RefCell, RefCellAt, ReadRef, WriteRef, Jump, JumpZero, Case, Turn, Call, Return, End, Trap as TrapOf, Within, Advance, NonZero, Monadic, Dyadic, Put}
@@ -28,16 +26,17 @@ use Rattle.pearl_instructions.specs.Cells.{read_reference, write_reference}
 use Rattle.pearl_instructions.specs.Flow.{jump_zero, goes_or_on, target_of, branch, loop_cells, returned, returns}
 use Rattle.pearl_instructions.specs.Offers.{put_text, value_kinds, items_suit}
 use Rattle.pearl_instructions.specs.Rows.{act, instr_at, row}
-use Rattle.pearl_machine.specs.Built.{IsBuilt, is_built, HasOnlyBuilt, OnlyBuilt}
+use Rattle.pearl_engine.specs.Built.{IsBuilt, is_built, HasOnlyBuilt}
+use Rattle.pearl_engine.specs.Laws.{OffersBuilt}
 
-abbrev OffersBuilt : Step → Type 0
-OffersBuilt (Silent frames) = Unit {0}
-OffersBuilt (Offers action go) = IsBuilt action
-OffersBuilt Missing = Unit {0}
+abbrev Builds : Step → Type 0
+Builds (Silent frames) = Unit {0}
+Builds (Offers action go) = IsBuilt action
+Builds Missing = Unit {0}
 
 -- an action that a step offers is built
 record On (step : Step) : Type 0 where
-  on : OffersBuilt step
+  on : Builds step
 
 on_given : {A : Type 0} (x : Option A) (go : A → Step) → ((y : A) → On (go y)) → On (given x go)
 on_given None go h = (record { on = tt })
@@ -172,7 +171,7 @@ built_at (code ∷ codes) zero i instr all e = all_of (λ instr. is_built instr 
 built_at (code ∷ codes) (suc r) i instr all e = built_at codes r i instr all.1 e
 
 -- what is offered in an object of built instructions alone
-pub offers_built : (o : Object) (frames : List Frame) (action : Action) (go : Answer → List Frame) → OnlyBuilt o → row o frames ≡ Offers action go → IsBuilt action
+pub offers_built : OffersBuilt
 offers_built o [] action go only e = cc
 offers_built o (f ∷ lower) action go only e = (subst On e (by (instr_at o f) refl)).on
   where

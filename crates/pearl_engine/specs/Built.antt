@@ -1,4 +1,4 @@
--- Which actions the machine is built for, and which objects offer no other.
+-- Which actions the rules have a row for, and which objects offer no other.
 use Rattle.std.specs.Prelude.{◌≡◌, Bool, true, false}
 use Rattle.std.specs.List.{AllByRecursion}
 use Rattle.pearl_rules.specs.declared.action.Action.{Action}
@@ -9,7 +9,7 @@ use Rattle.pearl_instructions.specs.declared.object.Code.{Code}
 use Rattle.pearl_instructions.specs.declared.object.Object.{Object}
 use Rattle.pearl_instructions.specs.Objects.{routines}
 
--- The core has a row for this action, or its row changes nothing, as that of Turn and Enter. The others aren't built yet.
+-- `effect` has a row for this action, and `Fits` and `Suits` know it. The others aren't built yet.
 abbrev pub IsBuilt : Action → Type 0
 IsBuilt (action.Read slot) = Unit {0}
 IsBuilt (action.Write slot value) = Unit {0}
