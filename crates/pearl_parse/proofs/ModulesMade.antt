@@ -16,6 +16,7 @@ use Rattle.pearl_tree.specs.Declarations.{SpellsDeclared, SpellsSpec, SpellsPara
 use Rattle.pearl_tree.specs.Modules.{SpellsTaskHead, SpellsReturns, SpellsBlock, SpellsDecl, SpellsModuleName, SpellsSystem, SpellsTree}
 use Rattle.pearl_tree.specs.declared.symbol.TheConstants as s
 use Rattle.pearl_tree.specs.declared.word_code.TheConstants as w
+use Rattle.pearl_parse.specs.Refusals.{Begins}
 use Rattle.pearl_parse_expr.specs.Least.{AlikeBefore, LawfulFrom, ReachesIn}
 use Rattle.pearl_parse_expr.proofs.Reaching.{order, placed, placed_within}
 use Rattle.pearl_parse_expr.proofs.Trees.{parts_of}
@@ -193,6 +194,10 @@ module_made others from to small h =
     )
 
 -- a module that goes on as far as a stop begins with the tokens before it
+pub begins : (tokens : List Token) (room stop : ℕ) → ReachesIn room SpellsTree tokens 0 stop → Begins tokens stop
+begins tokens room stop r =
+    (r.part, r.others, (λ j below. ap (option_map (λ token. token.what)) (r.alike j below)), record { spells = r.spelled })
+
 -- tokens are lawful where they are lawful ones before some number, and lawful from there on
 all_lawful : (tokens others : List Token) (stop : ℕ) → All (λ token. IsLawfulWhat token.what) tokens → AlikeBefore tokens others stop →
     LawfulFrom others stop → All (λ token. IsLawfulWhat token.what) others
@@ -208,6 +213,7 @@ all_lawful tokens others stop lawful alike rest k other within = by (order k sto
         subst (λ token. IsLawfulWhat token.what) (get_or_from_slice_get tokens k (get_or others k other) other same) (lawful k other inside)
     by (inr behind) = subst (λ found. IfSome (option_map (λ token. token.what) found) IsLawfulWhat) is (rest k behind)
 
+-- and it does so with lawful tokens where these are lawful
 pub some_begins : (tokens : List Token) (room stop : ℕ) → AreLawful tokens → ReachesIn room SpellsTree tokens 0 stop → SomeBegins tokens stop
 some_begins tokens room stop lawful r = (
   r.part,

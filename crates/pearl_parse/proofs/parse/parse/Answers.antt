@@ -5,7 +5,7 @@ use Rattle.pearl_tree.specs.Modules.{SpellsTree}
 use Rattle.pearl_tree.specs.Stops.{NoneBegins}
 use Rattle.pearl_parse_expr.proofs.Reaching.{reached_halt}
 use Rattle.pearl_parse.specs.Modules.{SpellsSource}
-use Rattle.pearl_parse.proofs.ModulesMade.{some_begins}
+use Rattle.pearl_parse.proofs.ModulesMade.{begins, some_begins}
 use Rattle.pearl_parse.proofs.parse.parse.Goals as goal
 
 pub returns-in-Ok-clause-lawful : goal.returns-in-Ok-clause-lawful
@@ -21,5 +21,6 @@ returns-in-Refused-clause-refused c =
       within = stuck.2;
       stands = c.place_or_end.ensures;
       none = none;
+      begins = begins c.args.tokens.now 24 c.in-Refused.stop reached;
       first = λ lawful. record { none = none; some = some_begins c.args.tokens.now 24 c.in-Refused.stop lawful reached };
     }
