@@ -15,7 +15,8 @@ use Rattle.pearl_instructions.specs.Lawful.{IsObject}
 use Rattle.pearl_instructions.specs.Objects.{slot_kind}
 use Rattle.pearl_instructions.specs.Stacks.{IsOneOf}
 use Rattle.pearl_engine.specs.Setups.{setup_of}
-use Rattle.pearl_engine.specs.Laws.{IsKnown, HearsWhatSuits}
+use Rattle.pearl_engine.specs.Built.{IsBuilt}
+use Rattle.pearl_engine.specs.Laws.{HearsWhatSuits}
 use Rattle.pearl_engine.proofs.Slots.{all_long}
 use Rattle.pearl_engine.proofs.Tables.{knows_slots}
 
@@ -23,15 +24,17 @@ value_of : (known : Option Kind) (of : Kind) (x : Cell) → known ≡ Some of �
 value_of None of x e is = cc
 value_of (Some kind) of x e is = subst (λ k. IsValueOf k x) (same_Some kind of e) is
 
-pub fits : (o : Object) (action : Action) → IsObject o → IsOffered o action → IsKnown action → rules.Fits (setup_of o) action
-fits o (action.Read slot) is offered known = let long = all_long o.leaves is.leaves in omega (arith, offered, long)
-fits o (action.Write slot value) is offered known =
+pub fits : (o : Object) (action : Action) → IsObject o → IsOffered o action → IsBuilt action → rules.Fits (setup_of o) action
+fits o (action.Read slot) is offered built = let long = all_long o.leaves is.leaves in omega (arith, offered, long)
+fits o (action.Write slot value) is offered built =
     let long = all_long o.leaves is.leaves in
     (omega (arith, offered.0, long), value_of (slot_kind o.leaves slot) (rules.slot_kind (setup_of o) slot) value (knows_slots o slot is offered.0) offered.1)
-fits o (action.Put device text) is offered known = tt
-fits o action.End is offered known = tt
-fits o (action.Trap trap) is offered known = tt
-fits o action is offered known = absurd known
+fits o action.Turn is offered built = tt
+fits o action.Enter is offered built = tt
+fits o (action.Put device text) is offered built = tt
+fits o action.End is offered built = tt
+fits o (action.Trap trap) is offered built = tt
+fits o action is offered built = absurd built
 
 one_of : (known : Option Kind) (of : Kind) (answer : Answer) (x : Cell) → known ≡ Some of → answer ≡ One x → IsValueOf of x → IsOneOf known answer
 one_of known of answer x e is value = subst (λ k. IsOneOf k answer) (sym e) (subst (IsOneOf (Some of)) (sym is) value)
@@ -40,5 +43,8 @@ pub suits : HearsWhatSuits
 suits o t (action.Read slot) answer is offered heard =
     one_of (slot_kind o.leaves slot) (rules.slot_kind (setup_of o) slot) answer heard.0 (knows_slots o slot is offered) heard.1 heard.2
 suits o t (action.Write slot value) answer is offered heard = heard
+suits o t action.Turn answer is offered heard = heard
+suits o t action.Enter answer is offered heard = heard
+suits o t (action.Terminate task) answer is offered heard = heard
 suits o t (action.Put device text) answer is offered heard = heard
 suits o t action answer is offered heard = absurd heard

@@ -1,17 +1,15 @@
 -- An action is offered soon.
-use Rattle.std.proofs.Common.{◌≡◌, inl, inr, ℕ, zero, suc, ◌+◌, ◌<◌, List, length, refl, sym, ap, ◌∙◌, subst, arith}
-use Rattle.pearl_rules.specs.declared.action.Action.TheVariants.{End}
-use Rattle.pearl_rules.specs.Runs as runs
+use Rattle.std.proofs.Common.{◌≡◌, inl, inr, ℕ, zero, suc, ◌<◌, List, refl, ap, subst, arith}
 use Rattle.pearl_stack.specs.Frames.{Frame}
 use Rattle.pearl_instructions.specs.declared.object.Object.{Object}
 use Rattle.pearl_instructions.specs.Laws as instructions
-use Rattle.pearl_instructions.specs.Rows.{row, begun}
+use Rattle.pearl_instructions.specs.Rows.{row}
 use Rattle.pearl_instructions.specs.Stacks.{Then, OffersWithin}
 use Rattle.pearl_instructions.specs.Steps.{Step, Silent, Offers, Missing}
-use Rattle.pearl_engine.specs.Engines.{stepped_by, total_rows}
-use Rattle.pearl_engine.specs.Owners.{HasNone, one_more, silent_rows}
+use Rattle.pearl_engine.specs.Engines.{total_rows}
+use Rattle.pearl_engine.specs.Owners.{one_more, silent_rows}
 use Rattle.pearl_engine.specs.Laws.{OffersSoon}
-use Rattle.pearl_engine.proofs.Stands.{silent_is, task_there}
+use Rattle.pearl_engine.proofs.Stands.{silent_is}
 
 -- fewer rows are silent than come up to the one that offers
 few : (o : Object) (n : ℕ) (frames : List Frame) → OffersWithin o n frames → silent_rows o n frames < n
@@ -42,26 +40,14 @@ fall o (suc n) frames next h e =
     let there = stable o n next within in
     omega (arith, here, there)
 
-none_left : (o : Object) (n t : ℕ) (frames : List Frame) → 0 < n → HasNone o t frames → silent_rows o n frames < n
-none_left o zero t frames some none = absurd (omega (arith, some))
-none_left o (suc n) t frames some none = let here : silent_rows o (suc n) frames ≡ 0 = ap (one_more (silent_rows o n)) none.missing in omega (arith, here)
-
-some_left : (o : Object) (n : ℕ) (frames : List Frame) → OffersWithin o n frames → 0 < n
-some_left o zero frames h = absurd h
-some_left o (suc n) frames h = omega arith
-
-pub soon : instructions.Begins → instructions.OffersSoon → OffersSoon
-soon begins law o valid lawful some =
-    let code = task_there o 0 some in
-    let first = begins o (length o.procedures + 0) code.0 valid lawful (omega arith) code.1 in
-    let rows : 0 < total_rows o = some_left o (total_rows o) (begun o (length o.procedures + 0)) (law o valid lawful (begun o (length o.procedures + 0)) first) in
-    record {
-      bounded = λ t heard frames stands. elim stands [
-        | inl s ↦ few o (total_rows o) frames (law o valid lawful frames s.stack)
-        | inr none ↦ none_left o (total_rows o) t frames rows none
-      ];
-      falls = λ t heard frames next stands e. elim stands [
-        | inl s ↦ fall o (total_rows o) frames next (law o valid lawful frames s.stack) (silent_is (row o frames) next e)
-        | inr none ↦ let no : runs.Offers End ≡ runs.Silent next = ap stepped_by (sym none.missing) ∙ e in cc
-      ];
-    }
+pub soon : instructions.OffersSoon → OffersSoon
+soon law o valid lawful = record {
+  bounded = λ t heard frames there stands. elim stands [
+    | inl s ↦ few o (total_rows o) frames (law o valid lawful frames s.stack)
+    | inr none ↦ absurd (omega (arith, there, none.past))
+  ];
+  falls = λ t heard frames next there stands e. elim stands [
+    | inl s ↦ fall o (total_rows o) frames next (law o valid lawful frames s.stack) (silent_is (row o frames) next e)
+    | inr none ↦ absurd (omega (arith, there, none.past))
+  ];
+}

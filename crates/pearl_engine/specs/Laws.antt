@@ -1,7 +1,6 @@
 -- What holds of the runs of valid objects.
-use Rattle.std.specs.Prelude.{◌≡◌, ℕ, ◌<◌, List, Some, length}
+use Rattle.std.specs.Prelude.{◌≡◌, ℕ, List, Some, length}
 use Rattle.pearl_rules.specs.declared.action.Action.{Action}
-use Rattle.pearl_rules.specs.declared.action.Action.TheVariants.{Read, Write, Put, End, Trap}
 use Rattle.pearl_rules.specs.declared.action.Answer.{Answer}
 use Rattle.pearl_rules.specs.Faithful.{Soon}
 use Rattle.pearl_rules.specs.Runs.{Silent, Offers}
@@ -12,8 +11,11 @@ use Rattle.pearl_instructions.specs.declared.object.Object.{Object}
 use Rattle.pearl_instructions.specs.Actions.{IsSlotNumber, IsOffered}
 use Rattle.pearl_instructions.specs.Lawful.{IsObject}
 use Rattle.pearl_instructions.specs.Objects.{slot_kind}
+use Rattle.pearl_instructions.specs.Rows.{row}
 use Rattle.pearl_instructions.specs.Stacks.{Answers}
+use Rattle.pearl_instructions.specs.Steps as steps
 use Rattle.pearl_instructions.specs.Valid.{IsValid}
+use Rattle.pearl_engine.specs.Built.{IsBuilt, OnlyBuilt}
 use Rattle.pearl_engine.specs.Setups.{setup_of}
 use Rattle.pearl_engine.specs.Engines.{engine, total_rows}
 use Rattle.pearl_engine.specs.Owners.{StandsIn, rows_left}
@@ -43,29 +45,24 @@ GoesOnAfter = (o : Object) (t : ℕ) (frames : List Frame) (action : Action) (an
 -- an answer that suits an action by the tables suits it by the object
 abbrev pub HearsWhatSuits : Type 0
 HearsWhatSuits = (o : Object) (t : ℕ) (action : Action) (answer : Answer) → IsObject o → IsOffered o action →
-    rules.Suits (setup_of o) action answer → Answers o t action answer
+    rules.Suits (setup_of o) t action answer → Answers o t action answer
 
 -- an action that is offered names what is there
 abbrev pub OffersWhatIsThere : Type 0
 OffersWhatIsThere = (o : Object) (t : ℕ) (frames : List Frame) (action : Action) → IsValid o → IsObject o → StandsIn o t frames →
     (engine o).step t frames ≡ Offers action → IsOffered o action
 
--- The actions that `Fits` knows today. It is false of all others, also where an object offers them lawfully: they aren't built yet.
-abbrev pub IsKnown : Action → Type 0
-IsKnown (Read slot) = Unit {0}
-IsKnown (Write slot value) = Unit {0}
-IsKnown (Put device text) = Unit {0}
-IsKnown End = Unit {0}
-IsKnown (Trap trap) = Unit {0}
-IsKnown action = ⊥
+-- an object of built instructions alone offers no other action
+abbrev pub OffersBuilt : Type 0
+OffersBuilt = (o : Object) (frames : List Frame) (action : Action) (go : Answer → List Frame) → OnlyBuilt o → row o frames ≡ steps.Offers action go →
+    IsBuilt action
 
 -- such an action fits the tables where it is offered
 abbrev pub FitsTables : Type 0
 FitsTables = (o : Object) (t : ℕ) (frames : List Frame) (action : Action) → IsValid o → IsObject o → StandsIn o t frames →
-    (engine o).step t frames ≡ Offers action → IsKnown action → rules.Fits (setup_of o) action
+    (engine o).step t frames ≡ Offers action → IsBuilt action → rules.Fits (setup_of o) action
 
--- from wherever the code of a task stands it offers an action within as many rows as the object has; where there is no task it ends
--- at once
+-- from wherever the code of a task stands it offers an action within as many rows as the object has
 abbrev pub OffersSoon : Type 0
-OffersSoon = (o : Object) → IsValid o → IsObject o → 0 < length o.tasks →
-    Soon (engine o) (λ t heard frames. StandsIn o t frames) (λ t frames. rows_left o frames) (total_rows o)
+OffersSoon = (o : Object) → IsValid o → IsObject o →
+    Soon (length o.tasks) (engine o) (λ t heard frames. StandsIn o t frames) (λ t frames. rows_left o frames) (total_rows o)

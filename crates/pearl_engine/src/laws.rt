@@ -1,6 +1,6 @@
 // What holds of the runs of valid objects. Each function's contract is one theorem; none does anything.
 
-ghost use Rattle.pearl_engine.specs.Laws.{AreTables, KnowsSlots, Begins, GoesOn, GoesOnAfter, HearsWhatSuits, OffersWhatIsThere, FitsTables, OffersSoon};
+ghost use Rattle.pearl_engine.specs.Laws.{AreTables, KnowsSlots, Begins, GoesOn, GoesOnAfter, HearsWhatSuits, OffersWhatIsThere, OffersBuilt, FitsTables, OffersSoon};
 
 use pearl_instructions::laws;
 
@@ -51,7 +51,12 @@ pub fn offers_name_what_is_there()
     laws::offers_name_what_is_there();
 }
 
-/// An action that the rules know, Read, Write, Put, End or Trap, fits the tables where it is offered.
+/// An object whose instructions are all built offers no action that isn't.
+pub fn offers_are_built()
+    ensures { OffersBuilt }
+{}
+
+/// An action that is built fits the tables where it is offered.
 pub fn offers_fit_the_tables()
     ensures { FitsTables }
 {
@@ -62,6 +67,5 @@ pub fn offers_fit_the_tables()
 pub fn actions_are_offered_soon()
     ensures { OffersSoon }
 {
-    laws::tasks_begin_with_a_stack();
     laws::actions_are_offered_soon();
 }

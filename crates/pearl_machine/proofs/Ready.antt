@@ -8,9 +8,9 @@ use Rattle.pearl_instructions.specs.Lawful.{IsObject}
 use Rattle.pearl_instructions.specs.Stacks.{IsStack, task_of, room}
 use Rattle.pearl_instructions.specs.Valid.{IsValid}
 use Rattle.pearl_solo.specs.Settling.{Settles}
-use Rattle.pearl_machine.specs.Built.{OnlyBuilt}
+use Rattle.pearl_engine.specs.Built.{OnlyBuilt}
 use Rattle.pearl_machine.specs.Stacks.{IsReady, IsOffer}
-use Rattle.pearl_machine.proofs.Built.{offers_built}
+use Rattle.pearl_engine.proofs.Built.{offers_built}
 
 pub ready : (o : Object) (old : ℕ) (stack : Stack) → IsStack o stack.frames → task_of o stack.frames ≡ 0 → room o stack.frames ≤ stack.room →
     stack.most ≡ old → length o.procedures + 1 ≤ old → IsReady o stack

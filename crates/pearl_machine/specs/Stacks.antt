@@ -8,7 +8,7 @@ use Rattle.pearl_instructions.specs.Actions.{IsOffered}
 use Rattle.pearl_instructions.specs.Rows.{row}
 use Rattle.pearl_instructions.specs.Stacks.{IsStack, task_of, room}
 use Rattle.pearl_instructions.specs.Steps.{Offers}
-use Rattle.pearl_machine.specs.Built.{IsBuilt}
+use Rattle.pearl_engine.specs.Built.{IsBuilt}
 
 -- a stack of the first task, with memory for all that comes on it
 pub record IsReady (o : Object) (stack : Stack) : Type 0 where

@@ -23,7 +23,7 @@ use Rattle.pearl_instructions.specs.Valid.{IsValid}
 use Rattle.pearl_solo.specs.Settling.{Settles}
 use Rattle.pearl_engine.specs.Setups.{setup_of}
 use Rattle.pearl_machine.specs.declared.task.Task.{Task}
-use Rattle.pearl_machine.specs.Built.{OnlyBuilt}
+use Rattle.pearl_engine.specs.Built.{OnlyBuilt}
 use Rattle.pearl_machine.specs.Stacks.{IsReady, IsOffer}
 
 abbrev pub running_of : Mode → List Frame → Option Action → Option (Running (List Frame))

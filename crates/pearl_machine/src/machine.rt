@@ -12,7 +12,7 @@ ghost use Rattle.pearl_engine.specs.Engines.{engine};
 ghost use Rattle.pearl_io.specs.Outside.{Takes, TakesFront, WriteFailed};
 ghost use Rattle.pearl_script.specs.Lines.{IsEventOf, event_line as line_of_event, close_line as line_of_close, lines_of};
 ghost use Rattle.pearl_script.specs.Words.{task_name};
-ghost use Rattle.pearl_machine.specs.Built.{OnlyBuilt};
+ghost use Rattle.pearl_engine.specs.Built.{OnlyBuilt};
 ghost use Rattle.pearl_machine.specs.Seen.{Seen, IsAt, Goes, Handles, Picks, Marks, told_by};
 ghost use Rattle.pearl_machine.specs.Told.{IsCutOff};
 

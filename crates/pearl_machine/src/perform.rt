@@ -6,7 +6,7 @@ ghost use Rattle.pearl_rules.specs.Slots.{IsLike};
 ghost use Rattle.pearl_script.specs.Lines.{IsEventOf};
 ghost use Rattle.pearl_instructions.specs.Lawful.{IsObject};
 ghost use Rattle.pearl_engine.specs.Setups.{setup_of};
-ghost use Rattle.pearl_machine.specs.Built.{OnlyBuilt};
+ghost use Rattle.pearl_engine.specs.Built.{OnlyBuilt};
 ghost use Rattle.pearl_machine.specs.Stacks.{IsReady, IsOffer};
 ghost use Rattle.pearl_machine.specs.Task.{HasOffered, Performs};
 

@@ -9,7 +9,7 @@ ghost use Rattle.pearl_instructions.specs.Valid.{IsValid};
 ghost use Rattle.pearl_solo.specs.Answered.{CanHear};
 ghost use Rattle.pearl_solo.specs.Settling.{Settles};
 ghost use Rattle.pearl_engine.specs.Setups.{setup_of};
-ghost use Rattle.pearl_machine.specs.Built.{OnlyBuilt};
+ghost use Rattle.pearl_engine.specs.Built.{OnlyBuilt};
 ghost use Rattle.pearl_machine.specs.Stacks.{IsReady, IsOffer};
 ghost use Rattle.pearl_machine.specs.Task.{HasOffered, Begins, Resumes, starting_mode};
 

@@ -5,7 +5,7 @@ use Rattle.std.proofs.lemmas.Option.{same_Some}
 use Rattle.pearl_value.specs.declared.cell.Cell.{Cell}
 use Rattle.pearl_value.specs.WellFormed.{IsValue}
 use Rattle.pearl_rules.specs.declared.action.Action.{Action}
-use Rattle.pearl_rules.specs.declared.action.Action.TheVariants.{Read, Write, Put, End, Trap}
+use Rattle.pearl_rules.specs.declared.action.Action.TheVariants.{Read, Write, Turn, Enter, Put, End, Trap}
 use Rattle.pearl_rules.specs.declared.row.TaskRow.{TaskRow}
 use Rattle.pearl_rules.specs.declared.row.Mode.TheVariants.{Dormant}
 use Rattle.pearl_rules.specs.declared.event.Event.TheVariants as event
@@ -13,12 +13,12 @@ use Rattle.pearl_rules.specs.declared.action.Answer.{Answer}
 use Rattle.pearl_rules.specs.declared.action.Answer.TheVariants.{Nothing, One}
 use Rattle.pearl_rules.specs.declared.setup.Setup.{Setup}
 use Rattle.pearl_rules.specs.Core.{Core, Report, Happened, value_at, row_of, with_row}
-use Rattle.pearl_rules.specs.Effect.{Reply, Hears, Ends, effect, ended, on_row}
+use Rattle.pearl_rules.specs.Effect.{Reply, Hears, Ends, effect, finished, on_row}
 use Rattle.pearl_rules.specs.Slots.{Suits, Fits, IsLike, HasKinds}
 
 -- a task that ends leaves as many tasks
-ended-length : (core : Core) (t : ℕ) → length (ended core t).tasks ≡ length core.tasks
-ended-length core t = by_row (row_of core t)
+finished-length : (core : Core) (t : ℕ) → length (finished core t).tasks ≡ length core.tasks
+finished-length core t = by_row (row_of core t)
   where
     by_row : (row : Option TaskRow) →
         length (on_row row core (λ r. with_row core t (record r { mode = Dormant }))).tasks ≡ length core.tasks
@@ -31,13 +31,13 @@ unfolding effect
 effect-length core t (Read slot) = refl
 effect-length core t (Write slot value) = refl
 effect-length core t (Put device text) = refl
-effect-length core t End = ended-length (record core { last = Some t }) t
-effect-length core t (Trap trap) = ended-length (record core { last = Some t }) t
+effect-length core t End = finished-length (record core { last = Some t }) t
+effect-length core t (Trap trap) = finished-length (record core { last = Some t }) t
 effect-length core t action = refl
 
 -- a task that ends tells nothing by itself
-ended-told : (core : Core) (t : ℕ) → (ended core t).told ≡ core.told
-ended-told core t = by_row (row_of core t)
+finished-told : (core : Core) (t : ℕ) → (finished core t).told ≡ core.told
+finished-told core t = by_row (row_of core t)
   where
     by_row : (row : Option TaskRow) → (on_row row core (λ r. with_row core t (record r { mode = Dormant }))).told ≡ core.told
     by_row None = refl
@@ -50,11 +50,11 @@ effect-told core t (Read slot) = ([], sym (append-nil core.told))
 effect-told core t (Write slot value) = ([], sym (append-nil core.told))
 effect-told core t (Put device text) = ((core.moment, Happened (event.Out device text)) ∷ [], refl)
 effect-told core t End =
-    let after : Core = ended (record core { last = Some t }) t in
-    ((after.moment, Happened (event.End t)) ∷ [], ap (λ told. told ++ (after.moment, Happened (event.End t)) ∷ []) (ended-told (record core { last = Some t }) t))
+    let after : Core = finished (record core { last = Some t }) t in
+    ((after.moment, Happened (event.End t)) ∷ [], ap (λ told. told ++ (after.moment, Happened (event.End t)) ∷ []) (finished-told (record core { last = Some t }) t))
 effect-told core t (Trap trap) =
-    let after : Core = ended (record core { last = Some t }) t in
-    ((after.moment, Happened (event.Trap t trap)) ∷ [], ap (λ told. told ++ (after.moment, Happened (event.Trap t trap)) ∷ []) (ended-told (record core { last = Some t }) t))
+    let after : Core = finished (record core { last = Some t }) t in
+    ((after.moment, Happened (event.Trap t trap)) ∷ [], ap (λ told. told ++ (after.moment, Happened (event.Trap t trap)) ∷ []) (finished-told (record core { last = Some t }) t))
 effect-told core t action = ([], sym (append-nil core.told))
 
 -- THE KINDS OF THE SLOTS
@@ -80,8 +80,8 @@ set_kinds (f ∷ first) (x ∷ now) zero value all within like = (like, all.1)
 set_kinds (f ∷ first) (x ∷ now) (suc slot) value all within like = (all.0, set_kinds first now slot value all.1 (omega arith) like)
 
 -- a task that ends leaves the slots as they are
-ended-slots : (core : Core) (t : ℕ) → (ended core t).slots ≡ core.slots
-ended-slots core t = by_row (row_of core t)
+finished-slots : (core : Core) (t : ℕ) → (finished core t).slots ≡ core.slots
+finished-slots core t = by_row (row_of core t)
   where
     by_row : (row : Option TaskRow) → (on_row row core (λ r. with_row core t (record r { mode = Dormant }))).slots ≡ core.slots
     by_row None = refl
@@ -92,11 +92,13 @@ pub effect-kinds : (setup : Setup) (core : Core) (t : ℕ) (action : Action) →
 unfolding effect
 effect-kinds setup core t (Read slot) kinds fits = kinds
 effect-kinds setup core t (Write slot value) kinds fits = set_kinds setup.slots core.slots slot value kinds fits.0 fits.1
+effect-kinds setup core t Turn kinds fits = kinds
+effect-kinds setup core t Enter kinds fits = kinds
 effect-kinds setup core t (Put device text) kinds fits = kinds
 effect-kinds setup core t End kinds fits =
-    subst (λ slots. AllZip IsLike setup.slots slots) (sym (ended-slots (record core { last = Some t }) t)) kinds
+    subst (λ slots. AllZip IsLike setup.slots slots) (sym (finished-slots (record core { last = Some t }) t)) kinds
 effect-kinds setup core t (Trap trap) kinds fits =
-    subst (λ slots. AllZip IsLike setup.slots slots) (sym (ended-slots (record core { last = Some t }) t)) kinds
+    subst (λ slots. AllZip IsLike setup.slots slots) (sym (finished-slots (record core { last = Some t }) t)) kinds
 effect-kinds setup core t action kinds fits = absurd fits
 
 -- the answer in a reply
@@ -112,11 +114,13 @@ ends_unheard answer e = cc
 
 -- what a task hears suits its action
 pub effect-answers : (setup : Setup) (core : Core) (t : ℕ) (action : Action) (answer : Answer) → HasKinds setup core → Fits setup action →
-    (effect core t action).reply ≡ Hears answer → Suits setup action answer
+    (effect core t action).reply ≡ Hears answer → Suits setup t action answer
 unfolding effect
 effect-answers setup core t (Read slot) answer kinds fits e =
     (value_at core.slots slot, same_answer (One (value_at core.slots slot)) answer e, value_kind setup.slots core.slots slot kinds fits)
 effect-answers setup core t (Write slot value) answer kinds fits e = same_answer Nothing answer e
+effect-answers setup core t Turn answer kinds fits e = same_answer Nothing answer e
+effect-answers setup core t Enter answer kinds fits e = same_answer Nothing answer e
 effect-answers setup core t (Put device text) answer kinds fits e = same_answer Nothing answer e
 effect-answers setup core t End answer kinds fits e = ends_unheard answer e
 effect-answers setup core t (Trap trap) answer kinds fits e = ends_unheard answer e

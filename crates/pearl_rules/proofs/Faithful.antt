@@ -1,5 +1,5 @@
 -- What holds of one task at a time is enough for a whole run.
-use Rattle.std.proofs.Common.{◌≡◌, ℕ, None, ◌+◌, ◌*◌, ◌≤◌, List, length, refl, sym, subst, ◌∙◌, arith}
+use Rattle.std.proofs.Common.{◌≡◌, ℕ, None, ◌+◌, ◌*◌, ◌≤◌, List, length, sym, subst, ◌∙◌, arith}
 use Rattle.std.specs.List.{AllByRecursion}
 use Rattle.pearl_value.specs.WellFormed.{IsValue}
 use Rattle.pearl_rules.specs.declared.action.Answer.{Answer}
@@ -14,39 +14,39 @@ use Rattle.pearl_rules.proofs.Settling.{Reaches, reaches, settled_with}
 
 -- code that stands where each task's answers lead, and that offers soon, runs as the source's rules say
 pub faithful : (offer : Supplier) {S : Type 0} (engine : Engine S) (Stands : ℕ → List Answer → S → Type 0) (weight : ℕ → S → ℕ)
-    (setup : Setup) (rows : ℕ) → AllByRecursion IsValue setup.slots → Alone setup offer engine Stands → Soon engine Stands weight rows → IsFaithful offer engine setup (length setup.tasks) rows
+    (setup : Setup) (rows : ℕ) → AllByRecursion IsValue setup.slots → Alone setup offer engine Stands → Soon (length setup.tasks) engine Stands weight rows → IsFaithful offer engine setup (length setup.tasks) rows
 faithful offer {S} engine Stands weight setup rows slots alone soon = record {
   same_core = λ es n. (sim es n).same_core;
   same_entries = λ es n. (sim es n).same_entries;
   same_offers = λ es n t action e. same_offer setup offer S engine Stands alone t (kept_at (source_run offer setup es (marked engine setup es n)).heard t)
       (kept_at (machine_run engine setup es n).running t)
       (at_place setup offer S engine Stands alone (source_run offer setup es (marked engine setup es n)).heard (machine_run engine setup es n).running (sim es n).all t) action e;
-  all_offers = λ es n none t. sim_offers setup offer S engine Stands alone (length setup.tasks) (machine_run engine setup es n)
+  all_offers = λ es n none t. sim_offers setup offer S engine Stands alone (machine_run engine setup es n)
       (source_run offer setup es (marked engine setup es n)) (sim es n) none t;
-  goes_on = λ es m comes. goes es m (reaches setup offer S engine Stands weight rows alone soon (length setup.tasks) (source_start setup es) (machine_start engine setup es) (first es) m comes);
+  goes_on = λ es m comes. goes es m (reaches setup offer S engine Stands weight rows alone soon (source_start setup es) (machine_start engine setup es) (first es) m comes);
 }
   where
-    first : (es : List Entry) → Simulates setup engine Stands (length setup.tasks) (machine_start engine setup es) (source_start setup es)
-    first es = sim_start setup offer S engine Stands alone (length setup.tasks) slots es refl
+    first : (es : List Entry) → Simulates setup engine Stands (machine_start engine setup es) (source_start setup es)
+    first es = sim_start setup offer S engine Stands alone slots es
 
-    sim : (es : List Entry) (n : ℕ) → Simulates setup engine Stands (length setup.tasks) (machine_run engine setup es n) (source_run offer setup es (marked engine setup es n))
-    sim es n = sim_after setup offer S engine Stands alone (length setup.tasks) (source_start setup es) (machine_start engine setup es) (first es) n
+    sim : (es : List Entry) (n : ℕ) → Simulates setup engine Stands (machine_run engine setup es n) (source_run offer setup es (marked engine setup es n))
+    sim es n = sim_after setup offer S engine Stands alone (source_start setup es) (machine_start engine setup es) (first es) n
 
-    goes : (es : List Entry) (m : ℕ) → Reaches setup offer S engine Stands weight rows alone soon (length setup.tasks) (machine_start engine setup es) m (m * (length setup.tasks * rows + 1)) →
+    goes : (es : List Entry) (m : ℕ) → Reaches setup offer S engine Stands weight rows alone soon (machine_start engine setup es) m (m * (length setup.tasks * rows + 1)) →
         (n : ℕ) × (n ≤ (m + 1) * (length setup.tasks * rows + 1)) × (marked engine setup es n ≡ m)
     goes es m r = let within = r.within in (r.at, omega arith, r.made)
 
 -- and where the source's run ends, the machine comes to its end
 pub ends_soon : (offer : Supplier) {S : Type 0} (engine : Engine S) (Stands : ℕ → List Answer → S → Type 0) (weight : ℕ → S → ℕ)
-    (setup : Setup) (rows : ℕ) → AllByRecursion IsValue setup.slots → Alone setup offer engine Stands → Soon engine Stands weight rows → (es : List Entry) (m : ℕ) →
+    (setup : Setup) (rows : ℕ) → AllByRecursion IsValue setup.slots → Alone setup offer engine Stands → Soon (length setup.tasks) engine Stands weight rows → (es : List Entry) (m : ℕ) →
     Comes offer setup es m → source_next offer (source_run offer setup es m) ≡ None → EndsSoon engine setup es m ((m + 1) * (length setup.tasks * rows + 1))
 ends_soon offer {S} engine Stands weight setup rows slots alone soon es m comes none =
-    let first = sim_start setup offer S engine Stands alone (length setup.tasks) slots es refl in
-    let s = settled_with setup offer S engine Stands weight rows alone soon (length setup.tasks) (source_start setup es) (machine_start engine setup es) first m
+    let first = sim_start setup offer S engine Stands alone slots es in
+    let s = settled_with setup offer S engine Stands weight rows alone soon (source_start setup es) (machine_start engine setup es) first m
     (m * (length setup.tasks * rows + 1))
-    (reaches setup offer S engine Stands weight rows alone soon (length setup.tasks) (source_start setup es) (machine_start engine setup es) first m comes) in
-    let here = sim_after setup offer S engine Stands alone (length setup.tasks) (source_start setup es) (machine_start engine setup es) first s.at in
-    let same = sim_next setup offer S engine Stands alone (length setup.tasks) (machine_run engine setup es s.at) (source_run offer setup es (marked engine setup es s.at)) here s.none in
+    (reaches setup offer S engine Stands weight rows alone soon (source_start setup es) (machine_start engine setup es) first m comes) in
+    let here = sim_after setup offer S engine Stands alone (source_start setup es) (machine_start engine setup es) first s.at in
+    let same = sim_next setup offer S engine Stands alone (machine_run engine setup es s.at) (source_run offer setup es (marked engine setup es s.at)) here s.none in
     let bound = s.within in
     record {
       at = s.at;
@@ -62,5 +62,5 @@ ends_soon offer {S} engine Stands weight setup rows slots alone soon es m comes 
 pub has_kinds : (offer : Supplier) {S : Type 0} (engine : Engine S) (Stands : ℕ → List Answer → S → Type 0) (setup : Setup) →
     AllByRecursion IsValue setup.slots → Alone setup offer engine Stands → (es : List Entry) (n : ℕ) → HasKinds setup (machine_run engine setup es n).core
 has_kinds offer {S} engine Stands setup slots alone es n =
-    (sim_after setup offer S engine Stands alone (length setup.tasks) (source_start setup es) (machine_start engine setup es)
-    (sim_start setup offer S engine Stands alone (length setup.tasks) slots es refl) n).kinds
+    (sim_after setup offer S engine Stands alone (source_start setup es) (machine_start engine setup es)
+    (sim_start setup offer S engine Stands alone slots es) n).kinds

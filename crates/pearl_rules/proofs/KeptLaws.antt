@@ -1,8 +1,8 @@
 -- What is kept for each task, on the two sides of a run: the lists stand side by side, place by place.
-use Rattle.std.proofs.Common.{◌≡◌, ℕ, zero, suc, ◌+◌, List, [], ◌∷◌, Option, Some, None, Bool, true, false, length, slice_set, refl, sym, ap, subst, add-zero, arith}
+use Rattle.std.proofs.Common.{◌≡◌, ℕ, zero, suc, ◌+◌, ◌<◌, List, [], ◌∷◌, Option, Some, None, Bool, true, false, length, slice_set, refl, sym, ap, subst, add-zero, arith}
 use Rattle.pearl_rules.specs.declared.row.TaskRow.{TaskRow}
 use Rattle.pearl_rules.specs.Core.{is_active_row}
-use Rattle.pearl_rules.specs.Runs.{kept, refreshed, kept_at}
+use Rattle.pearl_rules.specs.Runs.{kept, refreshed, dropped, kept_at}
 
 -- there are as many places as tasks after each mark
 pub refreshed-length : {X : Type 0} (fresh : ℕ → X) (t : ℕ) (rows : List TaskRow) (xs : List (Option X)) →
@@ -59,6 +59,11 @@ module _ (X Y : Type 0) (Same : ℕ → X → Y → Type 0) where
       let e : t + suc i ≡ (t + 1) + i = omega arith in
       (all.0, set_right (t + 1) xs ys all.1 i y (subst (λ u. Both u (kept_at xs i) y) e b))
 
+  -- what was kept of tasks that ended is gone on both sides
+  pub dropped_at : (ts : List ℕ) (t : ℕ) (xs : List (Option X)) (ys : List (Option Y)) → AllAt t xs ys → AllAt t (dropped ts xs) (dropped ts ys)
+  dropped_at [] t xs ys all = all
+  dropped_at (u ∷ ts) t xs ys all = dropped_at ts t (slice_set xs u None) (slice_set ys u None) (set_at t xs ys all u None None tt)
+
   -- what is begun afresh fits where the beginnings fit
   pub kept_both : (active : Bool) (t : ℕ) (f : X) (g : Y) → Same t f g → (x : Option X) (y : Option Y) → Both t x y →
       Both t (kept active f x) (kept active g y)
@@ -69,12 +74,16 @@ module _ (X Y : Type 0) (Same : ℕ → X → Y → Type 0) where
   kept_both true t f g b (Some x) (Some y) all = all
 
   -- after a mark the places fit again
-  pub refreshed_at : (f : ℕ → X) (g : ℕ → Y) → ((t : ℕ) → Same t (f t) (g t)) → (t : ℕ) (rows : List TaskRow) (xs : List (Option X))
-      (ys : List (Option Y)) → AllAt t xs ys → AllAt t (refreshed f t rows xs) (refreshed g t rows ys)
-  refreshed_at f g begins t [] xs ys all = tt
-  refreshed_at f g begins t (row ∷ rows) [] [] all =
-      (kept_both (is_active_row (Some row)) t (f t) (g t) (begins t) None None tt, refreshed_at f g begins (t + 1) rows [] [] tt)
-  refreshed_at f g begins t (row ∷ rows) [] (y ∷ ys) all = absurd all
-  refreshed_at f g begins t (row ∷ rows) (x ∷ xs) [] all = absurd all
-  refreshed_at f g begins t (row ∷ rows) (x ∷ xs) (y ∷ ys) all =
-      (kept_both (is_active_row (Some row)) t (f t) (g t) (begins t) x y all.0, refreshed_at f g begins (t + 1) rows xs ys all.1)
+  pub refreshed_at : (f : ℕ → X) (g : ℕ → Y) (t : ℕ) (rows : List TaskRow) → ((u : ℕ) → u < t + length rows → Same u (f u) (g u)) →
+      (xs : List (Option X)) (ys : List (Option Y)) → AllAt t xs ys → AllAt t (refreshed f t rows xs) (refreshed g t rows ys)
+  refreshed_at f g t [] begins xs ys all = tt
+  refreshed_at f g t (row ∷ rows) begins [] [] all = (
+    kept_both (is_active_row (Some row)) t (f t) (g t) (begins t (omega arith)) None None tt,
+    refreshed_at f g (t + 1) rows (λ u less. begins u (omega (arith, less))) [] [] tt,
+  )
+  refreshed_at f g t (row ∷ rows) begins [] (y ∷ ys) all = absurd all
+  refreshed_at f g t (row ∷ rows) begins (x ∷ xs) [] all = absurd all
+  refreshed_at f g t (row ∷ rows) begins (x ∷ xs) (y ∷ ys) all = (
+    kept_both (is_active_row (Some row)) t (f t) (g t) (begins t (omega arith)) x y all.0,
+    refreshed_at f g (t + 1) rows (λ u less. begins u (omega (arith, less))) xs ys all.1,
+  )

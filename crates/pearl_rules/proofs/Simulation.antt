@@ -1,5 +1,5 @@
 -- The machine goes the way of the source: step by step the same core, the same entries, and each task at the same place.
-use Rattle.std.proofs.Common.{◌≡◌, ℕ, zero, suc, ◌+◌, List, [], ◌∷◌, ◌++◌, Option, Some, None, length, map, slice_set, refl, sym, ap, ap₂, subst, ◌∙◌, length-set, add-zero, add-one, zero-add, arith}
+use Rattle.std.proofs.Common.{◌≡◌, ℕ, zero, suc, ◌+◌, ◌<◌, List, [], ◌∷◌, ◌++◌, Option, Some, None, length, map, slice_set, refl, sym, ap, ap₂, subst, ◌∙◌, length-set, add-zero, add-one, zero-add, arith}
 use Rattle.std.specs.List.{AllByRecursion}
 use Rattle.std.proofs.Math.Path.{fun_ext}
 use Rattle.std.proofs.lemmas.Option.{none-some, same_Some}
@@ -13,24 +13,25 @@ use Rattle.pearl_rules.specs.Core.{Core, first_row}
 use Rattle.pearl_rules.specs.Slots.{HasKinds}
 use Rattle.pearl_rules.specs.Pick.{pick}
 use Rattle.pearl_rules.specs.Effect.{Reply, Hears, Ends, effect}
-use Rattle.pearl_rules.specs.Runs.{Mark, Acts, Coming, next_mark, kept_at, mapped, Supplier, Source, source_offers, source_next, heard_more, source_settled, source_acts, source_mark, source_step_by, source_step, source_start, source_after, Stepped, Silent, Offers, Engine, Running, Machine, offer_of, machine_offers, machine_next, unsettled_here, unsettled_from, unsettled, stepped, answered, fresh, machine_settled, machine_does, machine_acts, machine_mark, machine_mark_by, machine_step_by, machine_step, machine_start, machine_after, count_if, marks_by, marks_in_step, marked_after}
+use Rattle.pearl_rules.specs.Runs.{Mark, Acts, Coming, next_mark, dropped, kept_at, mapped, Supplier, Source, source_offers, source_next, heard_more, source_settled, source_acts, source_mark, source_step_by, source_step, source_start, source_after, Stepped, Silent, Offers, Engine, Running, Machine, offer_of, machine_offers, machine_next, unsettled_here, unsettled_from, unsettled, stepped, answered, fresh, machine_settled, machine_does, machine_acts, machine_mark, machine_mark_by, machine_step_by, machine_step, machine_start, machine_after, count_if, marks_by, marks_in_step, marked_after}
 use Rattle.pearl_rules.specs.Faithful.{Alone}
 use Rattle.pearl_rules.proofs.EffectLaws.{effect-length, opening-kinds, effect-kinds, effect-answers}
-use Rattle.pearl_rules.proofs.KeptLaws.{refreshed-length, Both, AllAt, at_at, set_at, set_right, refreshed_at}
+use Rattle.pearl_rules.proofs.KeptLaws.{refreshed-length, Both, AllAt, at_at, set_at, set_right, dropped_at, refreshed_at}
 
--- an active task's code stands where its answers lead, and what it has offered is what its next instruction offers
-pub record Here {S : Type 0} (engine : Engine S) (Stands : ℕ → List Answer → S → Type 0) (t : ℕ) (heard : List Answer) (running : Running S) : Type 0 where
+-- an active task is there, its code stands where its answers lead, and what it has offered is what its next instruction offers
+pub record Here (setup : Setup) {S : Type 0} (engine : Engine S) (Stands : ℕ → List Answer → S → Type 0) (t : ℕ) (heard : List Answer) (running : Running S) : Type 0 where
+  pub there : t < length setup.tasks
   pub stands : Stands t heard running.stack
   pub offered : (action : Action) → running.offer ≡ Some action → engine.step t running.stack ≡ Offers action
 
 -- a machine and a source's state that go together
-pub record Simulates (setup : Setup) {S : Type 0} (engine : Engine S) (Stands : ℕ → List Answer → S → Type 0) (count : ℕ) (m : Machine S) (s : Source) : Type 0 where
+pub record Simulates (setup : Setup) {S : Type 0} (engine : Engine S) (Stands : ℕ → List Answer → S → Type 0) (m : Machine S) (s : Source) : Type 0 where
   pub same_core : m.core ≡ s.core
   pub same_entries : m.entries ≡ s.entries
-  pub all : AllAt (List Answer) (Running S) (Here engine Stands) 0 s.heard m.running
+  pub all : AllAt (List Answer) (Running S) (Here setup engine Stands) 0 s.heard m.running
   pub kinds : HasKinds setup m.core
-  pub tasks : length m.core.tasks ≡ count
-  pub places : length m.running ≡ count
+  pub tasks : length m.core.tasks ≡ length setup.tasks
+  pub places : length m.running ≡ length setup.tasks
 
 -- WHERE THE MACHINE IS UNSETTLED
 
@@ -137,29 +138,29 @@ marks_mark m coming e next = ap (λ u. marks_by m u) e ∙ ap (λ c. count_if c)
 module _ (setup : Setup) (offer : Supplier) (S : Type 0) (engine : Engine S) (Stands : ℕ → List Answer → S → Type 0) (alone : Alone setup offer engine Stands) where
   -- one task on both sides
   abbrev pub BothHere : ℕ → Option (List Answer) → Option (Running S) → Type 0
-  BothHere = Both (List Answer) (Running S) (Here engine Stands)
+  BothHere = Both (List Answer) (Running S) (Here setup engine Stands)
 
   -- all tasks on both sides
   abbrev pub AllHere : List (Option (List Answer)) → List (Option (Running S)) → Type 0
-  AllHere heard running = AllAt (List Answer) (Running S) (Here engine Stands) 0 heard running
+  AllHere heard running = AllAt (List Answer) (Running S) (Here setup engine Stands) 0 heard running
 
   -- a task's place
   pub at_place : (heard : List (Option (List Answer))) (running : List (Option (Running S))) → AllHere heard running → (t : ℕ) →
       BothHere t (kept_at heard t) (kept_at running t)
   at_place heard running all t =
-      subst (λ u. BothHere u (kept_at heard t) (kept_at running t)) (zero-add t) (at_at (List Answer) (Running S) (Here engine Stands) 0 heard running all t)
+      subst (λ u. BothHere u (kept_at heard t) (kept_at running t)) (zero-add t) (at_at (List Answer) (Running S) (Here setup engine Stands) 0 heard running all t)
 
   -- a place that is written on both sides
   set_place : (heard : List (Option (List Answer))) (running : List (Option (Running S))) → AllHere heard running → (t : ℕ)
       (x : Option (List Answer)) (y : Option (Running S)) → BothHere t x y → AllHere (slice_set heard t x) (slice_set running t y)
   set_place heard running all t x y b =
-      set_at (List Answer) (Running S) (Here engine Stands) 0 heard running all t x y (subst (λ u. BothHere u x y) (sym (zero-add t)) b)
+      set_at (List Answer) (Running S) (Here setup engine Stands) 0 heard running all t x y (subst (λ u. BothHere u x y) (sym (zero-add t)) b)
 
   -- a place where the code alone goes on
   set_code : (heard : List (Option (List Answer))) (running : List (Option (Running S))) → AllHere heard running → (t : ℕ)
       (y : Option (Running S)) → BothHere t (kept_at heard t) y → AllHere heard (slice_set running t y)
   set_code heard running all t y b =
-      set_right (List Answer) (Running S) (Here engine Stands) 0 heard running all t y (subst (λ u. BothHere u (kept_at heard t) y) (sym (zero-add t)) b)
+      set_right (List Answer) (Running S) (Here setup engine Stands) 0 heard running all t y (subst (λ u. BothHere u (kept_at heard t) y) (sym (zero-add t)) b)
 
   -- what the machine's task has offered is what the source's task does next
   pub same_offer : (t : ℕ) (x : Option (List Answer)) (y : Option (Running S)) → BothHere t x y → (action : Action) → offer_of y ≡ Some action →
@@ -184,145 +185,149 @@ module _ (setup : Setup) (offer : Supplier) (S : Type 0) (engine : Engine S) (St
   stepped_here t None stack b = absurd b
   stepped_here t (Some heard) stack b = go (engine.step t stack) refl
     where
-      go : (done : Stepped S) → engine.step t stack ≡ done → Here engine Stands t heard (stepped stack done)
-      go (Silent after) e = record { stands = alone.goes t heard stack after b.stands e; offered = λ action h. absurd (none-some action h) }
-      go (Offers action) e = record { stands = b.stands; offered = λ other h. e ∙ ap Offers (same_Some action other h) }
+      go : (done : Stepped S) → engine.step t stack ≡ done → Here setup engine Stands t heard (stepped stack done)
+      go (Silent after) e = record { there = b.there; stands = alone.goes t heard stack after b.stands e; offered = λ action h. absurd (none-some action h) }
+      go (Offers action) e = record { there = b.there; stands = b.stands; offered = λ other h. e ∙ ap Offers (same_Some action other h) }
 
   -- what a task hears leads both sides to the same place
   replied : (heard : List (Option (List Answer))) (running : List (Option (Running S))) → AllHere heard running → (t : ℕ) (so_far : List Answer)
-      (stack : S) (action : Action) → Stands t so_far stack → engine.step t stack ≡ Offers action → (core : Core) → HasKinds setup core → (reply : Reply) →
-      (effect core t action).reply ≡ reply → AllHere (heard_more heard t so_far reply) (answered engine running t stack reply)
-  replied heard running all t so_far stack action stands offers core kinds (Hears answer) e =
+      (stack : S) (action : Action) → t < length setup.tasks → Stands t so_far stack → engine.step t stack ≡ Offers action → (core : Core) → HasKinds setup core →
+      (reply : Reply) → (effect core t action).reply ≡ reply → AllHere (heard_more heard t so_far reply) (answered engine running t stack reply)
+  replied heard running all t so_far stack action there stands offers core kinds (Hears answer) e =
       set_place heard running all t (Some (so_far ++ answer ∷ [])) (Some (record { stack = engine.answer t stack answer; offer = None }))
       (record {
+        there = there;
         stands = alone.answered t so_far stack action answer stands offers
             (effect-answers setup core t action answer kinds (alone.fits t so_far stack action stands offers) e);
         offered = λ other h. absurd (none-some other h);
       })
-  replied heard running all t so_far stack action stands offers core kinds Ends e = set_place heard running all t None None tt
+  replied heard running all t so_far stack action there stands offers core kinds Ends e = set_place heard running all t None None tt
 
   -- a task that begins stands at its beginning
-  begun : (u : ℕ) → Here engine Stands u [] (fresh engine u)
-  begun u = record { stands = alone.begins u; offered = λ action h. absurd (none-some action h) }
+  begun : (u : ℕ) → u < length setup.tasks → Here setup engine Stands u [] (fresh engine u)
+  begun u there = record { there = there; stands = alone.begins u there; offered = λ action h. absurd (none-some action h) }
 
-  module _ (count : ℕ) where
-    -- the two go together
-    abbrev pub Sim : Machine S → Source → Type 0
-    Sim m s = Simulates setup engine Stands count m s
+  -- the two go together
+  abbrev pub Sim : Machine S → Source → Type 0
+  Sim m s = Simulates setup engine Stands m s
 
-    -- one instruction of an unsettled task is no mark
-    sim_silent : (m : Machine S) (s : Source) → Sim m s → (u : ℕ) (stack : S) → unsettled m ≡ Some (u, stack) → Sim (machine_step engine m) s
-    sim_silent m s sim u stack e =
-        let here = at_place s.heard m.running sim.all u in
-        let before = subst (λ y. BothHere u (kept_at s.heard u) y) (found m u stack e) here in
-        let next = Some (stepped stack (engine.step u stack)) in
-        let after : Sim (record m { running = slice_set m.running u next }) s = record {
-          same_core = sim.same_core;
-          same_entries = sim.same_entries;
-          all = set_code s.heard m.running sim.all u next (stepped_here u (kept_at s.heard u) stack before);
-          kinds = sim.kinds;
-          tasks = sim.tasks;
-          places = length-set m.running u next ∙ sim.places;
-        } in
-        subst (λ x. Sim x s) (sym (step_silent engine m u stack e)) after
+  -- one instruction of an unsettled task is no mark
+  sim_silent : (m : Machine S) (s : Source) → Sim m s → (u : ℕ) (stack : S) → unsettled m ≡ Some (u, stack) → Sim (machine_step engine m) s
+  sim_silent m s sim u stack e =
+      let here = at_place s.heard m.running sim.all u in
+      let before = subst (λ y. BothHere u (kept_at s.heard u) y) (found m u stack e) here in
+      let next = Some (stepped stack (engine.step u stack)) in
+      let after : Sim (record m { running = slice_set m.running u next }) s = record {
+        same_core = sim.same_core;
+        same_entries = sim.same_entries;
+        all = set_code s.heard m.running sim.all u next (stepped_here u (kept_at s.heard u) stack before);
+        kinds = sim.kinds;
+        tasks = sim.tasks;
+        places = length-set m.running u next ∙ sim.places;
+      } in
+      subst (λ x. Sim x s) (sym (step_silent engine m u stack e)) after
 
-    -- where nothing is unsettled the offers are the same
-    pub sim_offers : (m : Machine S) (s : Source) → Sim m s → unsettled m ≡ None → (t : ℕ) → machine_offers m t ≡ source_offers offer s t
-    sim_offers m s sim e t =
-        settled_offer t (kept_at s.heard t) (kept_at m.running t) (at_place s.heard m.running sim.all t) (settled_at 0 m.running e t)
+  -- where nothing is unsettled the offers are the same
+  pub sim_offers : (m : Machine S) (s : Source) → Sim m s → unsettled m ≡ None → (t : ℕ) → machine_offers m t ≡ source_offers offer s t
+  sim_offers m s sim e t =
+      settled_offer t (kept_at s.heard t) (kept_at m.running t) (at_place s.heard m.running sim.all t) (settled_at 0 m.running e t)
 
-    -- and so is the next mark
-    pub sim_next : (m : Machine S) (s : Source) → Sim m s → unsettled m ≡ None → machine_next m ≡ source_next offer s
-    sim_next m s sim e =
-        ap₂ (λ core entries. next_mark (pick core (machine_offers m)) entries) sim.same_core sim.same_entries
-        ∙ ap (λ o. next_mark (pick s.core o) s.entries) (fun_ext (sim_offers m s sim e))
+  -- and so is the next mark
+  pub sim_next : (m : Machine S) (s : Source) → Sim m s → unsettled m ≡ None → machine_next m ≡ source_next offer s
+  sim_next m s sim e =
+      ap₂ (λ core entries. next_mark (pick core (machine_offers m)) entries) sim.same_core sim.same_entries
+      ∙ ap (λ o. next_mark (pick s.core o) s.entries) (fun_ext (sim_offers m s sim e))
 
-    -- the same effect on both sides
-    sim_done : (m : Machine S) (s : Source) → Sim m s → (t : ℕ) (rest : List Entry) (so_far : List Answer) (stack : S) (action : Action) →
-        Stands t so_far stack → engine.step t stack ≡ Offers action →
-        Sim (machine_does engine m t rest stack (Some action)) (source_acts offer s t rest (Some so_far))
-    sim_done m s sim t rest so_far stack action stands offers =
-        let done = effect m.core t action in
-        let same : done ≡ effect s.core t (offer t so_far) =
-        ap₂ (λ core a. effect core t a) sim.same_core (alone.offers t so_far stack action stands offers) in
-        let kept = effect-length m.core t action ∙ sim.tasks in
-        let after : Sim (machine_settled engine done.core (answered engine m.running t stack done.reply) rest)
-        (source_settled done.core (heard_more s.heard t so_far done.reply) rest) = record {
-          same_core = refl;
-          same_entries = refl;
-          all = refreshed_at (List Answer) (Running S) (Here engine Stands) (λ u. []) (fresh engine) begun 0 done.core.tasks
-              (heard_more s.heard t so_far done.reply) (answered engine m.running t stack done.reply)
-              (replied s.heard m.running sim.all t so_far stack action stands offers m.core sim.kinds done.reply refl);
-          kinds = effect-kinds setup m.core t action sim.kinds (alone.fits t so_far stack action stands offers);
-          tasks = kept;
-          places = refreshed-length (fresh engine) 0 done.core.tasks (answered engine m.running t stack done.reply) ∙ kept;
-        } in
-        subst (λ d. Sim (machine_settled engine done.core (answered engine m.running t stack done.reply) rest)
-        (source_settled d.core (heard_more s.heard t so_far d.reply) rest)) same after
+  -- the same effect on both sides
+  sim_done : (m : Machine S) (s : Source) → Sim m s → (t : ℕ) (rest : List Entry) (so_far : List Answer) (stack : S) (action : Action) →
+      t < length setup.tasks → Stands t so_far stack → engine.step t stack ≡ Offers action →
+      Sim (machine_does engine m t rest stack (Some action)) (source_acts offer s t rest (Some so_far))
+  sim_done m s sim t rest so_far stack action there stands offers =
+      let done = effect m.core t action in
+      let same : done ≡ effect s.core t (offer t so_far) =
+      ap₂ (λ core a. effect core t a) sim.same_core (alone.offers t so_far stack action stands offers) in
+      let kept = effect-length m.core t action ∙ sim.tasks in
+      let after : Sim (machine_settled engine done.core (answered engine (dropped done.ended m.running) t stack done.reply) rest)
+      (source_settled done.core (heard_more (dropped done.ended s.heard) t so_far done.reply) rest) = record {
+        same_core = refl;
+        same_entries = refl;
+        all = refreshed_at (List Answer) (Running S) (Here setup engine Stands) (λ u. []) (fresh engine) 0 done.core.tasks
+            (λ u less. begun u (omega (arith, less, kept)))
+            (heard_more (dropped done.ended s.heard) t so_far done.reply) (answered engine (dropped done.ended m.running) t stack done.reply)
+            (replied (dropped done.ended s.heard) (dropped done.ended m.running)
+            (dropped_at (List Answer) (Running S) (Here setup engine Stands) done.ended 0 s.heard m.running sim.all)
+            t so_far stack action there stands offers m.core sim.kinds done.reply refl);
+        kinds = effect-kinds setup m.core t action sim.kinds (alone.fits t so_far stack action stands offers);
+        tasks = kept;
+        places = refreshed-length (fresh engine) 0 done.core.tasks (answered engine (dropped done.ended m.running) t stack done.reply) ∙ kept;
+      } in
+      subst (λ d. Sim (machine_settled engine done.core (answered engine (dropped done.ended m.running) t stack done.reply) rest)
+      (source_settled d.core (heard_more (dropped d.ended s.heard) t so_far d.reply) rest)) same after
 
-    -- one action on both sides
-    sim_acts : (m : Machine S) (s : Source) → Sim m s → (t : ℕ) (rest : List Entry) (x : Option (List Answer)) (y : Option (Running S)) →
-        BothHere t x y → Settled y → Sim (machine_acts engine m t rest y) (source_acts offer s t rest x)
-    sim_acts m s sim t rest None None b settled = sim
-    sim_acts m s sim t rest None (Some running) b settled = absurd b
-    sim_acts m s sim t rest (Some so_far) None b settled = absurd b
-    sim_acts m s sim t rest (Some so_far) (Some running) b settled =
-        subst (λ o. Sim (machine_does engine m t rest running.stack o) (source_acts offer s t rest (Some so_far))) (sym settled.1)
-        (sim_done m s sim t rest so_far running.stack settled.0 b.stands (b.offered settled.0 settled.1))
+  -- one action on both sides
+  sim_acts : (m : Machine S) (s : Source) → Sim m s → (t : ℕ) (rest : List Entry) (x : Option (List Answer)) (y : Option (Running S)) →
+      BothHere t x y → Settled y → Sim (machine_acts engine m t rest y) (source_acts offer s t rest x)
+  sim_acts m s sim t rest None None b settled = sim
+  sim_acts m s sim t rest None (Some running) b settled = absurd b
+  sim_acts m s sim t rest (Some so_far) None b settled = absurd b
+  sim_acts m s sim t rest (Some so_far) (Some running) b settled =
+      subst (λ o. Sim (machine_does engine m t rest running.stack o) (source_acts offer s t rest (Some so_far))) (sym settled.1)
+      (sim_done m s sim t rest so_far running.stack settled.0 b.there b.stands (b.offered settled.0 settled.1))
 
-    -- one mark on both sides
-    sim_mark : (m : Machine S) (s : Source) → Sim m s → unsettled m ≡ None → (mark : Mark) (rest : List Entry) →
-        Sim (machine_mark engine m mark rest) (source_mark offer s mark rest)
-    sim_mark m s sim e (Acts t) rest =
-        sim_acts m s sim t rest (kept_at s.heard t) (kept_at m.running t) (at_place s.heard m.running sim.all t) (settled_at 0 m.running e t)
+  -- one mark on both sides
+  sim_mark : (m : Machine S) (s : Source) → Sim m s → unsettled m ≡ None → (mark : Mark) (rest : List Entry) →
+      Sim (machine_mark engine m mark rest) (source_mark offer s mark rest)
+  sim_mark m s sim e (Acts t) rest =
+      sim_acts m s sim t rest (kept_at s.heard t) (kept_at m.running t) (at_place s.heard m.running sim.all t) (settled_at 0 m.running e t)
 
-    -- the next mark on both sides, if one comes
-    sim_coming : (m : Machine S) (s : Source) → Sim m s → unsettled m ≡ None → (coming : Option Coming) →
-        Sim (machine_mark_by engine m coming) (source_step_by offer s coming)
-    sim_coming m s sim e None = sim
-    sim_coming m s sim e (Some coming) = sim_mark m s sim e coming.mark coming.rest
+  -- the next mark on both sides, if one comes
+  sim_coming : (m : Machine S) (s : Source) → Sim m s → unsettled m ≡ None → (coming : Option Coming) →
+      Sim (machine_mark_by engine m coming) (source_step_by offer s coming)
+  sim_coming m s sim e None = sim
+  sim_coming m s sim e (Some coming) = sim_mark m s sim e coming.mark coming.rest
 
-    -- one machine step, the source making as many marks
-    sim_step : (start : Source) (k : ℕ) (m : Machine S) → Sim m (source_after offer start k) →
-        Sim (machine_step engine m) (source_after offer start (k + marks_in_step m))
-    sim_step start k m sim = by_unsettled (unsettled m) refl
-      where
-        here : Source
-        here = source_after offer start k
+  -- one machine step, the source making as many marks
+  sim_step : (start : Source) (k : ℕ) (m : Machine S) → Sim m (source_after offer start k) →
+      Sim (machine_step engine m) (source_after offer start (k + marks_in_step m))
+  sim_step start k m sim = by_unsettled (unsettled m) refl
+    where
+      here : Source
+      here = source_after offer start k
 
-        by_next : unsettled m ≡ None → (coming : Option Coming) → machine_next m ≡ coming →
-            Sim (machine_step engine m) (source_after offer start (k + marks_in_step m))
-        by_next e None next =
-            let same : k ≡ k + marks_in_step m = sym (add-zero k) ∙ ap (λ x. k + x) (sym (marks_mark m None e next)) in
-            subst (λ x. Sim x (source_after offer start (k + marks_in_step m))) (sym (step_mark engine m None e next))
-            (subst (λ j. Sim m (source_after offer start j)) same sim)
-        by_next e (Some coming) next =
-            let same : suc k ≡ k + marks_in_step m = sym (add-one k) ∙ ap (λ x. k + x) (sym (marks_mark m (Some coming) e next)) in
-            let source = step_source offer here (Some coming) (sym (sim_next m here sim e) ∙ next) in
-            subst (λ j. Sim (machine_step engine m) (source_after offer start j)) same
-            (subst (λ x. Sim x (source_step offer here)) (sym (step_mark engine m (Some coming) e next))
-            (subst (λ s. Sim (machine_mark_by engine m (Some coming)) s) (sym source) (sim_coming m here sim e (Some coming))))
+      by_next : unsettled m ≡ None → (coming : Option Coming) → machine_next m ≡ coming →
+          Sim (machine_step engine m) (source_after offer start (k + marks_in_step m))
+      by_next e None next =
+          let same : k ≡ k + marks_in_step m = sym (add-zero k) ∙ ap (λ x. k + x) (sym (marks_mark m None e next)) in
+          subst (λ x. Sim x (source_after offer start (k + marks_in_step m))) (sym (step_mark engine m None e next))
+          (subst (λ j. Sim m (source_after offer start j)) same sim)
+      by_next e (Some coming) next =
+          let same : suc k ≡ k + marks_in_step m = sym (add-one k) ∙ ap (λ x. k + x) (sym (marks_mark m (Some coming) e next)) in
+          let source = step_source offer here (Some coming) (sym (sim_next m here sim e) ∙ next) in
+          subst (λ j. Sim (machine_step engine m) (source_after offer start j)) same
+          (subst (λ x. Sim x (source_step offer here)) (sym (step_mark engine m (Some coming) e next))
+          (subst (λ s. Sim (machine_mark_by engine m (Some coming)) s) (sym source) (sim_coming m here sim e (Some coming))))
 
-        by_unsettled : (x : Option (ℕ × S)) → unsettled m ≡ x → Sim (machine_step engine m) (source_after offer start (k + marks_in_step m))
-        by_unsettled None e = by_next e (machine_next m) refl
-        by_unsettled (Some x) e =
-            let same : k ≡ k + marks_in_step m = sym (add-zero k) ∙ ap (λ j. k + j) (sym (marks_silent m x e)) in
-            subst (λ j. Sim (machine_step engine m) (source_after offer start j)) same (sim_silent m here sim x.0 x.1 e)
+      by_unsettled : (x : Option (ℕ × S)) → unsettled m ≡ x → Sim (machine_step engine m) (source_after offer start (k + marks_in_step m))
+      by_unsettled None e = by_next e (machine_next m) refl
+      by_unsettled (Some x) e =
+          let same : k ≡ k + marks_in_step m = sym (add-zero k) ∙ ap (λ j. k + j) (sym (marks_silent m x e)) in
+          subst (λ j. Sim (machine_step engine m) (source_after offer start j)) same (sim_silent m here sim x.0 x.1 e)
 
-    -- whole runs
-    pub sim_after : (start : Source) (m : Machine S) → Sim m start → (n : ℕ) → Sim (machine_after engine m n) (source_after offer start (marked_after engine m n))
-    sim_after start m sim zero = sim
-    sim_after start m sim (suc n) = sim_step start (marked_after engine m n) (machine_after engine m n) (sim_after start m sim n)
+  -- whole runs
+  pub sim_after : (start : Source) (m : Machine S) → Sim m start → (n : ℕ) → Sim (machine_after engine m n) (source_after offer start (marked_after engine m n))
+  sim_after start m sim zero = sim
+  sim_after start m sim (suc n) = sim_step start (marked_after engine m n) (machine_after engine m n) (sim_after start m sim n)
 
-    -- at the start
-    pub sim_start : AllByRecursion IsValue setup.slots → (es : List Entry) → length setup.tasks ≡ count → Sim (machine_start engine setup es) (source_start setup es)
-    sim_start slots es size =
-        let kept : length (map first_row setup.tasks) ≡ count = length-map setup.tasks first_row ∙ size in
-        record {
-          same_core = refl;
-          same_entries = refl;
-          all = refreshed_at (List Answer) (Running S) (Here engine Stands) (λ u. []) (fresh engine) begun 0 (map first_row setup.tasks) [] [] tt;
-          kinds = opening-kinds setup.slots slots;
-          tasks = kept;
-          places = refreshed-length (fresh engine) 0 (map first_row setup.tasks) [] ∙ kept;
-        }
+  -- at the start
+  pub sim_start : AllByRecursion IsValue setup.slots → (es : List Entry) → Sim (machine_start engine setup es) (source_start setup es)
+  sim_start slots es =
+      let kept : length (map first_row setup.tasks) ≡ length setup.tasks = length-map setup.tasks first_row in
+      record {
+        same_core = refl;
+        same_entries = refl;
+        all = refreshed_at (List Answer) (Running S) (Here setup engine Stands) (λ u. []) (fresh engine) 0 (map first_row setup.tasks)
+            (λ u less. begun u (omega (arith, less, kept))) [] [] tt;
+        kinds = opening-kinds setup.slots slots;
+        tasks = kept;
+        places = refreshed-length (fresh engine) 0 (map first_row setup.tasks) [] ∙ kept;
+      }

@@ -1,5 +1,5 @@
 -- When a machine's code means what the source's task rules say, and what of one task is enough for it.
-use Rattle.std.specs.Prelude.{◌≡◌, ◌≢◌, ℕ, ◌+◌, ◌*◌, ◌<◌, ◌≤◌, List, [], ◌∷◌, ◌++◌, Some, None}
+use Rattle.std.specs.Prelude.{◌≡◌, ◌≢◌, ℕ, ◌+◌, ◌*◌, ◌<◌, ◌≤◌, List, [], ◌∷◌, ◌++◌, Some, None, length}
 use Rattle.pearl_rules.specs.declared.action.Action.{Action}
 use Rattle.pearl_rules.specs.declared.action.Answer.{Answer}
 use Rattle.pearl_rules.specs.declared.entry.Entry.{Entry}
@@ -25,21 +25,21 @@ pub record IsFaithful (offer : Supplier) {S : Type 0} (engine : Engine S) (setup
   pub goes_on : (es : List Entry) (m : ℕ) → ((k : ℕ) → k < m → source_next offer (source_run offer setup es k) ≢ None) →
       (n : ℕ) × (n ≤ (m + 1) * (count * rows + 1)) × (marked engine setup es n ≡ m)
 
--- `Stands t heard stack`: this is where the code of task t is after these answers since its start.
+-- `Stands t heard stack`: this is where the code of task t is after these answers since its start. Each task that is there begins so.
 -- Then it offers what the source offers, that action fits the tables, and an answer that suits it leads to where the code is after it.
 pub record Alone (setup : Setup) (offer : Supplier) {S : Type 0} (engine : Engine S) (Stands : ℕ → List Answer → S → Type 0) : Type 0 where
-  pub begins : (t : ℕ) → Stands t [] (engine.begin t)
+  pub begins : (t : ℕ) → t < length setup.tasks → Stands t [] (engine.begin t)
   pub goes : (t : ℕ) (heard : List Answer) (stack after : S) → Stands t heard stack → engine.step t stack ≡ Silent after → Stands t heard after
   pub offers : (t : ℕ) (heard : List Answer) (stack : S) (action : Action) → Stands t heard stack → engine.step t stack ≡ Offers action →
       action ≡ offer t heard
   pub fits : (t : ℕ) (heard : List Answer) (stack : S) (action : Action) → Stands t heard stack → engine.step t stack ≡ Offers action →
       Fits setup action
   pub answered : (t : ℕ) (heard : List Answer) (stack : S) (action : Action) (answer : Answer) →
-      Stands t heard stack → engine.step t stack ≡ Offers action → Suits setup action answer →
+      Stands t heard stack → engine.step t stack ≡ Offers action → Suits setup t action answer →
       Stands t (heard ++ answer ∷ []) (engine.answer t stack answer)
 
--- From where the code stands it offers an action within `rows` instructions: a weight falls at each silent one.
-pub record Soon {S : Type 0} (engine : Engine S) (Stands : ℕ → List Answer → S → Type 0) (weight : ℕ → S → ℕ) (rows : ℕ) : Type 0 where
-  pub bounded : (t : ℕ) (heard : List Answer) (stack : S) → Stands t heard stack → weight t stack < rows
-  pub falls : (t : ℕ) (heard : List Answer) (stack after : S) → Stands t heard stack → engine.step t stack ≡ Silent after →
+-- From where the code of one of `count` tasks stands it offers an action within `rows` instructions: a weight falls at each silent one.
+pub record Soon (count : ℕ) {S : Type 0} (engine : Engine S) (Stands : ℕ → List Answer → S → Type 0) (weight : ℕ → S → ℕ) (rows : ℕ) : Type 0 where
+  pub bounded : (t : ℕ) (heard : List Answer) (stack : S) → t < count → Stands t heard stack → weight t stack < rows
+  pub falls : (t : ℕ) (heard : List Answer) (stack after : S) → t < count → Stands t heard stack → engine.step t stack ≡ Silent after →
       weight t after < weight t stack

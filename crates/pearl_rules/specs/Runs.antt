@@ -31,7 +31,7 @@ next_mark picked [] = None
 next_mark picked (Run n ∷ rest) = next_of_run picked n rest (next_mark picked rest)
 next_mark picked (entry ∷ rest) = next_mark picked rest
 
--- What is kept for each active task is begun afresh where a task became active, and dropped where it is dormant.
+-- What is kept of each active task begins afresh where nothing was kept of it, and nothing is kept of a dormant one.
 abbrev pub kept : {X : Type 0} → Bool → X → Option X → Option X
 kept false fresh x = None
 kept true fresh None = Some fresh
@@ -41,6 +41,11 @@ abbrev pub refreshed : {X : Type 0} → (ℕ → X) → ℕ → List TaskRow →
 refreshed fresh t [] xs = []
 refreshed fresh t (row ∷ rows) [] = kept (is_active_row (Some row)) (fresh t) None ∷ refreshed fresh (t + 1) rows []
 refreshed fresh t (row ∷ rows) (x ∷ xs) = kept (is_active_row (Some row)) (fresh t) x ∷ refreshed fresh (t + 1) rows xs
+
+-- what was kept of tasks that ended is gone
+abbrev pub dropped : {X : Type 0} → List ℕ → List (Option X) → List (Option X)
+dropped [] xs = xs
+dropped (t ∷ ts) xs = dropped ts (slice_set xs t None)
 
 -- what is at a place of a list of what is kept
 abbrev pub flattened : {X : Type 0} → Option (Option X) → Option X
@@ -83,7 +88,7 @@ abbrev pub source_acts : Supplier → Source → ℕ → List Entry → Option (
 source_acts offer s t rest None = s
 source_acts offer s t rest (Some so_far) =
     let done = effect s.core t (offer t so_far) in
-    source_settled done.core (heard_more s.heard t so_far done.reply) rest
+    source_settled done.core (heard_more (dropped done.ended s.heard) t so_far done.reply) rest
 
 abbrev pub source_mark : Supplier → Source → Mark → List Entry → Source
 source_mark offer s (Acts t) rest = source_acts offer s t rest (kept_at s.heard t)
@@ -175,7 +180,7 @@ abbrev pub machine_does : {S : Type 0} → Engine S → Machine S → ℕ → Li
 machine_does engine m t rest stack None = m
 machine_does engine m t rest stack (Some action) =
     let done = effect m.core t action in
-    machine_settled engine done.core (answered engine m.running t stack done.reply) rest
+    machine_settled engine done.core (answered engine (dropped done.ended m.running) t stack done.reply) rest
 
 abbrev pub machine_acts : {S : Type 0} → Engine S → Machine S → ℕ → List Entry → Option (Running S) → Machine S
 machine_acts engine m t rest None = m

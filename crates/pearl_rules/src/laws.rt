@@ -36,7 +36,7 @@ pub fn keeps_kinds()
     ensures slots { (setup : Setup) (core : Core) (t : ℕ) (action : Action) → HasKinds setup core → Fits setup action →
         HasKinds setup (effect core t action).core }
     ensures answers { (setup : Setup) (core : Core) (t : ℕ) (action : Action) (answer : Answer) → HasKinds setup core → Fits setup action →
-        (effect core t action).reply ≡ Hears answer → Suits setup action answer }
+        (effect core t action).reply ≡ Hears answer → Suits setup t action answer }
 {}
 
 /// Some code, with a relation that says where each task's code stands after its answers, and a weight that falls at each
@@ -56,7 +56,7 @@ pub trait Code {
 /// What holds of one task at a time is enough for a whole run: where each task's code stands where its answers lead, and
 /// offers its next action within a bound, the machine runs as the source's rules say, for any tasks and any journal.
 pub fn faithful_by_task<S: Code>()
-    ensures { (setup : Setup) → AllByRecursion IsValue setup.slots → Alone setup S.offer S.engine S.Stands → Soon S.engine S.Stands S.weight S.rows →
+    ensures { (setup : Setup) → AllByRecursion IsValue setup.slots → Alone setup S.offer S.engine S.Stands → Soon (length setup.tasks) S.engine S.Stands S.weight S.rows →
         IsFaithful S.offer S.engine setup (length setup.tasks) S.rows }
 {}
 
@@ -76,7 +76,7 @@ pub fn ends_alike<S>()
 /// Under the same conditions the machine comes to its end where the source's run does: after the m marks that come, within
 /// m + 1 times the steps from one mark to the next.
 pub fn ends_soon<S: Code>()
-    ensures { (setup : Setup) → AllByRecursion IsValue setup.slots → Alone setup S.offer S.engine S.Stands → Soon S.engine S.Stands S.weight S.rows → (es : List Entry) (m : ℕ) →
+    ensures { (setup : Setup) → AllByRecursion IsValue setup.slots → Alone setup S.offer S.engine S.Stands → Soon (length setup.tasks) S.engine S.Stands S.weight S.rows → (es : List Entry) (m : ℕ) →
         Comes S.offer setup es m → source_next S.offer (source_run S.offer setup es m) ≡ None →
         EndsSoon S.engine setup es m ((m + 1) * (length setup.tasks * S.rows + 1)) }
 {}
