@@ -1,5 +1,6 @@
 -- Needs that are taken together one after another.
 use Rattle.std.proofs.Common.{◌≡◌, ℕ, suc, ◌+◌, ◌<◌, max, List, ◌∷◌, length, drop, get_or, sym, ap, ◌∙◌, arith, drop-cons}
+use Rattle.std.specs.Prelude.{Result, Ok, Err, IfOk}
 use Rattle.pearl_program.specs.Weights.{Sizes, values, callees}
 use Rattle.pearl_generate.specs.declared.need.Need.{Need}
 use Rattle.pearl_generate.specs.Needs.{need_of, both_needs}
@@ -39,7 +40,16 @@ pub record IsGreatestOf (weights : List ℕ) (need : Need) (left whole : Sizes �
   pub values : max need.values (left values) ≡ whole values
   pub deepest : max need.deepest (left (callees weights)) ≡ whole (callees weights)
 
+-- what holds of an answer, where something is known of it
+if_ok : {X E : Type 0} (r : Result X E) (P Q : X → Type 0) → ((x : X) → P x → Q x) → IfOk r P → IfOk r Q
+if_ok (Ok x) P Q so h = so x h
+if_ok (Err e) P Q so h = h
+
 -- a value beside what is needed else
-pub value_beside : (weights : List ℕ) (inner need : Need) (here : Sizes → ℕ) → inner ≡ need_of weights here →
-    need ≡ both_needs (record { values = 1; deepest = 0 }) inner → need ≡ need_of weights (λ sizes. sizes.both sizes.one (here sizes))
-value_beside weights inner need here is more = more ∙ ap (both_needs (record { values = 1; deepest = 0 })) is
+pub value_beside : {E : Type 0} (weights : List ℕ) (inner : Need) (whole : Result Need E) (here : Sizes → ℕ) → inner ≡ need_of weights here →
+    IfOk whole (λ need. need ≡ both_needs (record { values = 1; deepest = 0 }) inner) →
+    IfOk whole (λ need. need ≡ need_of weights (λ sizes. sizes.both sizes.one (here sizes)))
+value_beside weights inner whole here is =
+    if_ok whole (λ need. need ≡ both_needs (record { values = 1; deepest = 0 }) inner)
+    (λ need. need ≡ need_of weights (λ sizes. sizes.both sizes.one (here sizes)))
+    (λ need more. more ∙ ap (both_needs (record { values = 1; deepest = 0 })) is)

@@ -28,23 +28,17 @@ pub fn expr_need(weights: &[u64], expr: &Expr) -> Result<Need, NoMemory>
         Expr::Literal(_) => Ok(Need::VALUE),
         Expr::Read(variable) => {
             let subscripts = variable_need(weights, variable)?;
-            let need = Need::VALUE.with(subscripts)?;
-            Ok(need)
+            Need::VALUE.with(subscripts)
         }
-        Expr::Monadic { operand, .. } => {
-            let need = expr_need(weights, operand)?;
-            Ok(need)
-        }
+        Expr::Monadic { operand, .. } => expr_need(weights, operand),
         Expr::Dyadic { left, right, .. } => {
             let left_need = expr_need(weights, left)?;
             let right_need = expr_need(weights, right)?;
-            let need = left_need.with(right_need)?;
-            Ok(need)
+            left_need.with(right_need)
         }
         Expr::Call(call) => {
             let called = call_need(weights, call)?;
-            let need = Need::VALUE.with(called)?;
-            Ok(need)
+            Need::VALUE.with(called)
         }
         Expr::Now => Ok(Need::VALUE),
         Expr::Try(_) => Ok(Need::VALUE),
@@ -56,8 +50,7 @@ pub fn expr_need(weights: &[u64], expr: &Expr) -> Result<Need, NoMemory>
 pub fn variable_need(weights: &[u64], variable: &Variable) -> Result<Need, NoMemory>
     ensures { IfOk result (λ need. need ≡ need_of weights.now (λ sizes. of_variable sizes (plain_variable variable.now))) }
 {
-    let need = exprs_need(weights, variable.subscripts.as_slice())?;
-    Ok(need)
+    exprs_need(weights, variable.subscripts.as_slice())
 }
 
 /// What some expressions need.
@@ -78,8 +71,7 @@ pub fn call_need(weights: &[u64], call: &Call) -> Result<Need, NoMemory>
     ensures { IfOk result (λ need. need ≡ need_of weights.now (of_call call.now.procedure (plain_arguments call.now.arguments.items))) }
 {
     let handed = arguments_need(weights, call.arguments.as_slice())?;
-    let need = callee_need(weights, call.procedure).with(handed)?;
-    Ok(need)
+    callee_need(weights, call.procedure).with(handed)
 }
 
 #[cycle(expression)]
@@ -98,14 +90,10 @@ fn argument_need(weights: &[u64], argument: &Argument) -> Result<Need, NoMemory>
     ensures { IfOk result (λ need. need ≡ need_of weights.now (λ sizes. of_argument sizes (plain_argument argument.now))) }
 {
     match argument {
-        Argument::Value(expr) => {
-            let need = expr_need(weights, expr)?;
-            Ok(need)
-        }
+        Argument::Value(expr) => expr_need(weights, expr),
         Argument::Ident(variable) => {
             let subscripts = variable_need(weights, variable)?;
-            let need = Need::VALUE.with(subscripts)?;
-            Ok(need)
+            Need::VALUE.with(subscripts)
         }
     }
 }

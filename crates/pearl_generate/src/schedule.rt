@@ -17,10 +17,7 @@ pub fn maybe_expr_need(weights: &[u64], expr: &Option<Expr>) -> Result<Need, NoM
     ensures { IfOk result (λ need. need ≡ need_of weights.now (λ sizes. of_if sizes (of_expr sizes) (option_map plain_expr expr.now))) }
 {
     match expr {
-        Some(expr) => {
-            let need = expr_need(weights, expr)?;
-            Ok(need)
-        }
+        Some(expr) => expr_need(weights, expr),
         None => Ok(Need::NONE),
     }
 }
@@ -29,14 +26,8 @@ fn period_end_need(weights: &[u64], end: &PeriodEnd) -> Result<Need, NoMemory>
     ensures { IfOk result (λ need. need ≡ need_of weights.now (λ sizes. of_period_end sizes (plain_period_end end.now))) }
 {
     match end {
-        PeriodEnd::Until(time) => {
-            let need = expr_need(weights, time)?;
-            Ok(need)
-        }
-        PeriodEnd::During(duration) => {
-            let need = expr_need(weights, duration)?;
-            Ok(need)
-        }
+        PeriodEnd::Until(time) => expr_need(weights, time),
+        PeriodEnd::During(duration) => expr_need(weights, duration),
     }
 }
 
@@ -44,10 +35,7 @@ fn maybe_period_end_need(weights: &[u64], end: &Option<PeriodEnd>) -> Result<Nee
     ensures { IfOk result (λ need. need ≡ need_of weights.now (λ sizes. of_if sizes (of_period_end sizes) (option_map plain_period_end end.now))) }
 {
     match end {
-        Some(end) => {
-            let need = period_end_need(weights, end)?;
-            Ok(need)
-        }
+        Some(end) => period_end_need(weights, end),
         None => Ok(Need::NONE),
     }
 }
@@ -57,8 +45,7 @@ fn period_need(weights: &[u64], period: &Period) -> Result<Need, NoMemory>
 {
     let duration = expr_need(weights, &period.duration)?;
     let end = maybe_period_end_need(weights, &period.end)?;
-    let need = duration.with(end)?;
-    Ok(need)
+    duration.with(end)
 }
 
 /// What the expressions of a period need where there is one.
@@ -66,10 +53,7 @@ pub fn maybe_period_need(weights: &[u64], period: &Option<Period>) -> Result<Nee
     ensures { IfOk result (λ need. need ≡ need_of weights.now (λ sizes. of_if sizes (of_period sizes) (option_map plain_period period.now))) }
 {
     match period {
-        Some(period) => {
-            let need = period_need(weights, period)?;
-            Ok(need)
-        }
+        Some(period) => period_need(weights, period),
         None => Ok(Need::NONE),
     }
 }
@@ -78,19 +62,10 @@ fn start_need(weights: &[u64], start: &Start) -> Result<Need, NoMemory>
     ensures { IfOk result (λ need. need ≡ need_of weights.now (λ sizes. of_start sizes (plain_start start.now))) }
 {
     match start {
-        Start::At(time) => {
-            let need = expr_need(weights, time)?;
-            Ok(need)
-        }
-        Start::After(duration) => {
-            let need = expr_need(weights, duration)?;
-            Ok(need)
-        }
+        Start::At(time) => expr_need(weights, time),
+        Start::After(duration) => expr_need(weights, duration),
         Start::When(_) => Ok(Need::NONE),
-        Start::WhenAfter { duration, .. } => {
-            let need = expr_need(weights, duration)?;
-            Ok(need)
-        }
+        Start::WhenAfter { duration, .. } => expr_need(weights, duration),
     }
 }
 
@@ -99,10 +74,7 @@ pub fn maybe_start_need(weights: &[u64], start: &Option<Start>) -> Result<Need, 
     ensures { IfOk result (λ need. need ≡ need_of weights.now (λ sizes. of_if sizes (of_start sizes) (option_map plain_start start.now))) }
 {
     match start {
-        Some(start) => {
-            let need = start_need(weights, start)?;
-            Ok(need)
-        }
+        Some(start) => start_need(weights, start),
         None => Ok(Need::NONE),
     }
 }
@@ -112,14 +84,8 @@ pub fn once_need(weights: &[u64], once: &Once) -> Result<Need, NoMemory>
     ensures { IfOk result (λ need. need ≡ need_of weights.now (λ sizes. of_once sizes (plain_once once.now))) }
 {
     match once {
-        Once::At(time) => {
-            let need = expr_need(weights, time)?;
-            Ok(need)
-        }
-        Once::After(duration) => {
-            let need = expr_need(weights, duration)?;
-            Ok(need)
-        }
+        Once::At(time) => expr_need(weights, time),
+        Once::After(duration) => expr_need(weights, duration),
         Once::When(_) => Ok(Need::NONE),
     }
 }
@@ -129,10 +95,7 @@ pub fn maybe_once_need(weights: &[u64], once: &Option<Once>) -> Result<Need, NoM
     ensures { IfOk result (λ need. need ≡ need_of weights.now (λ sizes. of_if sizes (of_once sizes) (option_map plain_once once.now))) }
 {
     match once {
-        Some(once) => {
-            let need = once_need(weights, once)?;
-            Ok(need)
-        }
+        Some(once) => once_need(weights, once),
         None => Ok(Need::NONE),
     }
 }

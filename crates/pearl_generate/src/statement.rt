@@ -21,8 +21,7 @@ fn assign_need(weights: &[u64], part: &Assign) -> Result<Need, NoMemory>
 {
     let target = variable_need(weights, &part.target)?;
     let value = expr_need(weights, &part.value)?;
-    let need = target.with(value)?;
-    Ok(need)
+    target.with(value)
 }
 
 fn activate_need(weights: &[u64], part: &Activate) -> Result<Need, NoMemory>
@@ -31,8 +30,7 @@ fn activate_need(weights: &[u64], part: &Activate) -> Result<Need, NoMemory>
     let start = maybe_start_need(weights, &part.start)?;
     let period = maybe_period_need(weights, &part.period)?;
     let priority = maybe_expr_need(weights, &part.priority)?;
-    let need = start.with(period.with(priority)?)?;
-    Ok(need)
+    start.with(period.with(priority)?)
 }
 
 fn counter_need(weights: &[u64], counter: &Counter) -> Result<Need, NoMemory>
@@ -41,18 +39,14 @@ fn counter_need(weights: &[u64], counter: &Counter) -> Result<Need, NoMemory>
     let begin = maybe_expr_need(weights, &counter.begin)?;
     let step = maybe_expr_need(weights, &counter.step)?;
     let end = maybe_expr_need(weights, &counter.end)?;
-    let need = begin.with(step.with(end)?)?;
-    Ok(need)
+    begin.with(step.with(end)?)
 }
 
 fn maybe_counter_need(weights: &[u64], counter: &Option<Counter>) -> Result<Need, NoMemory>
     ensures { IfOk result (λ need. need ≡ need_of weights.now (λ sizes. of_if sizes (of_counter sizes) (option_map plain_counter counter.now))) }
 {
     match counter {
-        Some(counter) => {
-            let need = counter_need(weights, counter)?;
-            Ok(need)
-        }
+        Some(counter) => counter_need(weights, counter),
         None => Ok(Need::NONE),
     }
 }
@@ -106,58 +100,19 @@ fn stmt_need(weights: &[u64], stmt: &Stmt) -> Result<Need, NoMemory>
     ensures { IfOk result (λ need. need ≡ need_of weights.now (λ sizes. greatest sizes (plain_stmt stmt.now))) }
 {
     match stmt {
-        Stmt::Assign(part) => {
-            let need = assign_need(weights, part)?;
-            Ok(need)
-        }
-        Stmt::Call(part) => {
-            let need = call_need(weights, part)?;
-            Ok(need)
-        }
-        Stmt::If(part) => {
-            let need = if_need(weights, part)?;
-            Ok(need)
-        }
-        Stmt::Case(part) => {
-            let need = case_need(weights, part)?;
-            Ok(need)
-        }
-        Stmt::Repeat(part) => {
-            let need = repeat_need(weights, part)?;
-            Ok(need)
-        }
-        Stmt::Return(part) => {
-            let need = maybe_expr_need(weights, &part.value)?;
-            Ok(need)
-        }
-        Stmt::Activate(part) => {
-            let need = activate_need(weights, part)?;
-            Ok(need)
-        }
-        Stmt::Continue(part) => {
-            let need = maybe_once_need(weights, &part.once)?;
-            Ok(need)
-        }
-        Stmt::Resume(part) => {
-            let need = once_need(weights, part)?;
-            Ok(need)
-        }
-        Stmt::Put(part) => {
-            let need = exprs_need(weights, part.values.as_slice())?;
-            Ok(need)
-        }
-        Stmt::Get(part) => {
-            let need = variables_need(weights, part.targets.as_slice())?;
-            Ok(need)
-        }
-        Stmt::Send(part) => {
-            let need = expr_need(weights, &part.value)?;
-            Ok(need)
-        }
-        Stmt::Take(part) => {
-            let need = variable_need(weights, &part.target)?;
-            Ok(need)
-        }
+        Stmt::Assign(part) => assign_need(weights, part),
+        Stmt::Call(part) => call_need(weights, part),
+        Stmt::If(part) => if_need(weights, part),
+        Stmt::Case(part) => case_need(weights, part),
+        Stmt::Repeat(part) => repeat_need(weights, part),
+        Stmt::Return(part) => maybe_expr_need(weights, &part.value),
+        Stmt::Activate(part) => activate_need(weights, part),
+        Stmt::Continue(part) => maybe_once_need(weights, &part.once),
+        Stmt::Resume(part) => once_need(weights, part),
+        Stmt::Put(part) => exprs_need(weights, part.values.as_slice()),
+        Stmt::Get(part) => variables_need(weights, part.targets.as_slice()),
+        Stmt::Send(part) => expr_need(weights, &part.value),
+        Stmt::Take(part) => variable_need(weights, &part.target),
         Stmt::Renew(_)
         | Stmt::Exit
         | Stmt::Suspend(_)

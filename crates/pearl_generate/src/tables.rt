@@ -101,6 +101,5 @@ pub fn formats_of(alloc: Global, formats: &[Listing<Item>]) -> Result<Vec<Listin
 pub fn name_of(name: &ArrayVec<u8, 63>) -> Result<ArrayVec<u8, 63>, NoMemory>
     ensures { IfOk result (λ copy. copy ≡ name.now) }
 {
-    let copy = name.clone()?;
-    Ok(copy)
+    name.clone()
 }

@@ -17,8 +17,7 @@ pub fn weight_of(weights: &[u64], routine: &Routine) -> Result<u64, NoMemory>
     let cells = routine.cells.as_slice().len() as u64;
     let operands = sum(need.values, 2)?;
     let own = sum(cells, operands)?;
-    let weight = sum(own, need.deepest)?;
-    Ok(weight)
+    sum(own, need.deepest)
 }
 
 /// The weights of procedures, each of which calls smaller numbers alone.
