@@ -1,5 +1,4 @@
 pub mod Scheduling
-pub mod Built
 pub mod Depth
 pub mod Ready
 pub mod Steps

@@ -18,8 +18,8 @@ use Rattle.pearl_instructions.specs.Lawful.{IsObject}
 use Rattle.pearl_instructions.specs.Rows.{row}
 use Rattle.pearl_instructions.specs.Stacks.{Answers}
 use Rattle.pearl_solo.specs.Answered.{CanHear}
+use Rattle.pearl_engine.specs.Built.{IsBuilt}
 use Rattle.pearl_engine.specs.Setups.{setup_of}
-use Rattle.pearl_engine.specs.Laws.{IsKnown}
 use Rattle.pearl_engine.proofs.Offered.{fits, suits}
 use Rattle.pearl_machine.specs.Stacks.{IsOffer}
 use Rattle.pearl_machine.proofs.Slots.{read_suits}
@@ -30,9 +30,9 @@ pub hears : (o : Object) (own : ℕ) (frames : List Frame) (action other : Actio
 hears o own frames action other answer offer is heard =
     subst (λ step. CanHear o own step answer) (sym offer.offers) (subst (λ a. Answers o own a answer) (sym is) heard)
 
--- an offered action fits the tables, where they know it
-pub fitting : (o : Object) (frames : List Frame) (action other : Action) → IsObject o → IsOffer o frames action → action ≡ other → IsKnown other → Fits (setup_of o) other
-fitting o frames action other lawful offer is known = fits o other lawful (subst (IsOffered o) is offer.there) known
+-- an offered action fits the tables where it is built
+pub fitting : (o : Object) (frames : List Frame) (action other : Action) → IsObject o → IsOffer o frames action → action ≡ other → IsBuilt other → Fits (setup_of o) other
+fitting o frames action other lawful offer is built = fits o other lawful (subst (IsOffered o) is offer.there) built
 
 -- a read hears a value of its slot's kind
 pub reads : (o : Object) (own : ℕ) (frames : List Frame) (offered : Action) (slots : List Cell) (slot : ℕ) → IsObject o → IsOffer o frames offered → offered ≡ action.Read slot →
@@ -40,7 +40,7 @@ pub reads : (o : Object) (own : ℕ) (frames : List Frame) (offered : Action) (s
 reads o own frames offered slots slot lawful offer is kinds =
     let named = fitting o frames offered (action.Read slot) lawful offer is tt in
     hears o own frames offered (action.Read slot) (One (value_at slots slot)) offer is
-    (suits o own (action.Read slot) (One (value_at slots slot)) lawful (subst (IsOffered o) is offer.there) (read_suits (setup_of o) slots slot kinds named))
+    (suits o own (action.Read slot) (One (value_at slots slot)) lawful (subst (IsOffered o) is offer.there) (read_suits (setup_of o) own slots slot kinds named))
 
 -- a PUT names a device
 pub takes_device : (o : Object) (frames : List Frame) (offered : Action) (device : ℕ) (text : _) → IsOffer o frames offered → offered ≡ action.Put device text →

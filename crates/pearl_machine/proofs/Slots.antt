@@ -25,10 +25,10 @@ abbrev core_with : List Cell → Core
 core_with slots = record { moment = 0; tasks = []; slots = slots; last = None; told = [] }
 
 -- a read is answered by a value of its slot's kind
-pub read_suits : (setup : Setup) (slots : List Cell) (slot : ℕ) → AllZip IsLike setup.slots slots → slot < length setup.slots →
-    Suits setup (action.Read slot) (One (value_at slots slot))
+pub read_suits : (setup : Setup) (own : ℕ) (slots : List Cell) (slot : ℕ) → AllZip IsLike setup.slots slots → slot < length setup.slots →
+    Suits setup own (action.Read slot) (One (value_at slots slot))
 unfolding effect
-read_suits setup slots slot kinds named = effect-answers setup (core_with slots) 0 (action.Read slot) (One (value_at slots slot)) kinds named refl
+read_suits setup own slots slot kinds named = effect-answers setup (core_with slots) own (action.Read slot) (One (value_at slots slot)) kinds named refl
 
 -- a write leaves in each slot a value of its kind
 pub write_kinds : (setup : Setup) (slots : List Cell) (slot : ℕ) (value : Cell) → AllZip IsLike setup.slots slots → Fits setup (action.Write slot value) →

@@ -1,5 +1,3 @@
--- which actions the machine is built for, and which objects offer no other
-pub mod Built
 -- what contracts see of a machine, and when it stands at a state of a run
 pub mod Seen
 -- what holds of a task's stack wherever its code stands
