@@ -67,6 +67,8 @@ module _ (p : PlainProg) (o : Object) (tables : HasTables p o) (t : ℕ) where
 pub heard_more : (p : PlainProg) (t : ℕ) (before answers : List Answer) (answer : Answer) → HeardAfter p t before answers →
     Suits p t (offer p t (before ++ answers)) answer → HeardAfter p t before (answers ++ answer ∷ [])
 heard_more p t before [] answer heard suits = (subst (λ answers. Suits p t (offer p t answers) answer) (append-nil before) suits, tt)
-heard_more p t before (first ∷ answers) answer heard suits =
-    (heard.0, heard_more p t (before ++ first ∷ []) answers answer heard.1
-    (subst (λ answers. Suits p t (offer p t answers) answer) (sym (append_assoc before (first ∷ []) answers)) suits))
+heard_more p t before (first ∷ answers) answer heard suits = (
+  heard.0,
+  heard_more p t (before ++ first ∷ []) answers answer heard.1
+      (subst (λ answers. Suits p t (offer p t answers) answer) (sym (append_assoc before (first ∷ []) answers)) suits),
+)
