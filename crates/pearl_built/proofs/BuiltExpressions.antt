@@ -70,7 +70,8 @@ field_walks walk (Some field) built = built
 
 module _ (numbered : Numbered) (view : View) where
   called_built : (parameters : Option (List Parameter)) (call : List Parameter → PlainExpr) (read : PlainExpr) →
-      ((own : List Parameter) → IsBuiltExpr (call own)) → IsBuiltExpr read → IsBuiltExpr (called_or parameters call read)
+      ((own : List Parameter) → IsBuiltExpr (call own)) → IsBuiltExpr read →
+      IsBuiltExpr (called_or parameters call read)
   called_built None call read calls reads = reads
   called_built (Some parameters) call read calls reads = calls parameters
 
@@ -131,8 +132,10 @@ module _ (numbered : Numbered) (view : View) where
     arguments_built [] (shown.MoreExprs e rest) none =
         let nones = neither (in_expr e) (in_exprs rest) none in (expr_built e nones.0, arguments_built [] rest nones.1)
     arguments_built (parameter ∷ parameters) (shown.MoreExprs e rest) none =
-        let nones = neither (in_expr e) (in_exprs rest) none in
-        (handed_built parameter.ident (resolve_expr numbered view e) (expr_built e nones.0), arguments_built parameters rest nones.1)
+        let nones = neither (in_expr e) (in_exprs rest) none in (
+          handed_built parameter.ident (resolve_expr numbered view e) (expr_built e nones.0),
+          arguments_built parameters rest nones.1,
+        )
 
   pub value_built : (value : Option ShownExpr) → in_value value ≡ None →
       IfSome (option_map (resolve_expr numbered view) value) IsBuiltExpr

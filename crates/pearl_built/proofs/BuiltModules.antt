@@ -56,18 +56,22 @@ module _ (numbered : Numbered) where
       joined_built (declared_renewals numbered at.next body.declarations)
       (resolve_all numbered at.next (in_body numbered.table at) (as_stmts body.statements))
       (declared_built numbered at.next body.declarations)
-      (all_built numbered at.next (in_body numbered.table at) (as_stmts body.statements) (body_none body.statements none))
+      (all_built numbered at.next (in_body numbered.table at) (as_stmts body.statements)
+      (body_none body.statements none))
 
   -- TASKS
 
   no_tasks : (at : At) (decls : List ShownDecl) → in_decls true decls ≡ None → tasks_in numbered at decls ≡ []
   no_tasks at [] none = refl
-  no_tasks at (OfLength sort number place ∷ rest) none = no_tasks (after_decl numbered.table at (OfLength sort number place)) rest none
-  no_tasks at (OfType name part place ∷ rest) none = no_tasks (after_decl numbered.table at (OfType name part place)) rest none
+  no_tasks at (OfLength sort number place ∷ rest) none =
+      no_tasks (after_decl numbered.table at (OfLength sort number place)) rest none
+  no_tasks at (OfType name part place ∷ rest) none =
+      no_tasks (after_decl numbered.table at (OfType name part place)) rest none
   no_tasks at (OfDeclare declared place ∷ rest) none =
       no_tasks (after_decl numbered.table at (OfDeclare declared place)) rest
       (neither (in_decl true (OfDeclare declared place)) (in_decls true rest) none).1
-  no_tasks at (OfSpecify specs place ∷ rest) none = no_tasks (after_decl numbered.table at (OfSpecify specs place)) rest none
+  no_tasks at (OfSpecify specs place ∷ rest) none =
+      no_tasks (after_decl numbered.table at (OfSpecify specs place)) rest none
   no_tasks at (OfTask name head body place ∷ rest) none = absurd (none-some place (sym none))
   no_tasks at (OfProc name params returns body place ∷ rest) none =
       no_tasks (after_decl numbered.table at (OfProc name params returns body place)) rest
@@ -96,7 +100,8 @@ module _ (numbered : Numbered) where
       } in record {
         task = task;
         alone = ap (λ more. task ∷ more) (no_tasks behind rest nones.1);
-        main = sym (same_head head) ∙ left_true (has_main head) (list_any is_main rest) main (none_is_main rest nones.1);
+        main = sym (same_head head) ∙ left_true (has_main head) (list_any is_main rest) main
+            (none_is_main rest nones.1);
         statements = routine_built at body nones.0;
       }
   one_task at (OfProc name params returns body place ∷ rest) none main =
@@ -114,7 +119,8 @@ module _ (numbered : Numbered) where
       (procedures_built (behind || is_task decl) (after_decl numbered.table at decl) rest nones.1)
     where
       with_decl : (decl : ShownDecl) → in_decl behind decl ≡ None → (more : List PlainProcedure) →
-          AllByRecursion IsBuiltProcedure more → AllByRecursion IsBuiltProcedure (resolved.decl_procedures numbered at decl ++ more)
+          AllByRecursion IsBuiltProcedure more → AllByRecursion IsBuiltProcedure
+          (resolved.decl_procedures numbered at decl ++ more)
       with_decl (OfLength sort number place) own more built = built
       with_decl (OfType name part place) own more built = built
       with_decl (OfDeclare declared place) own more built = built
@@ -134,7 +140,8 @@ more_built : (found : Option PlainProcedure) (rest : List PlainProcedure) → If
 more_built None rest one built = built
 more_built (Some procedure) rest one built = (one, built)
 
-numbered_built : (numbers : List ℕ) (things : List PlainProcedure) (count number : ℕ) → AllByRecursion IsBuiltProcedure things →
+numbered_built : (numbers : List ℕ) (things : List PlainProcedure) (count number : ℕ) →
+    AllByRecursion IsBuiltProcedure things →
     AllByRecursion IsBuiltProcedure (by_number numbers things count number)
 numbered_built numbers things zero number built = tt
 numbered_built numbers things (suc count) number built =

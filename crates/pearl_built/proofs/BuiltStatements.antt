@@ -31,7 +31,8 @@ listed_none (e ∷ rest) none =
     none_of (in_expr e) (in_exprs (listed rest)) nones.0 (listed_none rest nones.1)
 
 -- statements of a body, as those within a statement
-pub body_none : (statements : List ShownStmt) → in_first in_stmt statements ≡ None → in_stmts (as_stmts statements) ≡ None
+pub body_none : (statements : List ShownStmt) → in_first in_stmt statements ≡ None →
+    in_stmts (as_stmts statements) ≡ None
 body_none [] none = none
 body_none (statement ∷ rest) none =
     let nones = neither (in_stmt statement) (in_first in_stmt rest) none in
@@ -48,7 +49,8 @@ leaves_built cell (leaf ∷ rest) = (tt, leaves_built (cell + leaf.values.count)
 
 thing_built : (constants : List ShownConst) (found : Option Meant) → AreBuiltStmts (variable_renewals constants found)
 thing_built constants None = tt
-thing_built constants (Some thing) = leaves_built thing.number (filled_leaves [] constants (leaves_of_sense thing.sense))
+thing_built constants (Some thing) = leaves_built thing.number
+    (filled_leaves [] constants (leaves_of_sense thing.sense))
 
 module _ (numbered : Numbered) where
   names_built : (scope : ℕ) (constants : List ShownConst) (names : List Name) →
@@ -123,7 +125,8 @@ module _ (numbered : Numbered) where
           ),
           tt,
         )
-    stmt_built scope at (shown.OfRepeat control begin step end condition declarations statements body_place place) none =
+    stmt_built scope at (shown.OfRepeat control begin step end condition declarations statements body_place place)
+        none =
         let inner = option_or (in_value condition) (in_stmts statements) in
         let one = neither (in_value begin) (option_or (in_value step) (option_or (in_value end) inner)) none in
         let two = neither (in_value step) (option_or (in_value end) inner) one.1 in
@@ -133,7 +136,8 @@ module _ (numbered : Numbered) where
           (
             counter_built scope at control begin step end one.0 two.0 three.0,
             value_built numbered (WhileOf at.next) condition four.0,
-            joined_built (declared_renewals numbered at.next declarations) (resolve_all numbered at.next within statements)
+            joined_built (declared_renewals numbered at.next declarations)
+                (resolve_all numbered at.next within statements)
                 (declared_built at.next declarations) (all_built at.next within statements four.1),
           ),
           tt,
@@ -169,8 +173,10 @@ module _ (numbered : Numbered) where
         AreBuiltBranches (resolve_branches numbered scope at branches)
     branches_built scope at shown.NoBranches none = tt
     branches_built scope at (shown.MoreBranches statements place rest) none =
-        let nones = neither (in_stmts statements) (in_branches rest) none in
-        (all_built scope at statements nones.0, branches_built scope (after_all numbered.table at statements) rest nones.1)
+        let nones = neither (in_stmts statements) (in_branches rest) none in (
+          all_built scope at statements nones.0,
+          branches_built scope (after_all numbered.table at statements) rest nones.1,
+        )
 
     otherwise_built : (scope : ℕ) (at : At) (otherwise : ShownOtherwise) → in_otherwise otherwise ≡ None →
         AreBuiltStmts (resolve_otherwise numbered scope at otherwise)

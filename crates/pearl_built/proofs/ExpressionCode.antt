@@ -52,29 +52,37 @@ module _ (code : List Instr) where
     offset_built (bound ∷ bounds) to at =
         behind code from at.0 (instr.Index at.2.0) to (inner at.0 at.1) at.2.2 at.3 refl
 
-    way_built : (target : Target) (bounds : List Bound) (to : ℕ) → WayOf code from target bounds subscripts to → BuiltIn code from to
+    way_built : (target : Target) (bounds : List Bound) (to : ℕ) → WayOf code from target bounds subscripts to →
+        BuiltIn code from to
     way_built (Leaf number) bounds to at = offset_built bounds to at
     way_built (Own cell) bounds to at = offset_built bounds to at
     way_built (Param cell) bounds to at = alone code from (instr.Load cell) to at.0 at.1 refl
 
-    read_built : (target : Target) (bounds : List Bound) (to : ℕ) → ReadOf code from target bounds subscripts to → BuiltIn code from to
+    read_built : (target : Target) (bounds : List Bound) (to : ℕ) → ReadOf code from target bounds subscripts to →
+        BuiltIn code from to
     read_built target bounds to at =
-        behind code from at.0 (reading target bounds) to (way_built target bounds at.0 at.1) at.2 at.3 (reading_built target bounds)
+        behind code from at.0 (reading target bounds) to (way_built target bounds at.0 at.1) at.2 at.3
+        (reading_built target bounds)
 
-    reference_built : (target : Target) (bounds : List Bound) (to : ℕ) → ReferenceOf code from target bounds subscripts to →
+    reference_built : (target : Target) (bounds : List Bound) (to : ℕ) →
+        ReferenceOf code from target bounds subscripts to →
         BuiltIn code from to
     reference_built (Leaf number) bounds to at =
-        behind code from at.0 (slot_reference number bounds) to (offset_built bounds at.0 at.1) at.2 at.3 (slot_built number bounds)
+        behind code from at.0 (slot_reference number bounds) to (offset_built bounds at.0 at.1) at.2 at.3
+        (slot_built number bounds)
     reference_built (Own cell) bounds to at =
-        behind code from at.0 (cell_reference cell bounds) to (offset_built bounds at.0 at.1) at.2 at.3 (cell_built cell bounds)
+        behind code from at.0 (cell_reference cell bounds) to (offset_built bounds at.0 at.1) at.2 at.3
+        (cell_built cell bounds)
     reference_built (Param cell) bounds to at = alone code from (instr.Load cell) to at.0 at.1 refl
 
 module _ (p : PlainProg) (code : List Instr) where
   mutual
-    pub expr_built : (from : ℕ) (e : PlainExpr) (to : ℕ) → ExprAt p code from e to → IsBuiltExpr e → BuiltIn code from to
+    pub expr_built : (from : ℕ) (e : PlainExpr) (to : ℕ) → ExprAt p code from e to → IsBuiltExpr e →
+        BuiltIn code from to
     expr_built from (OfLiteral value) to at built = const_built code from value to at.0 at.1
     expr_built from (OfRead (OfVariable target bounds subscripts)) to at built =
-        read_built code from (λ end. AllAt p code from subscripts end) (λ end all. all_built from subscripts end all built)
+        read_built code from (λ end. AllAt p code from subscripts end)
+        (λ end all. all_built from subscripts end all built)
         target bounds to at
     expr_built from (OfMonadic op operand) to at built =
         behind code from at.0 (instr.Monadic op) to (expr_built from operand at.0 at.1 built) at.2 at.3 refl
@@ -83,12 +91,14 @@ module _ (p : PlainProg) (code : List Instr) where
         (both code from at.0 at.1 (expr_built from left at.0 at.2 built.0) (expr_built at.0 right at.1 at.3 built.1))
         at.4 at.5 refl
     expr_built from (OfCall procedure arguments) to at built =
-        behind code from at.2 (instr.Call procedure) to (arguments_built from (params_of at.0) arguments at.2 at.3 built)
+        behind code from at.2 (instr.Call procedure) to
+        (arguments_built from (params_of at.0) arguments at.2 at.3 built)
         at.4 at.5 refl
     expr_built from OfNow to at built = absurd built
     expr_built from (OfTry semaphore) to at built = absurd built
 
-    pub all_built : (from : ℕ) (es : PlainExprs) (to : ℕ) → AllAt p code from es to → AreBuiltExprs es → BuiltIn code from to
+    pub all_built : (from : ℕ) (es : PlainExprs) (to : ℕ) → AllAt p code from es to → AreBuiltExprs es →
+        BuiltIn code from to
     all_built from NoExprs to at built = nothing code from to at
     all_built from (MoreExprs e rest) to at built =
         both code from at.0 to (expr_built from e at.0 at.1 built.0) (all_built at.0 rest to at.2 built.1)
@@ -109,16 +119,19 @@ module _ (p : PlainProg) (code : List Instr) where
     argument_built from (Plain kind) (OfIdent variable) to at built = absurd at
     argument_built from (RefTo kind) (OfValue e) to at built = absurd at
     argument_built from (RefTo kind) (OfIdent (OfVariable target bounds subscripts)) to at built =
-        reference_built code from (λ end. AllAt p code from subscripts end) (λ end all. all_built from subscripts end all built)
+        reference_built code from (λ end. AllAt p code from subscripts end)
+        (λ end all. all_built from subscripts end all built)
         target bounds to at
 
-  pub variable_built : (from : ℕ) (variable : PlainVariable) (to : ℕ) → WayAt p code from variable to → IsBuiltVariable variable →
+  pub variable_built : (from : ℕ) (variable : PlainVariable) (to : ℕ) → WayAt p code from variable to →
+      IsBuiltVariable variable →
       BuiltIn code from to
   variable_built from (OfVariable target bounds subscripts) to at built =
       way_built code from (λ end. AllAt p code from subscripts end) (λ end all. all_built from subscripts end all built)
       target bounds to at
 
-  pub call_built : (from procedure : ℕ) (arguments : PlainArguments) (to : ℕ) → CallAt p code from procedure arguments to →
+  pub call_built : (from procedure : ℕ) (arguments : PlainArguments) (to : ℕ) →
+      CallAt p code from procedure arguments to →
       AreBuiltArguments arguments → BuiltIn code from to
   call_built from procedure arguments to at built =
       behind code from at.2 (instr.Call procedure) to (arguments_built from (params_of at.0) arguments at.2 at.3 built)

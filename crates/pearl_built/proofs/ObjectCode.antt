@@ -26,11 +26,13 @@ use Rattle.pearl_built.proofs.StatementCode.{stmts_built}
 
 -- LISTS
 
-all_of_each : {X : Type 0} (P : X → Type 0) (xs : List X) → ((n : ℕ) (x : X) → slice_get xs n ≡ Some x → P x) → AllByRecursion P xs
+all_of_each : {X : Type 0} (P : X → Type 0) (xs : List X) → ((n : ℕ) (x : X) → slice_get xs n ≡ Some x → P x) →
+    AllByRecursion P xs
 all_of_each P [] each = tt
 all_of_each P (x ∷ xs) each = (each 0 x refl, all_of_each P xs (λ n y found. each (suc n) y found))
 
-each_of_all : {X : Type 0} (P : X → Type 0) (xs : List X) (n : ℕ) (x : X) → AllByRecursion P xs → slice_get xs n ≡ Some x → P x
+each_of_all : {X : Type 0} (P : X → Type 0) (xs : List X) (n : ℕ) (x : X) → AllByRecursion P xs →
+    slice_get xs n ≡ Some x → P x
 each_of_all P [] n x all found = cc
 each_of_all P (y ∷ xs) zero x all found = subst P (same_Some y x found) all.0
 each_of_all P (y ∷ xs) (suc n) x all found = each_of_all P xs n x all.1 found
@@ -41,7 +43,8 @@ there (x ∷ xs) zero less = (x, refl)
 there (x ∷ xs) (suc n) less = there xs n (omega arith)
 
 -- lists of which the same is told have the same length
-same_length : {X Y Z : Type 0} (f : X → Z) (g : Y → Z) (xs : List X) (ys : List Y) → map f xs ≡ map g ys → length xs ≡ length ys
+same_length : {X Y Z : Type 0} (f : X → Z) (g : Y → Z) (xs : List X) (ys : List Y) → map f xs ≡ map g ys →
+    length xs ≡ length ys
 same_length f g xs ys same = sym (length-map xs f) ∙ (ap length same ∙ length-map ys g)
 
 last_built : (result : Option Kind) → is_built (last_of result) ≡ true
@@ -50,12 +53,14 @@ last_built (Some kind) = refl
 
 module _ (p : PlainProg) (o : Object) where
   -- the code of a routine whose statements are built
-  routine_built : (number : ℕ) (result : Option Kind) (routine : PlainRoutine) (last : Instr) → IsCode p o number result routine last →
-      AreBuiltStmts routine.body → is_built last ≡ true → (code : Code) → slice_get (routines o) number ≡ Some code → HasOnlyBuilt code
+  routine_built : (number : ℕ) (result : Option Kind) (routine : PlainRoutine) (last : Instr) →
+      IsCode p o number result routine last → AreBuiltStmts routine.body → is_built last ≡ true →
+      (code : Code) → slice_get (routines o) number ≡ Some code → HasOnlyBuilt code
   routine_built number result routine last is built ends code found =
       let instructions = code_of o number in
       let whole : BuiltIn instructions 0 (is.end + 1) = behind instructions 0 is.end last (is.end + 1)
-      (stmts_built (within_program p result routine) instructions None 0 routine.body is.end is.statements built) is.behind refl ends in
+      (stmts_built (within_program p result routine) instructions None 0 routine.body is.end is.statements built)
+      is.behind refl ends in
       let same : instructions ≡ code.instructions = ap instructions_or_none found in
       subst (λ list. AllByRecursion (λ instr. is_built instr ≡ true) list) same
       (all_of_each (λ instr. is_built instr ≡ true) instructions
@@ -76,7 +81,8 @@ module _ (p : PlainProg) (o : Object) where
     code_built number code found (inl less) =
         let one = there p.procedures number (omega (arith, less, procedures_long)) in
         routine_built number one.0.result one.0.routine (last_of one.0.result) (generated.procedures number one.0 one.1)
-        (each_of_all IsBuiltProcedure p.procedures number one.0 built.procedures one.1) (last_built one.0.result) code found
+        (each_of_all IsBuiltProcedure p.procedures number one.0 built.procedures one.1)
+        (last_built one.0.result) code found
     code_built number code found (inr more) =
         let codes = map (λ (p : Procedure). p.code) o.procedures in
         let within = slice_get_within (routines o) number code found in

@@ -20,7 +20,8 @@ use Rattle.pearl_built.proofs.ExpressionCode.{written_built, const_built, expr_b
 module _ (setting : Setting) (code : List Instr) where
   -- FIRST VALUES
 
-  stores_built : (from cell : ℕ) (values : List Cell) (to : ℕ) → StoresAt setting code from cell values to → BuiltIn code from to
+  stores_built : (from cell : ℕ) (values : List Cell) (to : ℕ) → StoresAt setting code from cell values to →
+      BuiltIn code from to
   stores_built from cell [] to at = nothing code from to at
   stores_built from cell (x ∷ xs) to at =
       both code from (from + 2) to
@@ -32,7 +33,8 @@ module _ (setting : Setting) (code : List Instr) where
   repeats_built from cell zero to at = nothing code from to at
   repeats_built from cell (suc more) to at =
       both code from (from + 2) to
-      (behind code from (from + 1) (instr.Store (cell + 1)) (from + 2) (alone code from (instr.Load cell) (from + 1) at.0 refl refl)
+      (behind code from (from + 1) (instr.Store (cell + 1)) (from + 2)
+      (alone code from (instr.Load cell) (from + 1) at.0 refl refl)
       at.1 (omega arith) refl)
       (repeats_built (from + 2) (cell + 1) more to at.2)
 
@@ -76,15 +78,16 @@ module _ (setting : Setting) (code : List Instr) where
   counted_built : (from : ℕ) (counter : PlainCounter) (value : Option PlainExpr) (to : ℕ) →
       CountedAt setting code from counter value to → IfSome value IsBuiltExpr → BuiltIn code from to
   counted_built from counter None to at built =
-      behind code from (from + 1) (instr.Conv at.0) to (const_built code from (Fixed 31 (pos 1)) (from + 1) at.2 refl) at.3
-      (let is = at.4 in omega (arith, is)) refl
+      behind code from (from + 1) (instr.Conv at.0) to (const_built code from (Fixed 31 (pos 1)) (from + 1) at.2 refl)
+      at.3 (let is = at.4 in omega (arith, is)) refl
   counted_built from counter (Some e) to at built = converted_built from e (cell_kind setting counter.cell) to at built
 
   limit_built : (from : ℕ) (counter : PlainCounter) (value : Option PlainExpr) (to : ℕ) →
       LimitAt setting code from counter value to → IfSome value IsBuiltExpr → BuiltIn code from to
   limit_built from counter None to at built = nothing code from to at
   limit_built from counter (Some e) to at built =
-      behind code from at.0 (instr.Store (counter.cell + 2)) to (counted_built from counter (Some e) at.0 at.1 built) at.2 at.3 refl
+      behind code from at.0 (instr.Store (counter.cell + 2)) to (counted_built from counter (Some e) at.0 at.1 built)
+      at.2 at.3 refl
 
   begins_built : (from : ℕ) (counter : Option PlainCounter) (to : ℕ) → BeginsAt setting code from counter to →
       IfSome counter IsBuiltCounter → BuiltIn code from to
@@ -95,14 +98,16 @@ module _ (setting : Setting) (code : List Instr) where
       let step = both code from (at.0 + 1) at.1 begun
       (counted_built (at.0 + 1) counter counter.step at.1 at.4 built.step) in
       let tested = behind code from at.1 instr.NonZero (at.1 + 1) step at.5 refl refl in
-      let kept = behind code from (at.1 + 1) (instr.Store (counter.cell + 1)) (at.1 + 2) tested at.6 (omega arith) refl in
+      let kept = behind code from (at.1 + 1) (instr.Store (counter.cell + 1)) (at.1 + 2) tested at.6
+      (omega arith) refl in
       both code from (at.1 + 2) to kept (limit_built (at.1 + 2) counter counter.end to at.7 built.end)
 
   within_built : (from past : ℕ) (counter : PlainCounter) (limit : Option PlainExpr) (to : ℕ) →
       WithinAt setting code from past counter limit to → BuiltIn code from to
   within_built from past counter None to at = nothing code from to at
   within_built from past counter (Some e) to at =
-      behind code from (from + 1) (instr.JumpZero past) to (alone code from (instr.Within counter.cell) (from + 1) at.0 refl refl)
+      behind code from (from + 1) (instr.JumpZero past) to
+      (alone code from (instr.Within counter.cell) (from + 1) at.0 refl refl)
       at.1.0 at.1.1 refl
 
   counts_built : (from past : ℕ) (counter : Option PlainCounter) (to : ℕ) → CountsAt setting code from past counter to →
@@ -114,7 +119,8 @@ module _ (setting : Setting) (code : List Instr) where
       IfSome condition IsBuiltExpr → BuiltIn code from to
   while_built from past None to at built = nothing code from to at
   while_built from past (Some e) to at built =
-      behind code from at.0 (instr.JumpZero past) to (expr_built setting.program code from e at.0 at.1 built) at.2.0 at.2.1 refl
+      behind code from at.0 (instr.JumpZero past) to (expr_built setting.program code from e at.0 at.1 built)
+      at.2.0 at.2.1 refl
 
   passed_built : (from top : ℕ) (counter : PlainCounter) (limit : Option PlainExpr) (past : ℕ) →
       PassedAt setting code from top counter limit past → BuiltIn code from past
@@ -123,10 +129,12 @@ module _ (setting : Setting) (code : List Instr) where
       let again = behind code from (from + 1) (instr.Jump top) (from + 2) sum at.1 (omega arith) refl in
       behind code from (from + 2) (instr.Trap Overflow) past again at.2 (let is = at.3 in omega (arith, is)) refl
   passed_built from top counter (Some e) past at =
-      behind code from (from + 1) (instr.Jump top) past (alone code from (instr.Advance counter.cell past) (from + 1) at.0 refl refl)
+      behind code from (from + 1) (instr.Jump top) past
+      (alone code from (instr.Advance counter.cell past) (from + 1) at.0 refl refl)
       at.1 (let is = at.2 in omega (arith, is)) refl
 
-  advance_built : (from top : ℕ) (counter : Option PlainCounter) (past : ℕ) → AdvanceAt setting code from top counter past →
+  advance_built : (from top : ℕ) (counter : Option PlainCounter) (past : ℕ) →
+      AdvanceAt setting code from top counter past →
       BuiltIn code from past
   advance_built from top None past at = alone code from (instr.Jump top) past at.0 at.1 refl
   advance_built from top (Some counter) past at = passed_built from top counter counter.end past at
@@ -139,13 +147,16 @@ module _ (setting : Setting) (code : List Instr) where
   return_built from (Some e) to at built =
       behind code from at.0 instr.Return to (converted_built from e setting.result at.0 at.1 built) at.2.0 at.2.1 refl
 
-  put_built : (from : ℕ) (values : PlainExprs) (device format to : ℕ) → PutAt setting code from values device format to →
+  put_built : (from : ℕ) (values : PlainExprs) (device format to : ℕ) →
+      PutAt setting code from values device format to →
       AreBuiltExprs values → BuiltIn code from to
   put_built from values device format to at built =
-      behind code from at.0 (instr.Put device format) to (all_built setting.program code from values at.0 at.1 built) at.2.0 at.2.1 refl
+      behind code from at.0 (instr.Put device format) to (all_built setting.program code from values at.0 at.1 built)
+      at.2.0 at.2.1 refl
 
   mutual
-    stmt_built : (leave : Option ℕ) (from : ℕ) (statement : PlainStmt) (to : ℕ) → StmtAt setting code leave from statement to →
+    stmt_built : (leave : Option ℕ) (from : ℕ) (statement : PlainStmt) (to : ℕ) →
+        StmtAt setting code leave from statement to →
         IsBuiltStmt statement → BuiltIn code from to
     stmt_built leave from (OfRenew cell values) to at built = renew_built from cell values values.constants to at
     stmt_built leave from (OfAssign target value) to at built = assign_built from target value to at built.0 built.1
@@ -159,11 +170,13 @@ module _ (setting : Setting) (code : List Instr) where
     stmt_built leave from (OfCase selector alternatives otherwise) to at built =
         let selected = behind code from at.0 (instr.Case at.2) (at.0 + 1)
         (expr_built setting.program code from selector at.0 at.3 built.0) at.4 refl refl in
-        let other = both code from (at.0 + 1) at.1 selected (stmts_built leave (at.0 + 1) otherwise at.1 at.5 built.2) in
+        let other = both code from (at.0 + 1) at.1 selected (stmts_built leave (at.0 + 1) otherwise at.1 at.5 built.2)
+        in
         let jumped = behind code from at.1 (instr.Jump to) (at.1 + 1) other at.6 refl refl in
         both code from (at.1 + 1) to jumped (branches_built leave (at.1 + 1) at.2.value alternatives to at.7 built.1)
     stmt_built leave from (OfRepeat counter condition statements) to at built =
-        let begun = behind code from at.0 instr.Turn (at.0 + 1) (begins_built from counter at.0 at.4 built.0) at.5 refl refl in
+        let begun = behind code from at.0 instr.Turn (at.0 + 1) (begins_built from counter at.0 at.4 built.0) at.5
+        refl refl in
         let counts = both code from (at.0 + 1) at.1 begun (counts_built (at.0 + 1) to counter at.1 at.6) in
         let tested = both code from at.1 at.2 counts (while_built at.1 to condition at.2 at.7 built.1) in
         let done = both code from at.2 at.3 tested (stmts_built (Some to) at.2 statements at.3 at.8 built.2) in
@@ -190,7 +203,8 @@ module _ (setting : Setting) (code : List Instr) where
         StmtsAt setting code leave from statements to → AreBuiltStmts statements → BuiltIn code from to
     stmts_built leave from NoStmts to at built = nothing code from to at
     stmts_built leave from (MoreStmts statement rest) to at built =
-        both code from at.0 to (stmt_built leave from statement at.0 at.1 built.0) (stmts_built leave at.0 rest to at.2 built.1)
+        both code from at.0 to (stmt_built leave from statement at.0 at.1 built.0)
+        (stmts_built leave at.0 rest to at.2 built.1)
 
     else_built : (leave : Option ℕ) (from other : ℕ) (statements : PlainStmts) (to : ℕ) →
         ElseAt setting code leave from other statements to → AreBuiltStmts statements → BuiltIn code from to
@@ -206,6 +220,7 @@ module _ (setting : Setting) (code : List Instr) where
     branches_built leave from [] (MoreBranches statements rest) to at built = absurd at
     branches_built leave from (target ∷ targets) NoBranches to at built = absurd at
     branches_built leave from (target ∷ targets) (MoreBranches statements rest) to at built =
-        let jumped = behind code from at.0 (instr.Jump to) (at.0 + 1) (stmts_built leave from statements at.0 at.2 built.0)
+        let jumped = behind code from at.0 (instr.Jump to) (at.0 + 1)
+        (stmts_built leave from statements at.0 at.2 built.0)
         at.3 refl refl in
         both code from (at.0 + 1) to jumped (branches_built leave (at.0 + 1) targets rest to at.4 built.1)

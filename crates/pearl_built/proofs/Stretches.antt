@@ -8,14 +8,18 @@ use Rattle.pearl_engine.specs.Built.{is_built}
 
 -- each instruction from this place up to that one is built
 pub record BuiltIn (code : List Instr) (from to : ℕ) : Type 0 where
-  pub each : (place : ℕ) (instr : Instr) → from ≤ place → place < to → slice_get code place ≡ Some instr → is_built instr ≡ true
+  pub each : (place : ℕ) (instr : Instr) → from ≤ place → place < to → slice_get code place ≡ Some instr →
+      is_built instr ≡ true
 
 module _ (code : List Instr) where
   pub nothing : (from to : ℕ) → to ≡ from → BuiltIn code from to
   nothing from to is = record { each = λ place instr low high found. absurd (omega arith) }
 
   pub both : (from middle to : ℕ) → BuiltIn code from middle → BuiltIn code middle to → BuiltIn code from to
-  both from middle to one two = record { each = λ place instr low high found. by place instr low high found (cases_lt place middle) }
+  both from middle to one two = record {
+    each = λ place instr low high found. by place instr low high found
+        (cases_lt place middle);
+  }
     where
       by : (place : ℕ) (instr : Instr) → from ≤ place → place < to → slice_get code place ≡ Some instr →
           (place < middle) ⊎ (middle ≤ place) → is_built instr ≡ true
@@ -23,7 +27,8 @@ module _ (code : List Instr) where
       by place instr low high found (inr more) = two.each place instr more high found
 
   -- an instruction by itself
-  pub alone : (from : ℕ) (instr : Instr) (to : ℕ) → slice_get code from ≡ Some instr → to ≡ from + 1 → is_built instr ≡ true →
+  pub alone : (from : ℕ) (instr : Instr) (to : ℕ) → slice_get code from ≡ Some instr → to ≡ from + 1 →
+      is_built instr ≡ true →
       BuiltIn code from to
   alone from instr to stands is built = record {
     each = λ place other low high found.

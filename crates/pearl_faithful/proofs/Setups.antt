@@ -1,17 +1,14 @@
 -- The tables from which an object's run starts are those of its program.
-use Rattle.std.proofs.Common.{◌≡◌, List, [], ◌∷◌, ◌++◌, map, length, refl, sym, ap, ◌∙◌}
+use Rattle.std.proofs.Common.{◌≡◌, List, [], ◌∷◌, ◌++◌, map, length, refl, ap, ◌∙◌}
 use Rattle.std.specs.Prelude.{◌-◌, replicate}
 use Rattle.std.specs.List.{flat_map}
 use Rattle.pearl_value.specs.declared.cell.Cell.{Cell}
 use Rattle.pearl_value.specs.Blanks.{blank_of}
-use Rattle.pearl_rules.specs.declared.setup.Setup.{Setup}
 use Rattle.pearl_program.specs.FirstCells as program_cells
-use Rattle.pearl_program.specs.PlainPrograms.{PlainProg}
 use Rattle.pearl_instructions.specs.declared.object.Leaf.{Leaf}
-use Rattle.pearl_instructions.specs.declared.object.Object.{Object}
 use Rattle.pearl_meaning.specs.ProgramRuns as program
-use Rattle.pearl_engine.specs.Setups.{last_or, first_cells, setup_of}
-use Rattle.pearl_gen_expr.specs.Tables.{plain_leaf, HasTables}
+use Rattle.pearl_engine.specs.Setups.{last_or, first_cells}
+use Rattle.pearl_gen_expr.specs.Tables.{plain_leaf}
 use Rattle.pearl_faithful.specs.Laws.{SameTables}
 
 same_last : (x : Cell) (xs : List Cell) → last_or x xs ≡ program_cells.last_or x xs
