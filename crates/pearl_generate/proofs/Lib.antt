@@ -1,0 +1,7 @@
+pub mod Sums
+pub mod StatementNodes
+pub mod SmallerCalls
+pub mod Weights
+pub mod Zips
+pub mod Whole
+pub mod Routines
