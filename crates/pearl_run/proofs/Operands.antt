@@ -290,8 +290,8 @@ module _ (o : Object) (stack : Stack) (steady : IsSteady o stack) where
 -- PUT's action is for its terminal
 pub put_lawful : (setup : Setup) (device : ℕ) (text : Option (List ℕ)) (action : Action) → TakesTexts setup device → action ≡ put_action device text →
     IsLawful setup action
-put_lawful setup device None action takes e = rw e (record { fits = tt; terminal = tt })
-put_lawful setup device (Some text) action takes e = rw e (record { fits = tt; terminal = takes })
+put_lawful setup device None action takes e = rw e (record { fits = tt; allowed = tt })
+put_lawful setup device (Some text) action takes e = rw e (record { fits = tt; allowed = takes })
 
 -- AFTER A SILENT INSTRUCTION OR A TRAP
 
@@ -345,7 +345,7 @@ pub pushed_lawful : (setup : Setup) (before after : Stack) (left : List Cell) (m
     Does (pushes before left made) before after result → IfSome result (IsLawful setup)
 pushed_lawful setup before after left made None does = tt
 pushed_lawful setup before after left (Ok x) (Some action) does = absurd (silent_offers _ _ does.0)
-pushed_lawful setup before after left (Err trap) (Some a) does = rw (offers_same (pushes before left (Err trap)) (action.Trap trap) a refl does.0) (record { fits = tt; terminal = tt })
+pushed_lawful setup before after left (Err trap) (Some a) does = rw (offers_same (pushes before left (Err trap)) (action.Trap trap) a refl does.0) (record { fits = tt; allowed = tt })
 
 -- a terminal is one of the devices
 pub takes_device : (setup : Setup) (device : ℕ) → TakesTexts setup device → device < length setup.devices

@@ -3,7 +3,7 @@ use Rattle.std.specs.Prelude.{◌≡◌, ℕ, zero, suc, ◌≤◌, Option, Some
 use Rattle.pearl_value.specs.Cells.{cell_kind_of}
 use Rattle.pearl_value.specs.WellFormed.{IsWellFormed}
 use Rattle.pearl_rules.specs.declared.action.Action.{Action}
-use Rattle.pearl_rules.specs.declared.action.Action.TheVariants.{Put}
+use Rattle.pearl_rules.specs.declared.action.Action.TheVariants.{Turn, Enter, Put}
 use Rattle.pearl_rules.specs.declared.action.Answer.{Answer}
 use Rattle.pearl_rules.specs.declared.setup.Setup.{Setup}
 use Rattle.pearl_rules.specs.Tables.{TakesTexts}
@@ -53,15 +53,17 @@ pub record Settles (o : Object) (stack after : Stack) (action : Action) : Type 0
   pub silent : Silently o stack steps after
   pub offers : executed o (fetched o 0 after) after ≡ Offers action
 
--- a text is for a terminal that takes texts
-abbrev pub HasTerminal : Setup → Action → Type 0
-HasTerminal setup (Put device text) = TakesTexts setup device
-HasTerminal setup action = Unit {0}
+-- the code puts a text to a terminal that takes texts only, and it has no loops and no calls
+abbrev pub MayOffer : Setup → Action → Type 0
+MayOffer setup (Put device text) = TakesTexts setup device
+MayOffer setup Turn = ⊥
+MayOffer setup Enter = ⊥
+MayOffer setup action = Unit {0}
 
 -- an action names what is there, and writes a value of its slot's kind
 pub record IsLawful (setup : Setup) (action : Action) : Type 0 where
   pub fits : Fits setup action
-  pub terminal : HasTerminal setup action
+  pub allowed : MayOffer setup action
 
 -- the action at which the stack stands
 pub record IsOffer (o : Object) (stack : Stack) (action : Action) : Type 0 where

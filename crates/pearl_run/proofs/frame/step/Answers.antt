@@ -98,7 +98,7 @@ returns-in-Dyadic-clause-ready c =
 pub returns-in-Read-clause-lawful : goal.returns-in-Read-clause-lawful
 returns-in-Read-clause-lawful c =
     let fits = read_named c.args.object.now (stack_of c.args.frame.now) c.requires.ready.steady _ (c.requires.here ∙ ap Some c.in-Read.is) in
-    record { fits = fits; terminal = tt }
+    record { fits = fits; allowed = tt }
 
 pub operand-requires-in-Write-clause-there : goal.operand-requires-in-Write-clause-there
 operand-requires-in-Write-clause-there c =
@@ -107,7 +107,7 @@ operand-requires-in-Write-clause-there c =
 pub returns-in-Write-clause-lawful : goal.returns-in-Write-clause-lawful
 returns-in-Write-clause-lawful c =
     let fits = write_fits c.args.object.now (stack_of c.args.frame.now) c.requires.ready.steady _ (c.requires.here ∙ ap Some c.in-Write.is) c.requires.ready.cells in
-    rw (c.copy_of-in-Write.ensures, c.operand-in-Write.ensures) (record { fits = fits; terminal = tt })
+    rw (c.copy_of-in-Write.ensures, c.operand-in-Write.ensures) (record { fits = fits; allowed = tt })
 
 pub put_action-requires : goal.put_action-requires
 put_action-requires c =

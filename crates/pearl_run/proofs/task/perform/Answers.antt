@@ -50,4 +50,4 @@ pub returns-in-Put-clause-event : goal.returns-in-Put-clause-event
 returns-in-Put-clause-event c =
     let lawful : IsLawful c.args.object.now.setup (action.Put c.in-Put.device c.in-Put.text) =
     subst (λ (a : Action). IsLawful c.args.object.now.setup a) c.in-Put.is c.requires.offer.lawful in
-    takes_device c.args.object.now.setup c.in-Put.device lawful.terminal
+    takes_device c.args.object.now.setup c.in-Put.device lawful.allowed
