@@ -1,11 +1,5 @@
-// Tests of the back: the first language, objects, the machine and its lines.
+// Tests of the lines that a run and a refusal write.
 #![tactic(auto)]
 
 #[cfg(test)]
-mod first_language;
-#[cfg(test)]
 mod lines;
-#[cfg(test)]
-mod machine;
-#[cfg(test)]
-mod object;

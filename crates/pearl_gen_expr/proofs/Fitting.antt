@@ -26,7 +26,7 @@ use Rattle.pearl_instructions.specs.Kinds.{is_uniform, shape_after, leaf_kind, r
 use Rattle.pearl_gen_expr.specs.Shapes.{IsQuiet, Keeps}
 use Rattle.pearl_gen_expr.proofs.Shapes.{and_is, same_cell_self, one_keeps}
 
-suits : (from to : Kind) → SuitsKind from to → suits_kind from to ≡ true
+pub suits : (from to : Kind) → SuitsKind from to → suits_kind from to ≡ true
 suits (kind_.Fixed a) (kind_.Fixed b) s = refl
 suits (kind_.Bits a) (kind_.Bits b) s = le-leb a b s
 suits (kind_.Chars a) (kind_.Chars b) s = le-leb a b s
@@ -221,11 +221,11 @@ uniform_from : (k : CellKind) (n : ℕ) → list_all (same_cell k) (replicate n 
 uniform_from k zero = refl
 uniform_from k (suc n) = and_is (same_cell k k) (list_all (same_cell k) (replicate n k)) (same_cell_self k) (uniform_from k n)
 
-uniform : (k : CellKind) (n : ℕ) → is_uniform (replicate n k) ≡ true
+pub uniform : (k : CellKind) (n : ℕ) → is_uniform (replicate n k) ≡ true
 uniform k zero = refl
 uniform k (suc n) = uniform_from k n
 
-plain_all : (kind : Kind) (n : ℕ) → list_all (λ k. not (is_reference k)) (replicate n (Plain kind)) ≡ true
+pub plain_all : (kind : Kind) (n : ℕ) → list_all (λ k. not (is_reference k)) (replicate n (Plain kind)) ≡ true
 plain_all kind zero = refl
 plain_all kind (suc n) = plain_all kind n
 

@@ -22,9 +22,9 @@ use Rattle.pearl_instructions.specs.Operands.{Shape, Anything, SomeFixed, v2, ar
 use Rattle.pearl_instructions.specs.Kinds.{suits_parameters}
 use Rattle.pearl_instructions.specs.Valid.{extent, elements, is_array, call_fits, result_shape}
 use Rattle.pearl_gen_expr.specs.ExprCode.{bounds_of}
-use Rattle.pearl_gen_expr.specs.Shapes.{IsQuiet, Keeps, handed}
+use Rattle.pearl_gen_expr.specs.Shapes.{IsQuiet, IsOpen, Keeps, handed}
 use Rattle.pearl_gen_expr.proofs.Fitting.{told}
-use Rattle.pearl_gen_expr.proofs.Shapes.{and_is, same_shape_self, one_keeps}
+use Rattle.pearl_gen_expr.proofs.Shapes.{and_is, same_shape_self, one_keeps, open_keeps}
 
 -- SUBSCRIPTS
 
@@ -114,15 +114,15 @@ index_keeps o r code place quiet list bound bounds shape s is same are few small
 
 -- ARGUMENTS
 
-handed_is : (kinds s : List CellKind) → handed kinds s ≡ reverse kinds ++ s
+pub handed_is : (kinds s : List CellKind) → handed kinds s ≡ reverse kinds ++ s
 handed_is [] s = refl
 handed_is (k ∷ kinds) s = handed_is kinds (k ∷ s) ∙ (sym (append_assoc (reverse kinds) (k ∷ []) s) ∙ ap (λ all. all ++ s) (sym (reverse_onto kinds k [])))
 
-handed_back : (kinds s : List CellKind) (n : ℕ) → length kinds ≡ n → reverse (take n (handed kinds s)) ≡ kinds
+pub handed_back : (kinds s : List CellKind) (n : ℕ) → length kinds ≡ n → reverse (take n (handed kinds s)) ≡ kinds
 handed_back kinds s n long =
     ap (λ all. reverse (take n all)) (handed_is kinds s) ∙ (ap reverse (take_at (reverse kinds) s n (length-reverse kinds ∙ long)) ∙ reverse-reverse kinds)
 
-handed_below : (kinds s : List CellKind) (n : ℕ) → length kinds ≡ n → drop n (handed kinds s) ≡ s
+pub handed_below : (kinds s : List CellKind) (n : ℕ) → length kinds ≡ n → drop n (handed kinds s) ≡ s
 handed_below kinds s n long =
     ap (drop n) (handed_is kinds s) ∙ (ap (λ n. drop n (reverse kinds ++ s)) (sym (length-reverse kinds ∙ long)) ∙ drop-append_seam (reverse kinds) s)
 
@@ -130,7 +130,7 @@ pub handed_length : (kinds s : List CellKind) → length (handed kinds s) ≡ le
 handed_length [] s = omega arith
 handed_length (k ∷ kinds) s = let more = handed_length kinds (k ∷ s) in omega (arith, more)
 
-anything_asked : (n : ℕ) (shape : Shape) → n ≤ length shape → v2 (replicate n Anything) shape ≡ true
+pub anything_asked : (n : ℕ) (shape : Shape) → n ≤ length shape → v2 (replicate n Anything) shape ≡ true
 anything_asked zero shape less = refl
 anything_asked (suc n) [] less = absurd (omega (arith, less))
 anything_asked (suc n) (k ∷ shape) less = anything_asked n shape (omega (arith, less))
@@ -140,7 +140,7 @@ smaller true p r is = refl
 smaller false p r (inl task) = cc
 smaller false p r (inr less) = lt-ltb p r less
 
-module _ (o : Object) (r : ℕ) (code : Code) (place : ℕ) (quiet : IsQuiet code (place + 1)) (number : ℕ) (callee : Procedure)
+module _ (o : Object) (r : ℕ) (code : Code) (place : ℕ) (number : ℕ) (callee : Procedure)
     (there : slice_get o.procedures number ≡ Some callee) (few : callee.params ≤ length callee.code.cells) (s : Shape) where
   abbrev params : List CellKind
   params = take callee.params callee.code.cells
@@ -174,12 +174,11 @@ module _ (o : Object) (r : ℕ) (code : Code) (place : ℕ) (quiet : IsQuiet cod
       ∙ (ap (λ n. result_shape callee.result ++ drop n shape) (length-replicate callee.params Anything)
       ∙ ap (λ left. result_shape callee.result ++ left) (handed_below params s callee.params long))
 
-  pub call_keeps : slice_get code.instructions place ≡ Some (instr.Call number) → (is_task o r ≡ true) ⊎ (number < r) →
+  pub call_keeps : IsOpen code (place + 1) (result_shape callee.result ++ s) → slice_get code.instructions place ≡ Some (instr.Call number) → (is_task o r ≡ true) ⊎ (number < r) →
       length code.cells + length (handed (take callee.params callee.code.cells) s) ≤ code.depth → length code.cells + length s + callee.code.depth ≤ code.depth →
       Keeps o r code place (place + 1) (handed (take callee.params callee.code.cells) s) (result_shape callee.result ++ s)
-  call_keeps is below room more =
-      told o r code place quiet (instr.Call number) shape (result_shape callee.result ++ s) after
-      (one_keeps o r code place (instr.Call number) shape is quiet refl refl
+  call_keeps clear is below room more =
+      open_keeps o r code place (instr.Call number) shape (result_shape callee.result ++ s) is clear refl refl
       (record {
         one = lt-ltb number (length o.procedures) (slice_get_within o.procedures number callee there);
         two = enough;
@@ -190,4 +189,4 @@ module _ (o : Object) (r : ℕ) (code : Code) (place : ℕ) (quiet : IsQuiet cod
         ten = refl;
         eleven = and_is (nat_le (length code.cells + length shape) code.depth) _ (le-leb (length code.cells + length shape) code.depth room) (room_for_callee more);
         twelve = refl;
-      }))
+      }) after

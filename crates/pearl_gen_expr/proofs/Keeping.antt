@@ -33,8 +33,8 @@ use Rattle.pearl_instructions.specs.Operands.{Shape}
 use Rattle.pearl_instructions.specs.Valid.{result_shape}
 use Rattle.pearl_gen_expr.specs.Tables.{plain_leaf, Head, head_of, code_head}
 use Rattle.pearl_gen_expr.specs.ExprCode.{Is, reading, writing, slot_reference, cell_reference, OffsetOf, ReadOf, ReferenceOf, ExprAt, AllAt, ArgumentsAt, ArgumentAt}
-use Rattle.pearl_gen_expr.specs.Shapes.{IsQuiet, AreQuiet, Keeps, IsPlaced, depths, handed, offset_shape, AllKeep, CallKeeps, OffsetKeeps, WayKeeps, WritingKeeps, ExpressionsKeep}
-use Rattle.pearl_gen_expr.proofs.Shapes.{both_keep}
+use Rattle.pearl_gen_expr.specs.Shapes.{IsQuiet, AreQuiet, IsOpen, Keeps, IsPlaced, depths, handed, offset_shape, AllKeep, CallKeeps, OffsetKeeps, WayKeeps, WritingKeeps, ExpressionsKeep}
+use Rattle.pearl_gen_expr.proofs.Shapes.{quiet_open, both_keep}
 use Rattle.pearl_gen_expr.proofs.Fitting.{const_keeps, now_keeps, try_keeps, conv_keeps, monadic_keeps, dyadic_keeps, load_keeps, read_keeps, read_at_keeps, read_ref_keeps, ref_slot_keeps, ref_slot_at_keeps, load_at_keeps, ref_cell_at_keeps, ref_cell_keeps, first_is_plain}
 use Rattle.pearl_gen_expr.proofs.Gathering.{FixedOn, fixed_more, fixed_length, AreBounds, index_keeps, handed_length, call_keeps}
 use Rattle.pearl_gen_expr.proofs.Storing.{write_keeps, write_at_keeps, write_ref_keeps, store_keeps, store_at_keeps}
@@ -43,7 +43,7 @@ use Rattle.pearl_gen_expr.proofs.Tables.{each, signature_is}
 
 -- WHAT IS TYPED
 
-literal_kind : (x : Cell) (kind : Kind) → IsValueOf kind x → cell_kind_of x ≡ Plain kind
+pub literal_kind : (x : Cell) (kind : Kind) → IsValueOf kind x → cell_kind_of x ≡ Plain kind
 literal_kind (Fixed len value) kind is = ap Plain is.same_kind
 literal_kind (Bits len value) kind is = ap Plain is.same_kind
 literal_kind (Chars text) kind is = ap Plain is.same_kind
@@ -51,18 +51,18 @@ literal_kind (Clock time) kind is = ap Plain is.same_kind
 literal_kind (Span time) kind is = ap Plain is.same_kind
 literal_kind (Ref of place) kind is = absurd is.is_value
 
-less_left : (a b bound : ℕ) → max a b ≤ bound → a ≤ bound
+pub less_left : (a b bound : ℕ) → max a b ≤ bound → a ≤ bound
 less_left a b bound less = omega (arith, less)
 
-less_right : (a b bound : ℕ) → max a b ≤ bound → b ≤ bound
+pub less_right : (a b bound : ℕ) → max a b ≤ bound → b ≤ bound
 less_right a b bound less = omega (arith, less)
 
-some_elements : (bounds : List Bound) → 0 < elements bounds
+pub some_elements : (bounds : List Bound) → 0 < elements bounds
 some_elements [] = omega arith
 some_elements (bound ∷ bounds) = mul-pos (omega arith) (some_elements bounds)
 
 -- the leaf of the object
-leaf_of : (found : Option Leaf) (bounds : List Bound) (kind : Kind) → IsLeafOf (option_map plain_leaf found) bounds kind → (leaf : Leaf) × (found ≡ Some leaf) × (leaf.kind ≡ kind)
+pub leaf_of : (found : Option Leaf) (bounds : List Bound) (kind : Kind) → IsLeafOf (option_map plain_leaf found) bounds kind → (leaf : Leaf) × (found ≡ Some leaf) × (leaf.kind ≡ kind)
 leaf_of None bounds kind is = absurd is
 leaf_of (Some leaf) bounds kind is = (leaf, refl, is.0)
 
@@ -75,7 +75,7 @@ leaf_small (leaf ∷ leaves) zero bounds kind is =
 leaf_small (leaf ∷ leaves) (suc number) bounds kind is =
     let less = leaf_small leaves number bounds kind is in let sum = sum_by-cons (λ (leaf : PlainLeaf). leaf.values.count) leaf leaves in omega (arith, less, sum)
 
-cells_small : (cells : List CellKind) (first count : ℕ) (kind : CellKind) → AreCells cells first count kind → count ≤ length cells
+pub cells_small : (cells : List CellKind) (first count : ℕ) (kind : CellKind) → AreCells cells first count kind → count ≤ length cells
 cells_small cells first count kind are =
     let long : length (take count (drop first cells)) ≡ count = ap length are ∙ length-replicate count kind in
     let taken = length-take count (drop first cells) in
@@ -110,13 +110,13 @@ no_bounds (Some (RefTo of)) [] NoExprs kind is = refl
 no_bounds found bounds es kind is = absurd is
 
 -- the procedure of the object
-callee_of : (found : Option Procedure) (procedure : PlainProcedure) → option_map code_head found ≡ Some (head_of procedure) →
+pub callee_of : (found : Option Procedure) (procedure : PlainProcedure) → option_map code_head found ≡ Some (head_of procedure) →
     (callee : Procedure) × (found ≡ Some callee) × (code_head callee ≡ head_of procedure)
 callee_of None procedure same = cc
 callee_of (Some callee) procedure same = (callee, refl, same_Some (code_head callee) (head_of procedure) same)
 
 module _ (o : Object) (r : ℕ) (code : Code) where
-  nothing_keeps : (from : ℕ) (s : Shape) → Keeps o r code from from s s
+  pub nothing_keeps : (from : ℕ) (s : Shape) → Keeps o r code from from s s
   nothing_keeps from s = record { forward = omega arith; shape = λ e. e; sound = λ e i low high. absurd (omega (arith, low, high)) }
 
   last_quiet : (from end to : ℕ) → AreQuiet code from to → from ≤ end → to ≡ end + 1 → IsQuiet code (end + 1)
@@ -129,12 +129,12 @@ module _ (o : Object) (r : ℕ) (code : Code) where
   then_quiet from middle to quiet less place low high = quiet place (omega (arith, less, low)) high
 
   -- a part, and one instruction behind it
-  then_one : (from end to : ℕ) (s between after : Shape) → to ≡ end + 1 → Keeps o r code from end s between → Keeps o r code end (end + 1) between after → Keeps o r code from to s after
+  pub then_one : (from end to : ℕ) (s between after : Shape) → to ≡ end + 1 → Keeps o r code from end s between → Keeps o r code end (end + 1) between after → Keeps o r code from to s after
   then_one from end to s between after last one two =
       subst (λ to. Keeps o r code from to s after) (sym last) (both_keep o r code from end (end + 1) s between after one two)
 
   -- one instruction alone
-  just_one : (from to : ℕ) (s after : Shape) → to ≡ from + 1 → Keeps o r code from (from + 1) s after → Keeps o r code from to s after
+  pub just_one : (from to : ℕ) (s after : Shape) → to ≡ from + 1 → Keeps o r code from (from + 1) s after → Keeps o r code from to s after
   just_one from to s after last one = subst (λ to. Keeps o r code from to s after) (sym last) one
 
 module _ (o : Object) (r : ℕ) (code : Code) (p : PlainProg) (around : Around) (below most : ℕ) (placed : IsPlaced o r code p around below) where
@@ -276,15 +276,16 @@ module _ (o : Object) (r : ℕ) (code : Code) (p : PlainProg) (around : Around) 
 
   -- the arguments lie there, and the procedure is called
   pub called_keeps : (number : ℕ) (procedure : PlainProcedure) (from end to n : ℕ) (s : Shape) → slice_get p.procedures number ≡ Some procedure → number + 1 ≤ below →
-      unwrap_or (slice_get (depths o) number) 0 ≤ most → length (params_of procedure) ≤ n → Room n s → AreQuiet code from to →
+      unwrap_or (slice_get (depths o) number) 0 ≤ most → length (params_of procedure) ≤ n → Room n s → IsOpen code to (result_shape procedure.result ++ s) →
       Keeps o r code from end s (handed (params_of procedure) s) → Is code.instructions end (instr.Call number) → to ≡ end + 1 →
       Keeps o r code from to s (result_shape procedure.result ++ s)
-  called_keeps number procedure from end to n s there small deep many room quiet before is last =
+  called_keeps number procedure from end to n s there small deep many room clear before is last =
       let found = callee_there number procedure there in
       let callee = found.0 in
       let heads = found.2 in
       let params : callee.params ≡ procedure.params = ap (λ (head : Head). head.params) heads in
       let cells : callee.code.cells ≡ procedure.routine.cells = ap (λ (head : Head). head.cells) heads in
+      let result : callee.result ≡ procedure.result = ap (λ (head : Head). head.result) heads in
       let few : callee.params ≤ length callee.code.cells =
       subst (λ cells. callee.params ≤ length cells) (sym cells) (subst (λ n. n ≤ length procedure.routine.cells) (sym params) (each (IsProcedure p) p.procedures number procedure placed.sound.procedures there).few) in
       let same : take callee.params callee.code.cells ≡ params_of procedure = ap (λ n. take n callee.code.cells) params ∙ ap (take procedure.params) cells in
@@ -292,9 +293,10 @@ module _ (o : Object) (r : ℕ) (code : Code) (p : PlainProg) (around : Around) 
       let long = handed_length (params_of procedure) s in
       let room_before : length code.cells + length (handed (params_of procedure) s) ≤ code.depth = omega (arith, long, many, room) in
       then_one o r code from end to s (handed (params_of procedure) s) (result_shape procedure.result ++ s) last before
-      (subst (λ result. Keeps o r code end (end + 1) (handed (params_of procedure) s) (result_shape result ++ s)) (ap (λ (head : Head). head.result) heads)
+      (subst (λ result. Keeps o r code end (end + 1) (handed (params_of procedure) s) (result_shape result ++ s)) result
       (subst (λ kinds. Keeps o r code end (end + 1) (handed kinds s) (result_shape callee.result ++ s)) same
-      (call_keeps o r code end (last_quiet o r code from end to quiet before.forward last) number callee found.1 few s is (smaller_than number small placed.smaller)
+      (call_keeps o r code end number callee found.1 few s
+      (subst (λ result. IsOpen code (end + 1) (result_shape result ++ s)) (sym result) (subst (λ to. IsOpen code to (result_shape procedure.result ++ s)) last clear)) is (smaller_than number small placed.smaller)
       (subst (λ kinds. length code.cells + length (handed kinds s) ≤ code.depth) (sym same) room_before) (omega (arith, depth, deep, room)))))
 
   many_arguments : (params : List CellKind) (arguments : PlainArguments) → Suit around params arguments → length params ≤ of_arguments values arguments
@@ -356,7 +358,8 @@ module _ (o : Object) (r : ℕ) (code : Code) (p : PlainProg) (around : Around) 
         let room_within : Room (of_arguments values arguments) s = omega (arith, room) in
         let before = arguments_keep arguments (params_of procedure) from end s suit small_within deep_within room_within (first_quiet o r code from end to quiet (omega (arith, last))) is.3 in
         subst (λ (result : Option Kind). Keeps o r code from to s (result_shape result ++ s)) result
-        (called_keeps number procedure from end to (of_arguments values arguments) s there small_here deep_here (many_arguments (params_of procedure) arguments suit) room_within quiet before is.4 last)
+        (called_keeps number procedure from end to (of_arguments values arguments) s there small_here deep_here (many_arguments (params_of procedure) arguments suit) room_within
+        (quiet_open code to (result_shape procedure.result ++ s) (quiet to (let less = before.forward in omega (arith, less, last)) (omega arith))) before is.4 last)
     expr_keeps OfNow kind from to s typed small deep room quiet is =
         let last = is.1 in
         subst (λ kind. Keeps o r code from to s (Plain kind ∷ s)) (sym typed)
@@ -427,12 +430,12 @@ module _ (o : Object) (r : ℕ) (code : Code) (p : PlainProg) (around : Around) 
       (less_right (of_expr (callees (depths o)) e) (of_exprs (callees (depths o)) rest) most deep) (omega (arith, room, some)) (then_quiet o r code from middle to quiet first) is.2)
 
   call_at_keeps : CallKeeps o r code p around below most
-  call_at_keeps number procedure arguments from to s there suit small_here small_within deep_here deep_within room quiet is =
+  call_at_keeps number procedure arguments from to s there suit small_here small_within deep_here deep_within room quiet clear is =
       let end = is.2 in let last = is.5 in
       let same : is.0 ≡ procedure = same_Some is.0 procedure (sym is.1 ∙ there) in
       let at = subst (λ (procedure : PlainProcedure). ArgumentsAt p code.instructions from (params_of procedure) arguments end) same is.3 in
-      let before = arguments_keep arguments (params_of procedure) from end s suit small_within deep_within room (first_quiet o r code from end to quiet (omega (arith, last))) at in
-      called_keeps number procedure from end to (of_arguments values arguments) s there small_here deep_here (many_arguments (params_of procedure) arguments suit) room quiet before is.4 last
+      let before = arguments_keep arguments (params_of procedure) from end s suit small_within deep_within room (λ place low high. quiet place low (omega (arith, last, high))) at in
+      called_keeps number procedure from end to (of_arguments values arguments) s there small_here deep_here (many_arguments (params_of procedure) arguments suit) room clear before is.4 last
 
   offset_at_keeps : OffsetKeeps o r code p around below most
   offset_at_keeps (LeafOf number) bounds es kind from to s typed small deep room quiet is =
@@ -457,23 +460,23 @@ module _ (o : Object) (r : ℕ) (code : Code) (p : PlainProg) (around : Around) 
       just_one o r code from to s (RefTo kind ∷ s) last (load_keeps o r code from (last_quiet o r code from from to quiet (omega arith) last) first (RefTo kind) s is.0 there (omega (arith, room)))
 
   leaf_written : (number : ℕ) (bounds : List Bound) (place : ℕ) (s : Shape) (leaf : Leaf) → slice_get o.leaves number ≡ Some leaf → Is code.instructions place (writing (LeafOf number) bounds) →
-      IsQuiet code (place + 1) → Room 2 s → Keeps o r code place (place + 1) (Plain leaf.kind ∷ offset_shape bounds s) s
-  leaf_written number [] place s leaf there is quiet room = write_keeps o r code place quiet number leaf s there is (omega (arith, room))
-  leaf_written number (bound ∷ bounds) place s leaf there is quiet room = write_at_keeps o r code place quiet number leaf s there is (omega (arith, room))
+      IsOpen code (place + 1) s → Room 2 s → Keeps o r code place (place + 1) (Plain leaf.kind ∷ offset_shape bounds s) s
+  leaf_written number [] place s leaf there is clear room = write_keeps o r code place number leaf s clear there is (omega (arith, room))
+  leaf_written number (bound ∷ bounds) place s leaf there is clear room = write_at_keeps o r code place number leaf s clear there is (omega (arith, room))
 
   own_written : (first : ℕ) (bounds : List Bound) (kind : Kind) (place : ℕ) (s : Shape) → AreCells code.cells first (elements bounds) (Plain kind) → Is code.instructions place (writing (Own first) bounds) →
-      IsQuiet code (place + 1) → Room 2 s → Keeps o r code place (place + 1) (Plain kind ∷ offset_shape bounds s) s
-  own_written first [] kind place s are is quiet room = store_keeps o r code place quiet first kind s is are (omega (arith, room))
-  own_written first (bound ∷ bounds) kind place s are is quiet room =
-      store_at_keeps o r code place quiet first (elements (bound ∷ bounds)) kind s is (some_elements (bound ∷ bounds)) are (omega (arith, room))
+      IsOpen code (place + 1) s → Room 2 s → Keeps o r code place (place + 1) (Plain kind ∷ offset_shape bounds s) s
+  own_written first [] kind place s are is clear room = store_keeps o r code place first kind s clear is are (omega (arith, room))
+  own_written first (bound ∷ bounds) kind place s are is clear room =
+      store_at_keeps o r code place first (elements (bound ∷ bounds)) kind s clear is (some_elements (bound ∷ bounds)) are (omega (arith, room))
 
   writing_keeps : WritingKeeps o r code p around below most
-  writing_keeps (LeafOf number) bounds es kind place s typed room quiet is =
+  writing_keeps (LeafOf number) bounds es kind place s typed room clear is =
       let leaf = leaf_there number bounds kind typed.0 in
-      subst (λ kind. Keeps o r code place (place + 1) (Plain kind ∷ offset_shape bounds s) s) leaf.2 (leaf_written number bounds place s leaf.0 leaf.1 is quiet room)
-  writing_keeps (Own first) bounds es kind place s typed room quiet is =
-      own_written first bounds kind place s (subst (λ cells. AreCells cells first (elements bounds) (Plain kind)) placed.cells typed.0.0) is quiet room
-  writing_keeps (Param first) bounds es kind place s typed room quiet is = write_ref_keeps o r code place quiet kind s is (omega (arith, room))
+      subst (λ kind. Keeps o r code place (place + 1) (Plain kind ∷ offset_shape bounds s) s) leaf.2 (leaf_written number bounds place s leaf.0 leaf.1 is clear room)
+  writing_keeps (Own first) bounds es kind place s typed room clear is =
+      own_written first bounds kind place s (subst (λ cells. AreCells cells first (elements bounds) (Plain kind)) placed.cells typed.0.0) is clear room
+  writing_keeps (Param first) bounds es kind place s typed room clear is = write_ref_keeps o r code place kind s clear is (omega (arith, room))
 
 pub expressions_keep : ExpressionsKeep
 expressions_keep o r code p around below deepest placed = record {

@@ -1,5 +1,5 @@
 -- Parts of the code in which no rule fails, one behind the other.
-use Rattle.std.proofs.Common.{◌≡◌, ℕ, suc, ◌+◌, ◌<◌, ◌≤◌, Bool, true, false, [], Option, Some, None, slice_get, length, refl, sym, ap, ◌∙◌, subst, arith, eq-eqb, ltb-true, ltb-false, ◌∷◌}
+use Rattle.std.proofs.Common.{◌≡◌, ℕ, suc, ◌+◌, ◌<◌, ◌≤◌, ◌⊎◌, inl, inr, Bool, true, false, [], Option, Some, None, slice_get, length, refl, sym, ap, ◌∙◌, subst, arith, eq-eqb, ltb-true, ltb-false, ◌∷◌}
 use Rattle.std.specs.List.{list_all}
 use Rattle.pearl_value.specs.declared.kind.Kind.{Kind}
 use Rattle.pearl_value.specs.declared.kind.Kind.TheVariants as kind
@@ -13,7 +13,7 @@ use Rattle.pearl_instructions.specs.Operands.{Shape, asked, same_kind, same_cell
 use Rattle.pearl_instructions.specs.Named.{v1}
 use Rattle.pearl_instructions.specs.Kinds.{v3, v4, v5, shape_after}
 use Rattle.pearl_instructions.specs.Valid.{goes_on, targets, is_named, stated, passed_on, shape_or, shape_before, v6, v7, v8, v10, v11, v12, keep, judged, judged_at, is_turn}
-use Rattle.pearl_gen_expr.specs.Shapes.{IsQuiet, Keeps}
+use Rattle.pearl_gen_expr.specs.Shapes.{IsQuiet, IsOpen, Keeps}
 
 -- the rules that are asked of an instruction alone
 pub record Fits (o : Object) (r : ℕ) (code : Code) (instr : Instr) (s : Shape) : Type 0 where
@@ -31,18 +31,23 @@ kept : (test : Bool) (rule : ℕ) (later : Option ℕ) → test ≡ true → lat
 kept true rule later e none = none
 kept false rule later e none = cc
 
-next_shape : (o : Object) (r : ℕ) (code : Code) (place : ℕ) (instr : Instr) → IsQuiet code (suc place) → slice_get code.instructions place ≡ Some instr → goes_on instr ≡ true →
-    shape_before o r code (suc place) ≡ shape_after o r code instr (shape_before o r code place)
-next_shape o r code place instr quiet is on = by (stated code.shapes (suc place)) (is_named code.instructions (suc place)) (slice_get code.instructions place) quiet.stated quiet.named is
+-- a quiet place is open, whatever lies there
+pub quiet_open : (code : Code) (place : ℕ) (s : Shape) → IsQuiet code place → IsOpen code place s
+quiet_open code place s quiet = record { named = inl quiet.named; stated = quiet.stated }
+
+next_shape : (o : Object) (r : ℕ) (code : Code) (place : ℕ) (instr : Instr) (after : Shape) → IsOpen code (suc place) after → slice_get code.instructions place ≡ Some instr →
+    goes_on instr ≡ true → shape_after o r code instr (shape_before o r code place) ≡ after → shape_before o r code (suc place) ≡ after
+next_shape o r code place instr after quiet is on same = by (stated code.shapes (suc place)) (is_named code.instructions (suc place)) (slice_get code.instructions place) quiet.stated quiet.named is
   where
-    last : (test : Bool) → test ≡ true → (if test then shape_after o r code instr (shape_before o r code place) else []) ≡ shape_after o r code instr (shape_before o r code place)
-    last true e = refl
+    last : (test : Bool) → test ≡ true → (if test then shape_after o r code instr (shape_before o r code place) else []) ≡ after
+    last true e = same
     last false e = cc
 
-    by : (found : Option Shape) (test : Bool) (here : Option Instr) → found ≡ None → test ≡ false → here ≡ Some instr →
-        shape_or found (if test then [] else passed_on o r code here (shape_before o r code place)) ≡ shape_after o r code instr (shape_before o r code place)
+    by : (found : Option Shape) (test : Bool) (here : Option Instr) → found ≡ None → (test ≡ false) ⊎ (after ≡ []) → here ≡ Some instr →
+        shape_or found (if test then [] else passed_on o r code here (shape_before o r code place)) ≡ after
     by (Some s) test here none free at = cc
-    by None true here none free at = cc
+    by None true here none (inl free) at = cc
+    by None true here none (inr empty) at = sym empty
     by None false here none free at = ap (λ here. passed_on o r code here (shape_before o r code place)) at ∙ last (goes_on instr) on
 
 same_kind_self : (k : Kind) → same_kind k k ≡ true
@@ -60,7 +65,7 @@ pub and_is : (a b : Bool) → a ≡ true → b ≡ true → a && b ≡ true
 and_is true b e f = f
 and_is false b e f = cc
 
-or_is : (a b : Bool) → b ≡ true → a || b ≡ true
+pub or_is : (a b : Bool) → b ≡ true → a || b ≡ true
 or_is true b e = refl
 or_is false b e = e
 
@@ -80,24 +85,42 @@ goes_well o r code place instr left none next =
 goes_forward : (code : Code) (place : ℕ) (instr : Instr) → targets instr ≡ [] → v7 code place instr ≡ true
 goes_forward code place instr none = ap (list_all (λ t. nat_lt place t || is_turn (slice_get code.instructions t))) none
 
+-- no rule fails where those that are asked of the instruction alone are kept, and those on where it goes
+pub judged_well : (o : Object) (r : ℕ) (code : Code) (place : ℕ) (instr : Instr) (s : Shape) → Fits o r code instr s →
+    v6 o r code place instr (shape_after o r code instr s) ≡ true → v7 code place instr ≡ true → judged o r code place instr s ≡ None
+judged_well o r code place instr s fits six seven =
+    kept (v1 o code instr) 1 _ fits.one (kept (v2 (asked o r instr) s) 2 _ fits.two (kept (v3 instr s) 3 _ fits.three (kept (v4 o code instr s) 4 _ fits.four
+    (kept (v5 o code instr) 5 _ fits.five (kept (v6 o r code place instr (shape_after o r code instr s)) 6 _ six (kept (v7 code place instr) 7 _ seven
+    (kept (v8 o r instr) 8 _ fits.eight (kept (v10 o r instr s) 10 _ fits.ten (kept (v11 o code instr s) 11 _ fits.eleven
+    (kept (v12 o code instr s) 12 None fits.twelve refl))))))))))
+
+-- one instruction, where no rule fails at it
+pub here_keeps : (o : Object) (r : ℕ) (code : Code) (place : ℕ) (instr : Instr) (s after : Shape) → slice_get code.instructions place ≡ Some instr →
+    (shape_before o r code place ≡ s → shape_before o r code (place + 1) ≡ after) → (shape_before o r code place ≡ s → judged o r code place instr s ≡ None) →
+    Keeps o r code place (place + 1) s after
+here_keeps o r code place instr s after is next well = record {
+  forward = omega arith;
+  shape = next;
+  sound = λ before i from to. let here : place ≡ i = omega (arith, from, to) in
+      subst (λ i. judged_at o r code i (slice_get code.instructions i) ≡ None) here
+      (ap (judged_at o r code place) is ∙ (ap (judged o r code place instr) before ∙ well before));
+}
+
+-- one that only goes on
+pub open_keeps : (o : Object) (r : ℕ) (code : Code) (place : ℕ) (instr : Instr) (s after : Shape) → slice_get code.instructions place ≡ Some instr → IsOpen code (place + 1) after →
+    goes_on instr ≡ true → targets instr ≡ [] → Fits o r code instr s → shape_after o r code instr s ≡ after → Keeps o r code place (place + 1) s after
+open_keeps o r code place instr s after is clear on none fits same =
+    let next : suc place ≡ place + 1 = omega arith in
+    let goes : shape_before o r code place ≡ s → shape_before o r code (place + 1) ≡ after =
+    λ before. ap (shape_before o r code) (sym next)
+    ∙ next_shape o r code place instr after (subst (λ at. IsOpen code at after) (sym next) clear) is on (ap (shape_after o r code instr) before ∙ same) in
+    here_keeps o r code place instr s after is goes (λ before. judged_well o r code place instr s fits
+    (goes_well o r code place instr (shape_after o r code instr s) none (goes before ∙ sym same)) (goes_forward code place instr none))
+
 pub one_keeps : (o : Object) (r : ℕ) (code : Code) (place : ℕ) (instr : Instr) (s : Shape) → slice_get code.instructions place ≡ Some instr → IsQuiet code (place + 1) →
     goes_on instr ≡ true → targets instr ≡ [] → Fits o r code instr s → Keeps o r code place (place + 1) s (shape_after o r code instr s)
 one_keeps o r code place instr s is quiet on none fits =
-    let next : suc place ≡ place + 1 = omega arith in
-    let after : shape_before o r code place ≡ s → shape_before o r code (place + 1) ≡ shape_after o r code instr s =
-    λ before. ap (shape_before o r code) (sym next) ∙ (next_shape o r code place instr (subst (IsQuiet code) (sym next) quiet) is on ∙ ap (shape_after o r code instr) before) in
-    let well : shape_before o r code place ≡ s → judged o r code place instr s ≡ None = λ before.
-    kept (v1 o code instr) 1 _ fits.one (kept (v2 (asked o r instr) s) 2 _ fits.two (kept (v3 instr s) 3 _ fits.three (kept (v4 o code instr s) 4 _ fits.four
-    (kept (v5 o code instr) 5 _ fits.five (kept (v6 o r code place instr (shape_after o r code instr s)) 6 _
-    (goes_well o r code place instr (shape_after o r code instr s) none (after before)) (kept (v7 code place instr) 7 _ (goes_forward code place instr none)
-    (kept (v8 o r instr) 8 _ fits.eight (kept (v10 o r instr s) 10 _ fits.ten (kept (v11 o code instr s) 11 _ fits.eleven
-    (kept (v12 o code instr s) 12 None fits.twelve refl)))))))))) in record {
-      forward = omega arith;
-      shape = after;
-      sound = λ before i from to. let here : place ≡ i = omega (arith, from, to) in
-          subst (λ i. judged_at o r code i (slice_get code.instructions i) ≡ None) here
-          (ap (judged_at o r code place) is ∙ (ap (judged o r code place instr) before ∙ well before));
-    }
+    open_keeps o r code place instr s (shape_after o r code instr s) is (quiet_open code (place + 1) (shape_after o r code instr s) quiet) on none fits refl
 
 -- one part behind the other
 pub both_keep : (o : Object) (r : ℕ) (code : Code) (from middle to : ℕ) (before between after : Shape) → Keeps o r code from middle before between → Keeps o r code middle to between after →

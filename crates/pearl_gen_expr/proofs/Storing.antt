@@ -13,19 +13,19 @@ use Rattle.pearl_instructions.specs.declared.object.Object.{Object}
 use Rattle.pearl_instructions.specs.Operands.{Shape}
 use Rattle.pearl_instructions.specs.Named.{cells_at}
 use Rattle.pearl_instructions.specs.Kinds.{is_uniform, is_kind, first_kind, leaf_kind}
-use Rattle.pearl_gen_expr.specs.Shapes.{IsQuiet, Keeps}
-use Rattle.pearl_gen_expr.proofs.Shapes.{and_is, same_cell_self, one_keeps}
+use Rattle.pearl_gen_expr.specs.Shapes.{IsOpen, Keeps}
+use Rattle.pearl_gen_expr.proofs.Shapes.{and_is, same_cell_self, open_keeps}
 use Rattle.pearl_gen_expr.proofs.Fitting.{cells_are_there, cells_are_uniform, cells_are_plain, first_is_plain}
 
 first_of : (n : ℕ) (k : CellKind) → 0 < n → first_kind (replicate n k) ≡ Some k
 first_of zero k some = absurd (omega (arith, some))
 first_of (suc n) k some = refl
 
-module _ (o : Object) (r : ℕ) (code : Code) (place : ℕ) (quiet : IsQuiet code (place + 1)) where
-  module _ (number : ℕ) (leaf : Leaf) (s : Shape) (there : slice_get o.leaves number ≡ Some leaf) where
+module _ (o : Object) (r : ℕ) (code : Code) (place : ℕ) where
+  module _ (number : ℕ) (leaf : Leaf) (s : Shape) (clear : IsOpen code (place + 1) s) (there : slice_get o.leaves number ≡ Some leaf) where
     pub write_keeps : slice_get code.instructions place ≡ Some (instr.Write number) → length code.cells + length (Plain leaf.kind ∷ s) ≤ code.depth →
         Keeps o r code place (place + 1) (Plain leaf.kind ∷ s) s
-    write_keeps is room = one_keeps o r code place (instr.Write number) (Plain leaf.kind ∷ s) is quiet refl refl
+    write_keeps is room = open_keeps o r code place (instr.Write number) (Plain leaf.kind ∷ s) s is clear refl refl
         (record {
           one = lt-ltb number (length o.leaves) (slice_get_within o.leaves number leaf there);
           two = refl;
@@ -36,11 +36,11 @@ module _ (o : Object) (r : ℕ) (code : Code) (place : ℕ) (quiet : IsQuiet cod
           ten = refl;
           eleven = le-leb (length code.cells + length (Plain leaf.kind ∷ s)) code.depth room;
           twelve = refl;
-        })
+        }) refl
 
     pub write_at_keeps : slice_get code.instructions place ≡ Some (instr.WriteAt number) → length code.cells + length (Plain leaf.kind ∷ Plain (kind_.Fixed 31) ∷ s) ≤ code.depth →
         Keeps o r code place (place + 1) (Plain leaf.kind ∷ Plain (kind_.Fixed 31) ∷ s) s
-    write_at_keeps is room = one_keeps o r code place (instr.WriteAt number) (Plain leaf.kind ∷ Plain (kind_.Fixed 31) ∷ s) is quiet refl refl
+    write_at_keeps is room = open_keeps o r code place (instr.WriteAt number) (Plain leaf.kind ∷ Plain (kind_.Fixed 31) ∷ s) s is clear refl refl
         (record {
           one = lt-ltb number (length o.leaves) (slice_get_within o.leaves number leaf there);
           two = refl;
@@ -51,11 +51,11 @@ module _ (o : Object) (r : ℕ) (code : Code) (place : ℕ) (quiet : IsQuiet cod
           ten = refl;
           eleven = le-leb (length code.cells + length (Plain leaf.kind ∷ Plain (kind_.Fixed 31) ∷ s)) code.depth room;
           twelve = refl;
-        })
+        }) refl
 
-  pub write_ref_keeps : (kind : Kind) (s : Shape) → slice_get code.instructions place ≡ Some instr.WriteRef → length code.cells + length (Plain kind ∷ RefTo kind ∷ s) ≤ code.depth →
+  pub write_ref_keeps : (kind : Kind) (s : Shape) → IsOpen code (place + 1) s → slice_get code.instructions place ≡ Some instr.WriteRef → length code.cells + length (Plain kind ∷ RefTo kind ∷ s) ≤ code.depth →
       Keeps o r code place (place + 1) (Plain kind ∷ RefTo kind ∷ s) s
-  write_ref_keeps kind s is room = one_keeps o r code place instr.WriteRef (Plain kind ∷ RefTo kind ∷ s) is quiet refl refl
+  write_ref_keeps kind s clear is room = open_keeps o r code place instr.WriteRef (Plain kind ∷ RefTo kind ∷ s) s is clear refl refl
       (record {
         one = refl;
         two = refl;
@@ -66,13 +66,13 @@ module _ (o : Object) (r : ℕ) (code : Code) (place : ℕ) (quiet : IsQuiet cod
         ten = refl;
         eleven = le-leb (length code.cells + length (Plain kind ∷ RefTo kind ∷ s)) code.depth room;
         twelve = refl;
-      })
+      }) refl
 
-  pub store_keeps : (c : ℕ) (kind : Kind) (s : Shape) → slice_get code.instructions place ≡ Some (instr.Store c) → take 1 (drop c code.cells) ≡ replicate 1 (Plain kind) →
+  pub store_keeps : (c : ℕ) (kind : Kind) (s : Shape) → IsOpen code (place + 1) s → slice_get code.instructions place ≡ Some (instr.Store c) → take 1 (drop c code.cells) ≡ replicate 1 (Plain kind) →
       length code.cells + length (Plain kind ∷ s) ≤ code.depth → Keeps o r code place (place + 1) (Plain kind ∷ s) s
-  store_keeps c kind s is are room =
+  store_keeps c kind s clear is are room =
       let some : 0 < 1 = omega arith in
-      one_keeps o r code place (instr.Store c) (Plain kind ∷ s) is quiet refl refl
+      open_keeps o r code place (instr.Store c) (Plain kind ∷ s) s is clear refl refl
       (record {
         one = lt-ltb c (length code.cells) (slice_get_within code.cells c (Plain kind) (first_is_plain code c 1 kind some are));
         two = refl;
@@ -84,12 +84,12 @@ module _ (o : Object) (r : ℕ) (code : Code) (place : ℕ) (quiet : IsQuiet cod
         ten = refl;
         eleven = le-leb (length code.cells + length (Plain kind ∷ s)) code.depth room;
         twelve = refl;
-      })
+      }) refl
 
-  pub store_at_keeps : (c n : ℕ) (kind : Kind) (s : Shape) → slice_get code.instructions place ≡ Some (instr.StoreAt c n) → 0 < n → take n (drop c code.cells) ≡ replicate n (Plain kind) →
+  pub store_at_keeps : (c n : ℕ) (kind : Kind) (s : Shape) → IsOpen code (place + 1) s → slice_get code.instructions place ≡ Some (instr.StoreAt c n) → 0 < n → take n (drop c code.cells) ≡ replicate n (Plain kind) →
       length code.cells + length (Plain kind ∷ Plain (kind_.Fixed 31) ∷ s) ≤ code.depth → Keeps o r code place (place + 1) (Plain kind ∷ Plain (kind_.Fixed 31) ∷ s) s
-  store_at_keeps c n kind s is some are room =
-      one_keeps o r code place (instr.StoreAt c n) (Plain kind ∷ Plain (kind_.Fixed 31) ∷ s) is quiet refl refl
+  store_at_keeps c n kind s clear is some are room =
+      open_keeps o r code place (instr.StoreAt c n) (Plain kind ∷ Plain (kind_.Fixed 31) ∷ s) s is clear refl refl
       (record {
         one = cells_are_there code c n kind some are;
         two = refl;
@@ -101,4 +101,4 @@ module _ (o : Object) (r : ℕ) (code : Code) (place : ℕ) (quiet : IsQuiet cod
         ten = refl;
         eleven = le-leb (length code.cells + length (Plain kind ∷ Plain (kind_.Fixed 31) ∷ s)) code.depth room;
         twelve = refl;
-      })
+      }) refl

@@ -33,6 +33,15 @@ pub record IsQuiet (code : Code) (place : ℕ) : Type 0 where
 abbrev pub AreQuiet : Code → (from to : ℕ) → Type 0
 AreQuiet code from to = (place : ℕ) → from < place → place ≤ to → IsQuiet code place
 
+-- and of all places between the first and the last
+abbrev pub IsQuietWithin : Code → (from to : ℕ) → Type 0
+IsQuietWithin code from to = (place : ℕ) → from < place → place < to → IsQuiet code place
+
+-- no shape is stated, and a jump leads here only where there is no operand
+pub record IsOpen (code : Code) (place : ℕ) (s : Shape) : Type 0 where
+  pub named : (is_named code.instructions place ≡ false) ⊎ (s ≡ [])
+  pub stated : stated code.shapes place ≡ None
+
 pub record Keeps (o : Object) (r : ℕ) (code : Code) (from to : ℕ) (before after : Shape) : Type 0 where
   pub forward : from ≤ to
   pub shape : shape_before o r code from ≡ before → shape_before o r code to ≡ after
@@ -85,14 +94,15 @@ module _ (o : Object) (r : ℕ) (code : Code) (p : PlainProg) (around : Around) 
       of_exprs (callees (depths o)) es ≤ deepest → HasRoom code (of_exprs values es) deepest s →
       AreQuiet code from to → AllAt p code.instructions from es to → Keeps o r code from to s (handed (map Plain kinds) s)
 
-  -- behind a call its result does, if there is one
+  -- behind a call its result does, if there is one; else a jump may lead there, where nothing lies below
   abbrev pub CallKeeps : Type 0
   CallKeeps = (number : ℕ) (procedure : PlainProcedure) (arguments : PlainArguments) (from to : ℕ) (s : Shape) →
       slice_get p.procedures number ≡ Some procedure → Suit around (params_of procedure) arguments →
       number + 1 ≤ below → of_arguments calls arguments ≤ below →
       unwrap_or (slice_get (depths o) number) 0 ≤ deepest → of_arguments (callees (depths o)) arguments ≤ deepest →
       HasRoom code (of_arguments values arguments) deepest s →
-      AreQuiet code from to → CallAt p code.instructions from number arguments to → Keeps o r code from to s (result_shape procedure.result ++ s)
+      IsQuietWithin code from to → IsOpen code to (result_shape procedure.result ++ s) →
+      CallAt p code.instructions from number arguments to → Keeps o r code from to s (result_shape procedure.result ++ s)
 
   -- behind the subscripts of a variable the offset does
   abbrev pub OffsetKeeps : Type 0
@@ -110,11 +120,11 @@ module _ (o : Object) (r : ℕ) (code : Code) (p : PlainProg) (around : Around) 
       HasRoom code (of_exprs values subscripts + 1) deepest s →
       AreQuiet code from to → WayAt p code.instructions from variable to → Keeps o r code from to s (way_shape target bounds kind s)
 
-  -- and a value of just its kind that lies on that is written there
+  -- and a value of just its kind that lies on that is written there; a jump may lead behind that where nothing lies below
   abbrev pub WritingKeeps : Type 0
   WritingKeeps = (target : Target) (bounds : List Bound) (subscripts : PlainExprs) (kind : Kind) (place : ℕ) (s : Shape) →
       IsVariable around (OfVariable target bounds subscripts) kind → HasRoom code 2 deepest s →
-      IsQuiet code (place + 1) → Is code.instructions place (writing target bounds) →
+      IsOpen code (place + 1) s → Is code.instructions place (writing target bounds) →
       Keeps o r code place (place + 1) (Plain kind ∷ way_shape target bounds kind s) s
 
 -- No rule fails in the code of an expression where the stated depth has room for its values and for the procedures that it calls.

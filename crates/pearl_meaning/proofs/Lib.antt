@@ -1,5 +1,3 @@
--- Everything here is of the whole language: nothing is proved here of the first language's definitions (specs/Store, Expressions,
--- Statements and Meaning).
 pub mod Examples
 pub mod Uses
 pub mod Turning

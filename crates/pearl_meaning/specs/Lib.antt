@@ -1,11 +1,3 @@
--- what an evaluation over a list of answers gives, in the first language
-pub mod Store
--- what an expression's value is, in the first language
-pub mod Expressions
--- what a statement does, in the first language
-pub mod Statements
--- what a task does next after its answers, and how a program runs, in the first language: the source's task rules
-pub mod Meaning
 -- a task's own variables, frame by frame
 pub mod Frames
 -- what is done over a list of answers

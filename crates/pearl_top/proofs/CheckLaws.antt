@@ -16,7 +16,7 @@ use Rattle.pearl_top.proofs.PrintLaws.{never_unspelled, unspelled_once}
 use Rattle.pearl_top.proofs.SourceLaws.{IsSettled}
 
 -- a source has one tree
-shown_once : (source : List ℕ) (one two : IsSpelled source) → shown_tree one.tree ≡ shown_tree two.tree
+pub shown_once : (source : List ℕ) (one two : IsSpelled source) → shown_tree one.tree ≡ shown_tree two.tree
 shown_once source one two =
     let same : two.tokens ≡ one.tokens = one_reading source two.tokens one.tokens two.lexes one.lexes in
     one_tree one.tokens one.tree two.tree one.spells (subst (Spells two.tree) same two.spells)
@@ -47,13 +47,13 @@ broken_once source bytes others one two =
     (sym one.is_first ∙ ap (λ tree. first (all_broken tree)) (shown_once source one.is two.is) ∙ two.is_first) in
     one.text ∙ ap (λ (fault : RuleFault). refusal_line (refusal.Source fault.place fault.rule)) same ∙ sym two.text
 
-unaccepted_once : (source bytes others : List ℕ) → IsUnaccepted source bytes → IsUnaccepted source others → bytes ≡ others
+pub unaccepted_once : (source bytes others : List ℕ) → IsUnaccepted source bytes → IsUnaccepted source others → bytes ≡ others
 unaccepted_once source bytes others (inl unspelled) (inl also) = unspelled_once source bytes others unspelled also
 unaccepted_once source bytes others (inl unspelled) (inr some) = absurd (never_unspelled source bytes some.is unspelled)
 unaccepted_once source bytes others (inr some) (inl unspelled) = absurd (never_unspelled source others some.is unspelled)
 unaccepted_once source bytes others (inr some) (inr also) = broken_once source bytes others some also
 
-unaccepted_within : (source bytes : List ℕ) → IsUnaccepted source bytes → length source ≤ SOURCE_LIMIT
+pub unaccepted_within : (source bytes : List ℕ) → IsUnaccepted source bytes → length source ≤ SOURCE_LIMIT
 unaccepted_within source bytes (inl unspelled) = unspelled.within
 unaccepted_within source bytes (inr some) = some.is.within
 

@@ -1,7 +1,7 @@
 -- A call whose files are in order ends with status 0, unless memory, reading or writing failed.
-use Rattle.std.proofs.Common.{◌≡◌, ◌≢◌, ℕ, List, Option, refl, ap, sym, ◌∙◌, inl, inr, arith}
-use Rattle.pearl_prog.specs.declared.program.Program.{Program}
-use Rattle.pearl_first.proofs.Unique.{one_outcome}
+use Rattle.std.proofs.Common.{◌≡◌, ◌≢◌, ℕ, List, Option, None, Some, refl, ap, sym, ◌∙◌, inl, inr, arith}
+use Rattle.pearl_unbuilt.specs.Unbuilt.{unbuilt}
+use Rattle.pearl_program.specs.PlainPrograms.{PlainProg}
 use Rattle.pearl_top.specs.declared.status.Status.{Status}
 use Rattle.pearl_top.specs.declared.status.Status.TheVariants.{Done, Usage, Refused, BadObject, BadJournal, ReadFault, WriteFault, NoMemory, TooLong}
 use Rattle.pearl_top.specs.CheckDue.{IsAccepted, IsUnaccepted}
@@ -12,22 +12,27 @@ use Rattle.pearl_top.specs.JournalDue.{IsBadJournal}
 use Rattle.pearl_top.specs.Outcome.{Due, IsRefused, IsSource, RunDue}
 use Rattle.pearl_top.specs.PrintDue.{IsPrinted, IsUnspelled}
 use Rattle.pearl_top.specs.Taken.{Ends}
-use Rattle.pearl_top.proofs.CheckLaws.{never_unaccepted}
+use Rattle.pearl_top.proofs.CheckLaws.{never_unaccepted, shown_once}
 use Rattle.pearl_top.proofs.DueLaws.{handled-whole}
 use Rattle.pearl_top.proofs.PrintLaws.{never_unspelled}
 use Rattle.pearl_top.proofs.SourceLaws.{at_source_completes}
 use Rattle.pearl_top.proofs.TakenLaws.{finishes_of}
 
+none_or_place : (place : ℕ) → None ≡ Some place → ⊥
+none_or_place place e = cc
+
 -- an accepted source is not refused
-pub not_refused : (source bytes : List ℕ) (p : Program) → IsSource source p → IsRefused source bytes → ⊥
-not_refused source bytes p is_source refused = refused.known (one_outcome source p refused.cause is_source.accepted refused.refused)
+pub not_refused : (source bytes : List ℕ) (p : PlainProg) → IsSource source p → IsRefused source bytes → ⊥
+not_refused source bytes p is_source (inl unaccepted) = never_unaccepted source bytes is_source.is unaccepted
+not_refused source bytes p is_source (inr not_built) =
+    none_or_place not_built.place (sym is_source.built ∙ ap unbuilt (shown_once source is_source.is.is not_built.is.is) ∙ not_built.stands)
 
 -- all lines of these are accepted, and one is refused
 all_and_bad : (line code : ℕ) → All ≡ Bad line code → ⊥
 all_and_bad line code e = cc
 
 -- a journal of which all lines are accepted is not refused
-not_bad : (p : Program) (source journal bytes : List ℕ) → AreInOrder source journal → IsBadJournal p journal bytes → ⊥
+not_bad : (p : PlainProg) (source journal bytes : List ℕ) → AreInOrder source journal → IsBadJournal p journal bytes → ⊥
 not_bad p source journal bytes order bad =
     all_and_bad bad.line bad.code
     (ap (λ (e : Entries). e.ending) (sym order.read ∙ ap entries (sym (handled-whole journal order.within)) ∙ bad.run.read))
@@ -47,7 +52,7 @@ run_completes source journal a b Refused bytes order (inl due) no_memory no_read
 run_completes source journal a b Refused bytes order (inr (p, is_source, due)) no_memory no_read = absurd due
 run_completes source journal a b BadJournal bytes order (inl due) no_memory no_read = absurd due
 run_completes source journal a b BadJournal bytes order (inr (p, is_source, due)) no_memory no_read = absurd (not_bad p source journal bytes order due)
-run_completes source journal a b TooLong bytes order (inl due) no_memory no_read = let h = order.is_source.within in absurd (omega (arith, due.0))
+run_completes source journal a b TooLong bytes order (inl due) no_memory no_read = let h = order.is_source.is.is.within in absurd (omega (arith, due.0))
 run_completes source journal a b TooLong bytes order (inr (p, is_source, due)) no_memory no_read = let h = order.within in absurd (omega (arith, due.0))
 
 due_completes : (command : Command) (files : List ℕ → List ℕ) (rose : List ℕ → Type 0) (status : Status) (bytes : List ℕ) → IsInOrder command files →

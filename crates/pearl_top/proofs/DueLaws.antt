@@ -2,7 +2,7 @@
 use Rattle.std.proofs.Common.{◌≡◌, ◌≤◌, ◌<◌, ℕ, List, refl, ap, sym, ◌∙◌, subst, arith, length, take, drop, nat_le, Bool, true, false, ◌+◌}
 use Rattle.std.proofs.lemmas.Bool.Decides.{nat_tests}
 use Rattle.std.proofs.lemmas.List.{take-append-drop, take-take}
-use Rattle.pearl_prog.specs.declared.program.Program.{Program}
+use Rattle.pearl_program.specs.PlainPrograms.{PlainProg}
 use Rattle.pearl_script.specs.declared.refusal.Refusal.TheVariants as refusal
 use Rattle.pearl_top.specs.declared.limits.TheConstants.{JOURNAL_LIMIT}
 use Rattle.pearl_top.specs.declared.status.Status.{Status}
@@ -27,12 +27,12 @@ handled-long : (journal : List ℕ) → JOURNAL_LIMIT < length journal → handl
 handled-long journal h = ap (λ b. handled_if b journal) (le_false (length journal) JOURNAL_LIMIT h)
 
 -- what is due for a journal, where these lines of it are carried out: with this status where all are accepted, and what closes then
-pub record Covers (p : Program) (journal : List ℕ) (rose : Type 0) (lines : List (List ℕ)) (status : Status) (close : Close) : Type 0 where
+pub record Covers (p : PlainProg) (journal : List ℕ) (rose : Type 0) (lines : List (List ℕ)) (status : Status) (close : Close) : Type 0 where
   pub all : (bytes : List ℕ) → IsRun p lines All close bytes → JournalDue p journal rose status bytes
   pub bad : (line code : ℕ) (bytes : List ℕ) → IsRun p lines (Bad line code) (Cut (refusal.Journal line code)) bytes →
       JournalDue p journal rose BadJournal bytes
 
-bad_as : (p : Program) (journal : List ℕ) (rose : Type 0) (lines : List (List ℕ)) (line code : ℕ) (bytes : List ℕ) → handled journal ≡ lines →
+bad_as : (p : PlainProg) (journal : List ℕ) (rose : Type 0) (lines : List (List ℕ)) (line code : ℕ) (bytes : List ℕ) → handled journal ≡ lines →
     IsRun p lines (Bad line code) (Cut (refusal.Journal line code)) bytes → JournalDue p journal rose BadJournal bytes
 bad_as p journal rose lines line code bytes same run = record {
   line = line;
@@ -41,7 +41,7 @@ bad_as p journal rose lines line code bytes same run = record {
 }
 
 -- all was read
-pub covers_whole : (p : Program) (journal : List ℕ) (rose : Type 0) → length journal ≤ JOURNAL_LIMIT →
+pub covers_whole : (p : PlainProg) (journal : List ℕ) (rose : Type 0) → length journal ≤ JOURNAL_LIMIT →
     Covers p journal rose (journal_lines journal) Done Closed
 covers_whole p journal rose h = record {
   all = λ bytes run. (h, run);
@@ -49,7 +49,7 @@ covers_whole p journal rose h = record {
 }
 
 -- the first bytes of a journal that is too long were read
-pub covers_long : (p : Program) (journal : List ℕ) (rose : Type 0) → JOURNAL_LIMIT < length journal →
+pub covers_long : (p : PlainProg) (journal : List ℕ) (rose : Type 0) → JOURNAL_LIMIT < length journal →
     Covers p journal rose (ended_lines (take JOURNAL_LIMIT journal)) TooLong (Cut (refusal.TooLong (JOURNAL_LIMIT + 1)))
 covers_long p journal rose h = record {
   all = λ bytes run. (h, subst (λ ls. IsRun p ls All (Cut (refusal.TooLong (JOURNAL_LIMIT + 1))) bytes) (sym (handled-long journal h)) run);
@@ -67,13 +67,13 @@ front-handled journal count h false =
     (ended_lines-front (take count (take JOURNAL_LIMIT journal)) (drop count (take JOURNAL_LIMIT journal))))
 
 -- a line that is refused is refused with more lines behind it
-longer : (p : Program) (lines all : List (List ℕ)) (line code : ℕ) (bytes : List ℕ) → HasMore all lines →
+longer : (p : PlainProg) (lines all : List (List ℕ)) (line code : ℕ) (bytes : List ℕ) → HasMore all lines →
     IsRun p lines (Bad line code) (Cut (refusal.Journal line code)) bytes → IsRun p all (Bad line code) (Cut (refusal.Journal line code)) bytes
 longer p lines all line code bytes more run = subst (λ ls. IsRun p ls (Bad line code) (Cut (refusal.Journal line code)) bytes) (sym more.same)
     (record { es = run.es; read = entries-bad 0 lines more.more run.es line code run.read ∙ run.read; written = run.written })
 
 -- reading failed after some bytes
-pub covers_fault : (p : Program) (journal : List ℕ) (rose : Type 0) (count : ℕ) → rose → count ≤ JOURNAL_LIMIT →
+pub covers_fault : (p : PlainProg) (journal : List ℕ) (rose : Type 0) (count : ℕ) → rose → count ≤ JOURNAL_LIMIT →
     Covers p journal rose (ended_lines (take count journal)) ReadFault (Cut refusal.Read)
 covers_fault p journal rose count cause h = record {
   all = λ bytes run. (cause, record { count = count; within = h; run = run });
@@ -84,18 +84,18 @@ covers_fault p journal rose count cause h = record {
 
 -- WHAT WAS READ
 
-pub read_whole_covers : (p : Program) (file read bytes : List ℕ) (rose : Type 0) → read ≡ bytes → bytes ≡ file → length bytes ≤ JOURNAL_LIMIT →
+pub read_whole_covers : (p : PlainProg) (file read bytes : List ℕ) (rose : Type 0) → read ≡ bytes → bytes ≡ file → length bytes ≤ JOURNAL_LIMIT →
     Covers p file rose (journal_lines read) Done Closed
 read_whole_covers p file read bytes rose as_read same within =
     subst (λ b. Covers p file rose (journal_lines b) Done Closed) (sym (as_read ∙ same))
     (covers_whole p file rose (subst (λ b. length b ≤ JOURNAL_LIMIT) same within))
 
-pub read_long_covers : (p : Program) (file read bytes : List ℕ) (rose : Type 0) → read ≡ bytes → (JOURNAL_LIMIT < length file) × (bytes ≡ take JOURNAL_LIMIT file) →
+pub read_long_covers : (p : PlainProg) (file read bytes : List ℕ) (rose : Type 0) → read ≡ bytes → (JOURNAL_LIMIT < length file) × (bytes ≡ take JOURNAL_LIMIT file) →
     Covers p file rose (ended_lines read) TooLong (Cut (refusal.TooLong (JOURNAL_LIMIT + 1)))
 read_long_covers p file read bytes rose as_read long =
     subst (λ b. Covers p file rose (ended_lines b) TooLong (Cut (refusal.TooLong (JOURNAL_LIMIT + 1)))) (sym (as_read ∙ long.1)) (covers_long p file rose long.0)
 
-pub read_front_covers : (p : Program) (file read bytes : List ℕ) (rose : Type 0) → rose → read ≡ bytes → bytes ≡ take (length bytes) file →
+pub read_front_covers : (p : PlainProg) (file read bytes : List ℕ) (rose : Type 0) → rose → read ≡ bytes → bytes ≡ take (length bytes) file →
     length bytes ≤ JOURNAL_LIMIT → Covers p file rose (ended_lines read) ReadFault (Cut refusal.Read)
 read_front_covers p file read bytes rose cause as_read front within =
     subst (λ b. Covers p file rose (ended_lines b) ReadFault (Cut refusal.Read)) (sym (as_read ∙ front)) (covers_fault p file rose (length bytes) cause within)

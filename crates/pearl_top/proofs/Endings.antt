@@ -3,14 +3,17 @@ use Rattle.std.proofs.Common.{◌≡◌, ℕ, List, [], ◌++◌, None, ap, ◌�
 use Rattle.pearl_rules.specs.declared.entry.Entry.{Entry}
 use Rattle.pearl_rules.specs.Core.{Report, first_events}
 use Rattle.pearl_rules.specs.Runs.{Machine, machine_after, machine_next, unsettled}
-use Rattle.pearl_prog.specs.declared.program.Program.{Program}
-use Rattle.pearl_code.specs.declared.object.Object.{Object}
-use Rattle.pearl_code.specs.Rows.{Stack, engine}
+use Rattle.pearl_program.specs.PlainPrograms.{PlainProg}
+use Rattle.pearl_instructions.specs.declared.object.Object.{Object}
+use Rattle.pearl_stack.specs.Frames.{Frame}
+use Rattle.pearl_engine.specs.Engines.{engine}
+use Rattle.pearl_engine.specs.Setups.{setup_of}
+use Rattle.pearl_meaning.specs.ProgramRuns.{setup_of as tables_of}
 use Rattle.pearl_script.specs.declared.refusal.Refusal.{Refusal}
 use Rattle.pearl_script.specs.Lines.{lines_of}
 use Rattle.pearl_script.specs.Refusals.{refusal_line}
-use Rattle.pearl_gen.specs.Faithful.{IsFaithfulTo}
-use Rattle.pearl_run.specs.Seen.{Seen, IsAt, Goes}
+use Rattle.pearl_faithful.specs.Faithful.{IsFaithfulTo}
+use Rattle.pearl_machine.specs.Seen.{Seen, IsAt, Goes}
 use Rattle.pearl_top.specs.JournalDue.{opening_lines}
 use Rattle.pearl_top.specs.Transcript.{Close, Closed, Cut, IsTranscript}
 use Rattle.pearl_top.specs.Replay.{start_of, Ran, Tells}
@@ -38,46 +41,46 @@ pub at_end : (o : Object) (es : List Entry) (seen : Seen) (told : List (ℕ × R
 at_end o es seen told ran = at_end_of o es seen told ran.object (subst (λ all. Goes (start_of o all) [] seen told) (append_nil es) (ran.goes []))
 
 -- the lines of what was told so far, with the opening lines
-told_lines : (p : Program) (o : Object) (es : List Entry) (told : List (ℕ × Report)) → o.setup ≡ p.setup →
-    lines_of o.setup ((start_of o es).core.told ++ told) ≡ opening_lines p ++ lines_of o.setup told
+told_lines : (p : PlainProg) (o : Object) (es : List Entry) (told : List (ℕ × Report)) → (setup_of o) ≡ (tables_of p) →
+    lines_of (setup_of o) ((start_of o es).core.told ++ told) ≡ opening_lines p ++ lines_of (setup_of o) told
 told_lines p o es told same =
-    lines_of-append o.setup (first_events 0 o.setup.tasks) told
-    ∙ ap (λ setup. lines_of setup (first_events 0 setup.tasks) ++ lines_of o.setup told) same
+    lines_of-append (setup_of o) (first_events 0 (setup_of o).tasks) told
+    ∙ ap (λ setup. lines_of setup (first_events 0 setup.tasks) ++ lines_of (setup_of o) told) same
 
 regroup : (a b c : List ℕ) (all : List ℕ) → all ≡ a ++ b → all ++ c ≡ a ++ (b ++ c)
 regroup a b c all e = ap (λ x. x ++ c) e ∙ append_assoc a b c
 
 -- the whole transcript, behind the opening lines
-pub closes : (p : Program) (o : Object) (es : List Entry) (seen : Seen) (told : List (ℕ × Report)) → IsFaithfulTo p o → (end : AtEnd o es seen told) →
-    IsTranscript p es Closed (opening_lines p ++ (lines_of o.setup told ++ machine_closing o.setup (machine_after (engine o) (start_of o es) end.steps)))
+pub closes : (p : PlainProg) (o : Object) (es : List Entry) (seen : Seen) (told : List (ℕ × Report)) → IsFaithfulTo p o → (end : AtEnd o es seen told) →
+    IsTranscript p es Closed (opening_lines p ++ (lines_of (setup_of o) told ++ machine_closing (setup_of o) (machine_after (engine o) (start_of o es) end.steps)))
 closes p o es seen told faithful end =
-    let m : Machine Stack = machine_after (engine o) (start_of o es) end.steps in
+    let m : Machine (List Frame) = machine_after (engine o) (start_of o es) end.steps in
     subst (IsTranscript p es Closed)
-    (regroup (opening_lines p) (lines_of o.setup told) (machine_closing o.setup m) (lines_of o.setup m.core.told)
-    (ap (lines_of o.setup) end.says ∙ told_lines p o es told faithful.tables))
+    (regroup (opening_lines p) (lines_of (setup_of o) told) (machine_closing (setup_of o) m) (lines_of (setup_of o) m.core.told)
+    (ap (lines_of (setup_of o)) end.says ∙ told_lines p o es told faithful.tables))
     (closed_text p o es end.steps faithful end.settled end.no_mark)
 
 -- the transcript that a refusal cuts short
-pub cuts : (p : Program) (o : Object) (es : List Entry) (seen : Seen) (told : List (ℕ × Report)) (refusal : Refusal) → IsFaithfulTo p o → Ran o es seen told →
-    IsTranscript p es (Cut refusal) (opening_lines p ++ (lines_of o.setup told ++ refusal_line refusal))
+pub cuts : (p : PlainProg) (o : Object) (es : List Entry) (seen : Seen) (told : List (ℕ × Report)) (refusal : Refusal) → IsFaithfulTo p o → Ran o es seen told →
+    IsTranscript p es (Cut refusal) (opening_lines p ++ (lines_of (setup_of o) told ++ refusal_line refusal))
 cuts p o es seen told refusal faithful ran =
     let end : AtEnd o es seen told = at_end o es seen told ran in
-    let m : Machine Stack = machine_after (engine o) (start_of o es) end.steps in
+    let m : Machine (List Frame) = machine_after (engine o) (start_of o es) end.steps in
     subst (IsTranscript p es (Cut refusal))
-    (regroup (opening_lines p) (lines_of o.setup told) (refusal_line refusal) (lines_of o.setup m.core.told)
-    (ap (lines_of o.setup) end.says ∙ told_lines p o es told faithful.tables))
+    (regroup (opening_lines p) (lines_of (setup_of o) told) (refusal_line refusal) (lines_of (setup_of o) m.core.told)
+    (ap (lines_of (setup_of o)) end.says ∙ told_lines p o es told faithful.tables))
     (cut_text p o es end.steps refusal faithful end.settled end.no_mark)
 
 -- what was told so far, and what follows it
-pub record Follows (p : Program) (es : List Entry) (close : Close) (bytes : List ℕ) : Type 0 where
+pub record Follows (p : PlainProg) (es : List Entry) (close : Close) (bytes : List ℕ) : Type 0 where
   pub rest : List ℕ
   pub whole : IsTranscript p es close (opening_lines p ++ (bytes ++ rest))
 
-pub breaks_off : (p : Program) (o : Object) (es : List Entry) (told : List (ℕ × Report)) (close : Close) → IsFaithfulTo p o → Tells o es told →
-    Follows p es close (lines_of o.setup told)
+pub breaks_off : (p : PlainProg) (o : Object) (es : List Entry) (told : List (ℕ × Report)) (close : Close) → IsFaithfulTo p o → Tells o es told →
+    Follows p es close (lines_of (setup_of o) told)
 breaks_off p o es told close faithful tells =
-    let front : HasRest p es close (lines_of o.setup ((start_of o es).core.told ++ told)) = front_text p o es told close faithful tells in record {
+    let front : HasRest p es close (lines_of (setup_of o) ((start_of o es).core.told ++ told)) = front_text p o es told close faithful tells in record {
       rest = front.rest;
       whole = subst (IsTranscript p es close)
-          (regroup (opening_lines p) (lines_of o.setup told) front.rest _ (told_lines p o es told faithful.tables)) front.whole;
+          (regroup (opening_lines p) (lines_of (setup_of o) told) front.rest _ (told_lines p o es told faithful.tables)) front.whole;
     }

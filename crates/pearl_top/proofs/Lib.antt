@@ -15,6 +15,6 @@ pub mod LineLaws
 pub mod ReplayEnds
 pub mod WordLaws
 pub mod Completeness
-pub mod AlikeLaws
+pub mod OneProgram
 pub mod OneOutcome
 pub mod Explained

@@ -6,9 +6,10 @@ use Rattle.pearl_io.proofs.Pieces.{takes_more, takes_front_more}
 use Rattle.pearl_rules.specs.declared.entry.Entry.{Entry}
 use Rattle.pearl_rules.specs.declared.setup.Setup.{Setup}
 use Rattle.pearl_rules.specs.Core.{Report}
+use Rattle.pearl_engine.specs.Setups.{setup_of}
 use Rattle.pearl_script.specs.Lines.{lines_of}
-use Rattle.pearl_run.specs.Seen.{Seen, Handles}
-use Rattle.pearl_run.specs.Told.{IsCutOff}
+use Rattle.pearl_machine.specs.Seen.{Seen, Handles}
+use Rattle.pearl_machine.specs.Told.{IsCutOff}
 use Rattle.pearl_top.specs.declared.journal.Line.TheVariants.{Blank, Item, Wrong}
 use Rattle.pearl_top.specs.declared.failure.Failure.{Failure}
 use Rattle.pearl_top.specs.declared.failure.Failure.TheVariants as failure
@@ -130,7 +131,7 @@ progress_next setup lines journal bytes text after count seen mid old between cu
 
 -- a line that fails makes all lines fail
 pub lines_fail : (setup : Setup) (lines : List (List ℕ)) (count : ℕ) (text : List ℕ) (left : List (List ℕ)) (seen mid after : Seen) (old between new : Option (List ℕ))
-    (why : Failure) (failed wider : Type 0) → (failed → wider) → seen.object.setup ≡ setup → mid.object.setup ≡ setup →
+    (why : Failure) (failed wider : Type 0) → (failed → wider) → (setup_of seen.object) ≡ setup → mid.object.setup ≡ setup →
     Progress setup lines count (text ∷ left) seen mid old between → IsLineFailure why (count + 1) text mid after between new failed →
     IsLinesFailure why lines seen after old new wider
 lines_fail setup lines count text left seen mid after old between new (failure.Refused refusal) failed wider widen same_seen same_mid so_far fails = (
@@ -189,7 +190,7 @@ last_done (Err why) setup lines count text seen mid after old between new same s
 
 -- and failed, where it failed
 pub last_fails : (r : Result (Unit {0}) Failure) (setup : Setup) (lines : List (List ℕ)) (count : ℕ) (text : List ℕ) (seen mid after : Seen)
-    (old between new : Option (List ℕ)) (failed wider : Type 0) → (failed → wider) → seen.object.setup ≡ setup → mid.object.setup ≡ setup →
+    (old between new : Option (List ℕ)) (failed wider : Type 0) → (failed → wider) → (setup_of seen.object) ≡ setup → mid.object.setup ≡ setup →
     Progress setup lines count (text ∷ []) seen mid old between → IfErr r (λ why. IsLineFailure why (count + 1) text mid after between new failed) →
     IfErr r (λ why. IsLinesFailure why lines seen after old new wider)
 last_fails (Ok is) setup lines count text seen mid after old between new failed wider widen same_seen same_mid so_far fails = tt

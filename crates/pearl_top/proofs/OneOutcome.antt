@@ -1,25 +1,23 @@
 -- A command and the files held have at most one status and one list of bytes.
 use Rattle.std.proofs.Common.{◌≡◌, ◌≢◌, ◌<◌, ◌⊎◌, ◌+◌, ℕ, List, Bool, true, false, nat_le, length, refl, ap, sym, ◌∙◌, subst, inl, inr, arith}
-use Rattle.pearl_prog.specs.declared.program.Program.{Program}
-use Rattle.pearl_first.specs.declared.fault.FrontFault.{FrontFault}
-use Rattle.pearl_first.specs.declared.fault.FrontFault.TheVariants as fault
-use Rattle.pearl_first.specs.Laws.{IsSameFault}
-use Rattle.pearl_first.proofs.Unique.{one_fault}
+use Rattle.pearl_program.specs.PlainPrograms.{PlainProg}
+use Rattle.pearl_tree.specs.ShownModules.{shown_tree}
+use Rattle.pearl_unbuilt.specs.Unbuilt.{unbuilt}
 use Rattle.pearl_script.specs.declared.refusal.Refusal.TheVariants as refusal
 use Rattle.pearl_script.specs.Refusals.{refusal_line}
 use Rattle.pearl_top.specs.declared.status.Status.{Status}
 use Rattle.pearl_top.specs.declared.status.Status.TheVariants.{Done, Usage, Refused, BadObject, BadJournal, ReadFault, WriteFault, NoMemory, TooLong}
 use Rattle.pearl_top.specs.declared.limits.TheConstants.{SOURCE_LIMIT, JOURNAL_LIMIT}
-use Rattle.pearl_top.specs.CheckDue.{IsAccepted, IsUnaccepted}
+use Rattle.pearl_top.specs.CheckDue.{BreaksNone, IsAccepted, IsUnaccepted}
 use Rattle.pearl_top.specs.Commands.{Run, Check, Print, NoCommand}
 use Rattle.pearl_top.specs.Journal.{Ending, Entries, All, Bad}
 use Rattle.pearl_top.specs.JournalDue.{IsRun, JournalDue, handled}
-use Rattle.pearl_top.specs.Laws.{AreAlike, HasOneOutcome}
-use Rattle.pearl_top.specs.Outcome.{line_of_fault, IsRefused, IsSource, RunDue, SourceDue}
+use Rattle.pearl_top.specs.Laws.{HasOneOutcome}
+use Rattle.pearl_top.specs.Outcome.{IsRefused, IsSource, IsUnbuilt, RunDue, SourceDue}
 use Rattle.pearl_top.specs.PrintDue.{IsPrinted, IsUnspelled}
 use Rattle.pearl_top.specs.Transcript.{Close, Closed, Cut, IsTranscript}
-use Rattle.pearl_top.proofs.AlikeLaws.{one_meaning, transcript_same}
-use Rattle.pearl_top.proofs.CheckLaws.{check_settled}
+use Rattle.pearl_top.proofs.OneProgram.{one_meaning, transcript_once}
+use Rattle.pearl_top.proofs.CheckLaws.{check_settled, never_unaccepted, shown_once, unaccepted_once, unaccepted_within}
 use Rattle.pearl_top.proofs.Completeness.{not_refused}
 use Rattle.pearl_top.proofs.DueLaws.{handled-whole, le_true, le_false}
 use Rattle.pearl_top.proofs.PrintLaws.{print_settled}
@@ -43,12 +41,12 @@ abbrev fits_in : List ℕ → Bool
 fits_in journal = nat_le (length journal) JOURNAL_LIMIT
 
 -- what comes where nothing outside fails and memory is there
-record Comes (p : Program) (journal : List ℕ) (status : Status) (bytes : List ℕ) : Type 0 where
+record Comes (p : PlainProg) (journal : List ℕ) (status : Status) (bytes : List ℕ) : Type 0 where
   ending : Ending
   is : status ≡ status_of ending (fits_in journal)
   run : IsRun p (handled journal) ending (close_of ending (fits_in journal)) bytes
 
-comes_all : (p : Program) (journal bytes : List ℕ) (fits : Bool) → fits_in journal ≡ fits → IsRun p (handled journal) All (close_of All fits) bytes →
+comes_all : (p : PlainProg) (journal bytes : List ℕ) (fits : Bool) → fits_in journal ≡ fits → IsRun p (handled journal) All (close_of All fits) bytes →
     Comes p journal (status_of All fits) bytes
 comes_all p journal bytes fits e run = record {
   ending = All;
@@ -56,7 +54,7 @@ comes_all p journal bytes fits e run = record {
   run = subst (λ b. IsRun p (handled journal) All (close_of All b) bytes) (sym e) run;
 }
 
-comes : (p : Program) (journal : List ℕ) (status : Status) (bytes : List ℕ) → status ≢ NoMemory → JournalDue p journal ⊥ status bytes →
+comes : (p : PlainProg) (journal : List ℕ) (status : Status) (bytes : List ℕ) → status ≢ NoMemory → JournalDue p journal ⊥ status bytes →
     Comes p journal status bytes
 comes p journal Done bytes known due =
     comes_all p journal bytes true (le_true (length journal) JOURNAL_LIMIT due.0)
@@ -70,37 +68,44 @@ comes p journal WriteFault bytes known due = absurd due
 comes p journal NoMemory bytes known due = absurd (known refl)
 comes p journal TooLong bytes known due = comes_all p journal bytes false (le_false (length journal) JOURNAL_LIMIT due.0) due.1
 
--- programs that are alike bring one thing about over one journal
-comes_once : (p q : Program) (journal : List ℕ) (status other : Status) (bytes others : List ℕ) → AreAlike p q → Comes p journal status bytes →
-    Comes q journal other others → (status ≡ other) × (bytes ≡ others)
-comes_once p q journal status other bytes others alike one two =
+-- a program brings one thing about over one journal
+comes_once : (p : PlainProg) (journal : List ℕ) (status other : Status) (bytes others : List ℕ) → Comes p journal status bytes →
+    Comes p journal other others → (status ≡ other) × (bytes ≡ others)
+comes_once p journal status other bytes others one two =
     let same : ◌≡◌ {A = Entries} (record { accepted = one.run.es; ending = one.ending }) (record { accepted = two.run.es; ending = two.ending }) =
     sym one.run.read ∙ two.run.read in
     let es : one.run.es ≡ two.run.es = ap (λ (e : Entries). e.accepted) same in
     let ending : one.ending ≡ two.ending = ap (λ (e : Entries). e.ending) same in
     let close : close_of one.ending (fits_in journal) ≡ close_of two.ending (fits_in journal) = ap (λ e. close_of e (fits_in journal)) ending in
-    let written : IsTranscript q one.run.es (close_of one.ending (fits_in journal)) others =
-    subst (λ entries. IsTranscript q entries (close_of one.ending (fits_in journal)) others) (sym es)
-    (subst (λ c. IsTranscript q two.run.es c others) (sym close) two.run.written) in (
+    let written : IsTranscript p one.run.es (close_of one.ending (fits_in journal)) others =
+    subst (λ entries. IsTranscript p entries (close_of one.ending (fits_in journal)) others) (sym es)
+    (subst (λ c. IsTranscript p two.run.es c others) (sym close) two.run.written) in (
       one.is ∙ ap (λ e. status_of e (fits_in journal)) ending ∙ sym two.is,
-      transcript_same p q alike one.run.es (close_of one.ending (fits_in journal)) bytes others one.run.written written,
+      transcript_once p one.run.es (close_of one.ending (fits_in journal)) bytes others one.run.written written,
     )
 
 -- AT THE SOURCE
 
-same_fault : (cause other : FrontFault) → cause ≢ fault.NoMemory → other ≢ fault.NoMemory → IsSameFault cause other → cause ≡ other
-same_fault fault.NoMemory other known too same = absurd (known refl)
-same_fault (fault.Syntax place) fault.NoMemory known too same = absurd (too refl)
-same_fault (fault.Syntax place) (fault.Syntax other) known too same = same
-same_fault (fault.Syntax place) (fault.Source other rule) known too same = same
-same_fault (fault.Source place rule) fault.NoMemory known too same = absurd (too refl)
-same_fault (fault.Source place rule) (fault.Syntax other) known too same = same
-same_fault (fault.Source place rule) (fault.Source other also) known too same = same
+unbuilt_twice : (source : List ℕ) (one two : BreaksNone source) → unbuilt (shown_tree one.is.tree) ≡ unbuilt (shown_tree two.is.tree)
+unbuilt_twice source one two = ap unbuilt (shown_once source one.is two.is)
+
+one_place : (place other : ℕ) → Some place ≡ Some other → place ≡ other
+one_place place other e = cc
+
+unbuilt_once : (source bytes others : List ℕ) → IsUnbuilt source bytes → IsUnbuilt source others → bytes ≡ others
+unbuilt_once source bytes others one two =
+    one.text ∙ ap (λ place. refusal_line (refusal.Unbuilt place))
+    (one_place one.place two.place (sym one.stands ∙ unbuilt_twice source one.is two.is ∙ two.stands)) ∙ sym two.text
 
 refused_once : (source bytes others : List ℕ) → IsRefused source bytes → IsRefused source others → bytes ≡ others
-refused_once source bytes others one two =
-    let same : one.cause ≡ two.cause = same_fault one.cause two.cause one.known two.known (one_fault source one.cause two.cause one.refused two.refused) in
-    one.text ∙ ap line_of_fault same ∙ sym two.text
+refused_once source bytes others (inl unaccepted) (inl also) = unaccepted_once source bytes others unaccepted also
+refused_once source bytes others (inl unaccepted) (inr not_built) = absurd (never_unaccepted source bytes not_built.is unaccepted)
+refused_once source bytes others (inr not_built) (inl unaccepted) = absurd (never_unaccepted source others not_built.is unaccepted)
+refused_once source bytes others (inr not_built) (inr also) = unbuilt_once source bytes others not_built also
+
+refused_within : (source bytes : List ℕ) → IsRefused source bytes → length source ≤ SOURCE_LIMIT
+refused_within source bytes (inl unaccepted) = unaccepted_within source bytes unaccepted
+refused_within source bytes (inr not_built) = not_built.is.is.within
 
 -- a source that is too long
 abbrev IsLong : List ℕ → List ℕ → Type 0
@@ -110,7 +115,7 @@ IsLong source bytes = (SOURCE_LIMIT < length source) × (bytes ≡ refusal_line 
 abbrev Ended : List ℕ → List ℕ → Status → List ℕ → Type 0
 Ended source journal status bytes =
     ((status ≡ Refused) × IsRefused source bytes)
-    ⊎ (((status ≡ TooLong) × IsLong source bytes) ⊎ ((p : Program) × IsSource source p × Comes p journal status bytes))
+    ⊎ (((status ≡ TooLong) × IsLong source bytes) ⊎ ((p : PlainProg) × IsSource source p × Comes p journal status bytes))
 
 ended_at_source : (source journal : List ℕ) (status : Status) (bytes : List ℕ) → status ≢ NoMemory → SourceDue source ⊥ status bytes →
     Ended source journal status bytes
@@ -130,10 +135,10 @@ ended source journal status bytes known (inl due) = ended_at_source source journ
 ended source journal status bytes known (inr (p, is_source, due)) = inr (inr (p, is_source, comes p journal status bytes known due))
 
 long_or_not : (source bytes others : List ℕ) → IsRefused source bytes → IsLong source others → ⊥
-long_or_not source bytes others one two = let h = one.within in omega (arith, two.0)
+long_or_not source bytes others one two = let h = refused_within source bytes one in omega (arith, two.0)
 
-long_source : (source bytes : List ℕ) (p : Program) → IsSource source p → IsLong source bytes → ⊥
-long_source source bytes p one two = let h = one.within in omega (arith, two.0)
+long_source : (source bytes : List ℕ) (p : PlainProg) → IsSource source p → IsLong source bytes → ⊥
+long_source source bytes p one two = let h = one.is.is.within in omega (arith, two.0)
 
 ended_once : (source journal : List ℕ) (status other : Status) (bytes others : List ℕ) → Ended source journal status bytes → Ended source journal other others →
     (status ≡ other) × (bytes ≡ others)
@@ -146,7 +151,7 @@ ended_once source journal status other bytes others (inr (inl (e, long))) (inr (
 ended_once source journal status other bytes others (inr (inr (p, is_source, come))) (inl (f, refused)) = absurd (not_refused source others p is_source refused)
 ended_once source journal status other bytes others (inr (inr (p, is_source, come))) (inr (inl (f, long))) = absurd (long_source source others p is_source long)
 ended_once source journal status other bytes others (inr (inr (p, is_source, come))) (inr (inr (q, also, too))) =
-    comes_once p q journal status other bytes others (one_meaning source p q is_source also) come too
+    comes_once q journal status other bytes others (subst (λ r. Comes r journal status bytes) (one_meaning source p q is_source also) come) too
 
 -- FOR ALL WORDS
 

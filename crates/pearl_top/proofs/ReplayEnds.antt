@@ -6,10 +6,13 @@ use Rattle.pearl_rules.specs.declared.entry.Entry.{Entry}
 use Rattle.pearl_rules.specs.declared.setup.Setup.{Setup}
 use Rattle.pearl_rules.specs.Core.{Report, first_events}
 use Rattle.pearl_rules.specs.Runs.{Machine, machine_after}
-use Rattle.pearl_prog.specs.declared.program.Program.{Program}
-use Rattle.pearl_code.specs.Rows.{Stack, engine}
-use Rattle.pearl_gen.specs.Faithful.{IsFaithfulTo}
-use Rattle.pearl_run.specs.Seen.{Seen, IsAt}
+use Rattle.pearl_program.specs.PlainPrograms.{PlainProg}
+use Rattle.pearl_stack.specs.Frames.{Frame}
+use Rattle.pearl_engine.specs.Engines.{engine}
+use Rattle.pearl_faithful.specs.Faithful.{IsFaithfulTo}
+use Rattle.pearl_engine.specs.Setups.{setup_of}
+use Rattle.pearl_meaning.specs.ProgramRuns.{setup_of as tables_of}
+use Rattle.pearl_machine.specs.Seen.{Seen, IsAt}
 use Rattle.pearl_script.specs.declared.refusal.Refusal.{Refusal}
 use Rattle.pearl_script.specs.declared.refusal.Refusal.TheVariants as refusal
 use Rattle.pearl_script.specs.Lines.{lines_of}
@@ -31,20 +34,20 @@ use Rattle.pearl_top.proofs.Endings.{AtEnd, at_end, closes, cuts, Follows, break
 use Rattle.pearl_top.proofs.TakenLaws.{append_nil, stops_in, stops_short}
 
 -- the opening lines by the object's tables are those by the program's
-pub opening_as : (p : Program) (setup : Setup) → setup ≡ p.setup → lines_of setup (first_events 0 setup.tasks) ≡ opening_lines p
+pub opening_as : (p : PlainProg) (setup : Setup) → setup ≡ (tables_of p) → lines_of setup (first_events 0 setup.tasks) ≡ opening_lines p
 opening_as p setup same = ap (λ s. lines_of s (first_events 0 s.tasks)) same
 
 -- a machine of the program has come to the end of these lines, and what was told so far was taken
-pub record Reached (p : Program) (lines : List (List ℕ)) (ending : Ending) (seen : Seen) (old new : Option (List ℕ)) : Type 0 where
+pub record Reached (p : PlainProg) (lines : List (List ℕ)) (ending : Ending) (seen : Seen) (old new : Option (List ℕ)) : Type 0 where
   pub es : List Entry
   pub told : List (ℕ × Report)
   pub read : entries lines ≡ record { accepted = es; ending = ending }
   pub faithful : IsFaithfulTo p seen.object
   pub ran : Ran seen.object es seen told
-  pub taken : Takes old new (opening_lines p ++ lines_of seen.object.setup told)
+  pub taken : Takes old new (opening_lines p ++ lines_of (setup_of seen.object) told)
 
-pub reached : (p : Program) (lines : List (List ℕ)) (ending : Ending) (seen after : Seen) (old mid new : Option (List ℕ)) → IsReadyFor p seen →
-    Takes old mid (opening_lines p) → LinesDone seen.object.setup lines ending seen after mid new → Reached p lines ending after old new
+pub reached : (p : PlainProg) (lines : List (List ℕ)) (ending : Ending) (seen after : Seen) (old mid new : Option (List ℕ)) → IsReadyFor p seen →
+    Takes old mid (opening_lines p) → LinesDone (setup_of seen.object) lines ending seen after mid new → Reached p lines ending after old new
 reached p lines ending seen after old mid new ready opened done =
     let same : after.object ≡ seen.object = done.advances.object in record {
       es = done.es;
@@ -52,19 +55,19 @@ reached p lines ending seen after old mid new ready opened done =
       read = done.read;
       faithful = subst (IsFaithfulTo p) (sym same) ready.faithful;
       ran = subst (λ o. Ran o done.es after done.told) (sym same) (done.advances.ran seen.object [] [] ready.starts);
-      taken = subst (λ o. Takes old new (opening_lines p ++ lines_of o.setup done.told)) (sym same)
-          (takes_more old mid new (opening_lines p) (lines_of seen.object.setup done.told) opened done.taken);
+      taken = subst (λ o. Takes old new (opening_lines p ++ lines_of (setup_of o) done.told)) (sym same)
+          (takes_more old mid new (opening_lines p) (lines_of (setup_of seen.object) done.told) opened done.taken);
     }
 
 -- THE LINES WERE CARRIED OUT
 
 -- the line of a refusal ends the transcript
-pub leaves_cut : (p : Program) (lines : List (List ℕ)) (ending : Ending) (seen : Seen) (old new : Option (List ℕ)) (why : Refusal)
+pub leaves_cut : (p : PlainProg) (lines : List (List ℕ)) (ending : Ending) (seen : Seen) (old new : Option (List ℕ)) (why : Refusal)
     (due : Status → List ℕ → Type 0) → Reached p lines ending seen old new →
     ((bytes : List ℕ) → IsRun p lines ending (Cut why) bytes → due (status_of why) bytes) →
     Finishes old new (λ bytes. due (status_of why) (bytes ++ refusal_line why))
 leaves_cut p lines ending seen old new why due at is_due =
-    let told : List ℕ = lines_of seen.object.setup at.told in record {
+    let told : List ℕ = lines_of (setup_of seen.object) at.told in record {
       bytes = opening_lines p ++ told;
       is_due = is_due ((opening_lines p ++ told) ++ refusal_line why) (record {
         es = at.es;
@@ -76,38 +79,38 @@ leaves_cut p lines ending seen old new why due at is_due =
     }
 
 -- the whole transcript, in two parts
-closed_run : (p : Program) (lines : List (List ℕ)) (seen : Seen) (old new : Option (List ℕ)) → (at : Reached p lines All seen old new) →
-    (end : AtEnd seen.object at.es seen at.told) → IsRun p lines All Closed ((opening_lines p ++ lines_of seen.object.setup at.told)
-    ++ machine_closing seen.object.setup (machine_after (engine seen.object) (start_of seen.object at.es) end.steps))
+closed_run : (p : PlainProg) (lines : List (List ℕ)) (seen : Seen) (old new : Option (List ℕ)) → (at : Reached p lines All seen old new) →
+    (end : AtEnd seen.object at.es seen at.told) → IsRun p lines All Closed ((opening_lines p ++ lines_of (setup_of seen.object) at.told)
+    ++ machine_closing (setup_of seen.object) (machine_after (engine seen.object) (start_of seen.object at.es) end.steps))
 closed_run p lines seen old new at end = record {
   es = at.es;
   read = at.read;
-  written = subst (IsTranscript p at.es Closed) (sym (append_assoc (opening_lines p) (lines_of seen.object.setup at.told) _))
+  written = subst (IsTranscript p at.es Closed) (sym (append_assoc (opening_lines p) (lines_of (setup_of seen.object) at.told) _))
       (closes p seen.object at.es seen at.told at.faithful end);
 }
 
 -- the tasks' states and the closing line were taken
-pub leaves_closed : (p : Program) (lines : List (List ℕ)) (seen : Seen) (old mid new : Option (List ℕ)) (due : Status → List ℕ → Type 0) →
-    Reached p lines All seen old mid → ((m : Machine Stack) → IsAt seen m → Takes mid new (machine_closing seen.object.setup m)) →
+pub leaves_closed : (p : PlainProg) (lines : List (List ℕ)) (seen : Seen) (old mid new : Option (List ℕ)) (due : Status → List ℕ → Type 0) →
+    Reached p lines All seen old mid → ((m : Machine (List Frame)) → IsAt seen m → Takes mid new (machine_closing (setup_of seen.object) m)) →
     ((bytes : List ℕ) → IsRun p lines All Closed bytes → due statuses.Done bytes) → Finishes old new (due statuses.Done)
 leaves_closed p lines seen old mid new due at takes is_due =
     let end : AtEnd seen.object at.es seen at.told = at_end seen.object at.es seen at.told at.ran in
-    let m : Machine Stack = machine_after (engine seen.object) (start_of seen.object at.es) end.steps in
-    let told : List ℕ = opening_lines p ++ lines_of seen.object.setup at.told in record {
-      bytes = told ++ machine_closing seen.object.setup m;
-      is_due = is_due (told ++ machine_closing seen.object.setup m) (closed_run p lines seen old mid at end);
-      taken = takes_more old mid new told (machine_closing seen.object.setup m) at.taken (takes m end.stands);
+    let m : Machine (List Frame) = machine_after (engine seen.object) (start_of seen.object at.es) end.steps in
+    let told : List ℕ = opening_lines p ++ lines_of (setup_of seen.object) at.told in record {
+      bytes = told ++ machine_closing (setup_of seen.object) m;
+      is_due = is_due (told ++ machine_closing (setup_of seen.object) m) (closed_run p lines seen old mid at end);
+      taken = takes_more old mid new told (machine_closing (setup_of seen.object) m) at.taken (takes m end.stands);
     }
 
 -- a front of them was taken
-pub leaves_unclosed : (p : Program) (lines : List (List ℕ)) (seen : Seen) (old mid new : Option (List ℕ)) (failed : Type 0) (due : Status → List ℕ → Type 0) →
-    failed → Reached p lines All seen old mid → ((m : Machine Stack) → IsAt seen m → TakesFront mid new (machine_closing seen.object.setup m)) →
+pub leaves_unclosed : (p : PlainProg) (lines : List (List ℕ)) (seen : Seen) (old mid new : Option (List ℕ)) (failed : Type 0) (due : Status → List ℕ → Type 0) →
+    failed → Reached p lines All seen old mid → ((m : Machine (List Frame)) → IsAt seen m → TakesFront mid new (machine_closing (setup_of seen.object) m)) →
     ((bytes : List ℕ) → IsRun p lines All Closed bytes → due statuses.Done bytes) → Leaves old new failed due (Err failure.WriteFault)
 leaves_unclosed p lines seen old mid new failed due cause at takes is_due =
     let end : AtEnd seen.object at.es seen at.told = at_end seen.object at.es seen at.told at.ran in
-    let m : Machine Stack = machine_after (engine seen.object) (start_of seen.object at.es) end.steps in
-    let told : List ℕ = opening_lines p ++ lines_of seen.object.setup at.told in
-    let closing : List ℕ = machine_closing seen.object.setup m in (
+    let m : Machine (List Frame) = machine_after (engine seen.object) (start_of seen.object at.es) end.steps in
+    let told : List ℕ = opening_lines p ++ lines_of (setup_of seen.object) at.told in
+    let closing : List ℕ = machine_closing (setup_of seen.object) m in (
       cause,
       stops_in old mid new due statuses.Done told closing []
           (subst (λ bytes. due statuses.Done (told ++ bytes)) (sym (append_nil closing)) (is_due (told ++ closing) (closed_run p lines seen old mid at end)))
@@ -117,18 +120,18 @@ leaves_unclosed p lines seen old mid new failed due cause at takes is_due =
 -- THE LINES WERE NOT CARRIED OUT
 
 -- a front of the opening lines was taken
-pub leaves_unopened : (p : Program) (journal : List ℕ) (rose failed : Type 0) (old new : Option (List ℕ)) → failed → TakesFront old new (opening_lines p) →
+pub leaves_unopened : (p : PlainProg) (journal : List ℕ) (rose failed : Type 0) (old new : Option (List ℕ)) → failed → TakesFront old new (opening_lines p) →
     Leaves old new failed (JournalDue p journal rose) (Err failure.WriteFault)
 leaves_unopened p journal rose failed old new cause front =
     (cause, stops_short old new (JournalDue p journal rose) statuses.NoMemory (opening_lines p) (refusal_line refusal.Memory) refl front)
 
 -- there was no memory for the journal
-pub leaves_unread : (p : Program) (journal : List ℕ) (rose : Type 0) (old new : Option (List ℕ)) → Takes old new (opening_lines p) →
+pub leaves_unread : (p : PlainProg) (journal : List ℕ) (rose : Type 0) (old new : Option (List ℕ)) → Takes old new (opening_lines p) →
     Finishes old new (λ bytes. JournalDue p journal rose statuses.NoMemory (bytes ++ refusal_line refusal.Memory))
 leaves_unread p journal rose old new opened = record { bytes = opening_lines p; is_due = refl; taken = opened }
 
 -- some status and some bytes behind these belong to the lines
-broken_at : (p : Program) (journal : List ℕ) (rose : Type 0) (lines : List (List ℕ)) (status : Status) (last : Close) (es : List Entry) (ending : Ending)
+broken_at : (p : PlainProg) (journal : List ℕ) (rose : Type 0) (lines : List (List ℕ)) (status : Status) (last : Close) (es : List Entry) (ending : Ending)
     (told : List ℕ) → Covers p journal rose lines status last → entries lines ≡ record { accepted = es; ending = ending } →
     ((end : Close) → (rest : List ℕ) × IsTranscript p es end (opening_lines p ++ (told ++ rest))) →
     (s : Status) × (rest : List ℕ) × JournalDue p journal rose s (opening_lines p ++ (told ++ rest))
@@ -140,11 +143,11 @@ broken_at p journal rose lines status last es (Bad line code) told covers read f
     (statuses.BadJournal, whole.0, covers.bad line code (opening_lines p ++ (told ++ whole.0)) (record { es = es; read = read; written = whole.1 }))
 
 -- the output of a line was not taken whole
-leaves_broken : (p : Program) (journal : List ℕ) (rose : Type 0) (lines : List (List ℕ)) (status : Status) (last : Close) (seen : Seen)
+leaves_broken : (p : PlainProg) (journal : List ℕ) (rose : Type 0) (lines : List (List ℕ)) (status : Status) (last : Close) (seen : Seen)
     (old mid new : Option (List ℕ)) → IsReadyFor p seen → Takes old mid (opening_lines p) → Covers p journal rose lines status last →
-    LinesBroken seen.object.setup lines seen mid new → Stops old new (JournalDue p journal rose)
+    LinesBroken (setup_of seen.object) lines seen mid new → Stops old new (JournalDue p journal rose)
 leaves_broken p journal rose lines status last seen old mid new ready opened covers broken =
-    let told : List ℕ = lines_of seen.object.setup broken.told in
+    let told : List ℕ = lines_of (setup_of seen.object) broken.told in
     let due : (s : Status) × (rest : List ℕ) × JournalDue p journal rose s (opening_lines p ++ (told ++ rest)) =
     broken_at p journal rose lines status last broken.es broken.ending told covers broken.read
     (λ end. let front : Follows p broken.es end told =
@@ -152,7 +155,7 @@ leaves_broken p journal rose lines status last seen old mid new ready opened cov
     stops_in old mid new (JournalDue p journal rose) due.0 (opening_lines p) told due.1 due.2 opened broken.taken
 
 -- the lines failed
-pub leaves_failed : (p : Program) (journal : List ℕ) (rose failed wider : Type 0) (lines : List (List ℕ)) (status : Status) (last : Close) (seen after : Seen)
+pub leaves_failed : (p : PlainProg) (journal : List ℕ) (rose failed wider : Type 0) (lines : List (List ℕ)) (status : Status) (last : Close) (seen after : Seen)
     (old mid new : Option (List ℕ)) (why : Failure) → (failed → wider) → IsReadyFor p seen → Takes old mid (opening_lines p) →
     Covers p journal rose lines status last → IsLinesFailure why lines seen after mid new failed → Leaves old new wider (JournalDue p journal rose) (Err why)
 leaves_failed p journal rose failed wider lines status last seen after old mid new (failure.Refused why) widen ready opened covers fails =

@@ -4,15 +4,16 @@ use Rattle.std.proofs.Math.Seq.{take-append-add}
 use Rattle.pearl_io.specs.Outside.{TakesFront}
 use Rattle.pearl_rules.specs.declared.setup.Setup.{Setup}
 use Rattle.pearl_script.specs.Lines.{lines_of, report_line}
-use Rattle.pearl_run.specs.Told.{IsCutOff}
+use Rattle.pearl_machine.specs.Told.{IsCutOff}
 use Rattle.pearl_top.proofs.TakenLaws.{append_nil}
 use Rattle.pearl_top.proofs.TranscriptLaws.{lines_of-append}
 use Rattle.pearl_rules.specs.declared.entry.Entry.{Entry}
 use Rattle.pearl_rules.specs.Core.{Report}
 use Rattle.pearl_rules.specs.Runs.{Engine, Machine, machine_step, machine_after, unsettled}
-use Rattle.pearl_code.specs.declared.object.Object.{Object}
-use Rattle.pearl_code.specs.Rows.{Stack, engine}
-use Rattle.pearl_run.specs.Seen.{Seen, IsAt, Leads, Goes}
+use Rattle.pearl_instructions.specs.declared.object.Object.{Object}
+use Rattle.pearl_stack.specs.Frames.{Frame}
+use Rattle.pearl_engine.specs.Engines.{engine}
+use Rattle.pearl_machine.specs.Seen.{Seen, IsAt, Leads, Goes}
 use Rattle.pearl_top.specs.Replay.{start_of, Ran, Tells, Advances, Breaks}
 
 -- so many steps, and then so many more
@@ -20,8 +21,8 @@ pub after-after : {S : Type 0} (e : Engine S) (m : Machine S) (a b : ℕ) → ma
 after-after e m a zero = rw (add-zero a) refl
 after-after e m a (suc b) = rw (add-suc a b) (ap (machine_step e) (after-after e m a b))
 
-joined : (o : Object) (seen after : Seen) (told more : List (ℕ × Report)) (m : Machine Stack) (left rest : List Entry) → after.object ≡ o → seen.object ≡ o →
-    Goes m left seen told → ((at : Machine Stack) → IsAt seen at → Leads at left → Goes at rest after more) → Goes m rest after (told ++ more)
+joined : (o : Object) (seen after : Seen) (told more : List (ℕ × Report)) (m : Machine (List Frame)) (left rest : List Entry) → after.object ≡ o → seen.object ≡ o →
+    Goes m left seen told → ((at : Machine (List Frame)) → IsAt seen at → Leads at left → Goes at rest after more) → Goes m rest after (told ++ more)
 joined o seen after told more m left rest same_after same_seen first goes_on =
     let same : seen.object ≡ after.object = same_seen ∙ sym same_after in
     let there = machine_after (engine seen.object) m first.steps in
@@ -38,7 +39,7 @@ joined o seen after told more m left rest same_after same_seen first goes_on =
 
 -- from where it stands after these entries, the machine goes on over one more
 pub ran-entry : (o : Object) (es : List Entry) (seen after : Seen) (told more : List (ℕ × Report)) (entry : Entry) → Ran o es seen told →
-    after.object ≡ seen.object → ((m : Machine Stack) (rest : List Entry) → IsAt seen m → Leads m (entry ∷ rest) → Goes m rest after more) →
+    after.object ≡ seen.object → ((m : Machine (List Frame)) (rest : List Entry) → IsAt seen m → Leads m (entry ∷ rest) → Goes m rest after more) →
     Ran o (es ++ entry ∷ []) after (told ++ more)
 ran-entry o es seen after told more entry ran same goes_on = record {
   object = same ∙ ran.object;
@@ -74,7 +75,7 @@ breaks-then seen mid es fs told said first second o before now_told ran =
 
 -- one entry, as the machine goes over it
 pub advances-entry : (seen after : Seen) (entry : Entry) (told : List (ℕ × Report)) → after.object ≡ seen.object →
-    ((m : Machine Stack) (rest : List Entry) → IsAt seen m → Leads m (entry ∷ rest) → Goes m rest after told) → Advances seen after (entry ∷ []) told
+    ((m : Machine (List Frame)) (rest : List Entry) → IsAt seen m → Leads m (entry ∷ rest) → Goes m rest after told) → Advances seen after (entry ∷ []) told
 advances-entry seen after entry told same goes_on = record { object = same; ran = λ o before said ran. ran-entry o before seen after said told entry ran same goes_on }
 
 tells_of_goes : (o : Object) (es rest : List Entry) (seen : Seen) (told : List (ℕ × Report)) → seen.object ≡ o → Goes (start_of o es) rest seen told → Tells o es told
@@ -85,7 +86,7 @@ tells_of_goes o es rest seen told same goes = record {
 
 -- one entry that was cut short
 pub breaks-entry : (seen after : Seen) (entry : Entry) (left : List Entry) (told : List (ℕ × Report)) → after.object ≡ seen.object →
-    ((m : Machine Stack) (rest : List Entry) → IsAt seen m → Leads m (entry ∷ rest) → Goes m (left ++ rest) after told) →
+    ((m : Machine (List Frame)) (rest : List Entry) → IsAt seen m → Leads m (entry ∷ rest) → Goes m (left ++ rest) after told) →
     (rest : List Entry) → Breaks seen (entry ∷ rest) told
 breaks-entry seen after entry left told same goes_on rest o before said ran =
     tells_of_goes o (before ++ entry ∷ rest) (left ++ rest) after (said ++ told) (same ∙ ran.object)

@@ -9,32 +9,35 @@ use Rattle.pearl_rules.specs.Laws.{EndsAlike, EndsTelling}
 use Rattle.pearl_rules.proofs.EndLaws.{ends_alike}
 use Rattle.pearl_rules.proofs.RunLaws.{last_tells}
 use Rattle.pearl_rules.proofs.PickLaws.{states-offers}
-use Rattle.pearl_prog.specs.declared.program.Program.{Program}
-use Rattle.pearl_meaning.specs.Meaning.{offer, source_run}
-use Rattle.pearl_code.specs.declared.object.Object.{Object}
-use Rattle.pearl_code.specs.Rows.{Stack, engine}
-use Rattle.pearl_gen.specs.Faithful.{IsFaithfulTo}
+use Rattle.pearl_program.specs.PlainPrograms.{PlainProg}
+use Rattle.pearl_meaning.specs.Programs.{offer}
+use Rattle.pearl_meaning.specs.ProgramRuns.{source_run}
+use Rattle.pearl_instructions.specs.declared.object.Object.{Object}
+use Rattle.pearl_stack.specs.Frames.{Frame}
+use Rattle.pearl_engine.specs.Engines.{engine}
+use Rattle.pearl_faithful.specs.Faithful.{IsFaithfulTo}
+use Rattle.pearl_engine.specs.Setups.{setup_of}
 use Rattle.pearl_top.specs.Replay.{start_of, Tells}
 
 -- the source's last state, beside a core and offers of the machine
-pub record EndsAs (p : Program) (es : List Entry) (m : Machine Stack) : Type 0 where
+pub record EndsAs (p : PlainProg) (es : List Entry) (m : Machine (List Frame)) : Type 0 where
   pub marks : ℕ
   pub no_mark : source_next (offer p) (source_run p es marks) ≡ None
   pub core : m.core ≡ (source_run p es marks).core
   pub states_alike : states m.core (machine_offers m) ≡ states (source_run p es marks).core (source_offers (offer p) (source_run p es marks))
 
 -- the tables are the program's
-same_tasks : (p : Program) (o : Object) (es : List Entry) (k : ℕ) → IsFaithfulTo p o → runs.source_run (offer p) o.setup es k ≡ source_run p es k
+same_tasks : (p : PlainProg) (o : Object) (es : List Entry) (k : ℕ) → IsFaithfulTo p o → runs.source_run (offer p) (setup_of o) es k ≡ source_run p es k
 same_tasks p o es k faithful = ap (λ setup. runs.source_run (offer p) setup es k) faithful.tables
 
 -- where nothing is unsettled and no entry is left, the source's run has ended alike
-pub ends_as_source : (p : Program) (o : Object) (es : List Entry) (n : ℕ) → IsFaithfulTo p o →
+pub ends_as_source : (p : PlainProg) (o : Object) (es : List Entry) (n : ℕ) → IsFaithfulTo p o →
     unsettled (machine_after (engine o) (start_of o es) n) ≡ None → machine_next (machine_after (engine o) (start_of o es) n) ≡ None →
     EndsAs p es (machine_after (engine o) (start_of o es) n)
 ends_as_source p o es n faithful settled no_mark =
-    let k = marked (engine o) o.setup es n in
-    let e : runs.source_run (offer p) o.setup es k ≡ source_run p es k = same_tasks p o es k faithful in
-    let alike : EndsAlike (offer p) (engine o) o.setup es n = ends_alike (offer p) (engine o) o.setup _ _ faithful.runs es n (record { settled = settled; no_mark = no_mark }) in
+    let k = marked (engine o) (setup_of o) es n in
+    let e : runs.source_run (offer p) (setup_of o) es k ≡ source_run p es k = same_tasks p o es k faithful in
+    let alike : EndsAlike (offer p) (engine o) (setup_of o) es n = ends_alike (offer p) (engine o) (setup_of o) _ _ faithful.runs es n (record { settled = settled; no_mark = no_mark }) in
     let same : (machine_after (engine o) (start_of o es) n).core ≡ (source_run p es k).core = faithful.runs.same_core es n ∙ ap (λ s. s.core) e in record {
       marks = k;
       no_mark = subst (λ s. source_next (offer p) s ≡ None) e alike.ended;
@@ -45,18 +48,18 @@ ends_as_source p o es n faithful settled no_mark =
     }
 
 -- what the machine has told, the source's run has told at its end, and more behind it
-pub record EndsBehind (p : Program) (es : List Entry) (told : List (ℕ × Report)) : Type 0 where
+pub record EndsBehind (p : PlainProg) (es : List Entry) (told : List (ℕ × Report)) : Type 0 where
   pub marks : ℕ
   pub no_mark : source_next (offer p) (source_run p es marks) ≡ None
   pub more : List (ℕ × Report)
   pub says : (source_run p es marks).core.told ≡ told ++ more
 
-pub ends_behind : (p : Program) (o : Object) (es : List Entry) (told : List (ℕ × Report)) → IsFaithfulTo p o → Tells o es told →
+pub ends_behind : (p : PlainProg) (o : Object) (es : List Entry) (told : List (ℕ × Report)) → IsFaithfulTo p o → Tells o es told →
     EndsBehind p es ((start_of o es).core.told ++ told)
 ends_behind p o es told faithful tells =
-    let k = marked (engine o) o.setup es tells.steps in
-    let ends : EndsTelling (offer p) o.setup es k = last_tells (offer p) o.setup es k in
-    let e : runs.source_run (offer p) o.setup es ends.last ≡ source_run p es ends.last = same_tasks p o es ends.last faithful in record {
+    let k = marked (engine o) (setup_of o) es tells.steps in
+    let ends : EndsTelling (offer p) (setup_of o) es k = last_tells (offer p) (setup_of o) es k in
+    let e : runs.source_run (offer p) (setup_of o) es ends.last ≡ source_run p es ends.last = same_tasks p o es ends.last faithful in record {
       marks = ends.last;
       no_mark = subst (λ s. source_next (offer p) s ≡ None) e ends.no_mark;
       more = ends.more;

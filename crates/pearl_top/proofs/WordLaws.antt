@@ -3,22 +3,20 @@ use Rattle.std.proofs.Common.{◌≡◌, ◌≢◌, ◌≤◌, ◌⊎◌, ℕ, L
 use Rattle.std.specs.List.{AllZip, Any}
 use Rattle.pearl_io.specs.Outside.{Files, content}
 use Rattle.pearl_rules.specs.declared.entry.Entry.{Entry}
-use Rattle.pearl_prog.specs.declared.program.Program.{Program}
-use Rattle.pearl_code.specs.declared.object.Object.{Object}
-use Rattle.pearl_first.specs.declared.fault.FrontFault.{FrontFault}
-use Rattle.pearl_first.specs.declared.fault.FrontFault.TheVariants as fault
-use Rattle.pearl_first.specs.Outcome.{IsRefusedBy}
-use Rattle.pearl_gen.specs.Faithful.{IsFaithfulTo}
-use Rattle.pearl_run.specs.Seen.{Seen, Goes}
+use Rattle.pearl_program.specs.PlainPrograms.{PlainProg}
+use Rattle.pearl_instructions.specs.declared.object.Object.{Object}
+use Rattle.pearl_faithful.specs.Faithful.{IsFaithfulTo}
+use Rattle.pearl_machine.specs.Seen.{Seen, Goes}
 use Rattle.pearl_script.specs.declared.refusal.Refusal.TheVariants as refusal
 use Rattle.pearl_script.specs.Refusals.{refusal_line}
+use Rattle.pearl_top.specs.declared.failure.Failure.{Failure}
 use Rattle.pearl_top.specs.declared.failure.Failure.TheVariants as failure
 use Rattle.pearl_top.specs.declared.limits.TheConstants.{SOURCE_LIMIT}
 use Rattle.pearl_top.specs.declared.status.Status.{Status}
 use Rattle.pearl_top.specs.declared.status.Status.TheVariants.{Done, Usage, Refused, BadObject, BadJournal, ReadFault, WriteFault, NoMemory, TooLong}
 use Rattle.pearl_top.specs.CheckDue.{CheckDue, IsAccepted, IsUnaccepted}
 use Rattle.pearl_top.specs.Commands.{Command, Run, Check, Print, NoCommand, names_of}
-use Rattle.pearl_top.specs.Failures.{IsDue, front_refusal}
+use Rattle.pearl_top.specs.Failures.{IsDue}
 use Rattle.pearl_top.specs.JournalDue.{JournalDue}
 use Rattle.pearl_top.specs.Outcome.{Due, DueFor, IsOutcome, IsRefused, IsSource, RunDue, SourceDue}
 use Rattle.pearl_top.specs.PrintDue.{IsPrinted, IsUnspelled, PrintDue}
@@ -32,23 +30,26 @@ use Rattle.pearl_top.proofs.TakenLaws.{ends_as, finishes_of}
 -- AT THE SOURCE
 
 -- a machine that was loaded with a faithful object is ready
-pub ready_of : (p : Program) (o : Object) (seen : Seen) → seen.object ≡ o → IsFaithfulTo p o → ((es : List Entry) → Goes (start_of o es) es seen []) → IsReadyFor p seen
+pub ready_of : (p : PlainProg) (o : Object) (seen : Seen) → seen.object ≡ o → IsFaithfulTo p o → ((es : List Entry) → Goes (start_of o es) es seen []) → IsReadyFor p seen
 ready_of p o seen same faithful start = record {
   faithful = subst (IsFaithfulTo p) (sym same) faithful;
   starts = record { object = refl; goes = λ rest. subst (λ object. Goes (start_of object rest) rest seen []) (sym same) (start rest) };
 }
 
--- the source has no program
-pub source_refused : (source : List ℕ) (cause : FrontFault) → length source ≤ SOURCE_LIMIT → IsRefusedBy source cause →
-    IsDue (SourceDue source ⊥) (failure.Refused (front_refusal cause))
-source_refused source (fault.Syntax place) within refused =
-    record { within = within; cause = fault.Syntax place; known = λ e. cc; refused = refused; text = refl }
-source_refused source (fault.Source place rule) within refused =
-    record { within = within; cause = fault.Source place rule; known = λ e. cc; refused = refused; text = refl }
-source_refused source fault.NoMemory within refused = refl
+-- what is due at a source that is refused when it is checked, is due when it is run
+pub refused_alike : (source : List ℕ) (why : Failure) → IsDue (CheckDue source ⊥) why → IsDue (SourceDue source ⊥) why
+refused_alike source (failure.Refused refusal.Usage) due = due
+refused_alike source (failure.Refused (refusal.Syntax place)) due = inl due
+refused_alike source (failure.Refused (refusal.Source place rule)) due = inl due
+refused_alike source (failure.Refused (refusal.Unbuilt place)) due = inl due
+refused_alike source (failure.Refused (refusal.Journal line code)) due = due
+refused_alike source (failure.Refused refusal.Read) due = due
+refused_alike source (failure.Refused refusal.Memory) due = due
+refused_alike source (failure.Refused (refusal.TooLong count)) due = due
+refused_alike source failure.WriteFault due = due
 
 -- where the count of faults rose from earlier on
-journal_rises : (p : Program) (journal : List ℕ) (rose risen : Type 0) (status : Status) (bytes : List ℕ) → (rose → risen) → JournalDue p journal rose status bytes →
+journal_rises : (p : PlainProg) (journal : List ℕ) (rose risen : Type 0) (status : Status) (bytes : List ℕ) → (rose → risen) → JournalDue p journal rose status bytes →
     JournalDue p journal risen status bytes
 journal_rises p journal rose risen Done bytes on due = due
 journal_rises p journal rose risen Usage bytes on due = due
@@ -72,7 +73,7 @@ run_refused read source journal rose also status bytes same due =
     inl (subst (λ file. SourceDue file rose status bytes) same (at_source_rises read (λ bytes. ⊥) (IsRefused read) ⊥ rose status bytes absurd due))
 
 -- what is due where it is accepted
-pub run_accepted : (read source journal : List ℕ) (rose also later : Type 0) (p : Program) (status : Status) (bytes : List ℕ) → read ≡ source → (also → later) →
+pub run_accepted : (read source journal : List ℕ) (rose also later : Type 0) (p : PlainProg) (status : Status) (bytes : List ℕ) → read ≡ source → (also → later) →
     IsSource read p → JournalDue p journal also status bytes → RunDue source journal rose later status bytes
 run_accepted read source journal rose also later p status bytes same on is_source due =
     inr (p, subst (λ file. IsSource file p) same is_source, journal_rises p journal also later status bytes on due)

@@ -1,7 +1,7 @@
 -- Which words and files bring a command to its end.
 use Rattle.std.specs.Prelude.{◌≡◌, ℕ, ◌≤◌, List, length}
 use Rattle.pearl_rules.specs.declared.entry.Entry.{Entry}
-use Rattle.pearl_prog.specs.declared.program.Program.{Program}
+use Rattle.pearl_program.specs.PlainPrograms.{PlainProg}
 use Rattle.pearl_top.specs.declared.limits.TheConstants.{JOURNAL_LIMIT}
 use Rattle.pearl_top.specs.Commands.{Command, Run, Check, Print, NoCommand}
 use Rattle.pearl_top.specs.CheckDue.{BreaksNone}
@@ -11,7 +11,7 @@ use Rattle.pearl_top.specs.PrintDue.{IsSpelled}
 
 -- an accepted source, and a journal of which all lines are accepted, each within its limit
 pub record AreInOrder (source journal : List ℕ) : Type 0 where
-  pub p : Program
+  pub p : PlainProg
   pub is_source : IsSource source p
   pub within : length journal ≤ JOURNAL_LIMIT
   pub es : List Entry

@@ -6,8 +6,6 @@ use Rattle.pearl_parse_expr.specs.declared.fault.ParseFault.{ParseFault}
 use Rattle.pearl_parse_expr.specs.declared.fault.ParseFault.TheVariants as parse
 use Rattle.pearl_check.specs.declared.fault.CheckFault.{CheckFault}
 use Rattle.pearl_check.specs.declared.fault.CheckFault.TheVariants as check
-use Rattle.pearl_first.specs.declared.fault.FrontFault.{FrontFault}
-use Rattle.pearl_first.specs.declared.fault.FrontFault.TheVariants as front
 use Rattle.pearl_script.specs.declared.refusal.Refusal.{Refusal}
 use Rattle.pearl_script.specs.declared.refusal.Refusal.TheVariants.{Syntax, Source, Memory}
 use Rattle.pearl_script.specs.Refusals.{refusal_line}
@@ -30,12 +28,6 @@ parse_refusal parse.NoMemory = Memory
 abbrev pub check_refusal : CheckFault → Refusal
 check_refusal (check.Refused fault) = Source fault.place fault.rule
 check_refusal check.NoMemory = Memory
-
--- of a source that has no program
-abbrev pub front_refusal : FrontFault → Refusal
-front_refusal (front.Syntax place) = Syntax place
-front_refusal (front.Source place rule) = Source place rule
-front_refusal front.NoMemory = Memory
 
 -- the failure is a refusal, whose line alone is due with its status
 abbrev pub IsDue : (Status → List ℕ → Type 0) → Failure → Type 0

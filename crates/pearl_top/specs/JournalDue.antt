@@ -2,7 +2,8 @@
 use Rattle.std.specs.Prelude.{◌≡◌, ℕ, ◌+◌, ◌<◌, ◌≤◌, List, ◌++◌, length, take, nat_le, Bool, true, false}
 use Rattle.pearl_rules.specs.declared.entry.Entry.{Entry}
 use Rattle.pearl_rules.specs.Core.{first_events}
-use Rattle.pearl_prog.specs.declared.program.Program.{Program}
+use Rattle.pearl_program.specs.PlainPrograms.{PlainProg}
+use Rattle.pearl_meaning.specs.ProgramRuns.{setup_of as tables_of}
 use Rattle.pearl_script.specs.declared.refusal.Refusal.TheVariants as refusal
 use Rattle.pearl_script.specs.Lines.{lines_of}
 use Rattle.pearl_script.specs.Refusals.{refusal_line}
@@ -13,11 +14,11 @@ use Rattle.pearl_top.specs.Journal.{Ending, All, Bad, entries, journal_lines, en
 use Rattle.pearl_top.specs.Transcript.{Close, Closed, Cut, IsTranscript}
 
 -- the lines with which a run opens
-abbrev pub opening_lines : Program → List ℕ
-opening_lines p = lines_of p.setup (first_events 0 p.setup.tasks)
+abbrev pub opening_lines : PlainProg → List ℕ
+opening_lines p = lines_of (tables_of p) (first_events 0 (tables_of p).tasks)
 
 -- the entries of these lines end so, and what their run writes, with what closes it, are these bytes
-pub record IsRun (p : Program) (lines : List (List ℕ)) (ending : Ending) (close : Close) (bytes : List ℕ) : Type 0 where
+pub record IsRun (p : PlainProg) (lines : List (List ℕ)) (ending : Ending) (close : Close) (bytes : List ℕ) : Type 0 where
   pub es : List Entry
   pub read : entries lines ≡ record { accepted = es; ending = ending }
   pub written : IsTranscript p es close bytes
@@ -31,20 +32,20 @@ abbrev pub handled : List ℕ → List (List ℕ)
 handled journal = handled_if (nat_le (length journal) JOURNAL_LIMIT) journal
 
 -- a line of the journal is refused after the run over the lines before it
-pub record IsBadJournal (p : Program) (journal bytes : List ℕ) : Type 0 where
+pub record IsBadJournal (p : PlainProg) (journal bytes : List ℕ) : Type 0 where
   pub line : ℕ
   pub code : ℕ
   pub run : IsRun p (handled journal) (Bad line code) (Cut (refusal.Journal line code)) bytes
 
 -- the lines that end within so many bytes were handled before the fault of reading
-pub record IsReadFault (p : Program) (journal bytes : List ℕ) : Type 0 where
+pub record IsReadFault (p : PlainProg) (journal bytes : List ℕ) : Type 0 where
   pub count : ℕ
   pub within : count ≤ JOURNAL_LIMIT
   pub run : IsRun p (ended_lines (take count journal)) All (Cut refusal.Read) bytes
 
 -- What is due with each way to end at or after the journal of an accepted source: all its lines were accepted; one was refused; it
 -- has too many bytes; reading it failed, where its count of faults rose; there was no memory for it.
-abbrev pub JournalDue : Program → List ℕ → Type 0 → Status → List ℕ → Type 0
+abbrev pub JournalDue : PlainProg → List ℕ → Type 0 → Status → List ℕ → Type 0
 JournalDue p journal rose Done bytes = (length journal ≤ JOURNAL_LIMIT) × IsRun p (journal_lines journal) All Closed bytes
 JournalDue p journal rose BadJournal bytes = IsBadJournal p journal bytes
 JournalDue p journal rose TooLong bytes =

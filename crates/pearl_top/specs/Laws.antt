@@ -1,14 +1,13 @@
 -- The definitions determine the answer, and printing a printed text changes nothing.
 use Rattle.std.specs.Prelude.{◌≡◌, ℕ, ◌≤◌, List, length}
-use Rattle.pearl_rules.specs.declared.action.Answer.{Answer}
 use Rattle.pearl_rules.specs.declared.entry.Entry.{Entry}
-use Rattle.pearl_prog.specs.declared.program.Program.{Program}
+use Rattle.pearl_program.specs.PlainPrograms.{PlainProg}
 use Rattle.pearl_tree.specs.declared.token.Token.{Token}
 use Rattle.pearl_tree.specs.declared.tree.Tree.{Tree}
 use Rattle.pearl_tree.specs.Modules.{Spells}
 use Rattle.pearl_lex.specs.Lexes.{Lexes}
 use Rattle.pearl_print.specs.Reading.{FitsHours}
-use Rattle.pearl_meaning.specs.Meaning.{offer}
+use Rattle.pearl_meaning.specs.ProgramRuns.{setup_of as tables_of}
 use Rattle.pearl_top.specs.declared.limits.TheConstants.{SOURCE_LIMIT}
 use Rattle.pearl_top.specs.declared.status.Status.{Status}
 use Rattle.pearl_top.specs.declared.status.Status.TheVariants.{Done}
@@ -16,17 +15,13 @@ use Rattle.pearl_top.specs.Commands.{Command, Print}
 use Rattle.pearl_top.specs.Outcome.{IsSource, IsOutcome}
 use Rattle.pearl_top.specs.Transcript.{Close, IsTranscript}
 
--- two programs of one source have the same tables, and their tasks do the same after the same answers
-pub record AreAlike (p q : Program) : Type 0 where
-  pub setup : p.setup ≡ q.setup
-  pub offers : (task : ℕ) (answers : List Answer) → offer p task answers ≡ offer q task answers
-
+-- a source means one program
 abbrev pub HasOneMeaning : Type 0
-HasOneMeaning = (source : List ℕ) (p q : Program) → IsSource source p → IsSource source q → AreAlike p q
+HasOneMeaning = (source : List ℕ) (p q : PlainProg) → IsSource source p → IsSource source q → p ≡ q
 
 -- a source writes one thing over the entries of a journal
 abbrev pub HasOneTranscript : Type 0
-HasOneTranscript = (source : List ℕ) (p q : Program) → IsSource source p → IsSource source q → (es : List Entry) (close : Close) (bytes others : List ℕ) →
+HasOneTranscript = (source : List ℕ) (p q : PlainProg) → IsSource source p → IsSource source q → (es : List Entry) (close : Close) (bytes others : List ℕ) →
     IsTranscript p es close bytes → IsTranscript q es close others → bytes ≡ others
 
 -- a command and its files have at most one status, and at most one list of bytes

@@ -1,16 +1,15 @@
 -- Which status and which bytes belong to some words and files.
-use Rattle.std.specs.Prelude.{◌≡◌, ◌≢◌, ℕ, ◌≤◌, ◌⊎◌, List, [], ◌∷◌, length, map}
-use Rattle.pearl_first.specs.declared.fault.FrontFault.{FrontFault}
-use Rattle.pearl_first.specs.declared.fault.FrontFault.TheVariants as fault
-use Rattle.pearl_first.specs.Outcome.{Accepts, IsRefusedBy}
-use Rattle.pearl_prog.specs.declared.program.Program.{Program}
+use Rattle.std.specs.Prelude.{◌≡◌, ◌≢◌, ℕ, ◌⊎◌, List, [], ◌∷◌, None, Some, map}
+use Rattle.pearl_tree.specs.ShownModules.{shown_tree}
+use Rattle.pearl_unbuilt.specs.Unbuilt.{unbuilt}
+use Rattle.pearl_program.specs.PlainPrograms.{PlainProg}
+use Rattle.pearl_module.specs.Programs.{IsProgramOf}
 use Rattle.pearl_script.specs.declared.refusal.Refusal.TheVariants as refusal
 use Rattle.pearl_script.specs.Refusals.{refusal_line}
-use Rattle.pearl_top.specs.declared.limits.TheConstants.{SOURCE_LIMIT}
 use Rattle.pearl_top.specs.declared.status.Status.{Status}
 use Rattle.pearl_top.specs.declared.status.Status.TheVariants.{Usage, NoMemory}
 use Rattle.pearl_top.specs.Commands.{Command, Run, Check, Print, NoCommand, names_of}
-use Rattle.pearl_top.specs.CheckDue.{CheckDue}
+use Rattle.pearl_top.specs.CheckDue.{BreaksNone, CheckDue, IsUnaccepted}
 use Rattle.pearl_top.specs.JournalDue.{JournalDue}
 use Rattle.pearl_top.specs.PrintDue.{PrintDue}
 use Rattle.pearl_top.specs.Reading.{DueAtSource}
@@ -18,24 +17,22 @@ use Rattle.pearl_top.specs.Taken.{OnlyDue}
 
 -- THE SOURCE
 
--- the line of a source that is refused: the place at which it is no program, or that of a broken rule with the rule
-abbrev pub line_of_fault : FrontFault → List ℕ
-line_of_fault (fault.Syntax place) = refusal_line (refusal.Syntax place)
-line_of_fault (fault.Source place rule) = refusal_line (refusal.Source place rule)
-line_of_fault fault.NoMemory = refusal_line refusal.Memory
+-- these bytes, within the limit, are a module that breaks no rule and of which all forms are carried out; it means this program
+pub record IsSource (source : List ℕ) (p : PlainProg) : Type 0 where
+  pub is : BreaksNone source
+  pub built : unbuilt (shown_tree is.is.tree) ≡ None
+  pub program : IsProgramOf (shown_tree is.is.tree) p
 
--- these bytes, within the limit, are refused by this fault, whose line is written
-pub record IsRefused (source bytes : List ℕ) : Type 0 where
-  pub within : length source ≤ SOURCE_LIMIT
-  pub cause : FrontFault
-  pub known : cause ≢ fault.NoMemory
-  pub refused : IsRefusedBy source cause
-  pub text : bytes ≡ line_of_fault cause
+-- they are one that breaks no rule, and this is the line of the first form that isn't carried out yet
+pub record IsUnbuilt (source bytes : List ℕ) : Type 0 where
+  pub is : BreaksNone source
+  pub place : ℕ
+  pub stands : unbuilt (shown_tree is.is.tree) ≡ Some place
+  pub text : bytes ≡ refusal_line (refusal.Unbuilt place)
 
--- these bytes, within the limit, are an accepted source of this program
-pub record IsSource (source : List ℕ) (p : Program) : Type 0 where
-  pub within : length source ≤ SOURCE_LIMIT
-  pub accepted : Accepts source p
+-- they have no tokens, or no tree, or a rule is broken, or a form isn't carried out yet
+abbrev pub IsRefused : List ℕ → List ℕ → Type 0
+IsRefused source bytes = IsUnaccepted source bytes ⊎ IsUnbuilt source bytes
 
 -- what is due at a source that is run, with which no command is done: a refusal
 abbrev pub SourceDue : List ℕ → Type 0 → Status → List ℕ → Type 0
@@ -46,7 +43,7 @@ SourceDue source = DueAtSource source (λ bytes. ⊥) (IsRefused source)
 -- what is due at the source, or where it is accepted at its journal; each file with the cause of a fault of reading it
 abbrev pub RunDue : List ℕ → List ℕ → Type 0 → Type 0 → Status → List ℕ → Type 0
 RunDue source journal source_rose journal_rose status bytes =
-    SourceDue source source_rose status bytes ⊎ ((p : Program) × IsSource source p × JournalDue p journal journal_rose status bytes)
+    SourceDue source source_rose status bytes ⊎ ((p : PlainProg) × IsSource source p × JournalDue p journal journal_rose status bytes)
 
 -- What is due for a command, where these are the bytes of the files that it names, in order. `rose` tells of each name whether its
 -- count of faults rose.

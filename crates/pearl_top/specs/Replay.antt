@@ -5,8 +5,10 @@ use Rattle.pearl_rules.specs.declared.entry.Entry.{Entry}
 use Rattle.pearl_rules.specs.declared.setup.Setup.{Setup}
 use Rattle.pearl_rules.specs.Core.{Report}
 use Rattle.pearl_rules.specs.Runs.{Machine, machine_start, machine_after}
-use Rattle.pearl_code.specs.declared.object.Object.{Object}
-use Rattle.pearl_code.specs.Rows.{Stack, engine}
+use Rattle.pearl_instructions.specs.declared.object.Object.{Object}
+use Rattle.pearl_stack.specs.Frames.{Frame}
+use Rattle.pearl_engine.specs.Engines.{engine}
+use Rattle.pearl_engine.specs.Setups.{setup_of}
 use Rattle.pearl_script.specs.Lines.{lines_of}
 use Rattle.pearl_script.specs.declared.refusal.Refusal.TheVariants.{Journal}
 use Rattle.pearl_top.specs.declared.failure.Failure.{Failure}
@@ -15,11 +17,11 @@ use Rattle.pearl_top.specs.declared.journal.Line.TheVariants.{Wrong}
 use Rattle.pearl_top.specs.declared.replay.Lines.{Lines}
 use Rattle.pearl_top.specs.declared.replay.Lines.TheVariants as lines
 use Rattle.pearl_top.specs.Journal.{Ending, Bad, Entries, entries, entries_from, ended_lines, journal_lines, meaning, more_entries}
-use Rattle.pearl_run.specs.Seen.{Seen, Goes}
+use Rattle.pearl_machine.specs.Seen.{Seen, Goes}
 
 -- the state of an object's run before its first step
-abbrev pub start_of : Object → List Entry → Machine Stack
-start_of o es = machine_start (engine o) o.setup es
+abbrev pub start_of : Object → List Entry → Machine (List Frame)
+start_of o es = machine_start (engine o) (setup_of o) es
 
 -- over each journal that begins with these entries the run comes to where the machine that is seen stands, with the other
 -- entries left, telling this on the way
@@ -99,10 +101,10 @@ pub record Progress (setup : Setup) (lines : List (List ℕ)) (count : ℕ) (lef
 abbrev pub IsLineFailure : Failure → ℕ → List ℕ → Seen → Seen → Option (List ℕ) → Option (List ℕ) → Type 0 → Type 0
 IsLineFailure (Refused refusal) line text seen after old new failed =
     (code : ℕ) × (refusal ≡ Journal line code) × (meaning text ≡ Wrong code) × (after ≡ seen) × (new ≡ old)
-IsLineFailure WriteFault line text seen after old new failed = failed × LineBroken seen.object.setup line text seen old new
+IsLineFailure WriteFault line text seen after old new failed = failed × LineBroken (setup_of seen.object) line text seen old new
 
 -- some lines failed at one that is refused, or where the output was not taken whole
 abbrev pub IsLinesFailure : Failure → List (List ℕ) → Seen → Seen → Option (List ℕ) → Option (List ℕ) → Type 0 → Type 0
 IsLinesFailure (Refused refusal) lines seen after old new failed =
-    (line code : ℕ) × (refusal ≡ Journal line code) × LinesDone seen.object.setup lines (Bad line code) seen after old new
-IsLinesFailure WriteFault lines seen after old new failed = failed × LinesBroken seen.object.setup lines seen old new
+    (line code : ℕ) × (refusal ≡ Journal line code) × LinesDone (setup_of seen.object) lines (Bad line code) seen after old new
+IsLinesFailure WriteFault lines seen after old new failed = failed × LinesBroken (setup_of seen.object) lines seen old new

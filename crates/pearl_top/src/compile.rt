@@ -1,26 +1,58 @@
 // From a source to a machine with its code.
 
 ghost use Rattle.std.specs.Prelude.{◌≤◌, length, IfOk, IfErr};
-ghost use Rattle.pearl_prog.specs.declared.program.Program.{Program};
+ghost use Rattle.pearl_program.specs.PlainPrograms.{PlainProg, plain_prog};
+ghost use Rattle.pearl_built.specs.Built.{IsBuilt};
 ghost use Rattle.pearl_top.specs.Failures.{IsDue};
 ghost use Rattle.pearl_top.specs.Outcome.{IsSource, SourceDue};
 ghost use Rattle.pearl_top.specs.Ready.{IsReadyFor};
 
 use crate::failure::Failure;
 use crate::limits::SOURCE_LIMIT;
-use pearl_first::front_end::program;
-use pearl_gen::generate;
-use pearl_run::Machine;
-use std::alloc::Global;
+use pearl_generate::generate;
+use pearl_instructions::valid::Valid;
+use pearl_lex::lexer::tokens;
+use pearl_machine::Machine;
+use pearl_module::program_of;
+use pearl_parse::parse::parse;
+use pearl_program::prog::Prog;
+use pearl_script::refusal::Refusal;
+use pearl_unbuilt::first_unbuilt;
+use std::alloc::{AllocError as NoMemory, Global};
 
 /// Compiles a source, and loads a machine with its code.
 pub fn compile(alloc: Global, source: &[u8]) -> Result<Machine, Failure>
     requires { length source.now ≤ SOURCE_LIMIT }
-    ensures ok { IfOk result (λ machine. (p : Program) × IsSource source.now p × IsReadyFor p machine) }
+    ensures ok { IfOk result (λ machine. (p : PlainProg) × IsSource source.now p × IsReadyFor p machine) }
     ensures err { IfErr result (IsDue (SourceDue source.now ⊥)) }
 {
-    let prog = program(alloc, source)?;
-    let object = generate(alloc, &prog)?;
-    let machine = Machine::load(alloc, object)?;
+    let program = program(alloc, source)?;
+    let machine = machine(alloc, &program)?;
     Ok(machine)
+}
+
+// The program of a source that breaks no rule, and of which all forms are carried out.
+fn program(alloc: Global, source: &[u8]) -> Result<Prog, Failure>
+    requires { length source.now ≤ SOURCE_LIMIT }
+    ensures source { IfOk result (λ program. IsSource source.now (plain_prog program)) }
+    ensures built { IfOk result (λ program. IsBuilt (plain_prog program)) }
+    ensures err { IfErr result (IsDue (SourceDue source.now ⊥)) }
+{
+    let tokens = tokens(alloc, source)?;
+    let tree = parse(alloc, tokens.as_slice(), source.len() as u32)?;
+    let program = program_of(alloc, &tree)?;
+    match first_unbuilt(&tree) {
+        Some(place) => Err(Failure::Refused(Refusal::Unbuilt(place))),
+        None => Ok(program),
+    }
+}
+
+// A machine with the code of a program.
+fn machine(alloc: Global, program: &Prog) -> Result<Machine, NoMemory>
+    requires { IsBuilt (plain_prog program.now) }
+    ensures { IfOk result (IsReadyFor (plain_prog program.now)) }
+{
+    let object = generate(alloc, program)?;
+    let code = Valid::new(alloc, object)?;
+    Machine::load(alloc, code)
 }

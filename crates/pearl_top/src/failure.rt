@@ -1,12 +1,11 @@
 // Why a command was not carried out to its end.
 
 ghost use Rattle.std.specs.Prelude.{◌≡◌};
-ghost use Rattle.pearl_top.specs.Failures.{check_refusal, front_refusal, lex_refusal, parse_refusal};
+ghost use Rattle.pearl_top.specs.Failures.{check_refusal, lex_refusal, parse_refusal};
 ghost use Rattle.pearl_top.specs.declared.failure.Failure.TheVariants as failure;
 ghost use Rattle.pearl_script.specs.declared.refusal.Refusal.TheVariants as refusal;
 
 use pearl_check::fault::CheckFault;
-use pearl_first::fault::FrontFault;
 use pearl_io::WriteFault;
 use pearl_lex::fault::LexFault;
 use pearl_parse_expr::fault::ParseFault;
@@ -71,18 +70,6 @@ impl From<CheckFault> for Failure {
                 rule,
             }),
             CheckFault::NoMemory => Failure::Refused(Refusal::Memory),
-        }
-    }
-}
-
-impl From<FrontFault> for Failure {
-    ghost from_gives = { λ fault e. e ≡ failure.Refused (front_refusal fault) };
-
-    fn from(fault: FrontFault) -> Failure {
-        match fault {
-            FrontFault::Syntax(place) => Failure::Refused(Refusal::Syntax(place)),
-            FrontFault::Source { place, rule } => Failure::Refused(Refusal::Source { place, rule }),
-            FrontFault::NoMemory => Failure::Refused(Refusal::Memory),
         }
     }
 }

@@ -2,7 +2,7 @@
 
 ghost use Rattle.pearl_top.specs.Laws.{HasOneMeaning, HasOneTranscript, HasOneOutcome, PrintsItsText};
 
-/// Two programs of one source have the same tables, and their tasks do the same after the same answers.
+/// A source means one program.
 pub fn one_meaning()
     ensures { HasOneMeaning }
 {}

@@ -2,7 +2,8 @@
 
 ghost use Rattle.std.specs.Prelude.{◌≡◌, ◌+◌, ◌^◌, ◌<◌, ◌≤◌, ℕ, List, length, IfErr, OnOk};
 ghost use Rattle.pearl_io.specs.Outside.{CountRose, WriteFailed};
-ghost use Rattle.pearl_prog.specs.declared.program.Program.{Program};
+ghost use Rattle.pearl_program.specs.PlainPrograms.{PlainProg};
+ghost use Rattle.pearl_engine.specs.Setups.{setup_of};
 ghost use Rattle.pearl_top.specs.Journal.{All};
 ghost use Rattle.pearl_top.specs.JournalDue.{JournalDue};
 ghost use Rattle.pearl_top.specs.Reading.{MayHave};
@@ -14,7 +15,7 @@ use crate::failure::Failure;
 use crate::journal::{Line, meaning_of, next_line};
 use crate::limits::JOURNAL_LIMIT;
 use pearl_io::{Fetched, Shelf, Sink, fetch_all};
-use pearl_run::Machine;
+use pearl_machine::Machine;
 use pearl_script::refusal::Refusal;
 use std::alloc::Global;
 
@@ -37,7 +38,7 @@ pub fn replay<S: Shelf, K: Sink>(
 ) -> Result<(), Failure>
     ensures ends { let rose = CountRose (S.faults shelf.old journal.now) (S.faults shelf.new journal.now) in
         let failed = WriteFailed (K.faults sink.old) (K.faults sink.new) (K.full sink.new) in
-        (p : Program) → IsReadyFor p machine.old → (file : List ℕ) × MayHave (S.holds shelf.old) journal.now file
+        (p : PlainProg) → IsReadyFor p machine.old → (file : List ℕ) × MayHave (S.holds shelf.old) journal.now file
         × Leaves (K.taken sink.old) (K.taken sink.new) failed (JournalDue p file rose) result }
     ensures held { S.holds shelf.new ≡ S.holds shelf.old }
     ensures shelf_later { (name : List ℕ) → S.faults shelf.old name ≤ S.faults shelf.new name }
@@ -70,7 +71,7 @@ fn carry_out<K: Sink>(
     sink: &mut K,
 ) -> Result<(), Failure>
     requires { length journal.now < 2 ^ 40 }
-    ensures ok { OnOk result (LinesDone machine.old.object.setup (lines_in lines journal.now) All machine.old machine.new
+    ensures ok { OnOk result (LinesDone (setup_of machine.old.object) (lines_in lines journal.now) All machine.old machine.new
         (K.taken sink.old) (K.taken sink.new)) }
     ensures err { let failed = WriteFailed (K.faults sink.old) (K.faults sink.new) (K.full sink.new) in
         IfErr result (λ failure. IsLinesFailure failure (lines_in lines journal.now) machine.old machine.new
@@ -98,7 +99,7 @@ fn carry_out_line<K: Sink>(
     line: u64,
     sink: &mut K,
 ) -> Result<(), Failure>
-    ensures ok { OnOk result (LineDone machine.old.object.setup line text.now machine.old machine.new
+    ensures ok { OnOk result (LineDone (setup_of machine.old.object) line text.now machine.old machine.new
         (K.taken sink.old) (K.taken sink.new)) }
     ensures err { let failed = WriteFailed (K.faults sink.old) (K.faults sink.new) (K.full sink.new) in
         IfErr result (λ failure. IsLineFailure failure line text.now machine.old machine.new

@@ -14,3 +14,5 @@ mod mark;
 mod print;
 #[cfg(test)]
 mod run;
+#[cfg(test)]
+mod whole;

@@ -7,9 +7,10 @@ use pearl_top::top::pearl;
 use std::alloc::{AllocError, Global};
 use std::test::Fail;
 
-const RUN: &[&str] = &["run", "s", "j"];
+/// The words of a run over both files.
+pub const RUN: &[&str] = &["run", "s", "j"];
 
-// A module of the first language with this between its head and MODEND.
+// A module with this between its head and MODEND.
 macro_rules! module {
     ($body:literal) => {
         concat!(

@@ -1,4 +1,4 @@
-use Rattle.pearl_top.proofs.AlikeLaws.{one_transcript}
+use Rattle.pearl_top.proofs.OneProgram.{one_transcript}
 use Rattle.pearl_top.proofs.laws.one_transcript.Goals as goal
 
 pub returns : goal.returns

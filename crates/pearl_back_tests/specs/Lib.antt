@@ -1,2 +1,0 @@
--- the object that the tests run by hand
-pub mod Hand

@@ -1,0 +1,8 @@
+pub mod BuiltParts
+pub mod BuiltExpressions
+pub mod BuiltStatements
+pub mod BuiltModules
+pub mod Stretches
+pub mod ExpressionCode
+pub mod StatementCode
+pub mod ObjectCode

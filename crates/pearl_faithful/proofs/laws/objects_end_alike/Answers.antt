@@ -1,0 +1,5 @@
+use Rattle.pearl_faithful.proofs.Runs.{end_alike}
+use Rattle.pearl_faithful.proofs.laws.objects_end_alike.Goals as goal
+
+pub returns : goal.returns
+returns c = end_alike

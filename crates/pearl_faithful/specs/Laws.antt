@@ -1,0 +1,64 @@
+-- What holds of the runs of a program's object.
+use Rattle.std.specs.Prelude.{◌≡◌, ℕ, List, length}
+use Rattle.pearl_rules.specs.declared.entry.Entry.{Entry}
+use Rattle.pearl_rules.specs.Faithful.{Alone, Soon}
+use Rattle.pearl_rules.specs.Laws.{HasEnded}
+use Rattle.pearl_rules.specs.Runs as runs
+use Rattle.pearl_rules.specs.Slots.{HasKinds}
+use Rattle.pearl_program.specs.PlainPrograms.{PlainProg}
+use Rattle.pearl_program.specs.Sound.{IsSound}
+use Rattle.pearl_instructions.specs.declared.object.Object.{Object}
+use Rattle.pearl_instructions.specs.Lawful.{IsObject}
+use Rattle.pearl_instructions.specs.Valid.{IsValid}
+use Rattle.pearl_meaning.specs.Programs.{offer}
+use Rattle.pearl_meaning.specs.ProgramRuns as program
+use Rattle.pearl_meaning.specs.ProgramRuns.{source_run}
+use Rattle.pearl_engine.specs.Built.{OnlyBuilt}
+use Rattle.pearl_engine.specs.Setups.{setup_of}
+use Rattle.pearl_engine.specs.Engines.{engine, total_rows, machine_run}
+use Rattle.pearl_engine.specs.Owners.{rows_left}
+use Rattle.pearl_gen_expr.specs.Tables.{HasTables}
+use Rattle.pearl_gen_stmt.specs.Generated.{IsGenerated}
+use Rattle.pearl_faithful.specs.Faithful.{IsFaithfulTo, RunsAlike, EndsAlike, Finishes}
+use Rattle.pearl_faithful.specs.Standing.{Stands}
+
+-- the tables from which the object's run starts are those from which the program's does
+abbrev pub SameTables : Type 0
+SameTables = (p : PlainProg) (o : Object) → HasTables p o → setup_of o ≡ program.setup_of p
+
+-- so the tasks' rules run from the object's tables as the program runs
+abbrev pub SameRuns : Type 0
+SameRuns = (p : PlainProg) (o : Object) → HasTables p o → (es : List Entry) (m : ℕ) →
+    runs.source_run (offer p) (setup_of o) es m ≡ source_run p es m
+
+-- what holds of every object that a sound program becomes, if it is valid and its instructions are built
+abbrev pub OfObjects : (PlainProg → Object → Type 0) → Type 0
+OfObjects Holds = (p : PlainProg) (o : Object) → IsSound p → IsGenerated p o → IsObject o → IsValid o → OnlyBuilt o → Holds p o
+
+-- the code of each task stands where its answers lead, and offers there what the task does next
+abbrev pub TasksStand : Type 0
+TasksStand = OfObjects (λ p o. Alone (setup_of o) (offer p) (engine o) (Stands p o))
+
+-- and does so within as many steps as the object has instructions
+abbrev pub TasksOfferSoon : Type 0
+TasksOfferSoon = OfObjects (λ p o. Soon (length o.tasks) (engine o) (Stands p o) (λ t frames. rows_left o frames) (total_rows o))
+
+-- the object does what the program means
+abbrev pub FaithfulPrograms : Type 0
+FaithfulPrograms = OfObjects IsFaithfulTo
+
+-- its run over any entries comes to its end
+abbrev pub ObjectsFinish : Type 0
+ObjectsFinish = OfObjects (λ p o. (es : List Entry) → Finishes p o es)
+
+-- every variable of the module holds a value of its kind, after any number of steps
+abbrev pub ObjectsKeepKinds : Type 0
+ObjectsKeepKinds = OfObjects (λ p o. (es : List Entry) (n : ℕ) → HasKinds (setup_of o) (machine_run o es n).core)
+
+-- an object that does what a program means runs as it does, over any entries and for any number of steps
+abbrev pub ObjectsRun : Type 0
+ObjectsRun = (p : PlainProg) (o : Object) → IsFaithfulTo p o → (es : List Entry) (n : ℕ) → RunsAlike p o es n
+
+-- and ends as it does
+abbrev pub ObjectsEndAlike : Type 0
+ObjectsEndAlike = (p : PlainProg) (o : Object) → IsFaithfulTo p o → (es : List Entry) (n : ℕ) → HasEnded (engine o) (setup_of o) es n → EndsAlike p o es n

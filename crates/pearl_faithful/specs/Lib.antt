@@ -1,0 +1,6 @@
+-- when an object does what a program means, and how both run over the same entries
+pub mod Faithful
+-- where the code of a task stands after the answers that it had
+pub mod Standing
+-- what holds of the runs of a program's object
+pub mod Laws

@@ -1,0 +1,69 @@
+// That the object of a program runs as the program means. Each function's contract is one theorem; none does anything.
+
+ghost use Rattle.pearl_faithful.specs.Laws.{SameTables, SameRuns, TasksStand, TasksOfferSoon, FaithfulPrograms, ObjectsFinish, ObjectsKeepKinds, ObjectsRun, ObjectsEndAlike};
+
+use pearl_engine::laws;
+use pearl_gen_stmt::laws::tasks_offer;
+
+/// The tables from which an object's run starts are those of its program.
+pub fn tables_are_the_programs()
+    ensures { SameTables }
+{}
+
+/// The tasks' rules run from the object's tables as the program runs.
+pub fn runs_are_the_programs()
+    ensures { SameRuns }
+{}
+
+/// The code of each task stands where its answers lead, and offers there what the task does next, soon. So what of one task
+/// at a time is enough for a whole run holds of the object.
+pub fn tasks_stand()
+    ensures alone { TasksStand }
+    ensures soon { TasksOfferSoon }
+{
+    laws::tasks_begin();
+    laws::stacks_stay_a_tasks();
+    laws::answers_lead_to_stacks();
+    laws::answers_suit();
+    laws::offers_name_what_is_there();
+    laws::offers_fit_the_tables();
+    laws::offers_are_built();
+    laws::actions_are_offered_soon();
+    tasks_offer();
+}
+
+/// A valid object that a sound program becomes does what the program means, where its instructions are built: for any
+/// tasks and any journal.
+pub fn faithful_programs()
+    ensures { FaithfulPrograms }
+{
+    laws::tables_are_lawful();
+    tasks_stand();
+}
+
+/// The run of such an object over any journal comes to its end, as the program's does, within a bound that the marks, the
+/// tasks and the instructions give.
+pub fn objects_finish()
+    ensures { ObjectsFinish }
+{
+    laws::tables_are_lawful();
+    tasks_stand();
+}
+
+/// In such a run every variable of the module holds a value of its kind.
+pub fn objects_keep_kinds()
+    ensures { ObjectsKeepKinds }
+{
+    laws::tables_are_lawful();
+    tasks_stand();
+}
+
+/// An object that does what a program means runs as it does.
+pub fn objects_run_alike()
+    ensures { ObjectsRun }
+{}
+
+/// Where its run is at its end, so is the program's, and both tell the same.
+pub fn objects_end_alike()
+    ensures { ObjectsEndAlike }
+{}

@@ -1,6 +1,0 @@
-use Rattle.std.proofs.Common.{arith}
-use Rattle.pearl_first.proofs.Values.{over}
-use Rattle.pearl_first.proofs.spelling.value_within.Goals as goal
-
-pub returns-then-next-max : goal.returns-then-next-max
-returns-then-next-max c = over c.args.digits.now c.loop-digit.digit-index c.loop-digit.value c.args.max (omega arith) c.loop-digit.invariant.0 (omega arith)

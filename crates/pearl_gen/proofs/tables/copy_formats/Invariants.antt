@@ -1,5 +1,0 @@
-use Rattle.std.proofs.Common.{◌≡◌, take}
-use Rattle.pearl_gen.proofs.tables.copy_formats.Given as goal
-
-abbrev pub invariant-loop-items : goal.invariant-loop-items
-invariant-loop-items l = l.copy.items ≡ take l.items-index l.formats

@@ -1,8 +1,0 @@
-pub mod Scheduling
-pub mod Operands
-pub mod Slots
-pub mod Steps
-pub mod Goes
-pub mod Marking
-pub mod Runs
-pub mod Closing

@@ -1,0 +1,158 @@
+// What `run` writes of one task that uses the whole language: its statements, expressions, procedures, arrays and structures;
+// and where a source has a form that isn't carried out yet.
+
+use crate::mark::{told, unmarked};
+use crate::run::{RUN, carry_out};
+use pearl_top::status::Status;
+use std::alloc::{AllocError, Global};
+use std::test::Fail;
+
+const HEAD: &str = "MODULE(m); SYSTEM; tty: TERMINAL(1); irq: INTERRUPT(3);\n\
+    PROBLEM; SPC tty DATION INOUT ALPHIC, irq INTERRUPT;\n";
+
+// What stands between the head and MODEND with a journal, and the transcript between the start of `main` and the close.
+fn bodies() -> &'static [(&'static str, &'static str, &'static str)] {
+    macro_rules! runs {
+        ($($body:literal, $journal:literal => $told:literal;)*) => {
+            &[$(($body, $journal, $told)),*]
+        };
+    }
+    runs![
+        "main: TASK MAIN; FOR i FROM 2147483646 TO 2147483647 REPEAT PUT i TO tty BY \
+            F(10); END; END;",
+            "run 10" => "0 out 1 '2147483646'\n0 out 1 '2147483647'\n0 end main\n0 state main dormant\n";
+        "main: TASK MAIN; FOR i FROM 2147483646 REPEAT PUT i TO tty BY F(10); END; END;",
+            "run 10" => "0 out 1 '2147483646'\n0 out 1 '2147483647'\n0 trap main Overflow\n0 state main dormant\n";
+        "main: TASK MAIN; FOR i BY 0 TO 3 REPEAT END; END;",
+            "run 10" => "0 trap main Range\n0 state main dormant\n";
+        "main: TASK MAIN; FOR i FROM 3 BY -1 TO 1 REPEAT PUT i TO tty BY F(1); END; END;",
+            "run 20" => "0 out 1 '3'\n0 out 1 '2'\n0 out 1 '1'\n0 end main\n0 state main dormant\n";
+        "DCL x FIXED; main: TASK MAIN; WHILE x < 3 REPEAT x := x + 1; PUT x TO tty BY \
+            F(1); END; END;",
+            "run 50" => "0 out 1 '1'\n0 out 1 '2'\n0 out 1 '3'\n0 end main\n0 state main dormant\n";
+        "DCL x FIXED; main: TASK MAIN; REPEAT REPEAT x := x + 1; IF x > 1 THEN EXIT; FIN; \
+            END; IF x > 4 THEN EXIT; FIN; x := 4; END; PUT x TO tty BY F(2); END;",
+            "run 100" => "0 out 1 ' 5'\n0 end main\n0 state main dormant\n";
+        "DCL x FIXED INIT(2); main: TASK MAIN; IF x EQ 1 THEN PUT 'a' TO tty BY A; ELSE \
+            PUT 'b' TO tty BY A; FIN; END;",
+            "run 10" => "0 out 1 'b'\n0 end main\n0 state main dormant\n";
+        "main: TASK MAIN; FOR i FROM 0 TO 3 REPEAT CASE i ALT PUT 'a' TO tty BY A; ALT \
+            PUT 'b' TO tty BY A; OUT PUT 'o' TO tty BY A; FIN; END; END;",
+            "run 20" => "0 out 1 'o'\n0 out 1 'a'\n0 out 1 'b'\n0 out 1 'o'\n0 end main\n0 state main dormant\n";
+        "main: TASK MAIN; CASE 3 ALT ; ALT ; FIN; PUT 'x' TO tty BY A; END;",
+            "run 20" => "0 out 1 'x'\n0 end main\n0 state main dormant\n";
+        "main: TASK MAIN; PUT -7 // 2, -7 REM 2, 7 // -2, 7 REM -2 TO tty BY F(3), F(3), \
+            F(3), F(3); END;",
+            "run 5" => "0 out 1 ' -3 -1 -3  1'\n0 end main\n0 state main dormant\n";
+        "main: TASK MAIN; PUT 1 // 0 TO tty BY F(3); END;",
+            "run 5" => "0 trap main ZeroDivide\n0 state main dormant\n";
+        "main: TASK MAIN; PUT 23:59:59.5 + 1 SEC TO tty BY T(12); PUT 1 HRS 2 MIN 3 SEC \
+            TO tty BY D(20); END;",
+            "run 5" => "0 out 1 '00:00:00.500'\n0 trap main Format\n0 state main dormant\n";
+        "DCL x FIXED; main: TASK MAIN; PUT (x > 0) AND (1 // x > 0) TO tty BY B; END;",
+            "run 5" => "0 trap main ZeroDivide\n0 state main dormant\n";
+        "DCL v(3) FIXED; main: TASK MAIN; v(4) := 1; END;",
+            "run 5" => "0 trap main Index\n0 state main dormant\n";
+        "DCL v(-1:1, 2) FIXED; main: TASK MAIN; FOR i FROM -1 TO 1 REPEAT FOR j TO 2 \
+            REPEAT v(i, j) := 10 * i + j; END; END; PUT v(-1, 2), v(1, 1), LWB v, 2 UPB v TO \
+            tty BY F(4), F(4), F(3), F(3); END;",
+            "run 100" => "0 out 1 '  -8  11 -1  2'\n0 end main\n0 state main dormant\n";
+        "DCL r(2) STRUCT[n FIXED, h(2) STRUCT[a FIXED, b CHAR(3)]]; main: TASK MAIN; \
+            r(2).h(1).a := 5; r(2).h(1).b := 'abc'; r(1).n := r(2).h(1).a + 1; PUT r(1).n, \
+            r(2).h(1).b, r(2).h(2).a TO tty BY F(2), A, F(2); END;",
+            "run 20" => "0 out 1 ' 6abc 0'\n0 end main\n0 state main dormant\n";
+        "DCL (p, q) FIXED INIT(3, 4); sw: PROC((x, y) FIXED IDENT); DCL h FIXED; h := x; \
+            x := y; y := h; END; main: TASK MAIN; CALL sw(p, q); PUT p, q TO tty BY F(2), \
+            F(2); END;",
+            "run 20" => "0 out 1 ' 4 3'\n0 end main\n0 state main dormant\n";
+        "DCL (p, q) FIXED INIT(3, 4); sw: PROC((x, y) FIXED IDENT); DCL h FIXED; h := x; \
+            x := y; y := h; END; main: TASK MAIN; CALL sw(p, q); PUT p, q TO tty BY F(2), \
+            F(2); END;",
+            "run 8" => "0 out 1 ' 4 3'\n0 state main running 255\n";
+        "f: PROC(n FIXED) RETURNS(FIXED); IF n < 2 THEN RETURN(1); FIN; RETURN(n * g(n - \
+            1)); END; g: PROC(n FIXED) RETURNS(FIXED); RETURN(n + 10); END; main: TASK MAIN; \
+            PUT f(1), f(5) TO tty BY F(4), F(4); END;",
+            "run 20" => "0 out 1 '   1  70'\n0 end main\n0 state main dormant\n";
+        "f: PROC RETURNS(FIXED); END; main: TASK MAIN; PUT f TO tty BY F(4); END;",
+            "run 20" => "0 trap main Range\n0 state main dormant\n";
+        "f: PROC(n FIXED(7)) RETURNS(FIXED(7)); RETURN(n + 100); END; main: TASK MAIN; \
+            PUT f(27) TO tty BY F(4); PUT f(28) TO tty BY F(4); END;",
+            "run 20" => "0 out 1 ' 127'\n0 trap main Overflow\n0 state main dormant\n";
+        "in: PROC(e FIXED IDENT); e := e + 1; END; mid: PROC(e FIXED IDENT); CALL in(e); \
+            CALL in(e); END; main: TASK MAIN; DCL a(3) FIXED INIT(1, 2, 3); CALL mid(a(2)); \
+            PUT a(1), a(2), a(3) TO tty BY F(2), F(2), F(2); END;",
+            "run 30" => "0 out 1 ' 1 4 3'\n0 end main\n0 state main dormant\n";
+        "c: PROC; DCL n FIXED INIT(1); n := n + 1; PUT n TO tty BY F(2); END; main: TASK \
+            MAIN; CALL c; CALL c; TO 2 REPEAT DCL k FIXED; k := k + 1; PUT k TO tty BY F(2); \
+            END; END;",
+            "run 30" => "0 out 1 ' 2'\n0 out 1 ' 2'\n0 out 1 ' 1'\n0 out 1 ' 1'\n0 end main\n0 state main dormant\n";
+        "DCL x FIXED; f: PROC(n FIXED) RETURNS(FIXED); x := x * 10 + n; RETURN(n); END; \
+            DCL v(9) FIXED; main: TASK MAIN; v(f(1)) := f(2) - f(3) * f(4); PUT x TO tty BY \
+            F(5); END;",
+            "run 40" => "0 out 1 ' 1234'\n0 end main\n0 state main dormant\n";
+        "DCL b BIT(8) INIT('0F'B4); main: TASK MAIN; PUT b AND '00110011'B, NOT b, b CAT \
+            '1'B TO tty BY B(8), B(8), B(9); END;",
+            "run 10" => "0 out 1 '0000001111110000000011111'\n0 end main\n0 state main dormant\n";
+        "LENGTH FIXED(15); DCL k INV FIXED INIT(7), t INV CHAR(2) INIT('ab'); DCL c \
+            CHAR(5); main: TASK MAIN; c := t >< 'cd'; PUT c, k TO tty BY A, F(3); BEGIN DCL \
+            k FIXED INIT(32767); k := k + 1; END; END;",
+            "run 20" => "0 out 1 'abcd   7'\n0 trap main Overflow\n0 state main dormant\n";
+        "main: TASK MAIN; PUT 12:30:00 + 2 HRS 5 MIN 3.5 SEC, 1:00:00 - 2:00:00 TO tty BY \
+            T(12), SKIP, D(24); END;",
+            "run 10" => "0 out 1 '14:35:03.500\\n-1 HRS 00 MIN 00.000 SEC'\n0 end main\n0 state main dormant\n";
+        "DCL n FIXED INIT(2); main: TASK MAIN; TO n REPEAT n := n + 5; PUT n TO tty BY \
+            F(3); END; END;",
+            "run 40" => "0 out 1 '  7'\n0 out 1 ' 12'\n0 end main\n0 state main dormant\n";
+        "main: TASK MAIN; REPEAT END; END;",
+            "run 3" => "0 state main running 255\n";
+        "main: TASK MAIN; CASE 1 ALT PUT 'a' TO tty BY A; OUT PUT 'o' TO tty BY A; FIN; \
+            END;",
+            "run 20" => "0 out 1 'a'\n0 end main\n0 state main dormant\n";
+        "f: PROC RETURNS(FIXED); PUT 'f' TO tty BY A; RETURN(1); END; main: TASK MAIN; \
+            CALL f; f; END;",
+            "run 20" => "0 out 1 'f'\n0 out 1 'f'\n0 end main\n0 state main dormant\n";
+    ]
+}
+
+fn module(alloc: Global, body: &str) -> Result<String, AllocError> {
+    format!(in alloc; "{HEAD}{body}\nMODEND;\n")
+}
+
+#[test]
+fn a_task_does_what_it_says(rt: HostRuntime) -> Result<(), Fail> {
+    let alloc = rt.alloc();
+    for &(body, journal, between) in bodies() {
+        let source = module(alloc, body)?;
+        let text = format!(in alloc; "0 start main 255\n{between}0 close\n")?;
+        let (status, written) = carry_out(alloc, RUN, source.as_bytes(), journal.as_bytes(), 4096)?;
+        assert_eq!(rt; written.as_slice(), text.as_bytes(), "of {body}");
+        assert_eq!(rt; status, Status::Done, "of {body}");
+    }
+    Ok(())
+}
+
+// What stands behind the head, with a mark before what isn't carried out yet; all break no rule.
+fn unbuilt() -> &'static [&'static str] {
+    &[
+        "^DCL s SEMA; main: TASK MAIN; END; MODEND;",
+        "main: TASK MAIN; END; ^b: TASK; END; MODEND;",
+        "b: TASK; END; ^MODEND;",
+        "main: TASK MAIN; IF 1 EQ 1 THEN ^SUSPEND main; FIN; END; MODEND;",
+        "DCL x FIXED; main: TASK MAIN; PUT x, ^NOW TO tty BY F(3), T(12); END; MODEND;",
+        "DCL x FIXED; main: TASK MAIN; ^GET x FROM tty BY F(3); x := 1; ENABLE irq; END; MODEND;",
+    ]
+}
+
+#[test]
+fn a_form_that_is_not_carried_out_is_told_by_its_place(rt: HostRuntime) -> Result<(), Fail> {
+    let alloc = rt.alloc();
+    for body in unbuilt() {
+        let case = format!(in alloc; "{HEAD}{body}\n")?;
+        let (source, place) = unmarked(alloc, case.as_str())?;
+        let line = told(alloc, "error unbuilt ^\n", place)?;
+        let (status, written) = carry_out(alloc, RUN, source.as_slice(), b"run 10\n", 4096)?;
+        assert_eq!(rt; written.as_slice(), line.as_bytes(), "of {body}");
+        assert_eq!(rt; status, Status::Refused, "of {body}");
+    }
+    Ok(())
+}
