@@ -1,0 +1,5 @@
+mod Places
+mod Pushing
+mod Standing
+mod Leading
+mod Simple

@@ -1,0 +1,5 @@
+use Rattle.pearl_gen_valid.proofs.Simple.{send_sits}
+use Rattle.pearl_gen_valid.proofs.laws.generated_is_valid.Goals as goal
+
+pub returns : goal.returns
+returns c = ?

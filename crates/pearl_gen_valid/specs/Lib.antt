@@ -1,0 +1,2 @@
+-- what a sound program becomes
+pub mod Laws
