@@ -3,3 +3,4 @@ mod Pushing
 mod Standing
 mod Leading
 mod Simple
+mod Gets

@@ -67,13 +67,13 @@ module _ (o : Object) (r : ℕ) (code : Code) (setting : Setting) (around : Arou
   abbrev pub Piece : (from to : ℕ) → Type 0
   Piece from to = (from ≤ to) × Every code.instructions (Adds o) from to
 
-  none_piece : (from to : ℕ) → to ≡ from → Piece from to
+  pub none_piece : (from to : ℕ) → to ≡ from → Piece from to
   none_piece from to same = (omega (arith, same), nowhere instrs (Adds o) from to same)
 
-  both_piece : (from middle to : ℕ) → Piece from middle → Piece middle to → Piece from to
+  pub both_piece : (from middle to : ℕ) → Piece from middle → Piece middle to → Piece from to
   both_piece from middle to one two = let a = one.0 in let b = two.0 in (omega (arith, a, b), both instrs (Adds o) from middle to one.1 two.1)
 
-  then_piece : (from end to : ℕ) (here : Instr) → Piece from end → to ≡ end + 1 → slice_get instrs end ≡ Some here → Adds o end here → Piece from to
+  pub then_piece : (from end to : ℕ) (here : Instr) → Piece from end → to ≡ end + 1 → slice_get instrs end ≡ Some here → Adds o end here → Piece from to
   then_piece from end to here one last is adds = let a = one.0 in (omega (arith, a, last), then_at instrs (Adds o) from end to here one.1 last is adds)
 
   pub expr_piece : (e : PlainExpr) (kind : Kind) (from to : ℕ) → HasKind around e kind → ExprAt setting.program code.instructions from e to → Piece from to
@@ -142,7 +142,7 @@ module _ (o : Object) (r : ℕ) (code : Code) (setting : Setting) (around : Arou
     Sitting from to = Sits o code.instructions leave from to
 
     -- operands, and an instruction that takes them off
-    ends : (from end to : ℕ) (here : Instr) → Piece from end → to ≡ end + 1 → slice_get instrs end ≡ Some here → Leaves o here → Sitting from to
+    pub ends : (from end to : ℕ) (here : Instr) → Piece from end → to ≡ end + 1 → slice_get instrs end ≡ Some here → Leaves o here → Sitting from to
     ends from end to here piece last is leaves = closes o instrs leave from end to here piece.0 piece.1 last is leaves.0 leaves.1 leaves.2
 
     -- FIRST VALUES
