@@ -4,3 +4,4 @@ mod Standing
 mod Leading
 mod Simple
 mod Gets
+mod Jumps

@@ -1,4 +1,4 @@
-use Rattle.pearl_gen_valid.proofs.Gets.{get_sits}
+use Rattle.pearl_gen_valid.proofs.Jumps.{stmts_sit}
 use Rattle.pearl_gen_valid.proofs.laws.generated_is_valid.Goals as goal
 
 pub returns : goal.returns
