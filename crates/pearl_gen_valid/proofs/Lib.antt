@@ -5,3 +5,5 @@ mod Leading
 mod Simple
 mod Gets
 mod Jumps
+mod Quiet
+mod Steps
