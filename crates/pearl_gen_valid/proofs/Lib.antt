@@ -7,3 +7,4 @@ mod Gets
 mod Jumps
 mod Quiet
 mod Steps
+mod Offering
