@@ -8,3 +8,4 @@ mod Jumps
 mod Quiet
 mod Steps
 mod Offering
+mod Kept

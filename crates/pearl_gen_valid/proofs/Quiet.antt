@@ -27,6 +27,13 @@ module _ (o : Object) (r : ℕ) (code : Code) (whole : IsWhole o code) where
   pub quiet_behind : (q : ℕ) → ((instr : Instr) → slice_get code.instructions q ≡ Some instr → pushes o instr ≡ true) → IsQuiet code (q + 1)
   quiet_behind q pushing = record { named = not_named o code.instructions whole.leads q pushing; stated = unstated (q + 1) }
 
+  pub quiet_at : (place : ℕ) (here : Instr) → slice_get code.instructions place ≡ Some here → pushes o here ≡ true → IsQuiet code (place + 1)
+  quiet_at place here is leaves = quiet_behind place (λ instr there. subst (λ found. pushed found ≡ true) (sym is ∙ there) leaves)
+    where
+      pushed : Option Instr → Bool
+      pushed None = false
+      pushed (Some instr) = pushes o instr
+
   -- behind what leaves operands it is quiet
   pub are_quiet : (from to : ℕ) → Every code.instructions (Adds o) from to → AreQuiet code from to
   are_quiet from to adds place low high =
@@ -93,9 +100,4 @@ module _ (o : Object) (r : ℕ) (code : Code) (whole : IsWhole o code) where
   pub push_keeps : (place : ℕ) (here : Instr) (s after : Shape) → slice_get code.instructions place ≡ Some here → pushes o here ≡ true → goes_on here ≡ true → Fits o r code here s →
       shape_after o r code here s ≡ after → Keeps o r code place (place + 1) s after
   push_keeps place here s after is leaves on fits same =
-      open_keeps o r code place here s after is (quiet_open code (place + 1) after (quiet_behind place (λ instr there. subst (λ found. pushed found ≡ true) (sym is ∙ there) leaves))) on
-      (pushing_stays o here leaves) fits same
-    where
-      pushed : Option Instr → Bool
-      pushed None = false
-      pushed (Some instr) = pushes o instr
+      open_keeps o r code place here s after is (quiet_open code (place + 1) after (quiet_at place here is leaves)) on (pushing_stays o here leaves) fits same
