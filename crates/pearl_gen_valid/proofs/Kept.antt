@@ -64,7 +64,7 @@ get_taken [] (suc n) i x is = is
 get_taken (y ∷ xs) (suc n) zero x is = is
 get_taken (y ∷ xs) (suc n) (suc i) x is = get_taken xs n i x is
 
-get_copied : {X : Type 0} (n i : ℕ) (x : X) → i < n → slice_get (replicate n x) i ≡ Some x
+pub get_copied : {X : Type 0} (n i : ℕ) (x : X) → i < n → slice_get (replicate n x) i ≡ Some x
 get_copied zero i x less = absurd (omega (arith, less))
 get_copied (suc n) zero x less = refl
 get_copied (suc n) (suc i) x less = get_copied n i x (omega (arith, less))
@@ -110,7 +110,7 @@ module _ (o : Object) (r : ℕ) (code : Code) (setting : Setting) (below most ne
   abbrev pub Passing : (from to : ℕ) (before after : Shape) → Type 0
   Passing from to before after = Keeps o r code from to before after
 
-  keeps : CodeKeeps o r code setting.program around below most
+  pub keeps : CodeKeeps o r code setting.program around below most
   keeps = expressions_keep o r code setting.program around below most stands.placed
 
   pub expr_keep : (e : PlainExpr) (kind : Kind) (from to : ℕ) (s : Shape) → HasKind around e kind → Small (λ z. of_expr z e) → length s + of_expr values e ≤ need + 2 →
@@ -130,7 +130,7 @@ module _ (o : Object) (r : ℕ) (code : Code) (setting : Setting) (below most ne
 
   -- FIRST VALUES
 
-  store_keep : (c : ℕ) (kind : Kind) (place : ℕ) → Is instrs place (instr.Store c) → slice_get code.cells c ≡ Some (Plain kind) → Passing place (place + 1) (Plain kind ∷ []) []
+  pub store_keep : (c : ℕ) (kind : Kind) (place : ℕ) → Is instrs place (instr.Store c) → slice_get code.cells c ≡ Some (Plain kind) → Passing place (place + 1) (Plain kind ∷ []) []
   store_keep c kind place is there = store_keeps o r code place c kind [] (open_empty o r code whole (place + 1)) is (one_of code.cells c (Plain kind) there) (omega (arith, room))
 
   -- so many cells from one on are of this kind
@@ -209,7 +209,7 @@ module _ (o : Object) (r : ℕ) (code : Code) (setting : Setting) (below most ne
       (converted_keep e kind (variable_kind setting (OfVariable target bounds es)) is.0 is.1 way has known.0 (small_right (λ z. of_exprs z es) (λ z. of_expr z e) small) (omega (arith, long, sizes)) is.3))
       (write_keep target bounds es kind is.1 to typed is.4 is.5)
 
-  device_there : (number : ℕ) (device : Device) → slice_get around.devices number ≡ Some device → slice_get o.devices number ≡ Some (device_of device)
+  pub device_there : (number : ℕ) (device : Device) → slice_get around.devices number ≡ Some device → slice_get o.devices number ≡ Some (device_of device)
   device_there number device there =
       ap (λ devices. slice_get devices number) stands.placed.tables.devices
       ∙ (slice_get-map device_of setting.program.devices number ∙ ap (option_map device_of) (ap (λ devices. slice_get devices number) (sym stands.devices) ∙ there))

@@ -9,3 +9,4 @@ mod Quiet
 mod Steps
 mod Offering
 mod Kept
+mod Planned

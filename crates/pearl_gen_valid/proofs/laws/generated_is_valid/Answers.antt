@@ -1,5 +1,5 @@
 use Rattle.pearl_gen_valid.proofs.Jumps.{stmts_sit}
-use Rattle.pearl_gen_valid.proofs.Offering.{resume_keeps}
+use Rattle.pearl_gen_valid.proofs.Planned.{resume_keep}
 use Rattle.pearl_gen_valid.proofs.Kept.{send_keep}
 use Rattle.pearl_gen_valid.proofs.laws.generated_is_valid.Goals as goal
 
