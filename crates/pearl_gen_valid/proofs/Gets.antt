@@ -82,7 +82,7 @@ module _ (o : Object) (r : ℕ) (code : Code) (setting : Setting) (around : Arou
   then : (from end to : ℕ) (here : Instr) → Part from end → to ≡ end + 1 → slice_get instrs end ≡ Some here → Adds o end here → Part from to
   then from end to here one last is adds = then_piece o r code setting around below stands from end to here one last is adds
 
-  found_piece : (target : PlainVariable) (kind : Kind) (from to : ℕ) → IsVariable around target kind → FoundAt setting code.instructions from target to → Part from to
+  pub found_piece : (target : PlainVariable) (kind : Kind) (from to : ℕ) → IsVariable around target kind → FoundAt setting code.instructions from target to → Part from to
   found_piece (OfVariable target [] es) kind from to typed is =
       then from from to (instr.Const is.0.0) (none from from refl) is.1 is.0.2 (refl, subst IsValue (sym is.0.1) zero_value)
   found_piece (OfVariable (LeafOf number) (bound ∷ bounds) es) kind from to typed is =

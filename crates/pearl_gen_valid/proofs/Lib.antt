@@ -10,3 +10,5 @@ mod Steps
 mod Offering
 mod Kept
 mod Planned
+mod TextsKept
+mod LoopsKept
