@@ -12,3 +12,4 @@ mod Kept
 mod Planned
 mod TextsKept
 mod LoopsKept
+mod StatementsKept
