@@ -13,3 +13,4 @@ mod Planned
 mod TextsKept
 mod LoopsKept
 mod StatementsKept
+mod Weights
