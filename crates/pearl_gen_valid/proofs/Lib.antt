@@ -14,3 +14,4 @@ mod TextsKept
 mod LoopsKept
 mod StatementsKept
 mod Weights
+mod Routines

@@ -1,5 +1,4 @@
-use Rattle.pearl_gen_valid.proofs.Jumps.{stmts_sit}
-use Rattle.pearl_gen_valid.proofs.StatementsKept.{stmts_keep}
+use Rattle.pearl_gen_valid.proofs.Routines.{routine_valid}
 use Rattle.pearl_gen_valid.proofs.Weights.{same_list}
 use Rattle.pearl_gen_valid.proofs.laws.generated_is_valid.Goals as goal
 
