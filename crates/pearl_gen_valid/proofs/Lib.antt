@@ -15,3 +15,5 @@ mod LoopsKept
 mod StatementsKept
 mod Weights
 mod Routines
+mod Programs
+mod Tables
