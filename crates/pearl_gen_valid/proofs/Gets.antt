@@ -1,46 +1,34 @@
 -- The instructions of GET and of the beginnings of loops.
-use Rattle.std.proofs.Common.{◌≡◌, ℕ, ◌+◌, ◌-◌, ◌<◌, ◌≤◌, zero, suc, pos, true, false, List, [], ◌∷◌, Option, Some, None, slice_get, length, refl, sym, ap, ◌∙◌, subst, arith}
-use Rattle.std.specs.Prelude.{Bool, is_some, IfSome, option_map, option_and_then}
-use Rattle.std.specs.List.{AllByRecursion, AllZip}
+use Rattle.std.proofs.Common.{◌≡◌, ℕ, ◌+◌, ◌<◌, List, [], ◌∷◌, Option, Some, None, slice_get, length, refl, sym, ap, ◌∙◌, subst, arith}
+use Rattle.std.specs.Prelude.{option_map, option_and_then}
+use Rattle.std.specs.List.{AllZip}
 use Rattle.std.proofs.lemmas.Option.{same_Some}
-use Rattle.std.proofs.lemmas.Int.{ints}
 use Rattle.pearl_value.specs.declared.kind.Kind.{Kind}
 use Rattle.pearl_value.specs.declared.kind.Kind.TheVariants as kind_
 use Rattle.pearl_value.specs.declared.kind.CellKind.{CellKind}
 use Rattle.pearl_value.specs.declared.kind.CellKind.TheVariants.{Plain, RefTo}
-use Rattle.pearl_value.specs.declared.cell.Cell.{Cell}
-use Rattle.pearl_value.specs.declared.cell.Cell.TheVariants.{Fixed}
 use Rattle.pearl_value.specs.Kinds.{IsKind}
-use Rattle.pearl_value.specs.WellFormed.{IsValue, IsValueOf}
+use Rattle.pearl_value.specs.WellFormed.{IsValue}
 use Rattle.pearl_program.specs.declared.expression.Target.TheVariants.{Leaf as LeafOf, Own, Param}
 use Rattle.pearl_program.specs.declared.expression.Bound.{Bound}
-use Rattle.pearl_program.specs.PlainExpressions.{PlainExpr, PlainVariable, OfVariable, PlainExprs, PlainArguments}
-use Rattle.pearl_program.specs.PlainStatements.{PlainValues, PlainPeriodEnd, OfUntil, OfDuring, PlainPeriod, PlainStart, OfAt, OfAfter, OfWhen, OfWhenAfter, PlainOnce, OnceAt, OnceAfter, OnceWhen, PlainCounter}
-use Rattle.pearl_program.specs.PlainPrograms.{PlainProcedure}
-use Rattle.pearl_program.specs.Typing.{Around, Signature, HasKind, IsVariable, IsParam, Suit, HaveKinds, IsFixed, HasValueFor}
-use Rattle.pearl_program.specs.SoundStatements.{IsIf, AreFirst, IsCounter, IsReturn, IsStart, IsPeriod, IsPeriodEnd, IsOnce, IsActivate}
-use Rattle.pearl_meaning.specs.Setting.{Setting, params_of, variable_kind, cell_kind, sent_kind}
+use Rattle.pearl_program.specs.PlainExpressions.{PlainExpr, PlainVariable, OfVariable, PlainExprs}
+use Rattle.pearl_program.specs.PlainStatements.{PlainCounter}
+use Rattle.pearl_program.specs.Typing.{Around, IsVariable, IsParam, IsFixed}
+use Rattle.pearl_program.specs.SoundStatements.{IsIf, IsCounter}
+use Rattle.pearl_meaning.specs.Setting.{Setting, cell_kind}
 use Rattle.pearl_meaning.specs.Transfers.{kinds_of}
-use Rattle.pearl_instructions.specs.declared.schedule.OnceForm.{OnceForm}
-use Rattle.pearl_instructions.specs.declared.schedule.StartForm.{StartForm}
-use Rattle.pearl_instructions.specs.declared.schedule.RepeatForm.{RepeatForm}
 use Rattle.pearl_instructions.specs.declared.instr.Instr.{Instr}
 use Rattle.pearl_instructions.specs.declared.instr.Instr.TheVariants as instr
 use Rattle.pearl_instructions.specs.declared.object.Code.{Code}
 use Rattle.pearl_instructions.specs.declared.object.Object.{Object}
-use Rattle.pearl_instructions.specs.Lawful.{IsInstr}
-use Rattle.pearl_instructions.specs.Objects.{result_of}
 use Rattle.pearl_instructions.specs.Valid.{targets}
-use Rattle.pearl_gen_expr.specs.ExprCode.{writing_to, OffsetOf, ExprAt, AllAt, CallAt, WayAt}
-use Rattle.pearl_gen_expr.proofs.Forward.{expr_forward, all_forward, arguments_forward}
-use Rattle.pearl_gen_expr.proofs.Tables.{signature_is}
-use Rattle.pearl_gen_stmt.specs.StmtCode.{on_task, writing_at, kept_in, StoresAt, RepeatsAt, RenewAt, ConvertedAt, AssignAt, TakeAt, CallOfAt, CountedAt, LimitAt, DroppedAt, BeginsAt, WhenAt, LaterAt, MaybeLaterAt, PeriodEndAt, PeriodAt, PriorityAt, ActivateAt, ContinueAt, ResumeAt, FoundAt, KeptAt, FilledAt, WrittenAt, GetAt, ReturnAt, PutAt, SendAt}
-use Rattle.pearl_gen_valid.proofs.Places.{pushes, Every, IsBare, nowhere, at_one, both, then_at}
-use Rattle.pearl_gen_valid.proofs.Pushing.{Adds, offset_adds, result_there, params_lawful, expr_adds, subscripts_add, arguments_add, all_add}
-use Rattle.pearl_gen_valid.proofs.Standing.{IsReturning, Stands, return_typed, variable_is, own_kind_is, own_is, cell_lawful, sent_is}
-use Rattle.pearl_gen_valid.proofs.Leading.{Sits, nothing_sits, both_sit, closes, alone}
-use Rattle.pearl_gen_valid.proofs.Simple.{Leaves, writing_leaves, zero_value, one_value, Piece, none_piece, both_piece, then_piece, expr_piece, converted_piece, ends}
-
+use Rattle.pearl_gen_expr.proofs.Forward.{all_forward}
+use Rattle.pearl_gen_stmt.specs.StmtCode.{writing_at, kept_in, CountedAt, LimitAt, BeginsAt, FoundAt, KeptAt, FilledAt, WrittenAt, GetAt}
+use Rattle.pearl_gen_valid.proofs.Places.{IsBare}
+use Rattle.pearl_gen_valid.proofs.Pushing.{Adds, subscripts_add}
+use Rattle.pearl_gen_valid.proofs.Standing.{Stands, variable_is, own_kind_is, own_is, cell_lawful}
+use Rattle.pearl_gen_valid.proofs.Leading.{Sits, nothing_sits, both_sit, closes}
+use Rattle.pearl_gen_valid.proofs.Simple.{Leaves, zero_value, one_value, Piece, none_piece, then_piece, converted_piece}
 
 -- the instruction that writes at an offset or by a reference that was kept
 abbrev pub written_by : PlainVariable → Instr
@@ -86,11 +74,15 @@ module _ (o : Object) (r : ℕ) (code : Code) (setting : Setting) (around : Arou
   found_piece (OfVariable target [] es) kind from to typed is =
       then from from to (instr.Const is.0.0) (none from from refl) is.1 is.0.2 (refl, subst IsValue (sym is.0.1) zero_value)
   found_piece (OfVariable (LeafOf number) (bound ∷ bounds) es) kind from to typed is =
-      then from is.0 to (instr.Index is.2.0) (all_forward setting.program instrs es from is.0 is.1,
-      subscripts_add setting.program o instrs around stands.placed.sound stands.placed.tables stands.placed.stands es (bound ∷ bounds) from is.0 typed.2 is.1) is.3 is.2.2 (refl, tt)
+      then from is.0 to (instr.Index is.2.0) (
+        all_forward setting.program instrs es from is.0 is.1,
+        subscripts_add setting.program o instrs around stands.placed.sound stands.placed.tables stands.placed.stands es (bound ∷ bounds) from is.0 typed.2 is.1,
+      ) is.3 is.2.2 (refl, tt)
   found_piece (OfVariable (Own cell) (bound ∷ bounds) es) kind from to typed is =
-      then from is.0 to (instr.Index is.2.0) (all_forward setting.program instrs es from is.0 is.1,
-      subscripts_add setting.program o instrs around stands.placed.sound stands.placed.tables stands.placed.stands es (bound ∷ bounds) from is.0 typed.2 is.1) is.3 is.2.2 (refl, tt)
+      then from is.0 to (instr.Index is.2.0) (
+        all_forward setting.program instrs es from is.0 is.1,
+        subscripts_add setting.program o instrs around stands.placed.sound stands.placed.tables stands.placed.stands es (bound ∷ bounds) from is.0 typed.2 is.1,
+      ) is.3 is.2.2 (refl, tt)
   found_piece (OfVariable (Param cell) (bound ∷ bounds) es) kind from to typed is = absurd (no_bounds (slice_get around.cells cell) bound bounds es kind typed)
 
   -- FROM, BY and TO

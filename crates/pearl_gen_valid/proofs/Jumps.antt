@@ -1,5 +1,5 @@
 -- Where the jumps of statements lead.
-use Rattle.std.proofs.Common.{◌≡◌, ℕ, ◌+◌, ◌<◌, ◌≤◌, inl, inr, zero, suc, true, false, List, [], ◌∷◌, Option, Some, None, slice_get, length, refl, sym, ap, ◌∙◌, subst, arith}
+use Rattle.std.proofs.Common.{◌≡◌, ℕ, ◌+◌, ◌<◌, ◌≤◌, inl, inr, List, [], ◌∷◌, Option, Some, None, slice_get, length, refl, sym, subst, arith}
 use Rattle.std.specs.List.{AllByRecursion}
 use Rattle.std.proofs.lemmas.Option.{same_Some}
 use Rattle.pearl_value.specs.declared.kind.Kind.TheVariants as kind_
@@ -14,11 +14,11 @@ use Rattle.pearl_instructions.specs.declared.instr.Instr.TheVariants as instr
 use Rattle.pearl_instructions.specs.declared.object.Code.{Code}
 use Rattle.pearl_instructions.specs.declared.object.Object.{Object}
 use Rattle.pearl_gen_stmt.specs.StmtCode.{WithinAt, CountsAt, WhileAt, PassedAt, AdvanceAt, StmtAt, StmtsAt, ElseAt, BranchesAt}
-use Rattle.pearl_gen_valid.proofs.Places.{Every, IsBare, LeadsWell, AllLead, nowhere, at_one, both, then_at, all_less}
+use Rattle.pearl_gen_valid.proofs.Places.{Every, IsBare, LeadsWell, nowhere, at_one, both, then_at, all_less}
 use Rattle.pearl_gen_valid.proofs.Pushing.{Adds}
-use Rattle.pearl_gen_valid.proofs.Standing.{Stands, within_loop, variable_is, sent_is}
-use Rattle.pearl_gen_valid.proofs.Leading.{Fine, adds_fine, plain, bare_behind, Leave, Sits, nothing_sits, both_sit, alone}
-use Rattle.pearl_gen_valid.proofs.Simple.{Piece, expr_piece, renew_sits, assign_sits, take_sits, call_sits, return_sits, activate_sits, continue_sits, resume_sits, on_task_sits, put_sits, send_sits}
+use Rattle.pearl_gen_valid.proofs.Standing.{Stands, within_loop, sent_is}
+use Rattle.pearl_gen_valid.proofs.Leading.{Fine, adds_fine, bare_behind, Leave, Sits, nothing_sits, both_sit, alone}
+use Rattle.pearl_gen_valid.proofs.Simple.{expr_piece, renew_sits, assign_sits, take_sits, call_sits, return_sits, activate_sits, continue_sits, resume_sits, on_task_sits, put_sits, send_sits}
 use Rattle.pearl_gen_valid.proofs.Gets.{get_sits, begins_sit}
 
 -- A part before the statements of a loop, from which jumps lead behind the loop.

@@ -1,82 +1,50 @@
 -- No rule of the validator fails in statements that have no statements in them.
-use Rattle.std.proofs.Common.{◌≡◌, ℕ, zero, suc, ◌+◌, ◌-◌, ◌<◌, ◌≤◌, max, pos, Bool, true, false, List, [], ◌∷◌, ◌++◌, Option, Some, None, slice_get, length, replicate, map, refl, sym, ap, ◌∙◌, subst, arith}
-use Rattle.std.specs.Prelude.{IfSome, is_some, option_map, take, drop, unwrap_or}
-use Rattle.std.specs.List.{AllByRecursion, AllZip}
-use Rattle.std.proofs.lemmas.Option.{slice_get-map, same_Some}
-use Rattle.std.proofs.lemmas.List.{append-nil, length-map}
+use Rattle.std.proofs.Common.{◌≡◌, ℕ, zero, suc, ◌+◌, ◌-◌, ◌<◌, ◌≤◌, List, [], ◌∷◌, ◌++◌, Option, Some, None, slice_get, length, replicate, refl, sym, ap, ◌∙◌, subst, arith}
+use Rattle.std.specs.Prelude.{IfSome, is_some, option_map}
+use Rattle.std.specs.List.{AllByRecursion}
+use Rattle.std.proofs.lemmas.Option.{same_Some}
 use Rattle.pearl_value.specs.declared.kind.Kind.{Kind}
-use Rattle.pearl_value.specs.declared.kind.Kind.TheVariants as kind_
-use Rattle.pearl_value.specs.declared.kind.CellKind.{CellKind}
-use Rattle.pearl_value.specs.declared.kind.CellKind.TheVariants.{Plain, RefTo}
+use Rattle.pearl_value.specs.declared.kind.CellKind.TheVariants.{Plain}
 use Rattle.pearl_value.specs.declared.cell.Cell.{Cell}
-use Rattle.pearl_value.specs.declared.cell.Cell.TheVariants.{Fixed}
 use Rattle.pearl_value.specs.Cells.{cell_kind_of}
 use Rattle.pearl_value.specs.Conversions.{SuitsKind}
 use Rattle.pearl_value.specs.WellFormed.{IsValueOf}
-use Rattle.pearl_rules.specs.declared.setup.Device.TheVariants as device
 use Rattle.pearl_program.specs.declared.table.Device.{Device}
 use Rattle.pearl_program.specs.declared.table.Device.TheVariants.{Interrupt, Terminal, Input, Output}
 use Rattle.pearl_program.specs.declared.expression.Target.{Target}
 use Rattle.pearl_program.specs.declared.expression.Target.TheVariants.{Leaf as LeafOf, Own, Param}
 use Rattle.pearl_program.specs.declared.expression.Bound.{Bound}
-use Rattle.pearl_program.specs.PlainExpressions.{PlainExpr, PlainVariable, OfVariable, PlainExprs, NoExprs, MoreExprs, PlainArguments}
+use Rattle.pearl_program.specs.PlainExpressions.{PlainExpr, PlainVariable, OfVariable, PlainExprs, PlainArguments}
 use Rattle.pearl_program.specs.PlainStatements.{PlainValues}
 use Rattle.pearl_program.specs.PlainPrograms.{PlainProcedure}
-use Rattle.pearl_program.specs.Typing.{Around, Signature, AreCells, HasKind, IsVariable, Suit, HaveKinds, HasValueFor}
+use Rattle.pearl_program.specs.Typing.{Around, Signature, AreCells, HasKind, IsVariable, Suit, HasValueFor}
 use Rattle.pearl_program.specs.SoundStatements.{AreFirst, IsReturn, IsInput, IsOutput}
-use Rattle.pearl_program.specs.Weights.{Sizes, calls, values, callees, of_expr, of_exprs, of_variable, of_arguments, of_if}
+use Rattle.pearl_program.specs.Weights.{Sizes, values, of_expr, of_exprs, of_variable, of_arguments, of_if}
 use Rattle.pearl_meaning.specs.ProgramRuns.{device_of}
 use Rattle.pearl_meaning.specs.Setting.{Setting, params_of, variable_kind, sent_kind}
 use Rattle.pearl_instructions.specs.declared.instr.Instr.{Instr}
 use Rattle.pearl_instructions.specs.declared.instr.Instr.TheVariants as instr
 use Rattle.pearl_instructions.specs.declared.object.Code.{Code}
 use Rattle.pearl_instructions.specs.declared.object.Object.{Object}
-use Rattle.pearl_instructions.specs.Objects.{is_task, result_of}
+use Rattle.pearl_instructions.specs.Objects.{result_of}
 use Rattle.pearl_instructions.specs.Operands.{Shape}
 use Rattle.pearl_instructions.specs.Valid.{result_shape}
-use Rattle.pearl_gen_expr.specs.ExprCode.{writing_to, Is, ExprAt, AllAt, ArgumentsAt, CallAt, WayAt}
-use Rattle.pearl_gen_expr.specs.Shapes.{IsOpen, Keeps, depths, handed, offset_shape, way_shape, CodeKeeps}
+use Rattle.pearl_gen_expr.specs.ExprCode.{writing_to, Is, ExprAt, ArgumentsAt, WayAt}
+use Rattle.pearl_gen_expr.specs.Shapes.{IsOpen, Keeps, way_shape, CodeKeeps}
 use Rattle.pearl_gen_expr.proofs.Forward.{some_values}
 use Rattle.pearl_gen_expr.proofs.Tables.{signature_is}
 use Rattle.pearl_gen_expr.proofs.Shapes.{quiet_open, both_keep}
 use Rattle.pearl_gen_expr.proofs.Fitting.{const_keeps, conv_keeps, load_keeps}
 use Rattle.pearl_gen_expr.proofs.Storing.{store_keeps}
-use Rattle.pearl_gen_expr.proofs.Gathering.{handed_length}
-use Rattle.pearl_gen_expr.proofs.Keeping.{literal_kind, nothing_keeps, then_one, just_one, expressions_keep}
-use Rattle.pearl_gen_stmt.specs.StmtCode.{StoresAt, RepeatsAt, RenewAt, ConvertedAt, AssignAt, TakeAt, DroppedAt, CallOfAt, ReturnAt, PutAt, SendAt}
-use Rattle.pearl_gen_valid.proofs.Places.{Every}
-use Rattle.pearl_gen_valid.proofs.Pushing.{Adds, params_lawful, result_there, arguments_add}
-use Rattle.pearl_gen_valid.proofs.Standing.{IsReturning, Stands, return_typed, return_bare, output_is, variable_is, sent_is}
-use Rattle.pearl_gen_valid.proofs.Simple.{expr_piece, all_piece, converted_piece, way_piece}
-use Rattle.pearl_gen_valid.proofs.Quiet.{IsWhole, quiet_at, are_quiet, open_empty}
-use Rattle.pearl_gen_valid.proofs.Steps.{HasFor, fill_keeps, drop_keeps, take_keeps, send_keeps, return_keeps}
-
--- CELLS
-
-get_dropped : {X : Type 0} (xs : List X) (c i : ℕ) → slice_get (drop c xs) i ≡ slice_get xs (c + i)
-get_dropped xs zero i = let same : i ≡ zero + i = omega arith in ap (λ n. slice_get xs n) same
-get_dropped [] (suc c) i = refl
-get_dropped (x ∷ xs) (suc c) i = let same : suc (c + i) ≡ suc c + i = omega arith in get_dropped xs c i ∙ ap (λ n. slice_get (x ∷ xs) n) same
-
-get_taken : {X : Type 0} (xs : List X) (n i : ℕ) (x : X) → slice_get (take n xs) i ≡ Some x → slice_get xs i ≡ Some x
-get_taken xs zero i x is = cc
-get_taken [] (suc n) i x is = is
-get_taken (y ∷ xs) (suc n) zero x is = is
-get_taken (y ∷ xs) (suc n) (suc i) x is = get_taken xs n i x is
-
-pub get_copied : {X : Type 0} (n i : ℕ) (x : X) → i < n → slice_get (replicate n x) i ≡ Some x
-get_copied zero i x less = absurd (omega (arith, less))
-get_copied (suc n) zero x less = refl
-get_copied (suc n) (suc i) x less = get_copied n i x (omega (arith, less))
-
--- what a part of a list is, its elements are
-pub part_is : {X : Type 0} (xs part : List X) (c n i : ℕ) (x : X) → take n (drop c xs) ≡ part → slice_get part i ≡ Some x → slice_get xs (c + i) ≡ Some x
-part_is xs part c n i x are there = sym (get_dropped xs c i) ∙ get_taken (drop c xs) n i x (ap (λ part. slice_get part i) are ∙ there)
-
-pub one_of : (cells : List CellKind) (c : ℕ) (k : CellKind) → slice_get cells c ≡ Some k → take 1 (drop c cells) ≡ replicate 1 k
-one_of [] c k is = cc
-one_of (x ∷ cells) zero k is = ap (λ k. k ∷ []) (same_Some x k is)
-one_of (x ∷ cells) (suc c) k is = one_of cells c k is
+use Rattle.pearl_gen_expr.proofs.Keeping.{literal_kind, then_one, just_one, expressions_keep}
+use Rattle.pearl_gen_stmt.specs.StmtCode.{StoresAt, RepeatsAt, RenewAt, ConvertedAt, AssignAt, TakeAt, DroppedAt, CallOfAt, ReturnAt, SendAt}
+use Rattle.pearl_gen_valid.proofs.Small.{IsSmall, left, right}
+use Rattle.pearl_gen_valid.proofs.Lists.{part_is, get_copied, one_of}
+use Rattle.pearl_gen_valid.proofs.Pushing.{params_lawful, result_there, arguments_add}
+use Rattle.pearl_gen_valid.proofs.Standing.{IsReturning, Stands, return_typed, return_bare, output_is, variable_is, sent_is, devices_there}
+use Rattle.pearl_gen_valid.proofs.Simple.{expr_piece, way_piece}
+use Rattle.pearl_gen_valid.proofs.Quiet.{stays, IsWhole, quiet_at, are_quiet, open_empty}
+use Rattle.pearl_gen_valid.proofs.Steps.{fill_keeps, drop_keeps, take_keeps, send_keeps, return_keeps}
 
 way_long : (target : Target) (bounds : List Bound) (kind : Kind) → length (way_shape target bounds kind []) ≤ 1
 way_long (LeafOf number) [] kind = omega arith
@@ -97,15 +65,8 @@ module _ (o : Object) (r : ℕ) (code : Code) (setting : Setting) (below most ne
   abbrev instrs : List Instr
   instrs = code.instructions
 
-  -- what is taken together over expressions is small enough for this routine
-  abbrev pub Small : (Sizes → ℕ) → Type 0
-  Small of = (of calls ≤ below) × (of (callees (depths o)) ≤ most) × (of values ≤ need)
-
-  pub small_left : (f g : Sizes → ℕ) → Small (λ z. z.both (f z) (g z)) → Small f
-  small_left f g small = let a = small.0 in let b = small.1 in let c = small.2 in (omega (arith, a), omega (arith, b), omega (arith, c))
-
-  pub small_right : (f g : Sizes → ℕ) → Small (λ z. z.both (f z) (g z)) → Small g
-  small_right f g small = let a = small.0 in let b = small.1 in let c = small.2 in (omega (arith, a), omega (arith, b), omega (arith, c))
+  abbrev Small : (Sizes → ℕ) → Type 0
+  Small of = IsSmall o below most need of
 
   abbrev pub Passing : (from to : ℕ) (before after : Shape) → Type 0
   Passing from to before after = Keeps o r code from to before after
@@ -144,10 +105,7 @@ module _ (o : Object) (r : ℕ) (code : Code) (setting : Setting) (below most ne
   at_first c kind is = let same : c ≡ c + 0 = omega arith in ap (λ n. slice_get code.cells n) same ∙ is
 
   stores_keep : (xs : List Cell) (kind : Kind) (from c to : ℕ) → AllByRecursion (IsValueOf kind) xs → AreOf c (length xs) kind → StoresAt setting instrs from c xs to → Passing from to [] []
-  stores_keep [] kind from c to typed are is = just_at from to is
-    where
-      just_at : (from to : ℕ) → to ≡ from → Passing from to [] []
-      just_at from to same = subst (λ to. Passing from to [] []) (sym same) (nothing_keeps o r code from [])
+  stores_keep [] kind from c to typed are is = stays o r code from to [] is
   stores_keep (x ∷ xs) kind from c to typed are is =
       let two : from + 2 ≡ from + 1 + 1 = omega arith in
       let one = const_keeps o r code from (quiet_at o r code whole from (instr.Const is.0.0) is.0.2 refl) is.0.0 kind [] is.0.2 (ap cell_kind_of is.0.1 ∙ literal_kind x kind typed.0) (omega (arith, room)) in
@@ -157,7 +115,7 @@ module _ (o : Object) (r : ℕ) (code : Code) (setting : Setting) (below most ne
       (stores_keep xs kind (from + 2) (c + 1) to typed.1 (λ i less. at_next c i kind (are (suc i) (omega (arith, less)))) is.2)
 
   repeats_keep : (more from c to : ℕ) (kind : Kind) → AreOf c (suc more) kind → RepeatsAt setting instrs from c more to → Passing from to [] []
-  repeats_keep zero from c to kind are is = subst (λ to. Passing from to [] []) (sym is) (nothing_keeps o r code from [])
+  repeats_keep zero from c to kind are is = stays o r code from to [] is
   repeats_keep (suc more) from c to kind are is =
       let two : from + 2 ≡ from + 1 + 1 = omega arith in
       let one = load_keeps o r code from (quiet_at o r code whole from (instr.Load c) is.0 refl) c (Plain kind) [] is.0 (at_first c kind (are 0 (omega arith))) (omega (arith, room)) in
@@ -205,14 +163,9 @@ module _ (o : Object) (r : ℕ) (code : Code) (setting : Setting) (below most ne
       let long = way_long target bounds kind in let sizes = small.2 in
       both_keep o r code from is.1 to [] (Plain kind ∷ way) []
       (both_keep o r code from is.0 is.1 [] way (Plain kind ∷ way)
-      (way_keep target bounds es kind from is.0 typed (small_left (λ z. of_exprs z es) (λ z. of_expr z e) small) is.2)
-      (converted_keep e kind (variable_kind setting (OfVariable target bounds es)) is.0 is.1 way has known.0 (small_right (λ z. of_exprs z es) (λ z. of_expr z e) small) (omega (arith, long, sizes)) is.3))
+      (way_keep target bounds es kind from is.0 typed (left o below most need (λ z. of_exprs z es) (λ z. of_expr z e) small) is.2)
+      (converted_keep e kind (variable_kind setting (OfVariable target bounds es)) is.0 is.1 way has known.0 (right o below most need (λ z. of_exprs z es) (λ z. of_expr z e) small) (omega (arith, long, sizes)) is.3))
       (write_keep target bounds es kind is.1 to typed is.4 is.5)
-
-  pub device_there : (number : ℕ) (device : Device) → slice_get around.devices number ≡ Some device → slice_get o.devices number ≡ Some (device_of device)
-  device_there number device there =
-      ap (λ devices. slice_get devices number) stands.placed.tables.devices
-      ∙ (slice_get-map device_of setting.program.devices number ∙ ap (option_map device_of) (ap (λ devices. slice_get devices number) (sym stands.devices) ∙ there))
 
   pub take_keep : (target : PlainVariable) (of kind : Kind) (number from to : ℕ) → IsInput (slice_get around.devices number) of → IsVariable around target kind → SuitsKind of kind →
       Small (λ z. of_variable z target) → TakeAt setting code.instructions from target number to → Passing from to [] []
@@ -224,7 +177,7 @@ module _ (o : Object) (r : ℕ) (code : Code) (setting : Setting) (below most ne
       let long = way_long target bounds kind in
       let value = is.0 in let last = is.7 in
       let two : value + 2 ≡ value + 1 + 1 = omega arith in
-      let taken = take_keeps o r code whole value number found.0 of way is.4 (device_there number (Input found.0 of) found.1) (omega (arith, long, room)) in
+      let taken = take_keeps o r code whole value number found.0 of way is.4 (devices_there o r code setting around below stands number ∙ ap (option_map device_of) found.1) (omega (arith, long, room)) in
       let converted = conv_keeps o r code (value + 1) (quiet_at o r code whole (value + 1) (instr.Conv is.1) is.5 refl) of kind way (subst (λ kind. Is instrs (value + 1) (instr.Conv kind)) same is.5) suits
       (omega (arith, long, room)) in
       both_keep o r code from value to [] way [] (way_keep target bounds es kind from value typed small is.3)
@@ -238,21 +191,21 @@ module _ (o : Object) (r : ℕ) (code : Code) (setting : Setting) (below most ne
   result_open number (Some kind) end known is = quiet_open code (end + 1) (Plain kind ∷ []) (quiet_at o r code whole end (instr.Call number) is (ap is_some known))
 
   dropped_keep : (result : Option Kind) (end to : ℕ) → DroppedAt setting instrs end result to → Passing end to (result_shape result ++ []) []
-  dropped_keep None end to is = subst (λ to. Passing end to [] []) (sym is) (nothing_keeps o r code end [])
+  dropped_keep None end to is = stays o r code end to [] is
   dropped_keep (Some kind) end to is = just_one o r code end to (Plain kind ∷ []) [] is.1 (drop_keeps o r code whole end (Plain kind) is.0 (omega (arith, room)))
 
   pub call_keep : (number : ℕ) (found : Option PlainProcedure) (arguments : PlainArguments) (signature : Signature) (from to : ℕ) → slice_get setting.program.procedures number ≡ found →
       slice_get around.procedures number ≡ Some signature → Suit around signature.params arguments → Small (λ z. z.both (z.call number) (of_arguments z arguments)) →
       CallOfAt setting code.instructions from number found arguments to → Passing from to [] []
-  call_keep number None arguments signature from to found known suit small is = absurd is
+  call_keep number None _ signature from to found known suit small is = absurd is
   call_keep number (Some procedure) arguments signature from to found known suit small is =
       let call = is.1 in let end = call.2 in let last = call.5 in
       let program = setting.program in
       let same = signature_is program around stands.placed.stands number procedure signature found known in
       let suit : Suit around (params_of procedure) arguments = subst (λ (signature : Signature). Suit around signature.params arguments) (sym same) suit in
       let it : call.0 ≡ procedure = same_Some call.0 procedure (sym call.1 ∙ found) in
-      let here = small_left (λ z. z.call number) (λ z. of_arguments z arguments) small in
-      let within = small_right (λ z. z.call number) (λ z. of_arguments z arguments) small in
+      let here = left o below most need (λ z. z.call number) (λ z. of_arguments z arguments) small in
+      let within = right o below most need (λ z. z.call number) (λ z. of_arguments z arguments) small in
       let few = within.2 in
       let adds = arguments_add program o instrs around stands.placed.sound stands.placed.tables stands.placed.stands arguments (params_of procedure) from end
       (params_lawful program o instrs around stands.placed.sound stands.placed.tables stands.placed.stands number procedure found) suit
@@ -289,4 +242,4 @@ module _ (o : Object) (r : ℕ) (code : Code) (setting : Setting) (below most ne
       let few = small.2 in let end = is.0 in
       then_one o r code from end to [] (Plain kind ∷ []) [] is.2.1
       (converted_keep e kind (sent_kind setting number) from end [] has known.0 small (omega (arith, few)) is.1)
-      (send_keeps o r code whole end number found.0 kind is.2.0 (device_there number (Output found.0 kind) found.1) (omega (arith, room)))
+      (send_keeps o r code whole end number found.0 kind is.2.0 (devices_there o r code setting around below stands number ∙ ap (option_map device_of) found.1) (omega (arith, room)))

@@ -1,41 +1,13 @@
 -- The instructions of statements are such that an object may have, and their jumps lead well.
-use Rattle.std.proofs.Common.{◌≡◌, ℕ, ◌+◌, ◌-◌, ◌<◌, ◌≤◌, ◌⊎◌, inl, inr, zero, suc, true, false, List, [], ◌∷◌, Option, Some, None, slice_get, length, refl, sym, ap, ◌∙◌, subst, arith, Box, Global}
-use Rattle.std.specs.Prelude.{is_some, IfSome}
-use Rattle.std.specs.List.{AllByRecursion, AllZip}
+use Rattle.std.proofs.Common.{◌≡◌, ℕ, ◌+◌, ◌<◌, ◌≤◌, false, List, [], Option, Some, slice_get, length, refl, sym, ap, ◌∙◌, subst, arith}
+use Rattle.std.specs.List.{AllByRecursion}
 use Rattle.std.proofs.lemmas.Option.{same_Some}
-use Rattle.pearl_value.specs.declared.kind.Kind.{Kind}
-use Rattle.pearl_value.specs.declared.kind.Kind.TheVariants as kind_
-use Rattle.pearl_value.specs.declared.kind.CellKind.TheVariants.{Plain}
-use Rattle.pearl_value.specs.declared.cell.Cell.{Cell}
-use Rattle.pearl_value.specs.declared.cell.Cell.TheVariants.{Fixed}
-use Rattle.pearl_value.specs.declared.listing.Listing.{Listing}
-use Rattle.pearl_value.specs.declared.trap.Trap.TheVariants.{Overflow}
-use Rattle.pearl_value.specs.Kinds.{IsKind}
-use Rattle.pearl_value.specs.WellFormed.{IsValue, IsValueOf}
-use Rattle.pearl_program.specs.declared.expression.Target.{Target}
-use Rattle.pearl_program.specs.declared.expression.Target.TheVariants.{Leaf as LeafOf, Own, Param}
-use Rattle.pearl_program.specs.declared.expression.Bound.{Bound}
-use Rattle.pearl_program.specs.PlainExpressions.{PlainExpr, PlainVariable, OfVariable, PlainExprs, PlainArguments}
-use Rattle.pearl_program.specs.PlainStatements.{PlainValues, PlainPeriodEnd, OfUntil, OfDuring, PlainPeriod, PlainStart, OfAt, OfAfter, OfWhen, OfWhenAfter, PlainOnce, OnceAt, OnceAfter, OnceWhen, PlainCounter}
-use Rattle.pearl_program.specs.PlainPrograms.{PlainProcedure}
-use Rattle.pearl_program.specs.Typing.{Around, Signature, HasKind, IsVariable, AreSubscripts, Suit, HaveKinds, IsFixed, HasValueFor}
-use Rattle.pearl_program.specs.SoundStatements.{IsIf, AreFirst, IsCall, IsCounter, IsCondition, IsReturn, IsStart, IsPeriod, IsPeriodEnd, IsOnce, IsActivate, IsSend, within}
-use Rattle.pearl_meaning.specs.Setting.{Setting, params_of, variable_kind, cell_kind}
-use Rattle.pearl_meaning.specs.Transfers.{kinds_of}
 use Rattle.pearl_instructions.specs.declared.instr.Instr.{Instr}
-use Rattle.pearl_instructions.specs.declared.instr.Instr.TheVariants as instr
-use Rattle.pearl_instructions.specs.declared.object.Code.{Code}
 use Rattle.pearl_instructions.specs.declared.object.Object.{Object}
 use Rattle.pearl_instructions.specs.Lawful.{IsInstr}
-use Rattle.pearl_instructions.specs.Objects.{result_of}
 use Rattle.pearl_instructions.specs.Valid.{targets}
-use Rattle.pearl_gen_expr.specs.ExprCode.{writing, writing_to, Is, OffsetOf, WayOf, ExprAt, AllAt, ArgumentsAt, WayAt}
-use Rattle.pearl_gen_expr.proofs.Forward.{expr_forward, all_forward, arguments_forward}
-use Rattle.pearl_gen_expr.proofs.Tables.{signature_is}
-use Rattle.pearl_gen_stmt.specs.StmtCode.{on_task, writing_at, kept_in, StoresAt, RepeatsAt, RenewAt, ConvertedAt, AssignAt, TakeAt, DroppedAt, CallOfAt, CountedAt, LimitAt, BeginsAt, WhenAt, LaterAt, MaybeLaterAt, PeriodEndAt, PeriodAt, PriorityAt, ActivateAt, ContinueAt, ResumeAt, FoundAt, KeptAt, FilledAt, WrittenAt, GetAt, Alone, ListAt, ReturnAt, PutAt, SendAt}
-use Rattle.pearl_gen_valid.proofs.Places.{pushes, pushing_stays, Every, IsBare, LeadsWell, AllLead, nowhere, at_one, both, then_at, all_less}
-use Rattle.pearl_gen_valid.proofs.Pushing.{Adds, offset_adds, result_there, params_lawful, expr_adds, subscripts_add, arguments_add, all_add}
-use Rattle.pearl_gen_valid.proofs.Standing.{Stands, within_loop, return_typed, variable_is, own_kind_is, own_is, cell_lawful, sent_is}
+use Rattle.pearl_gen_valid.proofs.Places.{pushes, pushing_stays, Every, IsBare, LeadsWell, AllLead, nowhere, both, then_at, all_less}
+use Rattle.pearl_gen_valid.proofs.Pushing.{Adds}
 
 -- an instruction that an object may have, and whose jumps lead well
 abbrev pub Fine : Object → List Instr → ℕ → Instr → Type 0

@@ -1,3 +1,4 @@
+mod Lists
 mod Places
 mod Pushing
 mod Standing
@@ -8,6 +9,7 @@ mod Jumps
 mod Quiet
 mod Steps
 mod Offering
+mod Small
 mod Kept
 mod Planned
 mod TextsKept

@@ -1,57 +1,30 @@
 -- No rule of the validator fails in what stands in a loop beside its statements.
-use Rattle.std.proofs.Common.{◌≡◌, ℕ, zero, suc, ◌+◌, ◌-◌, ◌<◌, ◌≤◌, max, pos, Bool, true, false, List, [], ◌∷◌, ◌++◌, Option, Some, None, slice_get, length, replicate, map, refl, sym, ap, ◌∙◌, subst, arith}
-use Rattle.std.specs.Prelude.{IfSome, is_some, option_map, take, drop, unwrap_or}
-use Rattle.std.specs.List.{AllByRecursion, AllZip}
-use Rattle.std.proofs.lemmas.Option.{slice_get-map, same_Some}
-use Rattle.std.proofs.lemmas.List.{append-nil, length-map}
+use Rattle.std.proofs.Common.{◌≡◌, ℕ, ◌+◌, ◌<◌, ◌≤◌, List, [], ◌∷◌, Option, Some, None, slice_get, length, replicate, refl, sym, ap, ◌∙◌, subst, arith}
+use Rattle.std.proofs.lemmas.Option.{same_Some}
 use Rattle.pearl_value.specs.declared.kind.Kind.{Kind}
 use Rattle.pearl_value.specs.declared.kind.Kind.TheVariants as kind_
-use Rattle.pearl_value.specs.declared.kind.CellKind.{CellKind}
-use Rattle.pearl_value.specs.declared.kind.CellKind.TheVariants.{Plain, RefTo}
-use Rattle.pearl_value.specs.declared.cell.Cell.{Cell}
-use Rattle.pearl_value.specs.declared.cell.Cell.TheVariants.{Fixed}
+use Rattle.pearl_value.specs.declared.kind.CellKind.TheVariants.{Plain}
 use Rattle.pearl_value.specs.Cells.{cell_kind_of}
-use Rattle.pearl_value.specs.Conversions.{SuitsKind}
-use Rattle.pearl_value.specs.WellFormed.{IsValueOf}
-use Rattle.pearl_rules.specs.declared.setup.Device.TheVariants as device
-use Rattle.pearl_program.specs.declared.table.Device.{Device}
-use Rattle.pearl_program.specs.declared.table.Device.TheVariants.{Interrupt, Terminal, Input, Output}
-use Rattle.pearl_program.specs.declared.expression.Target.{Target}
-use Rattle.pearl_program.specs.declared.expression.Target.TheVariants.{Leaf as LeafOf, Own, Param}
-use Rattle.pearl_program.specs.declared.expression.Bound.{Bound}
-use Rattle.pearl_program.specs.PlainExpressions.{PlainExpr, PlainVariable, OfVariable, PlainExprs, NoExprs, MoreExprs, PlainArguments}
+use Rattle.pearl_program.specs.PlainExpressions.{PlainExpr}
 use Rattle.pearl_program.specs.PlainStatements.{PlainCounter}
-use Rattle.pearl_program.specs.PlainPrograms.{PlainProcedure}
-use Rattle.pearl_program.specs.Typing.{Around, Signature, AreCells, HasKind, IsVariable, Suit, HaveKinds, HasValueFor}
-use Rattle.pearl_program.specs.SoundStatements.{AreFirst, IsReturn, IsInput, IsOutput}
-use Rattle.pearl_program.specs.Weights.{Sizes, calls, values, callees, of_expr, of_exprs, of_variable, of_arguments, of_if}
-use Rattle.pearl_meaning.specs.ProgramRuns.{device_of}
-use Rattle.pearl_meaning.specs.Setting.{Setting, params_of, variable_kind, sent_kind}
+use Rattle.pearl_program.specs.Typing.{Around, AreCells, HasKind}
+use Rattle.pearl_program.specs.Weights.{Sizes, values, of_expr, of_if}
+use Rattle.pearl_meaning.specs.Setting.{Setting}
 use Rattle.pearl_instructions.specs.declared.instr.Instr.{Instr}
 use Rattle.pearl_instructions.specs.declared.instr.Instr.TheVariants as instr
 use Rattle.pearl_instructions.specs.declared.object.Code.{Code}
 use Rattle.pearl_instructions.specs.declared.object.Object.{Object}
-use Rattle.pearl_instructions.specs.Objects.{is_task, result_of}
 use Rattle.pearl_instructions.specs.Operands.{Shape}
-use Rattle.pearl_instructions.specs.Valid.{result_shape}
-use Rattle.pearl_gen_expr.specs.ExprCode.{writing_to, Is, ExprAt, AllAt, ArgumentsAt, CallAt, WayAt}
-use Rattle.pearl_gen_expr.specs.Shapes.{IsOpen, Keeps, depths, handed, offset_shape, way_shape, CodeKeeps}
-use Rattle.pearl_gen_expr.proofs.Forward.{some_values}
-use Rattle.pearl_gen_expr.proofs.Tables.{signature_is}
-use Rattle.pearl_gen_expr.proofs.Shapes.{quiet_open, both_keep}
-use Rattle.pearl_gen_expr.proofs.Fitting.{const_keeps, conv_keeps, load_keeps}
-use Rattle.pearl_gen_expr.proofs.Storing.{store_keeps}
-use Rattle.pearl_gen_expr.proofs.Gathering.{handed_length}
-use Rattle.pearl_gen_expr.proofs.Keeping.{literal_kind, nothing_keeps, then_one, just_one, expressions_keep}
-use Rattle.pearl_gen_stmt.specs.StmtCode.{StoresAt, RepeatsAt, RenewAt, ConvertedAt, AssignAt, TakeAt, DroppedAt, CallOfAt, ReturnAt, PutAt, SendAt}
-use Rattle.pearl_gen_valid.proofs.Places.{Every}
-use Rattle.pearl_gen_valid.proofs.Pushing.{Adds, params_lawful, result_there, arguments_add}
-use Rattle.pearl_gen_valid.proofs.Standing.{IsReturning, Stands, return_typed, return_bare, output_is, variable_is, sent_is}
-use Rattle.pearl_gen_valid.proofs.Simple.{expr_piece, all_piece, converted_piece, way_piece}
-use Rattle.pearl_gen_valid.proofs.Quiet.{IsWhole, quiet_at, are_quiet, open_empty}
-use Rattle.pearl_gen_valid.proofs.Steps.{HasFor, fill_keeps, drop_keeps, take_keeps, send_keeps, return_keeps}
-
-use Rattle.pearl_gen_valid.proofs.Kept.{part_is, one_of, get_copied, Small, small_left, small_right, Passing, expr_keep, converted_keep, store_keep, device_there, keeps}
+use Rattle.pearl_gen_expr.specs.ExprCode.{Is, ExprAt}
+use Rattle.pearl_gen_expr.specs.Shapes.{Keeps}
+use Rattle.pearl_gen_expr.proofs.Shapes.{both_keep}
+use Rattle.pearl_gen_expr.proofs.Fitting.{const_keeps, conv_keeps}
+use Rattle.pearl_gen_expr.proofs.Keeping.{then_one, just_one}
+use Rattle.pearl_gen_valid.proofs.Standing.{Stands}
+use Rattle.pearl_gen_valid.proofs.Quiet.{stays, IsWhole, quiet_at}
+use Rattle.pearl_gen_valid.proofs.Small.{IsSmall, left, right}
+use Rattle.pearl_gen_valid.proofs.Lists.{part_is, get_copied}
+use Rattle.pearl_gen_valid.proofs.Kept.{expr_keep, converted_keep, store_keep}
 use Rattle.pearl_value.specs.declared.trap.Trap.TheVariants.{Overflow}
 use Rattle.pearl_program.specs.Typing.{IsFixed}
 use Rattle.pearl_program.specs.SoundStatements.{IsIf, IsCounter, IsCondition}
@@ -67,19 +40,10 @@ module _ (o : Object) (r : ℕ) (code : Code) (setting : Setting) (below most ne
   instrs = code.instructions
 
   abbrev Fit : (Sizes → ℕ) → Type 0
-  Fit of = Small o r code setting below most need whole room around stands of
+  Fit of = IsSmall o below most need of
 
   abbrev Goes : (from to : ℕ) (before after : Shape) → Type 0
   Goes from to before after = Keeps o r code from to before after
-
-  stays : (from to : ℕ) (s : Shape) → to ≡ from → Goes from to s s
-  stays from to s same = subst (λ to. Goes from to s s) (sym same) (nothing_keeps o r code from s)
-
-  left : (f g : Sizes → ℕ) → Fit (λ z. z.both (f z) (g z)) → Fit f
-  left = small_left o r code setting below most need whole room around stands
-
-  right : (f g : Sizes → ℕ) → Fit (λ z. z.both (f z) (g z)) → Fit g
-  right = small_right o r code setting below most need whole room around stands
 
   expr : (e : PlainExpr) (kind : Kind) (from to : ℕ) (s : Shape) → HasKind around e kind → Fit (λ z. of_expr z e) → length s + of_expr values e ≤ need + 2 →
       ExprAt setting.program instrs from e to → Goes from to s (Plain kind ∷ s)
@@ -113,40 +77,40 @@ module _ (o : Object) (r : ℕ) (code : Code) (setting : Setting) (below most ne
 
   limit_keep : (counter : PlainCounter) (typed : IsCounter around counter) (e : Option PlainExpr) (from to : ℕ) → cell_kind setting counter.cell ≡ Some (kind_.Fixed typed.cells.0) → IsIf (IsFixed around) e →
       Fit (λ z. of_if z (of_expr z) e) → LimitAt setting instrs from counter e to → Goes from to [] []
-  limit_keep counter typed None from to known fixed small is = stays from to [] is
+  limit_keep counter typed None from to known fixed small is = stays o r code from to [] is
   limit_keep counter typed (Some e) from to known fixed small is =
       then_one o r code from is.0 to [] (Plain (kind_.Fixed typed.cells.0) ∷ []) [] is.3 (counted_keep counter typed.cells.0 (Some e) from is.0 known fixed small is.1)
       (store (counter.cell + 2) typed.cells.0 is.0 is.2 (cell_there counter typed 2 (omega arith)))
 
   pub begins_keep : (counter : Option PlainCounter) (from to : ℕ) → IsIf (IsCounter around) counter → Fit (λ z. of_if z (of_counter z) counter) → BeginsAt setting code.instructions from counter to →
       Goes from to [] []
-  begins_keep None from to typed small is = stays from to [] is
+  begins_keep None from to typed small is = stays o r code from to [] is
   begins_keep (Some counter) from to typed small is =
       let f : Sizes → ℕ = λ z. of_if z (of_expr z) counter.begin in
       let g : Sizes → ℕ = λ z. of_if z (of_expr z) counter.step in
       let h : Sizes → ℕ = λ z. of_if z (of_expr z) counter.end in
-      let rest = right f (λ z. z.both (g z) (h z)) small in
+      let rest = right o below most need f (λ z. z.both (g z) (h z)) small in
       let len = typed.cells.0 in let k = Plain (kind_.Fixed len) in
       let three : 0 < 3 = omega arith in
       let known = own_kind_is o r code setting around below stands counter.cell (kind_.Fixed len) 3 three typed.cells.1 in
       let first : slice_get code.cells counter.cell ≡ Some k =
       let same : counter.cell ≡ counter.cell + 0 = omega arith in ap (λ n. slice_get code.cells n) same ∙ cell_there counter typed 0 (omega arith) in
-      let one = then_one o r code from is.0 (is.0 + 1) [] (k ∷ []) [] refl (counted_keep counter len counter.begin from is.0 known typed.begin (left f (λ z. z.both (g z) (h z)) small) is.2)
+      let one = then_one o r code from is.0 (is.0 + 1) [] (k ∷ []) [] refl (counted_keep counter len counter.begin from is.0 known typed.begin (left o below most need f (λ z. z.both (g z) (h z)) small) is.2)
       (store counter.cell len is.0 is.3 first) in
       let last : is.1 + 2 ≡ is.1 + 1 + 1 = omega arith in
       let two = then_one o r code (is.0 + 1) (is.1 + 1) (is.1 + 2) [] (k ∷ []) [] last
-      (then_one o r code (is.0 + 1) is.1 (is.1 + 1) [] (k ∷ []) (k ∷ []) refl (counted_keep counter len counter.step (is.0 + 1) is.1 known typed.step (left g h rest) is.4)
+      (then_one o r code (is.0 + 1) is.1 (is.1 + 1) [] (k ∷ []) (k ∷ []) refl (counted_keep counter len counter.step (is.0 + 1) is.1 known typed.step (left o below most need g h rest) is.4)
       (nonzero_keeps o r code whole is.1 len is.5 (omega (arith, room))))
       (store (counter.cell + 1) len (is.1 + 1) is.6 (cell_there counter typed 1 (omega arith))) in
       both_keep o r code from (is.0 + 1) to [] [] [] one (both_keep o r code (is.0 + 1) (is.1 + 2) to [] [] [] two
-      (limit_keep counter typed counter.end (is.1 + 2) to known typed.end (right g h rest) is.7))
+      (limit_keep counter typed counter.end (is.1 + 2) to known typed.end (right o below most need g h rest) is.7))
 
   pub counts_keep : (counter : Option PlainCounter) (past from to : ℕ) → IsIf (IsCounter around) counter → CountsAt setting code.instructions from past counter to → Goes from to [] []
-  counts_keep None past from to typed is = stays from to [] is
+  counts_keep None past from to typed is = stays o r code from to [] is
   counts_keep (Some counter) past from to typed is = by counter.end is
     where
       by : (end : Option PlainExpr) → WithinAt setting instrs from past counter end to → Goes from to [] []
-      by None is = stays from to [] is
+      by None is = stays o r code from to [] is
       by (Some e) is =
           then_one o r code from (from + 1) to [] (Plain (kind_.Bits 1) ∷ []) [] is.1.1
           (within_keeps o r code whole from counter.cell typed.cells.0 (their_cells counter typed) is.0 (omega (arith, room)))
@@ -154,7 +118,7 @@ module _ (o : Object) (r : ℕ) (code : Code) (setting : Setting) (below most ne
 
   pub while_keep : (condition : Option PlainExpr) (past from to : ℕ) → IsIf (IsCondition around) condition → Fit (λ z. of_if z (of_expr z) condition) →
       WhileAt setting code.instructions from past condition to → Goes from to [] []
-  while_keep None past from to typed small is = stays from to [] is
+  while_keep None past from to typed small is = stays o r code from to [] is
   while_keep (Some e) past from to typed small is =
       let sizes = small.2 in
       then_one o r code from is.0 to [] (Plain (kind_.Bits 1) ∷ []) [] is.2.1 (expr e (kind_.Bits 1) from is.0 [] typed small (omega (arith, sizes)) is.1)

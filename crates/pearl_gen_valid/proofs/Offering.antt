@@ -1,13 +1,13 @@
 -- No rule of the validator fails at instructions that take the values of a schedule or of a format.
-use Rattle.std.proofs.Common.{◌≡◌, ℕ, zero, suc, ◌+◌, ◌<◌, ◌≤◌, Bool, true, false, List, [], ◌∷◌, ◌++◌, Option, Some, None, slice_get, length, replicate, map, refl, sym, ap, ◌∙◌, subst, arith, le-leb, lt-ltb, Box, Global}
+use Rattle.std.proofs.Common.{◌≡◌, ℕ, zero, suc, ◌+◌, ◌<◌, Bool, true, false, List, [], ◌∷◌, ◌++◌, Some, slice_get, length, replicate, map, refl, sym, ap, ◌∙◌, subst, arith, le-leb, lt-ltb, Box, Global}
 use Rattle.std.specs.Prelude.{◌&&◌, ◌||◌, not, nat_lt, nat_le, is_some, option_map, take, drop, reverse}
 use Rattle.std.specs.List.{list_all}
-use Rattle.std.proofs.lemmas.List.{append_assoc, drop_all, length-append, length-reverse, length-map, length-replicate, length-take, length-drop}
+use Rattle.std.proofs.lemmas.List.{drop_all, length-reverse, length-map, length-replicate, length-take, length-drop}
 use mathlib.Core.List.{reverse_aux}
 use Rattle.pearl_value.specs.declared.kind.Kind.{Kind}
 use Rattle.pearl_value.specs.declared.kind.Kind.TheVariants as kind_
 use Rattle.pearl_value.specs.declared.kind.CellKind.{CellKind}
-use Rattle.pearl_value.specs.declared.kind.CellKind.TheVariants.{Plain, RefTo}
+use Rattle.pearl_value.specs.declared.kind.CellKind.TheVariants.{Plain}
 use Rattle.pearl_format.specs.declared.item.ItemCode.{ItemCode}
 use Rattle.pearl_format.specs.declared.item.ItemCode.TheVariants.{A, B1, B2, B3, B4, F, T, D, X, Skip}
 use Rattle.pearl_format.specs.declared.item.Item.{Item}
@@ -24,11 +24,11 @@ use Rattle.pearl_instructions.specs.declared.object.Code.{Code}
 use Rattle.pearl_instructions.specs.declared.object.Object.{Object}
 use Rattle.pearl_instructions.specs.Objects.{items_at}
 use Rattle.pearl_instructions.specs.Offers.{as_start, start_or_free, start_kinds, repeat_kinds, takes_kind, item_suits, items_suit}
-use Rattle.pearl_instructions.specs.Operands.{Shape, Asked, Anything, Exactly, is_reference, same_cell, v2, scheduled, priority_asked, values_asked}
+use Rattle.pearl_instructions.specs.Operands.{Shape, Anything, Exactly, is_reference, same_cell, v2, scheduled, priority_asked, values_asked}
 use Rattle.pearl_instructions.specs.Named.{has_cells, takes_texts, gives_texts, names_interrupt, has_read_cells, read_cells}
 use Rattle.pearl_instructions.specs.Valid.{plain_kinds, suits_format, values_suit, cells_suit}
 use Rattle.pearl_gen_expr.specs.Shapes.{Keeps, handed}
-use Rattle.pearl_gen_expr.proofs.Shapes.{Fits, and_is, or_is, same_cell_self}
+use Rattle.pearl_gen_expr.proofs.Shapes.{and_is, or_is, same_cell_self}
 use Rattle.pearl_gen_expr.proofs.Gathering.{handed_is, handed_back, handed_length, anything_asked}
 use Rattle.pearl_gen_valid.proofs.Quiet.{IsWhole, bare_keeps}
 use Rattle.pearl_gen_valid.proofs.Steps.{HasFor}

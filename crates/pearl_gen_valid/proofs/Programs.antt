@@ -1,5 +1,5 @@
 -- All routines of what a sound program becomes.
-use Rattle.std.proofs.Common.{◌≡◌, ℕ, zero, suc, ◌+◌, ◌-◌, ◌<◌, ◌≤◌, ◌⊎◌, inl, inr, Bool, true, false, List, [], ◌∷◌, ◌++◌, Option, Some, None, slice_get, length, map, refl, sym, ap, ◌∙◌, subst, arith, le-leb, leb-true, ltb-true, ltb-false}
+use Rattle.std.proofs.Common.{◌≡◌, ℕ, zero, suc, ◌+◌, ◌-◌, ◌<◌, ◌≤◌, ◌⊎◌, inl, inr, Bool, true, false, List, [], ◌∷◌, Option, Some, None, slice_get, length, map, refl, sym, ap, ◌∙◌, subst, arith, le-leb, leb-true, ltb-true, ltb-false}
 use Rattle.std.specs.Prelude.{nat_lt, nat_le, IfSome, option_map, option_and_then, take, drop}
 use Rattle.std.specs.List.{AllByRecursion}
 use Rattle.std.proofs.lemmas.Option.{same_Some, slice_get-map, slice_get_past, slice_get_within}
@@ -9,53 +9,26 @@ use Rattle.pearl_value.specs.declared.kind.CellKind.{CellKind}
 use Rattle.pearl_value.specs.declared.kind.CellKind.TheVariants.{Plain, RefTo}
 use Rattle.pearl_value.specs.declared.trap.Trap.TheVariants.{Range}
 use Rattle.pearl_value.specs.Kinds.{IsKind}
-use Rattle.pearl_rules.specs.declared.setup.TaskEntry.{TaskEntry}
 use Rattle.pearl_program.specs.PlainPrograms.{PlainProcedure, PlainTask, PlainProg}
 use Rattle.pearl_program.specs.SoundStatements.{IsIf}
 use Rattle.pearl_program.specs.Sound.{IsSound, IsCellKind, IsPlain, IsProcedure, IsTask, CallSmaller}
 use Rattle.pearl_program.specs.Weights.{calls, greatest_of_all, weight, weights_of}
 use Rattle.pearl_meaning.specs.ProgramRuns.{entry_of}
-use Rattle.pearl_instructions.specs.declared.instr.Instr.{Instr}
 use Rattle.pearl_instructions.specs.declared.instr.Instr.TheVariants as instr
 use Rattle.pearl_instructions.specs.declared.object.Code.{Code}
 use Rattle.pearl_instructions.specs.declared.object.Procedure.{Procedure}
 use Rattle.pearl_instructions.specs.declared.object.Task.{Task}
 use Rattle.pearl_instructions.specs.declared.object.Object.{Object}
-use Rattle.pearl_instructions.specs.Objects.{routines, routine_at, is_task, result_of}
+use Rattle.pearl_instructions.specs.Objects.{routine_at, is_task, result_of}
 use Rattle.pearl_instructions.specs.Valid.{unsound_in, unsound, IsValid}
 use Rattle.pearl_gen_expr.specs.Tables.{Head, head_of, code_head, code_entry}
 use Rattle.pearl_gen_expr.specs.Shapes.{depths}
 use Rattle.pearl_gen_expr.proofs.Tables.{each}
 use Rattle.pearl_gen_stmt.specs.Generated.{last_of, IsStated, IsGenerated}
 use Rattle.pearl_gen_valid.proofs.Steps.{end_keeps, return_keeps, trap_keeps}
-use Rattle.pearl_gen_valid.proofs.Weights.{weight_is, weights_count, same_list}
-use Rattle.pearl_gen_valid.proofs.Routines.{Ready, EndsWell, RoutineIsValid, routine_valid}
-
--- LISTS
-
-mapped_there : {X Y : Type 0} (f : X → Y) (found : Option X) (y : Y) → option_map f found ≡ Some y → (x : X) × (found ≡ Some x) × (f x ≡ y)
-mapped_there f None y is = cc
-mapped_there f (Some x) y is = (x, refl, same_Some (f x) y is)
-
-front : {X : Type 0} (one two : List X) (i : ℕ) (x : X) → slice_get one i ≡ Some x → slice_get (one ++ two) i ≡ Some x
-front [] two i x is = cc
-front (y ∷ one) two zero x is = is
-front (y ∷ one) two (suc i) x is = front one two i x is
-
-behind : {X : Type 0} (one two : List X) (n i : ℕ) → n ≡ length one + i → slice_get (one ++ two) n ≡ slice_get two i
-behind [] two n i same = let it : n ≡ i = omega (arith, same) in ap (λ n. slice_get two n) it
-behind (y ∷ one) two zero i same = absurd (omega (arith, same))
-behind (y ∷ one) two (suc n) i same = behind one two n i (omega (arith, same))
-
-cases : {X : Type 0} (found : Option X) → ((x : X) × (found ≡ Some x)) ⊎ (found ≡ None)
-cases None = inr refl
-cases (Some x) = inl (x, refl)
-
--- where nothing stands the list has ended
-outside : {X : Type 0} (xs : List X) (n : ℕ) → slice_get xs n ≡ None → length xs ≤ n
-outside [] n none = omega arith
-outside (x ∷ xs) zero none = cc
-outside (x ∷ xs) (suc n) none = let less = outside xs n none in omega (arith, less)
+use Rattle.pearl_gen_valid.proofs.Lists.{mapped_there, get_front, get_behind, cases, outside, same_list}
+use Rattle.pearl_gen_valid.proofs.Weights.{weight_is, weights_count}
+use Rattle.pearl_gen_valid.proofs.Routines.{EndsWell, RoutineIsValid, routine_valid}
 
 plain_lawful : (cells : List CellKind) → AllByRecursion IsPlain cells → AllByRecursion IsCellKind cells
 plain_lawful [] all = tt
@@ -108,13 +81,13 @@ module _ (p : PlainProg) (o : Object) (sound : IsSound p) (generated : IsGenerat
 
   procedure_routine : (n : ℕ) (found : Procedure) → slice_get o.procedures n ≡ Some found → routine_at o n ≡ Some found.code
   procedure_routine n found here =
-      front (map (λ (p : Procedure). p.code) o.procedures) (map (λ (t : Task). t.code) o.tasks) n found.code
+      get_front (map (λ (p : Procedure). p.code) o.procedures) (map (λ (t : Task). t.code) o.tasks) n found.code
       (slice_get-map (λ (p : Procedure). p.code) o.procedures n ∙ ap (option_map (λ (p : Procedure). p.code)) here)
 
   task_routine : (t : ℕ) → routine_at o (length o.procedures + t) ≡ option_map (λ (t : Task). t.code) (slice_get o.tasks t)
   task_routine t =
       let long = length-map o.procedures (λ (p : Procedure). p.code) in
-      behind (map (λ (p : Procedure). p.code) o.procedures) (map (λ (t : Task). t.code) o.tasks) (length o.procedures + t) t (omega (arith, long))
+      get_behind (map (λ (p : Procedure). p.code) o.procedures) (map (λ (t : Task). t.code) o.tasks) (length o.procedures + t) t (omega (arith, long))
       ∙ slice_get-map (λ (t : Task). t.code) o.tasks t
 
   as_many : length o.procedures ≡ length p.procedures

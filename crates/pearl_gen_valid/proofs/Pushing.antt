@@ -1,8 +1,8 @@
 -- Each instruction of an expression leaves an operand, and is one that an object may have.
-use Rattle.std.proofs.Common.{◌≡◌, ℕ, ◌+◌, ◌<◌, ◌⊎◌, inl, inr, true, List, [], ◌∷◌, Option, Some, None, slice_get, map, refl, sym, ap, ◌∙◌, subst}
+use Rattle.std.proofs.Common.{◌≡◌, ℕ, ◌⊎◌, inl, inr, true, List, [], ◌∷◌, Option, Some, slice_get, refl, sym, ap, ◌∙◌, subst}
 use Rattle.std.specs.Prelude.{is_some, option_map, option_and_then}
 use Rattle.std.specs.List.{AllByRecursion}
-use Rattle.std.proofs.lemmas.Option.{slice_get-map, same_Some}
+use Rattle.std.proofs.lemmas.Option.{slice_get-map}
 use Rattle.pearl_value.specs.declared.kind.Kind.{Kind}
 use Rattle.pearl_value.specs.declared.kind.Kind.TheVariants as kind_
 use Rattle.pearl_value.specs.declared.kind.CellKind.{CellKind}
@@ -24,7 +24,7 @@ use Rattle.pearl_instructions.specs.Lawful.{IsInstr}
 use Rattle.pearl_instructions.specs.Objects.{result_of}
 use Rattle.pearl_gen_expr.specs.Calls.{IsAroundIn}
 use Rattle.pearl_gen_expr.specs.Tables.{Head, head_of, code_head, HasTables}
-use Rattle.pearl_gen_expr.specs.ExprCode.{Is, reading, slot_reference, cell_reference, OffsetOf, WayOf, ReadOf, ReferenceOf, ExprAt, AllAt, ArgumentsAt, ArgumentAt}
+use Rattle.pearl_gen_expr.specs.ExprCode.{reading, slot_reference, cell_reference, OffsetOf, WayOf, ReadOf, ReferenceOf, ExprAt, AllAt, ArgumentsAt, ArgumentAt}
 use Rattle.pearl_gen_expr.proofs.Tables.{each, signature_is}
 use Rattle.pearl_gen_expr.proofs.Keeping.{callee_of}
 use Rattle.pearl_gen_valid.proofs.Places.{pushes, Every, nowhere, at_one, both, then_at}

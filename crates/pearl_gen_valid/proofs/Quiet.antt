@@ -1,7 +1,7 @@
 -- In a routine whose jumps lead well no jump leads to where an operand lies.
-use Rattle.std.proofs.Common.{◌≡◌, ℕ, zero, suc, ◌+◌, ◌-◌, ◌<◌, ◌≤◌, ◌⊎◌, inl, inr, Bool, true, false, List, [], ◌∷◌, Option, Some, None, slice_get, length, refl, sym, ap, ◌∙◌, subst, arith, lt-ltb}
-use Rattle.std.specs.Prelude.{◌&&◌, ◌||◌, ◌==◌, not, nat_lt, if◌then◌else◌}
-use Rattle.std.specs.List.{list_all, list_any}
+use Rattle.std.proofs.Common.{◌≡◌, ℕ, zero, suc, ◌+◌, ◌-◌, ◌<◌, ◌⊎◌, inl, inr, Bool, true, false, [], Option, Some, None, slice_get, length, refl, sym, ap, ◌∙◌, subst, arith, lt-ltb}
+use Rattle.std.specs.Prelude.{◌&&◌, ◌||◌, not, nat_lt, if◌then◌else◌}
+use Rattle.std.specs.List.{list_all}
 use Rattle.std.proofs.lemmas.Option.{slice_get_within}
 use Rattle.pearl_instructions.specs.declared.instr.Instr.{Instr}
 use Rattle.pearl_instructions.specs.declared.instr.Instr.TheVariants.{Turn}
@@ -9,11 +9,16 @@ use Rattle.pearl_instructions.specs.declared.object.Code.{Code}
 use Rattle.pearl_instructions.specs.declared.object.Object.{Object}
 use Rattle.pearl_instructions.specs.Operands.{Shape, same_shape}
 use Rattle.pearl_instructions.specs.Kinds.{shape_after}
-use Rattle.pearl_instructions.specs.Valid.{goes_on, targets, is_named, stated, passed_on, shape_or, shape_before, is_turn, v6, v7}
+use Rattle.pearl_instructions.specs.Valid.{goes_on, targets, is_named, stated, passed_on, shape_or, shape_before, is_turn, v6}
 use Rattle.pearl_gen_expr.specs.Shapes.{IsQuiet, AreQuiet, IsOpen, Keeps}
 use Rattle.pearl_gen_expr.proofs.Shapes.{Fits, and_is, or_is, quiet_open, judged_well, here_keeps, open_keeps}
+use Rattle.pearl_gen_expr.proofs.Keeping.{nothing_keeps}
 use Rattle.pearl_gen_valid.proofs.Places.{pushes, pushing_stays, Every, LeadsWell, AllLead, is_named_by, not_named, each_named, each_leads}
 use Rattle.pearl_gen_valid.proofs.Pushing.{Adds}
+
+-- where there is no code nothing changes
+pub stays : (o : Object) (r : ℕ) (code : Code) (from to : ℕ) (s : Shape) → to ≡ from → Keeps o r code from to s s
+stays o r code from to s same = subst (λ to. Keeps o r code from to s s) (sym same) (nothing_keeps o r code from s)
 
 -- no shapes are stated, and all jumps lead well
 pub record IsWhole (o : Object) (code : Code) : Type 0 where

@@ -1,5 +1,5 @@
 -- No rule of the validator fails in a routine.
-use Rattle.std.proofs.Common.{◌≡◌, ℕ, zero, suc, ◌+◌, ◌<◌, ◌≤◌, ◌⊎◌, inl, inr, Bool, true, false, true≢false, List, [], ◌∷◌, Option, Some, None, slice_get, length, map, refl, sym, ap, ◌∙◌, subst, arith, le-leb, ltb-true, ltb-false}
+use Rattle.std.proofs.Common.{◌≡◌, ℕ, zero, suc, ◌+◌, ◌≤◌, ◌⊎◌, Bool, true, false, true≢false, List, [], ◌∷◌, Option, Some, None, slice_get, length, refl, sym, ap, ◌∙◌, subst, arith, le-leb, ltb-true, ltb-false}
 use Rattle.std.specs.Prelude.{◌==◌, not, nat_lt, nat_le, is_some, IfSome, if◌then◌else◌}
 use Rattle.std.specs.List.{AllByRecursion, list_all}
 use Rattle.std.proofs.lemmas.Option.{same_Some, slice_get_past, slice_get_within}
@@ -24,7 +24,8 @@ use Rattle.pearl_gen_expr.specs.Shapes.{Keeps, depths}
 use Rattle.pearl_gen_expr.proofs.Shapes.{both_keep}
 use Rattle.pearl_gen_stmt.specs.StmtCode.{StmtsAt}
 use Rattle.pearl_gen_stmt.specs.Generated.{within_program, IsStated, IsCode}
-use Rattle.pearl_gen_valid.proofs.Places.{Every, IsBare, AllLead, then_at, all_less}
+use Rattle.pearl_gen_valid.proofs.Lists.{all_by_number}
+use Rattle.pearl_gen_valid.proofs.Places.{Every, AllLead, then_at, all_less}
 use Rattle.pearl_gen_valid.proofs.Standing.{IsReturning, Stands}
 use Rattle.pearl_gen_valid.proofs.Leading.{Fine, plain, Sits}
 use Rattle.pearl_gen_valid.proofs.Quiet.{IsWhole}
@@ -44,11 +45,6 @@ closed (here ∷ next ∷ more) (suc end) last is long stops = closed (next ∷ 
 
 none_or_some : {X : Type 0} (x : X) → None ≡ Some x → ⊥
 none_or_some x is = true≢false (sym (ap is_some is))
-
--- what holds at each place holds of all
-pub all_of : (P : Instr → Type 0) (xs : List Instr) → ((j : ℕ) (x : Instr) → slice_get xs j ≡ Some x → P x) → AllByRecursion P xs
-all_of P [] holds = tt
-all_of P (x ∷ xs) holds = (holds 0 x refl, all_of P xs (λ j y is. holds (suc j) y is))
 
 -- What is known of a routine beside its code.
 pub record Ready (p : PlainProg) (o : Object) (r : ℕ) (code : Code) (result : Option Kind) (routine : PlainRoutine) (returns : Option (Option Kind)) (below : ℕ) : Type 0 where
@@ -109,13 +105,13 @@ module _ (p : PlainProg) (o : Object) (r : ℕ) (code : Code) (result : Option K
   stands : Stands o r code setting around below
   stands = record {
     placed = record {
-        sound = ready.sound;
-        tables = ready.tables;
-        stands = record { leaves = refl; procedures = refl };
-        cells = ready.cells;
-        semaphores = ap length (sym ready.tables.semaphores);
-        depth = ready.light;
-        smaller = ready.smaller;
+      sound = ready.sound;
+      tables = ready.tables;
+      stands = record { leaves = refl; procedures = refl };
+      cells = ready.cells;
+      semaphores = ap length (sym ready.tables.semaphores);
+      depth = ready.light;
+      smaller = ready.smaller;
     };
     cells = refl;
     lawful = ready.lawful;
@@ -172,7 +168,7 @@ module _ (p : PlainProg) (o : Object) (r : ℕ) (code : Code) (result : Option K
 
   pub routine_valid : RoutineIsValid o r code
   routine_valid = record {
-    lawful = all_of IsInstr instrs (λ j x is. (fine j x (omega arith) (slice_get_within instrs j x is) is).0);
+    lawful = all_by_number IsInstr instrs (λ j x is. (fine j x (omega arith) (slice_get_within instrs j x is) is).0);
     none_stated = stated.1;
     sound = λ i. ap (λ found. unsound_in o r found i) there ∙ judged i;
   }

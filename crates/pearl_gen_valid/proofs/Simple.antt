@@ -1,12 +1,11 @@
 -- The instructions of statements that have no statements in them.
-use Rattle.std.proofs.Common.{◌≡◌, ℕ, ◌+◌, ◌-◌, ◌<◌, ◌≤◌, zero, suc, pos, true, false, List, [], ◌∷◌, Option, Some, None, slice_get, length, refl, sym, ap, ◌∙◌, subst, arith}
-use Rattle.std.specs.Prelude.{Bool, is_some, IfSome, option_map, option_and_then}
-use Rattle.std.specs.List.{AllByRecursion, AllZip}
+use Rattle.std.proofs.Common.{◌≡◌, ℕ, ◌+◌, ◌-◌, ◌<◌, ◌≤◌, zero, suc, pos, false, List, [], ◌∷◌, Option, Some, None, slice_get, length, refl, sym, ap, ◌∙◌, subst, arith}
+use Rattle.std.specs.Prelude.{Bool, is_some, IfSome}
+use Rattle.std.specs.List.{AllByRecursion}
 use Rattle.std.proofs.lemmas.Option.{same_Some}
 use Rattle.std.proofs.lemmas.Int.{ints}
 use Rattle.pearl_value.specs.declared.kind.Kind.{Kind}
 use Rattle.pearl_value.specs.declared.kind.Kind.TheVariants as kind_
-use Rattle.pearl_value.specs.declared.kind.CellKind.TheVariants.{Plain}
 use Rattle.pearl_value.specs.declared.cell.Cell.{Cell}
 use Rattle.pearl_value.specs.declared.cell.Cell.TheVariants.{Fixed}
 use Rattle.pearl_value.specs.Kinds.{IsKind}
@@ -14,12 +13,11 @@ use Rattle.pearl_value.specs.WellFormed.{IsValue, IsValueOf}
 use Rattle.pearl_program.specs.declared.expression.Target.TheVariants.{Leaf as LeafOf, Own, Param}
 use Rattle.pearl_program.specs.declared.expression.Bound.{Bound}
 use Rattle.pearl_program.specs.PlainExpressions.{PlainExpr, PlainVariable, OfVariable, PlainExprs, PlainArguments}
-use Rattle.pearl_program.specs.PlainStatements.{PlainValues, PlainPeriodEnd, OfUntil, OfDuring, PlainPeriod, PlainStart, OfAt, OfAfter, OfWhen, OfWhenAfter, PlainOnce, OnceAt, OnceAfter, OnceWhen, PlainCounter}
+use Rattle.pearl_program.specs.PlainStatements.{PlainValues, PlainPeriodEnd, OfUntil, OfDuring, PlainPeriod, PlainStart, OfAt, OfAfter, OfWhen, OfWhenAfter, PlainOnce, OnceAt, OnceAfter, OnceWhen}
 use Rattle.pearl_program.specs.PlainPrograms.{PlainProcedure}
 use Rattle.pearl_program.specs.Typing.{Around, Signature, HasKind, IsVariable, Suit, HaveKinds, IsFixed, HasValueFor}
-use Rattle.pearl_program.specs.SoundStatements.{IsIf, AreFirst, IsCounter, IsReturn, IsStart, IsPeriod, IsPeriodEnd, IsOnce, IsActivate}
-use Rattle.pearl_meaning.specs.Setting.{Setting, params_of, variable_kind, cell_kind, sent_kind}
-use Rattle.pearl_meaning.specs.Transfers.{kinds_of}
+use Rattle.pearl_program.specs.SoundStatements.{IsIf, AreFirst, IsReturn, IsStart, IsPeriod, IsPeriodEnd, IsOnce, IsActivate}
+use Rattle.pearl_meaning.specs.Setting.{Setting, params_of, variable_kind, sent_kind}
 use Rattle.pearl_instructions.specs.declared.schedule.OnceForm.{OnceForm}
 use Rattle.pearl_instructions.specs.declared.schedule.StartForm.{StartForm}
 use Rattle.pearl_instructions.specs.declared.schedule.RepeatForm.{RepeatForm}
@@ -30,13 +28,13 @@ use Rattle.pearl_instructions.specs.declared.object.Object.{Object}
 use Rattle.pearl_instructions.specs.Lawful.{IsInstr}
 use Rattle.pearl_instructions.specs.Objects.{result_of}
 use Rattle.pearl_instructions.specs.Valid.{targets}
-use Rattle.pearl_gen_expr.specs.ExprCode.{writing_to, OffsetOf, ExprAt, AllAt, CallAt, WayAt}
+use Rattle.pearl_gen_expr.specs.ExprCode.{writing_to, OffsetOf, ExprAt, AllAt, WayAt}
 use Rattle.pearl_gen_expr.proofs.Forward.{expr_forward, all_forward, arguments_forward}
 use Rattle.pearl_gen_expr.proofs.Tables.{signature_is}
-use Rattle.pearl_gen_stmt.specs.StmtCode.{on_task, writing_at, kept_in, StoresAt, RepeatsAt, RenewAt, ConvertedAt, AssignAt, TakeAt, CallOfAt, CountedAt, LimitAt, DroppedAt, BeginsAt, WhenAt, LaterAt, MaybeLaterAt, PeriodEndAt, PeriodAt, PriorityAt, ActivateAt, ContinueAt, ResumeAt, FoundAt, KeptAt, FilledAt, WrittenAt, GetAt, ReturnAt, PutAt, SendAt}
-use Rattle.pearl_gen_valid.proofs.Places.{pushes, Every, IsBare, nowhere, at_one, both, then_at}
+use Rattle.pearl_gen_stmt.specs.StmtCode.{on_task, StoresAt, RepeatsAt, RenewAt, ConvertedAt, AssignAt, TakeAt, CallOfAt, DroppedAt, WhenAt, LaterAt, MaybeLaterAt, PeriodEndAt, PeriodAt, PriorityAt, ActivateAt, ContinueAt, ResumeAt, ReturnAt, PutAt, SendAt}
+use Rattle.pearl_gen_valid.proofs.Places.{pushes, Every, IsBare, nowhere, both, then_at}
 use Rattle.pearl_gen_valid.proofs.Pushing.{Adds, offset_adds, result_there, params_lawful, expr_adds, subscripts_add, arguments_add, all_add}
-use Rattle.pearl_gen_valid.proofs.Standing.{IsReturning, Stands, return_typed, variable_is, own_kind_is, sent_is}
+use Rattle.pearl_gen_valid.proofs.Standing.{IsReturning, Stands, return_typed, variable_is}
 use Rattle.pearl_gen_valid.proofs.Leading.{Sits, nothing_sits, both_sit, closes, alone}
 
 -- an instruction that leaves nothing, goes nowhere else, and that an object may have
@@ -199,16 +197,18 @@ module _ (o : Object) (r : ℕ) (code : Code) (setting : Setting) (around : Arou
 
     pub call_sits : (number : ℕ) (found : Option PlainProcedure) (arguments : PlainArguments) (signature : Signature) (from to : ℕ) → slice_get setting.program.procedures number ≡ found →
         slice_get around.procedures number ≡ Some signature → Suit around signature.params arguments → CallOfAt setting code.instructions from number found arguments to → Sitting from to
-    call_sits number None arguments signature from to found known suit is = absurd is
+    call_sits number None _ signature from to found known suit is = absurd is
     call_sits number (Some procedure) arguments signature from to found known suit is =
         let call = is.1 in let end = call.2 in let last = call.5 in
         let it : call.0 ≡ procedure = same_Some call.0 procedure (sym call.1 ∙ found) in
         let same = signature_is setting.program around stands.placed.stands number call.0 signature call.1 known in
         let suit = subst (λ (signature : Signature). Suit around signature.params arguments) (sym same) suit in
         let program = setting.program in
-        let piece : Piece from end = (arguments_forward program instrs arguments (params_of call.0) from end call.3,
-        arguments_add program o instrs around stands.placed.sound stands.placed.tables stands.placed.stands arguments (params_of call.0) from end
-        (params_lawful program o instrs around stands.placed.sound stands.placed.tables stands.placed.stands number call.0 call.1) suit call.3) in
+        let piece : Piece from end = (
+          arguments_forward program instrs arguments (params_of call.0) from end call.3,
+          arguments_add program o instrs around stands.placed.sound stands.placed.tables stands.placed.stands arguments (params_of call.0) from end
+              (params_lawful program o instrs around stands.placed.sound stands.placed.tables stands.placed.stands number call.0 call.1) suit call.3,
+        ) in
         dropped_sits number procedure.result from end to (result_there program o stands.placed.tables number procedure found) piece call.4
         (subst (λ at. DroppedAt setting instrs at procedure.result to) last is.2)
 

@@ -1,7 +1,8 @@
 -- Where a statement stands: in a routine of a sound program's object.
-use Rattle.std.specs.Prelude.{◌≡◌, ℕ, ◌+◌, ◌<◌, ◌≤◌, false, List, [], ◌∷◌, length, Option, Some, None, IfSome, slice_get, option_map, option_and_then}
+use Rattle.std.specs.Prelude.{◌≡◌, ℕ, ◌<◌, false, List, [], length, Option, Some, None, IfSome, slice_get, option_map, option_and_then}
 use Rattle.std.proofs.Common.{refl, sym, ap, ◌∙◌, subst}
 use Rattle.std.specs.List.{AllByRecursion}
+use Rattle.std.proofs.lemmas.Option.{slice_get-map}
 use Rattle.pearl_value.specs.declared.kind.Kind.{Kind}
 use Rattle.pearl_value.specs.declared.kind.CellKind.{CellKind}
 use Rattle.pearl_value.specs.declared.kind.CellKind.TheVariants.{Plain, RefTo}
@@ -10,12 +11,13 @@ use Rattle.pearl_program.specs.declared.expression.Target.TheVariants.{Leaf as L
 use Rattle.pearl_program.specs.declared.expression.Bound.{Bound}
 use Rattle.pearl_program.specs.declared.table.Device.{Device}
 use Rattle.pearl_program.specs.declared.table.Device.TheVariants.{Interrupt, Terminal, Input, Output}
-use Rattle.pearl_program.specs.PlainExpressions.{PlainExpr, PlainVariable, OfVariable, PlainExprs, NoExprs, MoreExprs}
+use Rattle.pearl_program.specs.PlainExpressions.{PlainExpr, PlainVariable, OfVariable, PlainExprs, NoExprs}
 use Rattle.pearl_program.specs.PlainStatements.{PlainCounter}
 use Rattle.pearl_program.specs.PlainPrograms.{PlainLeaf}
 use Rattle.pearl_program.specs.Typing.{Around, elements, IsVariable, IsLeafOf, IsParam, AreCells, HasValueFor}
 use Rattle.pearl_program.specs.SoundStatements.{within, IsReturn, IsOutput}
 use Rattle.pearl_program.specs.Sound.{IsLeaf, IsDevice, IsCellKind}
+use Rattle.pearl_meaning.specs.ProgramRuns.{device_of}
 use Rattle.pearl_meaning.specs.Setting.{Setting, plain_kind, referred_kind, cell_kind, variable_kind, output_kind, sent_kind}
 use Rattle.pearl_instructions.specs.declared.object.Code.{Code}
 use Rattle.pearl_instructions.specs.declared.object.Object.{Object}
@@ -44,13 +46,13 @@ pub within_loop : (o : Object) (r : ℕ) (code : Code) (setting : Setting) (arou
     Stands o r code setting (within around counter) below
 within_loop o r code setting around below counter stands = record {
   placed = record {
-      sound = stands.placed.sound;
-      tables = stands.placed.tables;
-      stands = record { leaves = stands.placed.stands.leaves; procedures = stands.placed.stands.procedures };
-      cells = stands.placed.cells;
-      semaphores = stands.placed.semaphores;
-      depth = stands.placed.depth;
-      smaller = stands.placed.smaller;
+    sound = stands.placed.sound;
+    tables = stands.placed.tables;
+    stands = record { leaves = stands.placed.stands.leaves; procedures = stands.placed.stands.procedures };
+    cells = stands.placed.cells;
+    semaphores = stands.placed.semaphores;
+    depth = stands.placed.depth;
+    smaller = stands.placed.smaller;
   };
   cells = stands.cells;
   lawful = stands.lawful;
@@ -124,3 +126,9 @@ module _ (o : Object) (r : ℕ) (code : Code) (setting : Setting) (around : Arou
       let found = output_is (slice_get around.devices device) kind is in
       let there : slice_get setting.program.devices device ≡ Some (Output found.0 kind) = ap (λ devices. slice_get devices device) (sym stands.devices) ∙ found.1 in
       (ap output_kind there, (each IsDevice setting.program.devices device (Output found.0 kind) stands.placed.sound.devices there).2)
+
+  -- the devices of the object are those of the program
+  pub devices_there : (number : ℕ) → slice_get o.devices number ≡ option_map device_of (slice_get around.devices number)
+  devices_there number =
+      ap (λ devices. slice_get devices number) stands.placed.tables.devices
+      ∙ (slice_get-map device_of setting.program.devices number ∙ ap (λ devices. option_map device_of (slice_get devices number)) (sym stands.devices))

@@ -1,29 +1,26 @@
 -- No rule of the validator fails at the instructions of statements, where the operands have the kinds that are needed.
-use Rattle.std.proofs.Common.{◌≡◌, ℕ, zero, suc, ◌+◌, ◌<◌, ◌≤◌, ◌⊎◌, inl, inr, Bool, true, false, List, [], ◌∷◌, ◌++◌, Option, Some, None, slice_get, length, replicate, map, refl, sym, ap, ◌∙◌, subst, arith, le-leb, lt-ltb, eq-eqb, eqb-true, Box, Global}
-use Rattle.std.specs.Prelude.{◌&&◌, ◌||◌, ◌==◌, not, nat_lt, nat_le, nat_eq, is_some, option_map, option_and_then, option_to_list, take, drop, reverse}
-use Rattle.std.specs.List.{AllByRecursion, IsDistinct, list_all, list_any}
-use Rattle.std.proofs.lemmas.List.{append-nil, drop_all}
+use Rattle.std.proofs.Common.{◌≡◌, ℕ, zero, suc, ◌+◌, ◌<◌, ◌≤◌, Bool, true, false, List, [], ◌∷◌, ◌++◌, Option, Some, None, slice_get, length, replicate, refl, sym, ap, ◌∙◌, arith, le-leb, lt-ltb, eq-eqb, eqb-true, Box, Global}
+use Rattle.std.specs.Prelude.{◌&&◌, ◌||◌, ◌==◌, not, nat_lt, nat_le, nat_eq, option_to_list, take, drop}
+use Rattle.std.specs.List.{AllByRecursion, IsDistinct, list_all}
 use Rattle.pearl_value.specs.declared.kind.Kind.{Kind}
 use Rattle.pearl_value.specs.declared.kind.Kind.TheVariants as kind_
 use Rattle.pearl_value.specs.declared.kind.CellKind.{CellKind}
-use Rattle.pearl_value.specs.declared.kind.CellKind.TheVariants.{Plain, RefTo}
+use Rattle.pearl_value.specs.declared.kind.CellKind.TheVariants.{Plain}
 use Rattle.pearl_value.specs.declared.listing.Listing.{Listing}
 use Rattle.pearl_value.specs.declared.trap.Trap.{Trap as TrapOf}
-use Rattle.pearl_rules.specs.declared.setup.Device.{Device}
-use Rattle.pearl_rules.specs.declared.setup.Device.TheVariants.{Interrupt, Terminal, Input, Output}
+use Rattle.pearl_rules.specs.declared.setup.Device.TheVariants.{Input, Output}
 use Rattle.pearl_instructions.specs.declared.instr.Instr.{Instr}
 use Rattle.pearl_instructions.specs.declared.instr.Instr.TheVariants as instr
 use Rattle.pearl_instructions.specs.declared.object.Code.{Code}
 use Rattle.pearl_instructions.specs.declared.object.Object.{Object}
 use Rattle.pearl_instructions.specs.Objects.{is_task, result_of}
-use Rattle.pearl_instructions.specs.Operands.{Shape, is_fixed, is_reference, v2, result_asked, same_shape}
+use Rattle.pearl_instructions.specs.Operands.{Shape, v2, result_asked, same_shape}
 use Rattle.pearl_instructions.specs.Named.{has_cells, cells_at, is_interrupt, is_input, is_output}
 use Rattle.pearl_instructions.specs.Kinds.{is_uniform, is_kind, first_kind, are_fixed, kind_taken, kind_sent, has_on_top}
 use Rattle.pearl_instructions.specs.Valid.{result_shape, is_repeated, are_different, is_semaphore_list}
 use Rattle.pearl_gen_expr.specs.Shapes.{Keeps}
-use Rattle.pearl_gen_expr.proofs.Shapes.{Fits, and_is, same_cell_self, same_shape_self}
+use Rattle.pearl_gen_expr.proofs.Shapes.{and_is, same_cell_self, same_shape_self}
 use Rattle.pearl_gen_expr.proofs.Fitting.{cells_are_there, cells_are_uniform, cells_are_plain}
-use Rattle.pearl_gen_valid.proofs.Places.{pushes}
 use Rattle.pearl_gen_valid.proofs.Quiet.{IsWhole, each_inside, bare_keeps, push_keeps}
 
 first_of : (n : ℕ) (k : CellKind) → 0 < n → first_kind (replicate n k) ≡ Some k

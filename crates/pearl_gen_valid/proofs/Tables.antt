@@ -1,5 +1,5 @@
 -- What a sound program becomes is as each object is to be.
-use Rattle.std.proofs.Common.{◌≡◌, ℕ, zero, suc, ◌+◌, ◌<◌, ◌≤◌, ◌^◌, ◌⊎◌, inl, inr, List, [], ◌∷◌, Option, Some, None, slice_get, length, map, refl, sym, ap, ◌∙◌, subst, arith}
+use Rattle.std.proofs.Common.{◌≡◌, ℕ, ◌<◌, ◌≤◌, ◌^◌, inl, inr, List, [], ◌∷◌, Some, slice_get, length, map, refl, sym, ap, ◌∙◌, subst, arith}
 use Rattle.std.specs.Prelude.{IsTrue, IfSome, drop, sum_by}
 use Rattle.std.specs.List.{AllByRecursion}
 use Rattle.std.proofs.lemmas.List.{length-map}
@@ -12,7 +12,7 @@ use Rattle.pearl_rules.specs.Tables as tables
 use Rattle.pearl_rules.specs.Tables.{IsFormat, is_id}
 use Rattle.pearl_program.specs.declared.table.Device.{Device}
 use Rattle.pearl_program.specs.declared.table.Device.TheVariants.{Interrupt, Terminal, Input, Output}
-use Rattle.pearl_program.specs.PlainPrograms.{PlainLeaf, PlainProcedure, PlainTask, PlainProg}
+use Rattle.pearl_program.specs.PlainPrograms.{PlainLeaf, PlainProg}
 use Rattle.pearl_program.specs.Sound as sound
 use Rattle.pearl_program.specs.Sound.{IsSound, IsProcedure as IsSoundProcedure, IsTask as IsSoundTask}
 use Rattle.pearl_meaning.specs.ProgramRuns.{device_of, entry_of}
@@ -26,13 +26,8 @@ use Rattle.pearl_instructions.specs.Lawful.{IsCellKind, IsPlain, IsLeaf, IsInstr
 use Rattle.pearl_gen_expr.specs.Tables.{plain_leaf, Head, head_of, code_head, code_entry}
 use Rattle.pearl_gen_expr.proofs.Tables.{each}
 use Rattle.pearl_gen_stmt.specs.Generated.{IsGenerated}
-use Rattle.pearl_gen_valid.proofs.Routines.{RoutineIsValid}
+use Rattle.pearl_gen_valid.proofs.Lists.{all_by_number}
 use Rattle.pearl_gen_valid.proofs.Programs.{procedure_of, task_of, its_cells, if_some, all_lawful, procedure_valid, task_valid}
-
--- what holds at each number holds of all
-all_by_number : {X : Type 0} (P : X → Type 0) (xs : List X) → ((n : ℕ) (x : X) → slice_get xs n ≡ Some x → P x) → AllByRecursion P xs
-all_by_number P [] holds = tt
-all_by_number P (x ∷ xs) holds = (holds 0 x refl, all_by_number P xs (λ n y is. holds (suc n) y is))
 
 -- DEVICES
 

@@ -1,61 +1,48 @@
 -- No rule of the validator fails in PUT and GET.
-use Rattle.std.proofs.Common.{◌≡◌, ℕ, zero, suc, ◌+◌, ◌-◌, ◌<◌, ◌≤◌, max, pos, Bool, true, false, List, [], ◌∷◌, ◌++◌, Option, Some, None, slice_get, length, replicate, map, refl, sym, ap, ◌∙◌, subst, arith}
-use Rattle.std.specs.Prelude.{IfSome, is_some, option_map, take, drop, unwrap_or}
-use Rattle.std.specs.List.{AllByRecursion, AllZip}
+use Rattle.std.proofs.Common.{◌≡◌, ℕ, suc, ◌+◌, ◌<◌, ◌≤◌, true, List, [], ◌∷◌, ◌++◌, Option, Some, None, slice_get, length, replicate, map, refl, sym, ap, ◌∙◌, subst, arith}
+use Rattle.std.specs.Prelude.{option_map, take, drop}
+use Rattle.std.specs.List.{AllZip}
 use Rattle.std.proofs.lemmas.Option.{slice_get-map, same_Some}
-use Rattle.std.proofs.lemmas.List.{append-nil, length-map}
+use Rattle.std.proofs.lemmas.List.{length-map}
 use Rattle.pearl_value.specs.declared.kind.Kind.{Kind}
 use Rattle.pearl_value.specs.declared.kind.Kind.TheVariants as kind_
 use Rattle.pearl_value.specs.declared.kind.CellKind.{CellKind}
 use Rattle.pearl_value.specs.declared.kind.CellKind.TheVariants.{Plain, RefTo}
-use Rattle.pearl_value.specs.declared.cell.Cell.{Cell}
-use Rattle.pearl_value.specs.declared.cell.Cell.TheVariants.{Fixed}
 use Rattle.pearl_value.specs.Cells.{cell_kind_of}
-use Rattle.pearl_value.specs.Conversions.{SuitsKind}
-use Rattle.pearl_value.specs.WellFormed.{IsValueOf}
-use Rattle.pearl_rules.specs.declared.setup.Device.TheVariants as device
 use Rattle.pearl_program.specs.declared.table.Device.{Device}
 use Rattle.pearl_program.specs.declared.table.Device.TheVariants.{Interrupt, Terminal, Input, Output}
 use Rattle.pearl_program.specs.declared.expression.Target.{Target}
 use Rattle.pearl_program.specs.declared.expression.Target.TheVariants.{Leaf as LeafOf, Own, Param}
 use Rattle.pearl_program.specs.declared.expression.Bound.{Bound}
-use Rattle.pearl_program.specs.PlainExpressions.{PlainExpr, PlainVariable, OfVariable, PlainExprs, NoExprs, MoreExprs, PlainArguments}
-use Rattle.pearl_program.specs.PlainStatements.{PlainValues}
-use Rattle.pearl_program.specs.PlainPrograms.{PlainProcedure}
-use Rattle.pearl_program.specs.Typing.{Around, Signature, AreCells, HasKind, IsVariable, Suit, HaveKinds, HasValueFor}
-use Rattle.pearl_program.specs.SoundStatements.{AreFirst, IsReturn, IsInput, IsOutput}
-use Rattle.pearl_program.specs.Weights.{Sizes, calls, values, callees, of_expr, of_exprs, of_variable, of_arguments, of_if}
+use Rattle.pearl_program.specs.PlainExpressions.{PlainExpr, PlainVariable, OfVariable, PlainExprs, NoExprs, MoreExprs}
+use Rattle.pearl_program.specs.Typing.{Around, AreCells, HasKind, IsVariable, HaveKinds}
+use Rattle.pearl_program.specs.Weights.{Sizes, values, of_expr, of_exprs, of_variable}
 use Rattle.pearl_meaning.specs.ProgramRuns.{device_of}
-use Rattle.pearl_meaning.specs.Setting.{Setting, params_of, variable_kind, sent_kind}
+use Rattle.pearl_meaning.specs.Setting.{Setting}
 use Rattle.pearl_instructions.specs.declared.instr.Instr.{Instr}
 use Rattle.pearl_instructions.specs.declared.instr.Instr.TheVariants as instr
 use Rattle.pearl_instructions.specs.declared.object.Code.{Code}
 use Rattle.pearl_instructions.specs.declared.object.Object.{Object}
-use Rattle.pearl_instructions.specs.Objects.{is_task, result_of}
 use Rattle.pearl_instructions.specs.Operands.{Shape}
-use Rattle.pearl_instructions.specs.Valid.{result_shape}
-use Rattle.pearl_gen_expr.specs.ExprCode.{writing_to, Is, ExprAt, AllAt, ArgumentsAt, CallAt, WayAt}
-use Rattle.pearl_gen_expr.specs.Shapes.{IsOpen, Keeps, depths, handed, offset_shape, way_shape, CodeKeeps}
+use Rattle.pearl_gen_expr.specs.ExprCode.{Is, ExprAt}
+use Rattle.pearl_gen_expr.specs.Shapes.{Keeps, handed}
 use Rattle.pearl_gen_expr.proofs.Forward.{some_values}
-use Rattle.pearl_gen_expr.proofs.Tables.{signature_is}
-use Rattle.pearl_gen_expr.proofs.Shapes.{quiet_open, both_keep}
-use Rattle.pearl_gen_expr.proofs.Fitting.{const_keeps, conv_keeps, load_keeps}
-use Rattle.pearl_gen_expr.proofs.Storing.{store_keeps}
+use Rattle.pearl_gen_expr.proofs.Shapes.{both_keep}
+use Rattle.pearl_gen_expr.proofs.Fitting.{const_keeps, load_keeps}
 use Rattle.pearl_gen_expr.proofs.Gathering.{handed_length}
-use Rattle.pearl_gen_expr.proofs.Keeping.{literal_kind, nothing_keeps, then_one, just_one, expressions_keep}
-use Rattle.pearl_gen_stmt.specs.StmtCode.{StoresAt, RepeatsAt, RenewAt, ConvertedAt, AssignAt, TakeAt, DroppedAt, CallOfAt, ReturnAt, PutAt, SendAt}
-use Rattle.pearl_gen_valid.proofs.Places.{Every}
-use Rattle.pearl_gen_valid.proofs.Pushing.{Adds, params_lawful, result_there, arguments_add}
-use Rattle.pearl_gen_valid.proofs.Standing.{IsReturning, Stands, return_typed, return_bare, output_is, variable_is, sent_is}
-use Rattle.pearl_gen_valid.proofs.Simple.{expr_piece, all_piece, converted_piece, way_piece}
-use Rattle.pearl_gen_valid.proofs.Quiet.{IsWhole, quiet_at, are_quiet, open_empty}
-use Rattle.pearl_gen_valid.proofs.Steps.{HasFor, fill_keeps, drop_keeps, take_keeps, send_keeps, return_keeps}
-
-use Rattle.pearl_gen_valid.proofs.Kept.{part_is, one_of, get_copied, Small, small_left, small_right, Passing, expr_keep, converted_keep, store_keep, device_there, keeps}
+use Rattle.pearl_gen_expr.proofs.Keeping.{then_one, just_one}
+use Rattle.pearl_gen_stmt.specs.StmtCode.{PutAt}
+use Rattle.pearl_gen_valid.proofs.Standing.{Stands, devices_there}
+use Rattle.pearl_gen_valid.proofs.Simple.{all_piece}
+use Rattle.pearl_gen_valid.proofs.Quiet.{stays, IsWhole, quiet_at, are_quiet, open_empty}
+use Rattle.pearl_gen_valid.proofs.Steps.{fill_keeps}
+use Rattle.pearl_gen_valid.proofs.Small.{IsSmall, left, right}
+use Rattle.pearl_gen_valid.proofs.Lists.{get_front, get_behind, taken_less, part_is, get_copied, one_of}
+use Rattle.pearl_gen_valid.proofs.Kept.{expr_keep, store_keep, keeps}
 use Rattle.std.proofs.lemmas.List.{take_at}
 use Rattle.pearl_format.specs.declared.item.Item.{Item}
 use Rattle.pearl_program.specs.declared.table.Direction.TheVariants.{In, Out, InOut}
-use Rattle.pearl_program.specs.Typing.{IsLeafOf, IsParam, elements}
+use Rattle.pearl_program.specs.Typing.{IsLeafOf, elements}
 use Rattle.pearl_program.specs.SoundStatements.{FitsFormat, FitsSome, TakesTexts, GivesTexts, IsPut, IsGet}
 use Rattle.pearl_program.specs.Weights.{of_variables}
 use Rattle.pearl_instructions.specs.declared.instr.Reading.{Reading}
@@ -91,22 +78,6 @@ format_is : (found : Option (List Item)) (kinds : List Kind) → FitsSome found 
 format_is None kinds fits = absurd fits
 format_is (Some items) kinds fits = (items, refl, fits)
 
-taken_less : {X : Type 0} (xs : List X) (n k : ℕ) → n ≤ k → take n (take k xs) ≡ take n xs
-taken_less xs zero k less = refl
-taken_less xs (suc n) zero less = absurd (omega (arith, less))
-taken_less [] (suc n) (suc k) less = refl
-taken_less (x ∷ xs) (suc n) (suc k) less = ap (λ rest. x ∷ rest) (taken_less xs n k (omega (arith, less)))
-
-get_front : {X : Type 0} (one two : List X) (i : ℕ) (x : X) → slice_get one i ≡ Some x → slice_get (one ++ two) i ≡ Some x
-get_front [] two i x is = cc
-get_front (y ∷ one) two zero x is = is
-get_front (y ∷ one) two (suc i) x is = get_front one two i x is
-
-get_behind : {X : Type 0} (one two : List X) (n i : ℕ) → n ≡ length one + i → slice_get (one ++ two) n ≡ slice_get two i
-get_behind [] two n i same = let it : n ≡ i = omega (arith, same) in ap (λ n. slice_get two n) it
-get_behind (y ∷ one) two zero i same = absurd (omega (arith, same))
-get_behind (y ∷ one) two (suc n) i same = get_behind one two n i (omega (arith, same))
-
 many_kinds : (around : Around) (es : PlainExprs) (kinds : List Kind) → HaveKinds around es kinds → length kinds ≤ of_exprs values es
 many_kinds around NoExprs [] have = omega arith
 many_kinds around NoExprs (kind ∷ kinds) have = absurd have
@@ -125,19 +96,10 @@ module _ (o : Object) (r : ℕ) (code : Code) (setting : Setting) (below most ne
   instrs = code.instructions
 
   abbrev Fit : (Sizes → ℕ) → Type 0
-  Fit of = Small o r code setting below most need whole room around stands of
+  Fit of = IsSmall o below most need of
 
   abbrev Goes : (from to : ℕ) (before after : Shape) → Type 0
   Goes from to before after = Keeps o r code from to before after
-
-  stays : (from to : ℕ) (s : Shape) → to ≡ from → Goes from to s s
-  stays from to s same = subst (λ to. Goes from to s s) (sym same) (nothing_keeps o r code from s)
-
-  left : (f g : Sizes → ℕ) → Fit (λ z. z.both (f z) (g z)) → Fit f
-  left = small_left o r code setting below most need whole room around stands
-
-  right : (f g : Sizes → ℕ) → Fit (λ z. z.both (f z) (g z)) → Fit g
-  right = small_right o r code setting below most need whole room around stands
 
   expr : (e : PlainExpr) (kind : Kind) (from to : ℕ) (s : Shape) → HasKind around e kind → Fit (λ z. of_expr z e) → length s + of_expr values e ≤ need + 2 →
       ExprAt setting.program instrs from e to → Goes from to s (Plain kind ∷ s)
@@ -145,11 +107,6 @@ module _ (o : Object) (r : ℕ) (code : Code) (setting : Setting) (below most ne
 
   format_there : (format : ℕ) (items : List Item) → slice_get around.formats format ≡ Some items → slice_get o.formats format ≡ Some items
   format_there format items is = ap (λ formats. slice_get formats format) (stands.placed.tables.formats ∙ sym stands.formats) ∙ is
-
-  devices_there : (number : ℕ) → slice_get o.devices number ≡ option_map device_of (slice_get around.devices number)
-  devices_there number =
-      ap (λ devices. slice_get devices number) stands.placed.tables.devices
-      ∙ (slice_get-map device_of setting.program.devices number ∙ ap (λ devices. option_map device_of (slice_get devices number)) (sym stands.devices))
 
   pub put_keep : (es : PlainExprs) (number format from to : ℕ) → IsPut around es number format → Fit (λ z. of_exprs z es) → PutAt setting code.instructions from es number format to → Goes from to [] []
   put_keep es number format from to typed small is =
@@ -161,7 +118,7 @@ module _ (o : Object) (r : ℕ) (code : Code) (setting : Setting) (below most ne
       then_one o r code from end to [] shape [] is.2.1
       ((keeps o r code setting below most need whole room around stands).all es kinds from end [] typed.2 small.0 small.1 (omega (arith, room, sizes))
       (are_quiet o r code whole from end (all_piece o r code setting around below stands es kinds from end typed.2 is.1).1) is.1)
-      (put_keeps o r code whole end number format found.0 kinds is.2.0 (ap takes_texts (devices_there number) ∙ texts_taken (slice_get around.devices number) typed.0)
+      (put_keeps o r code whole end number format found.0 kinds is.2.0 (ap takes_texts (devices_there o r code setting around below stands number) ∙ texts_taken (slice_get around.devices number) typed.0)
       (format_there format found.0 found.1) found.2 (omega (arith, room, sizes, many, long, same)))
 
   -- how far a target lies behind its first element
@@ -190,18 +147,18 @@ module _ (o : Object) (r : ℕ) (code : Code) (setting : Setting) (below most ne
 
   kept_keep : (targets : List PlainVariable) (kinds : List Kind) (from at to : ℕ) → AllZip (IsVariable around) targets kinds → Fit (λ z. of_variables z targets) → Offsets at (length targets) →
       KeptAt setting instrs from at targets to → Goes from to [] []
-  kept_keep [] kinds from at to typed small offsets is = stays from to [] is
+  kept_keep [] kinds from at to typed small offsets is = stays o r code from to [] is
   kept_keep (target ∷ targets) [] from at to typed small offsets is = absurd typed
   kept_keep (target ∷ targets) (kind ∷ kinds) from at to typed small offsets is =
       both_keep o r code from (is.0 + 1) to [] [] []
       (then_one o r code from is.0 (is.0 + 1) [] (Plain (kind_.Fixed 31) ∷ []) [] refl
-      (found_keep target kind from is.0 typed.0 (left (λ z. of_variable z target) (λ z. of_variables z targets) small) is.1)
+      (found_keep target kind from is.0 typed.0 (left o below most need (λ z. of_variable z target) (λ z. of_variables z targets) small) is.1)
       (store_keep o r code setting below most need whole room around stands at (kind_.Fixed 31) is.0 is.2 (here at (Plain (kind_.Fixed 31)) (offsets 0 (omega arith)))))
-      (kept_keep targets kinds (is.0 + 1) (at + 1) to typed.1 (right (λ z. of_variable z target) (λ z. of_variables z targets) small)
+      (kept_keep targets kinds (is.0 + 1) (at + 1) to typed.1 (right o below most need (λ z. of_variable z target) (λ z. of_variables z targets) small)
       (λ i less. further at i (Plain (kind_.Fixed 31)) (offsets (suc i) (omega (arith, less)))) is.3)
 
   filled_keep : (kinds : List Kind) (from cell to : ℕ) → Hold cell kinds → FilledAt setting instrs from cell kinds to → Goes from to [] []
-  filled_keep [] from cell to hold is = stays from to [] is
+  filled_keep [] from cell to hold is = stays o r code from to [] is
   filled_keep (kind ∷ kinds) from cell to hold is =
       both_keep o r code from (from + 1) to [] [] []
       (fill_keeps o r code whole from cell 1 kind is.0 (omega arith) (one_of code.cells cell (Plain kind) (here cell (Plain kind) (hold 0 kind refl))) (omega (arith, room)))
@@ -248,7 +205,7 @@ module _ (o : Object) (r : ℕ) (code : Code) (setting : Setting) (below most ne
 
   written_keep : (targets : List PlainVariable) (kinds : List Kind) (from cell at to : ℕ) → AllZip (IsVariable around) targets kinds → Offsets at (length targets) → Hold cell kinds →
       WrittenAt setting instrs from cell at targets to → Goes from to [] []
-  written_keep [] kinds from cell at to typed offsets hold is = stays from to [] is
+  written_keep [] kinds from cell at to typed offsets hold is = stays o r code from to [] is
   written_keep (target ∷ targets) [] from cell at to typed offsets hold is = absurd typed
   written_keep (OfVariable target bounds es ∷ targets) (kind ∷ kinds) from cell at to typed offsets hold is =
       both_keep o r code from (from + 3) to [] [] []
@@ -278,7 +235,7 @@ module _ (o : Object) (r : ℕ) (code : Code) (setting : Setting) (below most ne
       let reading : Reading = record { device = number; format = format; first = cell } in
       let read : Goes is.3 (is.3 + 1) [] [] =
       get_keeps o r code whole is.3 is.6 found.0 kinds is.8
-      (subst (λ (g : Reading). gives_texts (slice_get o.devices g.device) ≡ true) (sym is.7) (ap gives_texts (devices_there number) ∙ texts_given (slice_get around.devices number) typed.0))
+      (subst (λ (g : Reading). gives_texts (slice_get o.devices g.device) ≡ true) (sym is.7) (ap gives_texts (devices_there o r code setting around below stands number) ∙ texts_given (slice_get around.devices number) typed.0))
       (subst (λ (g : Reading). slice_get o.formats g.format ≡ Some found.0) (sym is.7) (format_there format found.0 found.1)) found.2
       (subst (λ (g : Reading). take n (drop g.first code.cells) ≡ map Plain kinds) (sym is.7) values) (omega (arith, room)) in
       both_keep o r code from is.2 to [] [] [] (kept_keep targets kinds from (cell + length targets) is.2 typed.2 small offsets is.4)

@@ -1,13 +1,14 @@
 -- The stated depths are the weights of procedures.
-use Rattle.std.proofs.Common.{◌≡◌, ℕ, zero, suc, ◌+◌, ◌<◌, ◌≤◌, max, List, [], ◌∷◌, ◌++◌, Option, Some, None, slice_get, length, map, refl, sym, ap, ◌∙◌, subst, arith}
+use Rattle.std.proofs.Common.{◌≡◌, ℕ, zero, suc, ◌+◌, ◌<◌, ◌≤◌, max, List, [], ◌∷◌, ◌++◌, Option, Some, None, slice_get, length, refl, sym, ap, ◌∙◌, subst, arith}
 use Rattle.std.specs.Prelude.{unwrap_or}
 use Rattle.std.proofs.lemmas.Option.{same_Some}
 use Rattle.std.proofs.lemmas.List.{length-append}
+use Rattle.pearl_gen_valid.proofs.Lists.{get_within, get_last}
 use Rattle.pearl_program.specs.PlainExpressions.{PlainExpr, OfLiteral, OfRead, OfMonadic, OfDyadic, OfCall, OfNow, OfTry, PlainVariable, OfVariable, PlainExprs, NoExprs, MoreExprs, PlainArgument, OfValue, OfIdent, PlainArguments, NoArguments, MoreArguments}
 use Rattle.pearl_program.specs.PlainStatements.{PlainPeriodEnd, OfUntil, OfDuring, PlainPeriod, PlainStart, OfAt, OfAfter, OfWhen, OfWhenAfter, PlainOnce, OnceAt, OnceAfter, OnceWhen, PlainCounter, PlainStmt, OfRenew, OfAssign, OfCallOf, OfIf, OfCase, OfRepeat, OfExit, OfReturn, OfActivate, OfContinue, OfResume, OfSuspend, OfTerminate, OfPrevent, OfRequest, OfRelease, OfEnable, OfDisable, OfTrigger, OfPut, OfGet, OfSend, OfTake, PlainStmts, NoStmts, MoreStmts, PlainBranches, NoBranches, MoreBranches}
 use Rattle.pearl_program.specs.PlainPrograms.{PlainRoutine, PlainProcedure}
 use Rattle.pearl_program.specs.Sound.{CallSmaller}
-use Rattle.pearl_program.specs.Weights.{Sizes, calls, values, callees, of_expr, of_variable, of_exprs, of_argument, of_arguments, of_if, of_period_end, of_period, of_start, of_once, of_counter, of_variables, of_stmt, greatest, greatest_of_all, greatest_of_branches, weight, weights_behind, weights_of}
+use Rattle.pearl_program.specs.Weights.{Sizes, calls, values, callees, of_expr, of_variable, of_exprs, of_argument, of_arguments, of_if, of_period_end, of_period, of_start, of_once, of_counter, of_variables, greatest, greatest_of_all, greatest_of_branches, weight, weights_behind, weights_of}
 
 max_same : (a b c d : ℕ) → a ≡ b → c ≡ d → max a c ≡ max b d
 max_same a b c d one two = ap (λ n. max n c) one ∙ ap (λ n. max b n) two
@@ -138,22 +139,13 @@ module _ (one two : List ℕ) (below : ℕ) (same : (n : ℕ) → n < below → 
 
 -- THE WEIGHTS OF PROCEDURES
 
-slice_get_front : {X : Type 0} (xs ys : List X) (n : ℕ) → n < length xs → slice_get (xs ++ ys) n ≡ slice_get xs n
-slice_get_front [] ys n less = absurd (omega (arith, less))
-slice_get_front (x ∷ xs) ys zero less = refl
-slice_get_front (x ∷ xs) ys (suc n) less = slice_get_front xs ys n (omega (arith, less))
-
-slice_get_last : {X : Type 0} (xs : List X) (x : X) → slice_get (xs ++ x ∷ []) (length xs) ≡ Some x
-slice_get_last [] x = refl
-slice_get_last (y ∷ xs) x = slice_get_last xs x
-
 -- what stands before a list goes on standing before its weights
 kept_before : (procedures : List PlainProcedure) (before : List ℕ) (n : ℕ) → n < length before → slice_get (weights_behind before procedures) n ≡ slice_get before n
 kept_before [] before n less = refl
 kept_before (procedure ∷ rest) before n less =
     let w = weight before procedure.routine in
     let long = length-append before (w ∷ []) in
-    kept_before rest (before ++ w ∷ []) n (omega (arith, less, long)) ∙ slice_get_front before (w ∷ []) n less
+    kept_before rest (before ++ w ∷ []) n (omega (arith, less, long)) ∙ get_within before (w ∷ []) n less
 
 -- the weight of a procedure over those of smaller numbers
 weighs : (procedures : List PlainProcedure) (before all : List ℕ) (n k : ℕ) (procedure : PlainProcedure) → all ≡ weights_behind before procedures → k ≡ length before + n →
@@ -167,7 +159,7 @@ weighs (first ∷ rest) before all zero k procedure is place there order =
     let same : (n : ℕ) → n < length before → unwrap_or (slice_get before n) 0 ≡ unwrap_or (slice_get all n) 0 = λ n less.
     ap (λ found. unwrap_or found 0) (sym (kept_before (first ∷ rest) before n less) ∙ ap (λ all. slice_get all n) (sym is)) in
     let found : slice_get all k ≡ Some w =
-    ap (λ k. slice_get all k) last ∙ (ap (λ all. slice_get all (length before)) is ∙ (kept_before rest (before ++ w ∷ []) (length before) (omega (arith, long)) ∙ slice_get_last before w)) in
+    ap (λ k. slice_get all k) last ∙ (ap (λ all. slice_get all (length before)) is ∙ (kept_before rest (before ++ w ∷ []) (length before) (omega (arith, long)) ∙ get_last before w)) in
     found ∙ (ap Some (weights_alike before all (length before) same first.routine order.0) ∙ ap (λ (procedure : PlainProcedure). Some (weight all procedure.routine)) it)
 weighs (first ∷ rest) before all (suc n) k procedure is place there order =
     let w = weight before first.routine in
@@ -189,10 +181,3 @@ count_is (procedure ∷ rest) before =
 
 pub weights_count : (procedures : List PlainProcedure) → length (weights_of procedures) ≡ length procedures
 weights_count procedures = let all = count_is procedures [] in omega (arith, all)
-
--- lists with the same elements are the same
-pub same_list : {X : Type 0} (xs ys : List X) → ((n : ℕ) → slice_get xs n ≡ slice_get ys n) → xs ≡ ys
-same_list [] [] same = refl
-same_list [] (y ∷ ys) same = let first = same 0 in cc
-same_list (x ∷ xs) [] same = let first = same 0 in cc
-same_list (x ∷ xs) (y ∷ ys) same = ap (λ x. x ∷ xs) (same_Some x y (same 0)) ∙ ap (λ rest. y ∷ rest) (same_list xs ys (λ n. same (suc n)))
