@@ -21,5 +21,5 @@ mod Counting
 mod Storing
 mod Planning
 mod Getting
-mod StatementRows
+pub mod StatementRows
 mod Nesting

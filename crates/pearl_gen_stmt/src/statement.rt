@@ -1,11 +1,12 @@
 // The code of statements.
 
-ghost use Rattle.std.specs.Prelude.{◌≡◌, None, length, OnOk, IfOk};
+ghost use Rattle.std.specs.Prelude.{◌≡◌, List, None, length, OnOk, IfOk};
 ghost use Rattle.pearl_program.specs.PlainStatements.{plain_stmt, plain_stmts, OfExit};
 ghost use Rattle.pearl_program.specs.PlainPrograms.{plain_prog, plain_routine};
 ghost use Rattle.pearl_meaning.specs.Setting.{Setting};
 ghost use Rattle.pearl_gen_expr.specs.Emitting.{Extends};
 ghost use Rattle.pearl_gen_stmt.specs.StmtCode.{on_task, ListAt, StmtsAt};
+ghost use Rattle.pearl_instructions.specs.declared.instr.Instr as instr_type;
 ghost use Rattle.pearl_instructions.specs.declared.instr.Instr.TheVariants as instr;
 ghost use Rattle.pearl_gen_stmt.specs.Generated.{within_program};
 ghost use Rattle.pearl_gen_stmt.specs.Emission.{setting_of, plain_if, plain_case, plain_repeat, plain_branches, Adds, AddsElse, AddsStmt, AddsStmts, AddsBranches};
@@ -263,8 +264,9 @@ fn emit_repeat(
     Ok(())
 }
 
-/// Adds the code of a routine's statements. After want of memory the old instructions still stand in front. EXIT where no
-/// loop stands around, a number that names nothing and a cell of another sort count as want of memory.
+/// Adds the code of a routine's statements, which stands there whatever comes behind it. After want of memory the old
+/// instructions still stand in front. EXIT where no loop stands around, a number that names nothing and a cell of another
+/// sort count as want of memory.
 pub fn emit_statements(
     alloc: Global,
     program: &Program,
@@ -272,7 +274,7 @@ pub fn emit_statements(
     returns: Option<Kind>,
     code: &mut Vec<Instr>,
 ) -> Result<(), NoMemory>
-    ensures stands { OnOk result (StmtsAt (within_program (plain_prog program.now) returns (plain_routine routine.now)) code.new.items None (length code.old.items) (plain_stmts routine.now.body.items) (length code.new.items)) }
+    ensures stands { OnOk result ((later : List instr_type.Instr) → Extends code.new.items later → StmtsAt (within_program (plain_prog program.now) returns (plain_routine routine.now)) later None (length code.old.items) (plain_stmts routine.now.body.items) (length code.new.items)) }
     ensures kept { Extends code.old.items code.new.items }
 {
     let site = Site {
