@@ -56,10 +56,12 @@ fn machine(alloc: Global, program: &Prog) -> Result<Machine, NoMemory>
     requires { IsBuilt (plain_prog program.now) }
     ensures { IfOk result (IsReadyFor (plain_prog program.now)) }
 {
+    let _sound = program.parts();
     let object = generate(alloc, program)?;
     generated_is_valid();
     built_programs_have_built_code();
     faithful_programs();
     let code = Valid::new(alloc, object)?;
-    Machine::load(alloc, code)
+    let machine = Machine::load(alloc, code)?;
+    Ok(machine)
 }

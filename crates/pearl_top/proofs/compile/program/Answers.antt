@@ -7,6 +7,8 @@ use Rattle.pearl_tree.specs.ShownModules.{shown_tree}
 use Rattle.pearl_names.specs.Tables.{table_of}
 use Rattle.pearl_program.specs.PlainPrograms.{plain_prog}
 use Rattle.pearl_built.specs.Built.{IsBuilt}
+use Rattle.pearl_top.specs.declared.failure.Failure.TheVariants as failure
+use Rattle.pearl_top.specs.Failures.{check_refusal, parse_refusal}
 use Rattle.pearl_top.proofs.CheckEnds.{check_stuck, check_stopped, check_broken}
 use Rattle.pearl_top.proofs.WordLaws.{refused_alike}
 use Rattle.pearl_top.proofs.compile.program.Goals as goal
@@ -22,14 +24,14 @@ pub returns-in_err-tree-clause-err : goal.returns-in_err-tree-clause-err
 returns-in_err-tree-clause-err c =
     let source = c.args.source.now in
     let p = err_from_is_err_and c.from_residual-in_err-tree.result c.from_residual-in_err-tree.ensures.1 in
-    rw (p.1, p.2) (refused_alike source _ (check_stopped source c.as_slice.result.now _ c.in_err-tree.field-0.0 c.requires refl
+    rw (p.1, p.2) (refused_alike source (failure.Refused (parse_refusal c.in_err-tree.field-0.0)) (check_stopped source c.as_slice.result.now _ c.in_err-tree.field-0.0 c.requires refl
     (subst (Lexes source) (sym c.as_slice.ensures.value) c.in_ok-tokens.ensures.tokens) c.in_err-tree.ensures.refused))
 
 pub returns-in_err-program-clause-err : goal.returns-in_err-program-clause-err
 returns-in_err-program-clause-err c =
     let source = c.args.source.now in
     let p = err_from_is_err_and c.from_residual-in_err-program.result c.from_residual-in_err-program.ensures.1 in
-    rw (p.1, p.2) (refused_alike source _ (check_broken source c.in_err-program.field-0.0 (record {
+    rw (p.1, p.2) (refused_alike source (failure.Refused (check_refusal c.in_err-program.field-0.0)) (check_broken source c.in_err-program.field-0.0 (record {
       within = c.requires;
       tokens = c.in_ok-tokens.tokens.items;
       lexes = c.in_ok-tokens.ensures.tokens;
