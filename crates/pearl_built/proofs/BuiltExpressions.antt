@@ -13,7 +13,7 @@ use Rattle.pearl_check_expr.specs.Judged.{dimension_of}
 use Rattle.pearl_program.specs.declared.expression.Bound.{Bound}
 use Rattle.pearl_program.specs.PlainExpressions.{PlainExpr, OfLiteral, OfRead, OfMonadic, OfDyadic, OfCall, OfNow, OfTry, PlainExprs, NoExprs, MoreExprs}
 use Rattle.pearl_resolve.specs.Expressions.{Numbered, Meant, meant, number_of, Walk, walk_from, walk_of, form_walk, target_in, to_field, field_of, joined_exprs, variable_of, open_bounds, limit_value, monadics_over, params_of, called_or, handed, resolve_expr, resolve_primary, along, step, resolve_exprs, resolve_call, first_arguments, resolve_arguments, resolve_variable}
-use Rattle.pearl_unbuilt.specs.Unbuilt.{in_expr, in_primary, in_selectors, in_selector, in_exprs, in_value, in_ref}
+use Rattle.pearl_unbuilt.specs.Walk.{in_expr, in_primary, in_selectors, in_selector, in_exprs, in_value, in_ref}
 use Rattle.pearl_built.specs.Built.{IsBuiltExpr, IsBuiltVariable, AreBuiltExprs, IsBuiltArgument, AreBuiltArguments}
 use Rattle.pearl_built.proofs.BuiltParts.{neither}
 

@@ -15,8 +15,10 @@ use Rattle.pearl_resolve.specs.Numbers.{At, in_body, after_decl, first}
 use Rattle.pearl_resolve.specs.Statements.{declared_renewals, resolve_all}
 use Rattle.pearl_resolve.specs.Resolve as resolved
 use Rattle.pearl_resolve.specs.Resolve.{resolve_routine, tasks_in, procedures_in, decl_tasks, if_there, by_number, numbered_of}
-use Rattle.pearl_unbuilt.specs.Unbuilt as unbuilt
-use Rattle.pearl_unbuilt.specs.Unbuilt.{in_decl, in_decls, is_task, is_main, has_main}
+use Rattle.pearl_unbuilt.specs.Walk as walk
+use Rattle.pearl_unbuilt.specs.Unbuilt.{is_task, is_main, has_main}
+use Rattle.pearl_unbuilt.specs.Walk.{in_decl, in_decls}
+use Rattle.pearl_unbuilt.proofs.FirstForms.{tree_first}
 use Rattle.pearl_built.specs.Built.{AreBuiltStmts, IsBuiltProcedure}
 use Rattle.pearl_built.specs.Laws.{BuiltModulesHaveBuiltPrograms}
 use Rattle.pearl_built.proofs.BuiltParts.{neither}
@@ -47,10 +49,10 @@ none_is_main (OfDeclare declared place ∷ rest) none =
 none_is_main (OfSpecify specs place ∷ rest) none = none_is_main rest none
 none_is_main (OfTask name head body place ∷ rest) none = absurd (none-some place (sym none))
 none_is_main (OfProc name params returns body place ∷ rest) none =
-    none_is_main rest (neither (unbuilt.in_body body) (in_decls true rest) none).1
+    none_is_main rest (neither (walk.in_body body) (in_decls true rest) none).1
 
 module _ (numbered : Numbered) where
-  routine_built : (at : At) (body : ShownBody) → unbuilt.in_body body ≡ None →
+  routine_built : (at : At) (body : ShownBody) → walk.in_body body ≡ None →
       AreBuiltStmts (resolve_routine numbered at body).body
   routine_built at body none =
       joined_built (declared_renewals numbered at.next body.declarations)
@@ -75,7 +77,7 @@ module _ (numbered : Numbered) where
   no_tasks at (OfTask name head body place ∷ rest) none = absurd (none-some place (sym none))
   no_tasks at (OfProc name params returns body place ∷ rest) none =
       no_tasks (after_decl numbered.table at (OfProc name params returns body place)) rest
-      (neither (unbuilt.in_body body) (in_decls true rest) none).1
+      (neither (walk.in_body body) (in_decls true rest) none).1
 
   one_task : (at : At) (decls : List ShownDecl) → in_decls false decls ≡ None → list_any is_main decls ≡ true →
       OneTask (tasks_in numbered at decls)
@@ -90,7 +92,7 @@ module _ (numbered : Numbered) where
   one_task at (OfSpecify specs place ∷ rest) none main =
       one_task (after_decl numbered.table at (OfSpecify specs place)) rest none main
   one_task at (OfTask name head body place ∷ rest) none main =
-      let nones = neither (unbuilt.in_body body) (in_decls true rest) none in
+      let nones = neither (walk.in_body body) (in_decls true rest) none in
       let behind = after_decl numbered.table at (OfTask name head body place) in
       let task : PlainTask = record {
         name = name_text name;
@@ -106,7 +108,7 @@ module _ (numbered : Numbered) where
       }
   one_task at (OfProc name params returns body place ∷ rest) none main =
       one_task (after_decl numbered.table at (OfProc name params returns body place)) rest
-      (neither (unbuilt.in_body body) (in_decls false rest) none).1 main
+      (neither (walk.in_body body) (in_decls false rest) none).1 main
 
   -- PROCEDURES
 
@@ -158,7 +160,8 @@ program_built tree none table devices procedures =
     let decls = tree.declarations in
     let numbered = numbered_of table devices procedures tree in
     let main = list_any is_main decls in
-    let nones = neither (in_decls false decls) (if main then None else Some tree.modend) none in
+    let nones = neither (in_decls false decls) (if main then None else Some tree.modend)
+    (sym (tree_first tree) ∙ none) in
     let one = one_task numbered first decls nones.0 (some_main main tree.modend nones.1) in
     record {
       task = one.task;

@@ -18,7 +18,7 @@ use Rattle.pearl_resolve.specs.Laying.{leaves_of_sense, left_behind, filled_leav
 use Rattle.pearl_resolve.specs.Numbers.{At, counts, loop_cells, entered, after, after_all, after_branches}
 use Rattle.pearl_resolve.specs.Expressions.{Numbered, Meant, meant, params_of}
 use Rattle.pearl_resolve.specs.Statements.{listed, or_no_params, counter_in, renewals, joined, variable_renewals, slots_of_meant, names_renewals, items_renewals, declared_renewals, value_in, resolve_stmt, resolve_all, resolve_branches, resolve_otherwise}
-use Rattle.pearl_unbuilt.specs.Unbuilt.{in_first, in_expr, in_exprs, in_value, in_ref, in_stmt, in_stmts, in_branches, in_otherwise}
+use Rattle.pearl_unbuilt.specs.Walk.{in_first, in_expr, in_exprs, in_value, in_ref, in_stmt, in_stmts, in_branches, in_otherwise}
 use Rattle.pearl_built.specs.Built.{IsBuiltCounter, AreBuiltStmts, AreBuiltBranches}
 use Rattle.pearl_built.proofs.BuiltParts.{neither, none_of}
 use Rattle.pearl_built.proofs.BuiltExpressions.{expr_built, exprs_built, arguments_built, value_built, variable_built}

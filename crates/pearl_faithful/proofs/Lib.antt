@@ -3,3 +3,4 @@ pub mod Offering
 pub mod Answers
 pub mod Standing
 pub mod Runs
+mod Example

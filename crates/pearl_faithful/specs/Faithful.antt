@@ -25,14 +25,15 @@ pub record RunsAlike (p : PlainProg) (o : Object) (es : List Entry) (n : ℕ) : 
   pub same_offers : unsettled (machine_run o es n) ≡ None → (t : ℕ) →
       machine_offers (machine_run o es n) t ≡ source_offers (offer p) (source_run p es (marked o es n)) t
 
--- where the object's run is at its end the program's is too, and both have told the same, down to how each task stands
+-- where the object's run is at its end the program's is too, and both have told the same, down to how each task
+-- stands
 pub record EndsAlike (p : PlainProg) (o : Object) (es : List Entry) (n : ℕ) : Type 0 where
   pub ended : source_next (offer p) (source_run p es (marked o es n)) ≡ None
   pub same_told : told_at_end (machine_run o es n).core (machine_offers (machine_run o es n))
       ≡ told_at_end (source_run p es (marked o es n)).core (source_offers (offer p) (source_run p es (marked o es n)))
 
--- The object's run over these entries comes to its end, as the program's does, from each mark to the next within as many steps as the
--- object has instructions, for each of its tasks, and one more.
+-- The object's run over these entries comes to its end, as the program's does, from each mark to the next within as
+-- many steps as the object has instructions, for each of its tasks, and one more.
 pub record Finishes (p : PlainProg) (o : Object) (es : List Entry) : Type 0 where
   pub at : ℕ
   pub within : at ≤ (marked o es at + 1) * (length o.tasks * total_rows o + 1)

@@ -33,7 +33,8 @@ SameRuns = (p : PlainProg) (o : Object) → HasTables p o → (es : List Entry) 
 
 -- what holds of every object that a sound program becomes, if it is valid and its instructions are built
 abbrev pub OfObjects : (PlainProg → Object → Type 0) → Type 0
-OfObjects Holds = (p : PlainProg) (o : Object) → IsSound p → IsGenerated p o → IsObject o → IsValid o → OnlyBuilt o → Holds p o
+OfObjects Holds =
+    (p : PlainProg) (o : Object) → IsSound p → IsGenerated p o → IsObject o → IsValid o → OnlyBuilt o → Holds p o
 
 -- the code of each task stands where its answers lead, and offers there what the task does next
 abbrev pub TasksStand : Type 0
@@ -41,7 +42,8 @@ TasksStand = OfObjects (λ p o. Alone (setup_of o) (offer p) (engine o) (Stands 
 
 -- and does so within as many steps as the object has instructions
 abbrev pub TasksOfferSoon : Type 0
-TasksOfferSoon = OfObjects (λ p o. Soon (length o.tasks) (engine o) (Stands p o) (λ t frames. rows_left o frames) (total_rows o))
+TasksOfferSoon = OfObjects (λ p o.
+    Soon (length o.tasks) (engine o) (Stands p o) (λ t frames. rows_left o frames) (total_rows o))
 
 -- the object does what the program means
 abbrev pub FaithfulPrograms : Type 0
@@ -61,4 +63,5 @@ ObjectsRun = (p : PlainProg) (o : Object) → IsFaithfulTo p o → (es : List En
 
 -- and ends as it does
 abbrev pub ObjectsEndAlike : Type 0
-ObjectsEndAlike = (p : PlainProg) (o : Object) → IsFaithfulTo p o → (es : List Entry) (n : ℕ) → HasEnded (engine o) (setup_of o) es n → EndsAlike p o es n
+ObjectsEndAlike = (p : PlainProg) (o : Object) → IsFaithfulTo p o → (es : List Entry) (n : ℕ) →
+    HasEnded (engine o) (setup_of o) es n → EndsAlike p o es n

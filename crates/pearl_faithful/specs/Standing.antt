@@ -9,8 +9,8 @@ use Rattle.pearl_meaning.specs.Hearing.{Heard}
 use Rattle.pearl_engine.specs.Owners.{StandsIn}
 use Rattle.pearl_gen_stmt.specs.Offering.{OffersAfter}
 
--- The stack is the task's own, the task can have had these answers, and from there on its code offers what the task does next, after
--- whatever further answers it can have.
+-- The stack is the task's own, the task can have had these answers, and from there on its code offers what the task
+-- does next, after whatever further answers it can have.
 pub record Stands (p : PlainProg) (o : Object) (t : ℕ) (heard : List Answer) (frames : List Frame) : Type 0 where
   pub own : StandsIn o t frames
   pub can : Heard p t heard

@@ -15,8 +15,8 @@ pub fn runs_are_the_programs()
     ensures { SameRuns }
 {}
 
-/// The code of each task stands where its answers lead, and offers there what the task does next, soon. So what of one task
-/// at a time is enough for a whole run holds of the object.
+/// The code of each task stands where its answers lead, and offers there what the task does next, soon. So what of one
+/// task at a time is enough for a whole run holds of the object.
 pub fn tasks_stand()
     ensures alone { TasksStand }
     ensures soon { TasksOfferSoon }
@@ -41,8 +41,8 @@ pub fn faithful_programs()
     tasks_stand();
 }
 
-/// The run of such an object over any journal comes to its end, as the program's does, within a bound that the marks, the
-/// tasks and the instructions give.
+/// The run of such an object over any journal comes to its end, as the program's does, within a bound that the marks,
+/// the tasks and the instructions give.
 pub fn objects_finish()
     ensures { ObjectsFinish }
 {

@@ -13,3 +13,13 @@ pub mod Tasks
 pub mod Heard
 pub mod Offering
 mod Example
+mod Settling
+mod Keeping
+mod Adding
+mod Naming
+mod Counting
+mod Storing
+mod Planning
+mod Getting
+pub mod StatementRows
+mod Nesting

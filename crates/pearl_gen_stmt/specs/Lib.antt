@@ -6,3 +6,5 @@ pub mod Laws
 pub mod Generated
 -- which action code offers over some answers
 pub mod Offering
+-- what is emitted, until jumps to places that come later have got theirs
+pub mod Emission

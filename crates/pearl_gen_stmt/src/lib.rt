@@ -2,4 +2,12 @@
 // row. The definitions stand in specs/.
 #![tactic(auto)]
 
+mod get;
 pub mod laws;
+mod loops;
+mod pending;
+mod renewal;
+mod schedule;
+mod site;
+pub mod statement;
+mod transfer;

@@ -131,7 +131,7 @@ progress_next setup lines journal bytes text after count seen mid old between cu
 
 -- a line that fails makes all lines fail
 pub lines_fail : (setup : Setup) (lines : List (List ℕ)) (count : ℕ) (text : List ℕ) (left : List (List ℕ)) (seen mid after : Seen) (old between new : Option (List ℕ))
-    (why : Failure) (failed wider : Type 0) → (failed → wider) → (setup_of seen.object) ≡ setup → mid.object.setup ≡ setup →
+    (why : Failure) (failed wider : Type 0) → (failed → wider) → (setup_of seen.object) ≡ setup → (setup_of mid.object) ≡ setup →
     Progress setup lines count (text ∷ left) seen mid old between → IsLineFailure why (count + 1) text mid after between new failed →
     IsLinesFailure why lines seen after old new wider
 lines_fail setup lines count text left seen mid after old between new (failure.Refused refusal) failed wider widen same_seen same_mid so_far fails = (
@@ -151,8 +151,8 @@ lines_fail setup lines count text left seen mid after old between new failure.Wr
 
 -- one more line, by the tables of the machine as it stands
 pub progress_more_at : (setup : Setup) (lines : List (List ℕ)) (count : ℕ) (text : List ℕ) (left : List (List ℕ)) (seen mid after : Seen)
-    (old between new : Option (List ℕ)) → mid.object.setup ≡ setup →
-    Progress setup lines count (text ∷ left) seen mid old between → LineDone mid.object.setup (count + 1) text mid after between new →
+    (old between new : Option (List ℕ)) → (setup_of mid.object) ≡ setup →
+    Progress setup lines count (text ∷ left) seen mid old between → LineDone (setup_of mid.object) (count + 1) text mid after between new →
     Progress setup lines (count + 1) left seen after old new
 progress_more_at setup lines count text left seen mid after old between new same so_far done =
     progress_more setup lines count text left seen mid after old between new so_far
@@ -182,15 +182,15 @@ progress_ended setup lines journal bytes count seen mid old between ended none s
 
 -- the last line was carried out, where it was
 pub last_done : (r : Result (Unit {0}) Failure) (setup : Setup) (lines : List (List ℕ)) (count : ℕ) (text : List ℕ) (seen mid after : Seen)
-    (old between new : Option (List ℕ)) → mid.object.setup ≡ setup → Progress setup lines count (text ∷ []) seen mid old between →
-    OnOk r (LineDone mid.object.setup (count + 1) text mid after between new) → OnOk r (LinesDone setup lines All seen after old new)
+    (old between new : Option (List ℕ)) → (setup_of mid.object) ≡ setup → Progress setup lines count (text ∷ []) seen mid old between →
+    OnOk r (LineDone (setup_of mid.object) (count + 1) text mid after between new) → OnOk r (LinesDone setup lines All seen after old new)
 last_done (Ok is) setup lines count text seen mid after old between new same so_far done =
     progress_all setup lines (count + 1) seen after old new (progress_more_at setup lines count text [] seen mid after old between new same so_far done)
 last_done (Err why) setup lines count text seen mid after old between new same so_far done = tt
 
 -- and failed, where it failed
 pub last_fails : (r : Result (Unit {0}) Failure) (setup : Setup) (lines : List (List ℕ)) (count : ℕ) (text : List ℕ) (seen mid after : Seen)
-    (old between new : Option (List ℕ)) (failed wider : Type 0) → (failed → wider) → (setup_of seen.object) ≡ setup → mid.object.setup ≡ setup →
+    (old between new : Option (List ℕ)) (failed wider : Type 0) → (failed → wider) → (setup_of seen.object) ≡ setup → (setup_of mid.object) ≡ setup →
     Progress setup lines count (text ∷ []) seen mid old between → IfErr r (λ why. IsLineFailure why (count + 1) text mid after between new failed) →
     IfErr r (λ why. IsLinesFailure why lines seen after old new wider)
 last_fails (Ok is) setup lines count text seen mid after old between new failed wider widen same_seen same_mid so_far fails = tt

@@ -1,5 +1,5 @@
 -- A command and the files held have at most one status and one list of bytes.
-use Rattle.std.proofs.Common.{◌≡◌, ◌≢◌, ◌<◌, ◌⊎◌, ◌+◌, ℕ, List, Bool, true, false, nat_le, length, refl, ap, sym, ◌∙◌, subst, inl, inr, arith}
+use Rattle.std.proofs.Common.{◌≡◌, ◌≢◌, ◌<◌, ◌≤◌, ◌⊎◌, Some, ◌+◌, ℕ, List, Bool, true, false, nat_le, length, refl, ap, sym, ◌∙◌, subst, inl, inr, arith}
 use Rattle.pearl_program.specs.PlainPrograms.{PlainProg}
 use Rattle.pearl_tree.specs.ShownModules.{shown_tree}
 use Rattle.pearl_unbuilt.specs.Unbuilt.{unbuilt}

@@ -9,6 +9,9 @@ ghost use Rattle.pearl_top.specs.Ready.{IsReadyFor};
 
 use crate::failure::Failure;
 use crate::limits::SOURCE_LIMIT;
+use pearl_built::laws::{built_modules_have_built_programs, built_programs_have_built_code};
+use pearl_faithful::laws::faithful_programs;
+use pearl_gen_valid::laws::generated_is_valid;
 use pearl_generate::generate;
 use pearl_instructions::valid::Valid;
 use pearl_lex::lexer::tokens;
@@ -41,6 +44,7 @@ fn program(alloc: Global, source: &[u8]) -> Result<Prog, Failure>
     let tokens = tokens(alloc, source)?;
     let tree = parse(alloc, tokens.as_slice(), source.len() as u32)?;
     let program = program_of(alloc, &tree)?;
+    built_modules_have_built_programs();
     match first_unbuilt(&tree) {
         Some(place) => Err(Failure::Refused(Refusal::Unbuilt(place))),
         None => Ok(program),
@@ -52,7 +56,12 @@ fn machine(alloc: Global, program: &Prog) -> Result<Machine, NoMemory>
     requires { IsBuilt (plain_prog program.now) }
     ensures { IfOk result (IsReadyFor (plain_prog program.now)) }
 {
+    let _sound = program.parts();
     let object = generate(alloc, program)?;
+    generated_is_valid();
+    built_programs_have_built_code();
+    faithful_programs();
     let code = Valid::new(alloc, object)?;
-    Machine::load(alloc, code)
+    let machine = Machine::load(alloc, code)?;
+    Ok(machine)
 }

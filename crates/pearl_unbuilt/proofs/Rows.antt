@@ -20,7 +20,7 @@ use Rattle.pearl_tree.specs.declared.statement.Case as case_
 use Rattle.pearl_tree.specs.declared.statement.Case.{out-Case, outs-Case', Row_of-Branch, end_of-Branch, more_of-Branch, items-the_row-Branch, items_shown-the_row-Branch-1}
 use Rattle.pearl_tree.specs.ShownExpressions.{shown_expr, shown_primary, shown_selectors, shown_selector, shown_exprs, shown_selector_list, shown_ref}
 use Rattle.pearl_tree.specs.ShownStatements.{shown_stmt, shown_stmts, shown_branches, shown_otherwise}
-use Rattle.pearl_unbuilt.specs.Unbuilt.{in_first, in_expr, in_primary, in_selectors, in_selector, in_exprs, in_value, in_ref, in_stmt, in_stmts, in_branches, in_otherwise}
+use Rattle.pearl_unbuilt.specs.Walk.{in_first, in_expr, in_primary, in_selectors, in_selector, in_exprs, in_value, in_ref, in_stmt, in_stmts, in_branches, in_otherwise}
 use Rattle.pearl_unbuilt.specs.Lists.{in_list, in_branch, in_branch_if, in_if, in_case, in_repeat}
 
 exprs_each : (n : _) (row : Row_of-Expr n) → in_exprs (shown_exprs row) ≡ in_first in_expr (map shown_expr (items-the_row-Expr n row))

@@ -8,7 +8,7 @@ use Rattle.pearl_tree.specs.declared.statement.Repeat.{Repeat}
 use Rattle.pearl_tree.specs.declared.statement.Stmt.{Stmt}
 use Rattle.pearl_tree.specs.ShownExpressions.{shown_expr}
 use Rattle.pearl_tree.specs.ShownStatements.{shown_stmt}
-use Rattle.pearl_unbuilt.specs.Unbuilt.{in_first, in_expr, in_value, in_stmt}
+use Rattle.pearl_unbuilt.specs.Walk.{in_first, in_expr, in_value, in_stmt}
 
 abbrev pub in_list : List Stmt → Option ℕ
 in_list statements = in_first in_stmt (map shown_stmt statements)

@@ -1,95 +1,152 @@
--- Where the first form stands that isn't carried out yet, in the order of the text. What is built leads to its parts, and
--- what isn't to its own place; so a form that gets built changes its own line alone.
-use Rattle.std.specs.Prelude.{ℕ, Bool, true, false, ◌||◌, if◌then◌else◌, List, [], ◌∷◌, Option, Some, None}
-use Rattle.std.specs.List.{list_any}
-use Rattle.std.specs.Option.{option_or}
+-- The forms of a module in the order of the text, each with its place, and the first of them that isn't carried out yet.
+-- A form that gets built changes its own line alone.
+use Rattle.std.specs.Prelude.{ℕ, Bool, true, false, ◌||◌, if◌then◌else◌, List, [], ◌∷◌, ◌++◌, map, Option, Some, None}
+use Rattle.std.specs.List.{flat_map, list_any}
+use Rattle.pearl_tree.specs.declared.expression.Monadic.{Monadic}
+use Rattle.pearl_tree.specs.declared.literal.Duration.{Duration}
+use Rattle.pearl_tree.specs.declared.literal.Duration.TheVariants.{Hours, Minutes, Seconds}
 use Rattle.pearl_tree.specs.declared.tree.TaskHead.{TaskHead}
 use Rattle.pearl_tree.specs.declared.tree.TaskHead.TheVariants.{PrioFirst, MainFirst}
+use Rattle.pearl_tree.specs.ShownLiterals.{ShownLiteral, OfNumber, OfBits, OfText, OfClock, OfDuration}
 use Rattle.pearl_tree.specs.ShownExpressions.{ShownExpr, OfOperand, OfDyadic, ShownPrimary, OfLiteral, OfRef, OfGroup, OfNow, OfTry, OfLimit, ShownSelectors, NoSelectors, MoreSelectors, ShownSelector, OfSubscripts, OfComponent, ShownExprs, NoExprs, MoreExprs, ShownRef}
 use Rattle.pearl_tree.specs.ShownDeclarations.{ShownDeclared, OfItem, OfSema}
-use Rattle.pearl_tree.specs.ShownStatements.{ShownStmt, OfEmpty, OfAssign, OfCall, OfIf, OfCase, OfRepeat, OfExit, OfBegin, OfReturn, OfActivate, OfContinue, OfResume, OfOnTask, OfOnSemas, OfOnInterrupt, OfPut, OfGet, OfSend, OfTake, ShownStmts, NoStmts, MoreStmts, ShownBranches, NoBranches, MoreBranches, ShownOtherwise, NoOtherwise, OfOtherwise}
+use Rattle.pearl_tree.specs.ShownStatements.{ShownPeriodEnd, OfUntil, OfDuring, ShownPeriod, ShownStart, OfAt, OfAfter, OfWhen, OfAll, ShownOnce, OnceAt, OnceAfter, OnceWhen, ShownBodyDecl, ShownStmt, OfEmpty, OfAssign, OfCall, OfIf, OfCase, OfRepeat, OfExit, OfBegin, OfReturn, OfActivate, OfContinue, OfResume, OfOnTask, OfOnSemas, OfOnInterrupt, OfPut, OfGet, OfSend, OfTake, ShownStmts, NoStmts, MoreStmts, ShownBranches, NoBranches, MoreBranches, ShownOtherwise, NoOtherwise, OfOtherwise}
 use Rattle.pearl_tree.specs.ShownModules.{ShownBody, ShownDecl, OfLength, OfType, OfDeclare, OfSpecify, OfTask, OfProc, ShownTree}
 
--- in the first of these parts that has an unbuilt form
-abbrev pub in_first : {X : Type 0} → (X → Option ℕ) → List X → Option ℕ
-in_first unbuilt [] = None
-in_first unbuilt (part ∷ rest) = option_or (unbuilt part) (in_first unbuilt rest)
+-- a declaration, a statement, an operand or an operator
+pub data Form : Type 0 where
+  Built : (place : ℕ) → Form
+  Unbuilt : (place : ℕ) → Form
+
+abbrev pub first_unbuilt : List Form → Option ℕ
+first_unbuilt [] = None
+first_unbuilt (Built place ∷ rest) = first_unbuilt rest
+first_unbuilt (Unbuilt place ∷ rest) = Some place
+
+abbrev pub if_there : {X : Type 0} → (X → List Form) → Option X → List Form
+if_there forms None = []
+if_there forms (Some part) = forms part
+
+-- EXPRESSIONS
+
+abbrev pub duration_place : Duration → ℕ
+duration_place (Hours hours minutes seconds place) = place
+duration_place (Minutes minutes seconds place) = place
+duration_place (Seconds seconds place) = place
+
+abbrev pub literal_place : ShownLiteral → ℕ
+literal_place (OfNumber number) = number.place
+literal_place (OfBits len value place) = place
+literal_place (OfText text place) = place
+literal_place (OfClock milliseconds place) = place
+literal_place (OfDuration duration) = duration_place duration
 
 -- all operators are built
 abbrev mutual
-  pub in_expr : ShownExpr → Option ℕ
-  in_expr (OfOperand monadics part place) = in_primary part
-  in_expr (OfDyadic left dyadic right place) = option_or (in_expr left) (in_expr right)
+  pub expr_forms : ShownExpr → List Form
+  expr_forms (OfOperand monadics part place) =
+      map (λ (monadic : Monadic). Built monadic.place) monadics ++ primary_forms part
+  expr_forms (OfDyadic left dyadic right place) = expr_forms left ++ Built dyadic.place ∷ expr_forms right
 
-  pub in_primary : ShownPrimary → Option ℕ
-  in_primary (OfLiteral part) = None
-  in_primary (OfRef name selectors place) = in_selectors selectors
-  in_primary (OfGroup inner place) = in_expr inner
-  in_primary (OfNow place) = Some place
-  in_primary (OfTry name place) = Some place
-  in_primary (OfLimit dimension side name selectors ref_place place) = in_selectors selectors
+  pub primary_forms : ShownPrimary → List Form
+  primary_forms (OfLiteral part) = Built (literal_place part) ∷ []
+  primary_forms (OfRef name selectors place) = Built place ∷ selectors_forms selectors
+  primary_forms (OfGroup inner place) = Built place ∷ expr_forms inner
+  primary_forms (OfNow place) = Unbuilt place ∷ []
+  primary_forms (OfTry name place) = Unbuilt place ∷ []
+  primary_forms (OfLimit dimension side name selectors ref_place place) = Built place ∷ selectors_forms selectors
 
-  pub in_selectors : ShownSelectors → Option ℕ
-  in_selectors NoSelectors = None
-  in_selectors (MoreSelectors selector rest) = option_or (in_selector selector) (in_selectors rest)
+  pub selectors_forms : ShownSelectors → List Form
+  selectors_forms NoSelectors = []
+  selectors_forms (MoreSelectors selector rest) = selector_forms selector ++ selectors_forms rest
 
-  pub in_selector : ShownSelector → Option ℕ
-  in_selector (OfSubscripts subscripts place) = in_exprs subscripts
-  in_selector (OfComponent name place) = None
+  pub selector_forms : ShownSelector → List Form
+  selector_forms (OfSubscripts subscripts place) = exprs_forms subscripts
+  selector_forms (OfComponent name place) = []
 
-  pub in_exprs : ShownExprs → Option ℕ
-  in_exprs NoExprs = None
-  in_exprs (MoreExprs expr rest) = option_or (in_expr expr) (in_exprs rest)
+  pub exprs_forms : ShownExprs → List Form
+  exprs_forms NoExprs = []
+  exprs_forms (MoreExprs expr rest) = expr_forms expr ++ exprs_forms rest
 
-abbrev pub in_value : Option ShownExpr → Option ℕ
-in_value None = None
-in_value (Some expr) = in_expr expr
+abbrev pub ref_forms : ShownRef → List Form
+ref_forms reference = selectors_forms reference.selectors
 
-abbrev pub in_ref : ShownRef → Option ℕ
-in_ref reference = in_selectors reference.selectors
+-- SCHEDULES
 
-abbrev mutual
-  pub in_stmt : ShownStmt → Option ℕ
-  in_stmt (OfEmpty place) = None
-  in_stmt (OfAssign target value place) = option_or (in_ref target) (in_expr value)
-  in_stmt (OfCall call name arguments place) = in_first in_expr arguments
-  in_stmt (OfIf condition statements otherwise place) =
-      option_or (in_expr condition) (option_or (in_stmts statements) (in_otherwise otherwise))
-  in_stmt (OfCase selector alternatives otherwise place) =
-      option_or (in_expr selector) (option_or (in_branches alternatives) (in_otherwise otherwise))
-  in_stmt (OfRepeat control begin step end condition declarations statements body_place place) =
-      option_or (in_value begin) (option_or (in_value step) (option_or (in_value end)
-      (option_or (in_value condition) (in_stmts statements))))
-  in_stmt (OfExit place) = None
-  in_stmt (OfBegin declarations statements body_place place) = in_stmts statements
-  in_stmt (OfReturn value place) = in_value value
-  in_stmt (OfActivate start task priority place) = Some place
-  in_stmt (OfContinue once task place) = Some place
-  in_stmt (OfResume once place) = Some place
-  in_stmt (OfOnTask word task place) = Some place
-  in_stmt (OfOnSemas word names place) = Some place
-  in_stmt (OfOnInterrupt word name place) = Some place
-  in_stmt (OfPut values dation formats place) = in_first in_expr values
-  in_stmt (OfGet targets dation formats place) = Some place
-  in_stmt (OfSend value dation place) = Some place
-  in_stmt (OfTake target dation place) = Some place
+abbrev pub period_end_forms : ShownPeriodEnd → List Form
+period_end_forms (OfUntil time place) = expr_forms time
+period_end_forms (OfDuring duration place) = expr_forms duration
 
-  pub in_stmts : ShownStmts → Option ℕ
-  in_stmts NoStmts = None
-  in_stmts (MoreStmts statement rest) = option_or (in_stmt statement) (in_stmts rest)
+abbrev pub period_forms : ShownPeriod → List Form
+period_forms period = expr_forms period.duration ++ if_there period_end_forms period.end
 
-  pub in_branches : ShownBranches → Option ℕ
-  in_branches NoBranches = None
-  in_branches (MoreBranches statements place rest) = option_or (in_stmts statements) (in_branches rest)
+abbrev pub start_forms : ShownStart → List Form
+start_forms (OfAt time period place) = expr_forms time ++ if_there period_forms period
+start_forms (OfAfter duration period place) = expr_forms duration ++ if_there period_forms period
+start_forms (OfWhen interrupt delay period place) = if_there expr_forms delay ++ if_there period_forms period
+start_forms (OfAll period) = period_forms period
 
-  pub in_otherwise : ShownOtherwise → Option ℕ
-  in_otherwise NoOtherwise = None
-  in_otherwise (OfOtherwise statements place) = in_stmts statements
+abbrev pub once_forms : ShownOnce → List Form
+once_forms (OnceAt time place) = expr_forms time
+once_forms (OnceAfter duration place) = expr_forms duration
+once_forms (OnceWhen interrupt place) = []
+
+-- STATEMENTS
 
 -- what a body declares is built
-abbrev pub in_body : ShownBody → Option ℕ
-in_body body = in_first in_stmt body.statements
+abbrev pub body_decl_forms : List ShownBodyDecl → List Form
+body_decl_forms declarations = map (λ (declaration : ShownBodyDecl). Built declaration.place) declarations
 
+abbrev mutual
+  pub stmt_forms : ShownStmt → List Form
+  stmt_forms (OfEmpty place) = Built place ∷ []
+  stmt_forms (OfAssign target value place) = Built place ∷ (ref_forms target ++ expr_forms value)
+  stmt_forms (OfCall call name arguments place) = Built place ∷ flat_map expr_forms arguments
+  stmt_forms (OfIf condition statements otherwise place) =
+      Built place ∷ (expr_forms condition ++ (stmts_forms statements ++ otherwise_forms otherwise))
+  stmt_forms (OfCase selector alternatives otherwise place) =
+      Built place ∷ (expr_forms selector ++ (branches_forms alternatives ++ otherwise_forms otherwise))
+  stmt_forms (OfRepeat control begin step end condition declarations statements body_place place) =
+      Built place ∷ (if_there expr_forms begin ++ (if_there expr_forms step ++ (if_there expr_forms end ++
+      (if_there expr_forms condition ++ (body_decl_forms declarations ++ stmts_forms statements)))))
+  stmt_forms (OfExit place) = Built place ∷ []
+  stmt_forms (OfBegin declarations statements body_place place) =
+      Built place ∷ (body_decl_forms declarations ++ stmts_forms statements)
+  stmt_forms (OfReturn value place) = Built place ∷ if_there expr_forms value
+  stmt_forms (OfActivate start task priority place) =
+      Unbuilt place ∷ (if_there start_forms start ++ if_there expr_forms priority)
+  stmt_forms (OfContinue once task place) = Unbuilt place ∷ if_there once_forms once
+  stmt_forms (OfResume once place) = Unbuilt place ∷ once_forms once
+  stmt_forms (OfOnTask word task place) = Unbuilt place ∷ []
+  stmt_forms (OfOnSemas word names place) = Unbuilt place ∷ []
+  stmt_forms (OfOnInterrupt word name place) = Unbuilt place ∷ []
+  stmt_forms (OfPut values dation formats place) = Built place ∷ flat_map expr_forms values
+  stmt_forms (OfGet targets dation formats place) = Unbuilt place ∷ flat_map ref_forms targets
+  stmt_forms (OfSend value dation place) = Unbuilt place ∷ expr_forms value
+  stmt_forms (OfTake target dation place) = Unbuilt place ∷ ref_forms target
+
+  pub stmts_forms : ShownStmts → List Form
+  stmts_forms NoStmts = []
+  stmts_forms (MoreStmts statement rest) = stmt_forms statement ++ stmts_forms rest
+
+  pub branches_forms : ShownBranches → List Form
+  branches_forms NoBranches = []
+  branches_forms (MoreBranches statements place rest) = stmts_forms statements ++ branches_forms rest
+
+  pub otherwise_forms : ShownOtherwise → List Form
+  otherwise_forms NoOtherwise = []
+  otherwise_forms (OfOtherwise statements place) = stmts_forms statements
+
+-- DECLARATIONS
+
+abbrev pub body_forms : ShownBody → List Form
+body_forms body = body_decl_forms body.declarations ++ flat_map stmt_forms body.statements
+
+abbrev pub form_if : (is_unbuilt : Bool) → (place : ℕ) → Form
+form_if true place = Unbuilt place
+form_if false place = Built place
+
+-- a declaration with a semaphore is unbuilt as a whole
 abbrev pub declared_is_unbuilt : ShownDeclared → Bool
 declared_is_unbuilt (OfItem item) = false
 declared_is_unbuilt (OfSema sema) = true
@@ -98,22 +155,18 @@ abbrev pub is_task : ShownDecl → Bool
 is_task (OfTask name head body place) = true
 is_task decl = false
 
--- whether one of the parts isn't built; a declaration is unbuilt as a whole, from its first word on
-abbrev pub if_any : {X : Type 0} → (X → Bool) → List X → (place : ℕ) → Option ℕ
-if_any is_unbuilt parts place = if list_any is_unbuilt parts then Some place else None
-
 -- A module may specify any device: what is done with it is asked. One task alone is executed, so each behind another one is unbuilt.
-abbrev pub in_decl : (behind_task : Bool) → ShownDecl → Option ℕ
-in_decl behind_task (OfLength sort number place) = None
-in_decl behind_task (OfType name part place) = None
-in_decl behind_task (OfDeclare declared place) = if_any declared_is_unbuilt declared place
-in_decl behind_task (OfSpecify specs place) = None
-in_decl behind_task (OfTask name head body place) = if behind_task then Some place else in_body body
-in_decl behind_task (OfProc name params returns body place) = in_body body
+abbrev pub decl_forms : (behind_task : Bool) → ShownDecl → List Form
+decl_forms behind_task (OfLength sort number place) = Built place ∷ []
+decl_forms behind_task (OfType name part place) = Built place ∷ []
+decl_forms behind_task (OfDeclare declared place) = form_if (list_any declared_is_unbuilt declared) place ∷ []
+decl_forms behind_task (OfSpecify specs place) = Built place ∷ []
+decl_forms behind_task (OfTask name head body place) = form_if behind_task place ∷ body_forms body
+decl_forms behind_task (OfProc name params returns body place) = Built place ∷ body_forms body
 
-abbrev pub in_decls : (behind_task : Bool) → List ShownDecl → Option ℕ
-in_decls behind_task [] = None
-in_decls behind_task (decl ∷ rest) = option_or (in_decl behind_task decl) (in_decls (behind_task || is_task decl) rest)
+abbrev pub decls_forms : (behind_task : Bool) → List ShownDecl → List Form
+decls_forms behind_task [] = []
+decls_forms behind_task (decl ∷ rest) = decl_forms behind_task decl ++ decls_forms (behind_task || is_task decl) rest
 
 abbrev pub has_main : TaskHead → Bool
 has_main (PrioFirst prio main) = main
@@ -123,7 +176,11 @@ abbrev pub is_main : ShownDecl → Bool
 is_main (OfTask name head body place) = has_main head
 is_main decl = false
 
--- the system part is built: a device does nothing by itself, and its specification tells what it is for
+-- The system part is built: a device does nothing by itself, and its specification tells what it is for. Where no task has
+-- MAIN, MODEND counts as unbuilt.
+abbrev pub forms_of : ShownTree → List Form
+forms_of tree =
+    decls_forms false tree.declarations ++ (if list_any is_main tree.declarations then [] else Unbuilt tree.modend ∷ [])
+
 abbrev pub unbuilt : ShownTree → Option ℕ
-unbuilt tree =
-    option_or (in_decls false tree.declarations) (if list_any is_main tree.declarations then None else Some tree.modend)
+unbuilt tree = first_unbuilt (forms_of tree)

@@ -3,7 +3,7 @@
 ghost use Rattle.std.specs.Prelude.{◌≡◌, map, option_map};
 ghost use Rattle.std.specs.Result.{result_err};
 ghost use Rattle.pearl_tree.specs.ShownExpressions.{shown_expr, shown_primary, shown_selector, shown_ref};
-ghost use Rattle.pearl_unbuilt.specs.Unbuilt as spec;
+ghost use Rattle.pearl_unbuilt.specs.Walk as spec;
 
 use pearl_tree::expression::{Expr, Primary, Ref, Selector};
 

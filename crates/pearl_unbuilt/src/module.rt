@@ -5,7 +5,8 @@ ghost use Rattle.std.specs.List.{list_any};
 ghost use Rattle.std.specs.Result.{result_err};
 ghost use Rattle.pearl_tree.specs.ShownDeclarations.{shown_declared};
 ghost use Rattle.pearl_tree.specs.ShownModules.{shown_decl, shown_tree};
-ghost use Rattle.pearl_unbuilt.specs.Unbuilt as spec;
+ghost use Rattle.pearl_unbuilt.specs.Unbuilt.{unbuilt};
+ghost use Rattle.pearl_unbuilt.specs.Walk as spec;
 
 use crate::statement::check_stmts;
 use pearl_tree::declaration::Declared;
@@ -110,7 +111,7 @@ fn any_main(decls: &[Decl]) -> bool
 /// The place of the first declaration, statement, operand or operator whose form isn't carried out yet; of MODEND where
 /// all are, and no task has MAIN.
 pub fn first_unbuilt(tree: &Tree) -> Option<u32>
-    ensures { result ≡ spec.unbuilt (shown_tree tree.now) }
+    ensures { result ≡ unbuilt (shown_tree tree.now) }
 {
     let decls = tree.declarations.as_slice();
     match check_decls(decls) {

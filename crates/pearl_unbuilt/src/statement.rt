@@ -6,7 +6,7 @@ ghost use Rattle.std.specs.Result.{result_err};
 ghost use Rattle.pearl_tree.specs.ShownExpressions.{shown_expr, shown_ref};
 ghost use Rattle.pearl_tree.specs.ShownStatements.{shown_stmt};
 ghost use Rattle.pearl_unbuilt.specs.Lists.{in_branch, in_branch_if, in_case, in_if, in_list, in_repeat};
-ghost use Rattle.pearl_unbuilt.specs.Unbuilt as spec;
+ghost use Rattle.pearl_unbuilt.specs.Walk as spec;
 
 use crate::expression::{check_expr, check_exprs, check_ref, check_value};
 use pearl_tree::parts::Parts;

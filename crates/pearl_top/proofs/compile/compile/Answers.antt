@@ -1,10 +1,5 @@
-use Rattle.pearl_top.proofs.WordLaws.{ready_of}
+use Rattle.pearl_program.specs.PlainPrograms.{plain_prog}
 use Rattle.pearl_top.proofs.compile.compile.Goals as goal
 
 pub returns-clause-ok : goal.returns-clause-ok
-returns-clause-ok c = (
-  c.in_ok-prog.prog,
-  record { within = c.requires; accepted = c.in_ok-prog.ensures.accepted },
-  ready_of c.in_ok-prog.prog c.in_ok-object.object c.in_ok-machine.machine c.in_ok-machine.ensures.object c.in_ok-object.ensures.faithful
-      c.in_ok-machine.ensures.start,
-)
+returns-clause-ok c = (plain_prog c.in_ok-program.program, c.in_ok-program.ensures.source, c.in_ok-machine.ensures)

@@ -1,7 +1,7 @@
 use Rattle.std.proofs.Common.{map, ap, sym, ◌∙◌}
 use Rattle.pearl_tree.specs.declared.expression.Ref.{Ref}
 use Rattle.pearl_tree.specs.ShownExpressions.{shown_expr, shown_primary, shown_selector, shown_ref}
-use Rattle.pearl_unbuilt.specs.Unbuilt.{in_first, in_expr, in_primary, in_selector, in_ref}
+use Rattle.pearl_unbuilt.specs.Walk.{in_first, in_expr, in_primary, in_selector, in_ref}
 use Rattle.pearl_unbuilt.proofs.Rows.{in_subscripts, in_reference, in_limit}
 use Rattle.pearl_unbuilt.proofs.expression.«+expression».Goals as goal
 

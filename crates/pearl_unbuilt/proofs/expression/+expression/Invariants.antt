@@ -1,6 +1,6 @@
 use Rattle.std.proofs.Common.{◌≡◌, map, drop}
 use Rattle.pearl_tree.specs.ShownExpressions.{shown_expr, shown_selector_list}
-use Rattle.pearl_unbuilt.specs.Unbuilt.{in_first, in_expr, in_selectors}
+use Rattle.pearl_unbuilt.specs.Walk.{in_first, in_expr, in_selectors}
 use Rattle.pearl_unbuilt.proofs.expression.«+expression».Given as goal
 
 abbrev pub invariant-check_exprs-loop-expr : goal.invariant-check_exprs-loop-expr

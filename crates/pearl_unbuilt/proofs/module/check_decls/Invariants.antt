@@ -1,6 +1,6 @@
 use Rattle.std.proofs.Common.{◌≡◌, false, map, drop}
 use Rattle.pearl_tree.specs.ShownModules.{shown_decl}
-use Rattle.pearl_unbuilt.specs.Unbuilt.{in_decls}
+use Rattle.pearl_unbuilt.specs.Walk.{in_decls}
 use Rattle.pearl_unbuilt.proofs.module.check_decls.Given as goal
 
 abbrev pub invariant-loop-decl : goal.invariant-loop-decl

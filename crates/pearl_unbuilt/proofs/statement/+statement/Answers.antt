@@ -4,7 +4,7 @@ use Rattle.pearl_tree.specs.declared.statement.Case.{Case}
 use Rattle.pearl_tree.specs.declared.statement.If.{If}
 use Rattle.pearl_tree.specs.declared.statement.Repeat.{Repeat}
 use Rattle.pearl_tree.specs.ShownStatements.{shown_stmt}
-use Rattle.pearl_unbuilt.specs.Unbuilt.{in_stmt}
+use Rattle.pearl_unbuilt.specs.Walk.{in_stmt}
 use Rattle.pearl_unbuilt.specs.Lists.{in_list, in_if, in_case, in_repeat}
 use Rattle.pearl_unbuilt.proofs.Rows.{if_shown, case_shown, repeat_shown, begin_shown}
 use Rattle.pearl_unbuilt.proofs.statement.«+statement».Goals as goal

@@ -1,6 +1,6 @@
 use Rattle.std.proofs.Common.{◌≡◌, drop}
 use Rattle.pearl_unbuilt.specs.Lists.{in_branch, in_list}
-use Rattle.pearl_unbuilt.specs.Unbuilt.{in_first}
+use Rattle.pearl_unbuilt.specs.Walk.{in_first}
 use Rattle.pearl_unbuilt.proofs.statement.«+statement».Given as goal
 
 abbrev pub invariant-check_stmts-loop-stmt : goal.invariant-check_stmts-loop-stmt
