@@ -1,5 +1,4 @@
 pub mod Sums
-pub mod StatementNodes
 pub mod SmallerCalls
 pub mod Weights
 pub mod Zips

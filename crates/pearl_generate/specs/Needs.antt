@@ -1,9 +1,7 @@
 -- What the expressions of a statement need: how many values stand in them, and the greatest weight of a procedure that
 -- they call.
-use Rattle.std.specs.Prelude.{ℕ, ◌+◌, max, List, [], ◌∷◌}
+use Rattle.std.specs.Prelude.{ℕ, ◌+◌, max, List}
 use Rattle.pearl_program.specs.PlainExpressions.{PlainArguments}
-use Rattle.pearl_program.specs.declared.statement.Branch.{Branch}
-use Rattle.pearl_program.specs.PlainStatements.{PlainBranches, NoBranches, MoreBranches, plain_stmts}
 use Rattle.pearl_program.specs.Weights.{Sizes, values, callees, of_arguments}
 use Rattle.pearl_generate.specs.declared.need.Need.{Need}
 
@@ -22,8 +20,3 @@ greater_need a b = record { values = max a.values b.values; deepest = max a.deep
 -- of a call, apart from its result
 abbrev pub of_call : ℕ → PlainArguments → Sizes → ℕ
 of_call procedure arguments sizes = sizes.both (sizes.call procedure) (of_arguments sizes arguments)
-
--- the branches of CASE as lists have them
-abbrev pub plain_branches : List Branch → PlainBranches
-plain_branches [] = NoBranches
-plain_branches (branch ∷ rest) = MoreBranches (plain_stmts branch.statements.items) (plain_branches rest)

@@ -2,10 +2,10 @@
 
 ghost use Rattle.std.specs.Prelude.{◌≡◌, map, option_map, IfOk};
 ghost use Rattle.pearl_program.specs.PlainExpressions.{plain_expr, plain_exprs, plain_variable, plain_arguments};
-ghost use Rattle.pearl_program.specs.PlainStatements.{plain_stmt, plain_stmts, plain_counter, plain_start, plain_period, plain_once, OfAssign, OfActivate, OfIf, OfCase, OfRepeat};
+ghost use Rattle.pearl_program.specs.PlainStatements.{plain_stmt, plain_stmts, plain_counter, plain_start, plain_period, plain_once, OfAssign, OfActivate};
 ghost use Rattle.pearl_program.specs.Weights.{of_expr, of_if, of_counter, of_variables, of_stmt, greatest, greatest_of_all, greatest_of_branches};
-ghost use Rattle.pearl_generate.specs.Needs.{need_of, plain_branches};
-ghost use Rattle.pearl_program.specs.declared.statement.Case.{out-Case};
+ghost use Rattle.pearl_gen_stmt.specs.Emission.{plain_branches, plain_case, plain_if, plain_repeat};
+ghost use Rattle.pearl_generate.specs.Needs.{need_of};
 
 use crate::expression::{call_need, expr_need, exprs_need, variable_need};
 use crate::need::Need;
@@ -63,7 +63,7 @@ fn variables_need(weights: &[u64], variables: &[Variable]) -> Result<Need, NoMem
 
 #[cycle(statement)]
 fn if_need(weights: &[u64], part: &If) -> Result<Need, NoMemory>
-    ensures { IfOk result (λ need. need ≡ need_of weights.now (λ sizes. greatest sizes (OfIf (plain_expr part.now.condition) (plain_stmts part.now.statements.items) (plain_stmts part.now.otherwise.items)))) }
+    ensures { IfOk result (λ need. need ≡ need_of weights.now (λ sizes. greatest sizes (plain_if part.now))) }
 {
     let condition = expr_need(weights, &part.condition)?;
     let statements = stmts_need(weights, part.statements.as_slice())?;
@@ -74,7 +74,7 @@ fn if_need(weights: &[u64], part: &If) -> Result<Need, NoMemory>
 
 #[cycle(statement)]
 fn case_need(weights: &[u64], part: &Case) -> Result<Need, NoMemory>
-    ensures { IfOk result (λ need. need ≡ need_of weights.now (λ sizes. greatest sizes (OfCase (plain_expr (out-Case part.now).selector) (plain_branches (out-Case part.now).alternatives.items) (plain_stmts (out-Case part.now).otherwise.items)))) }
+    ensures { IfOk result (λ need. need ≡ need_of weights.now (λ sizes. greatest sizes (plain_case part.now))) }
 {
     let selector = expr_need(weights, &part.selector)?;
     let alternatives = branches_need(weights, part.alternatives.as_slice())?;
@@ -85,7 +85,7 @@ fn case_need(weights: &[u64], part: &Case) -> Result<Need, NoMemory>
 
 #[cycle(statement)]
 fn repeat_need(weights: &[u64], part: &Repeat) -> Result<Need, NoMemory>
-    ensures { IfOk result (λ need. need ≡ need_of weights.now (λ sizes. greatest sizes (OfRepeat (option_map plain_counter part.now.counter) (option_map plain_expr part.now.condition) (plain_stmts part.now.statements.items)))) }
+    ensures { IfOk result (λ need. need ≡ need_of weights.now (λ sizes. greatest sizes (plain_repeat part.now))) }
 {
     let counter = maybe_counter_need(weights, &part.counter)?;
     let condition = maybe_expr_need(weights, &part.condition)?;
