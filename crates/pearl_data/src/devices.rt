@@ -54,7 +54,7 @@ fn device_of(lengths: &Lengths, specified: &SpecifiedDevice) -> Device
     }
 }
 
-/// The devices of a program, in the order in which they are specified.
+/// The devices of a program, in the order of the list.
 pub fn program_devices(
     alloc: Global,
     lengths: &Lengths,
