@@ -1,4 +1,4 @@
 pub mod Formatting
 pub mod Making
 pub mod Walking
-pub mod Filling
+pub mod Fills

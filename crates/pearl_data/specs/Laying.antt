@@ -25,6 +25,11 @@ abbrev pub leaves_of_sense : Sense → List Leaf
 leaves_of_sense (Variable form inv) = leaves_in form
 leaves_of_sense sense = []
 
+-- the form of what a name stands for: only variables have one
+abbrev pub form_of_sense : Sense → Option Form
+form_of_sense (Variable form inv) = form
+form_of_sense sense = None
+
 abbrev pub slots : List Leaf → ℕ
 slots leaves = sum_by (λ (leaf : Leaf). elements leaf.bounds) leaves
 
@@ -77,3 +82,7 @@ filled_leaves name constants [] = []
 filled_leaves name constants (leaf ∷ rest) =
     record { name = path_name name leaf.path; values = values_of_leaf constants leaf } ∷
     filled_leaves name (left_behind (elements leaf.bounds) constants) rest
+
+-- what these leaves hold at first, without their names
+abbrev pub filled_values : List ShownConst → List Leaf → List PlainValues
+filled_values constants leaves = map (λ (leaf : PlainLeaf). leaf.values) (filled_leaves [] constants leaves)

@@ -1,14 +1,12 @@
 // The devices of a program.
 
 ghost use Rattle.std.specs.Prelude.{◌≡◌, map, IfOk};
-ghost use Rattle.pearl_names.specs.Lengths.{kind_of_basic as kind_of};
 ghost use Rattle.pearl_data.specs.Devices as spec;
 
 use pearl_names::length::{Lengths, kind_of_basic};
 use pearl_program::table::{Device, Direction};
 use pearl_system::device::{Role, SpecifiedDevice};
 use pearl_tree::declaration::Direction as Written;
-use pearl_tree::typing::Basic;
 use pearl_value::kind::Kind;
 use pearl_value::listing::Listing;
 use std::alloc::{AllocError, Global};
@@ -23,11 +21,11 @@ fn direction_of(direction: Written) -> Direction
     }
 }
 
-/// The kind of a type, or FIXED(31) where a rule is broken in it.
-pub fn kind_or_short(lengths: &Lengths, basic: &Basic) -> Kind
-    ensures { result ≡ spec.kind_or_short (kind_of lengths.now basic.now) }
+/// A kind that is known, or FIXED(31) where a rule is broken in it.
+pub fn kind_or_short(known: Option<Kind>) -> Kind
+    ensures { result ≡ spec.kind_or_short known }
 {
-    match kind_of_basic(lengths, basic) {
+    match known {
         Some(kind) => kind,
         None => Kind::Fixed(31),
     }
@@ -45,16 +43,16 @@ fn device_of(lengths: &Lengths, specified: &SpecifiedDevice) -> Device
         },
         Role::Input { basic } => Device::Input {
             number,
-            kind: kind_or_short(lengths, basic),
+            kind: kind_or_short(kind_of_basic(lengths, basic)),
         },
         Role::Output { basic } => Device::Output {
             number,
-            kind: kind_or_short(lengths, basic),
+            kind: kind_or_short(kind_of_basic(lengths, basic)),
         },
     }
 }
 
-/// The devices of a program, in the order in which they are specified.
+/// The devices of a program, in the order of the list.
 pub fn program_devices(
     alloc: Global,
     lengths: &Lengths,

@@ -1,20 +1,21 @@
 // The leaves of variables with what they hold at first.
 
-ghost use Rattle.std.specs.Prelude.{◌≡◌, ◌++◌, [], Option, Some, map, take, IfOk, OnOk};
+ghost use Rattle.std.specs.Prelude.{◌≡◌, ◌++◌, [], List, Option, Some, map, take, option_copied, IfOk, OnOk};
 ghost use Rattle.pearl_names.specs.Holding.{HoldsForm, HoldsSense};
 ghost use Rattle.pearl_names.specs.Tables as tables;
-ghost use Rattle.pearl_names.specs.declared.sense.Form.{Form as FormOf};
+ghost use Rattle.pearl_names.specs.declared.types.StructForm.{StructForm as StructFormOf};
 ghost use Rattle.pearl_names.specs.Layout.{leaves_of};
 ghost use Rattle.pearl_program.specs.PlainPrograms.{plain_leaf};
+ghost use Rattle.pearl_program.specs.PlainStatements.{plain_values};
 ghost use Rattle.pearl_tree.specs.ShownLiterals.{shown_const};
 ghost use Rattle.pearl_data.specs.Laying as spec;
 
-use crate::counts::{all_elements, sum};
-use crate::values::{first_values, left_behind};
-use crate::walk::{Found, descend, go_on};
+use crate::filling::Filling;
+use crate::values::first_values;
+use crate::walk::Found;
 use pearl_names::sense::{Form, Sense};
 use pearl_names::types::StructForm;
-use pearl_program::table::Leaf;
+use pearl_program::table::{FirstValues, Leaf};
 use pearl_tree::literal::Const;
 use pearl_value::listing::Listing;
 use std::alloc::{AllocError, Global};
@@ -45,6 +46,28 @@ fn leaf_of(
     })
 }
 
+// The form of a variable without a broken rule.
+fn form_of(sense: &Sense) -> Option<&Form>
+    ensures { (forms : List StructFormOf) (of : tables.Sense) → HoldsSense forms sense.now of →
+        HoldsForm forms (option_copied result) (spec.form_of_sense of) }
+{
+    match sense {
+        Sense::Variable { form, .. } => match form {
+            Some(form) => Some(form),
+            None => None,
+        },
+        Sense::Parameter(_) => None,
+        Sense::Control(_) => None,
+        Sense::NewType => None,
+        Sense::Semaphore => None,
+        Sense::Interrupt => None,
+        Sense::AlphicDation(_) => None,
+        Sense::BasicDation { .. } => None,
+        Sense::Task => None,
+        Sense::Procedure(_) => None,
+    }
+}
+
 fn add_form(
     alloc: Global,
     forms: &[StructForm],
@@ -59,47 +82,43 @@ fn add_form(
     ensures slots { IfOk result (λ count. (of : tables.Form) → HoldsForm forms.now (Some form.now) (Some of) →
         count ≡ spec.slots (leaves_of [] of.bounds of.shape)) }
 {
-    let mut path = Vec::from_slice(alloc, name)?;
-    let mut frames = Vec::new(alloc);
-    let count = all_elements(form.bounds.as_slice())?;
-    let first = descend(forms, form.part, count, &mut path, &mut frames)?;
-    let mut next = Some(first);
-    let mut left = constants;
-    let mut slots = 0;
+    let mut filling = Filling::start(alloc, forms, form, name, constants)?;
     for _leaf in 0..TOO_MANY {
-        let found = match next {
+        let found = match filling.next {
             Some(found) => found,
-            None => return Ok(slots),
+            None => return Ok(filling.slots),
         };
-        into.push(leaf_of(alloc, path.as_slice(), found, left)?)?;
-        left = left_behind(found.count, left);
-        slots = sum(slots, found.count)?;
-        next = go_on(forms, &mut path, &mut frames)?;
+        let leaf = leaf_of(alloc, filling.name.as_slice(), found, filling.constants)?;
+        into.push(leaf)?;
+        filling.pass(forms, found)?;
     }
     Err(AllocError)
 }
 
-fn add_form_if(
+fn add_form_values(
     alloc: Global,
     forms: &[StructForm],
-    form: &Option<Form>,
-    name: &[u8],
+    form: &Form,
     constants: &[Const],
-    into: &mut Vec<Leaf>,
+    into: &mut Vec<FirstValues>,
 ) -> Result<u32, AllocError>
-    ensures leaves { OnOk result ((of : Option tables.Form) → HoldsForm forms.now form.now of →
-        map plain_leaf into.new.items ≡ map plain_leaf into.old.items ++
-        spec.filled_leaves name.now (map shown_const constants.now) (spec.leaves_in of)) }
-    ensures slots { IfOk result (λ count. (of : Option tables.Form) → HoldsForm forms.now form.now of →
-        count ≡ spec.slots (spec.leaves_in of)) }
+    ensures values { OnOk result ((of : tables.Form) → HoldsForm forms.now (Some form.now) (Some of) →
+        map plain_values into.new.items ≡ map plain_values into.old.items ++
+        spec.filled_values (map shown_const constants.now) (leaves_of [] of.bounds of.shape)) }
+    ensures slots { IfOk result (λ count. (of : tables.Form) → HoldsForm forms.now (Some form.now) (Some of) →
+        count ≡ spec.slots (leaves_of [] of.bounds of.shape)) }
 {
-    match form {
-        Some(form) => {
-            let count = add_form(alloc, forms, form, name, constants, into)?;
-            Ok(count)
-        }
-        None => Ok(0),
+    let mut filling = Filling::start(alloc, forms, form, &[], constants)?;
+    for _leaf in 0..TOO_MANY {
+        let found = match filling.next {
+            Some(found) => found,
+            None => return Ok(filling.slots),
+        };
+        let values = first_values(alloc, found.kind, found.count, filling.constants)?;
+        into.push(values)?;
+        filling.pass(forms, found)?;
     }
+    Err(AllocError)
 }
 
 /// Adds the leaves of what a name stands for, with what they hold at first where these constants are left for them, and
@@ -119,19 +138,35 @@ pub fn add_leaves(
     ensures slots { IfOk result (λ count. (of : tables.Sense) → HoldsSense forms.now sense.now of →
         count ≡ spec.slots (spec.leaves_of_sense of)) }
 {
-    match sense {
-        Sense::Variable { form, .. } => {
-            let count = add_form_if(alloc, forms, form, name, constants, into)?;
+    match form_of(sense) {
+        Some(form) => {
+            let count = add_form(alloc, forms, form, name, constants, into)?;
             Ok(count)
         }
-        Sense::Parameter(_) => Ok(0),
-        Sense::Control(_) => Ok(0),
-        Sense::NewType => Ok(0),
-        Sense::Semaphore => Ok(0),
-        Sense::Interrupt => Ok(0),
-        Sense::AlphicDation(_) => Ok(0),
-        Sense::BasicDation { .. } => Ok(0),
-        Sense::Task => Ok(0),
-        Sense::Procedure(_) => Ok(0),
+        None => Ok(0),
+    }
+}
+
+/// Adds what the leaves hold at first, without their names, as `add_leaves` does: where TYPEs are nested deep, the names
+/// of many leaves would take far more room than the text.
+pub fn add_first_values(
+    alloc: Global,
+    forms: &[StructForm],
+    sense: &Sense,
+    constants: &[Const],
+    into: &mut Vec<FirstValues>,
+) -> Result<u32, AllocError>
+    ensures values { OnOk result ((of : tables.Sense) → HoldsSense forms.now sense.now of →
+        map plain_values into.new.items ≡ map plain_values into.old.items ++
+        spec.filled_values (map shown_const constants.now) (spec.leaves_of_sense of)) }
+    ensures slots { IfOk result (λ count. (of : tables.Sense) → HoldsSense forms.now sense.now of →
+        count ≡ spec.slots (spec.leaves_of_sense of)) }
+{
+    match form_of(sense) {
+        Some(form) => {
+            let count = add_form_values(alloc, forms, form, constants, into)?;
+            Ok(count)
+        }
+        None => Ok(0),
     }
 }

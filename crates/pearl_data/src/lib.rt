@@ -4,6 +4,7 @@
 mod constant;
 pub mod counts;
 pub mod devices;
+mod filling;
 pub mod formats;
 pub mod leaves;
 pub mod presets;

@@ -4,11 +4,12 @@ use Rattle.std.proofs.lemmas.List.{drop_all}
 use Rattle.pearl_tree.specs.declared.name.Name.{Name}
 use Rattle.pearl_tree.specs.ShownLiterals.{ShownConst}
 use Rattle.pearl_program.specs.declared.statement.Stmt.{Stmt}
-use Rattle.pearl_program.specs.declared.table.Leaf.{Leaf}
-use Rattle.pearl_program.specs.PlainPrograms.{plain_leaf}
+use Rattle.pearl_program.specs.declared.table.FirstValues.{FirstValues}
+use Rattle.pearl_program.specs.PlainPrograms.{PlainLeaf}
 use Rattle.pearl_program.specs.PlainStatements.{PlainStmt, OfRenew, PlainStmts, NoStmts, MoreStmts, plain_stmt, plain_stmts, plain_values}
 use Rattle.pearl_names.specs.declared.scope.View.TheVariants.{Within}
 use Rattle.pearl_resolve.specs.Expressions.{Numbered, meant}
+use Rattle.pearl_resolve.specs.Holding.{values_renewals}
 use Rattle.pearl_resolve.specs.Laying.{left_behind}
 use Rattle.pearl_resolve.specs.Statements.{alone, joined, names_renewals, renewals, slots_of_meant, variable_renewals}
 use Rattle.pearl_resolve.proofs.PlainNodes.{one_left}
@@ -18,20 +19,25 @@ joined_pushed : (made new : List Stmt) (s : Stmt) (is : PlainStmt) (rest : Plain
     joined (plain_stmts new) rest ≡ joined (plain_stmts made) (MoreStmts is rest)
 joined_pushed made new s is rest more so = ap (λ m. joined m rest) (pushed made new s is more so) ∙ joined_joined (plain_stmts made) (alone is) rest
 
--- one leaf more
-pub leaf_more : (left rest : List Leaf) (leaf : Leaf) (cell next : ℕ) (made new : List Stmt) (s : Stmt) (all : PlainStmts) → left ≡ leaf ∷ rest →
-    plain_stmt s ≡ OfRenew cell (plain_values leaf.values) → next ≡ cell + leaf.values.count → new ≡ made ++ s ∷ [] →
-    joined (plain_stmts made) (renewals cell (map plain_leaf left)) ≡ all → joined (plain_stmts new) (renewals next (map plain_leaf rest)) ≡ all
-leaf_more left rest leaf cell next made new s all is renews further more before =
-    joined_pushed made new s _ (renewals next (map plain_leaf rest)) more renews
-    ∙ ap (λ n. joined (plain_stmts made) (MoreStmts (OfRenew cell (plain_values leaf.values)) (renewals n (map plain_leaf rest)))) further
-    ∙ ap (λ l. joined (plain_stmts made) (renewals cell (map plain_leaf l))) (sym is)
+-- the first values of one leaf more
+pub values_more : (left rest : List FirstValues) (own : FirstValues) (cell next : ℕ) (made new : List Stmt) (s : Stmt) (all : PlainStmts) → left ≡ own ∷ rest →
+    plain_stmt s ≡ OfRenew cell (plain_values own) → next ≡ cell + own.count → new ≡ made ++ s ∷ [] →
+    joined (plain_stmts made) (values_renewals cell (map plain_values left)) ≡ all → joined (plain_stmts new) (values_renewals next (map plain_values rest)) ≡ all
+values_more left rest own cell next made new s all is renews further more before =
+    joined_pushed made new s _ (values_renewals next (map plain_values rest)) more renews
+    ∙ ap (λ n. joined (plain_stmts made) (MoreStmts (OfRenew cell (plain_values own)) (values_renewals n (map plain_values rest)))) further
+    ∙ ap (λ l. joined (plain_stmts made) (values_renewals cell (map plain_values l))) (sym is)
     ∙ before
 
-pub leaves_all : (left : List Leaf) (cell : ℕ) (made : List Stmt) (all : PlainStmts) → left ≡ [] →
-    joined (plain_stmts made) (renewals cell (map plain_leaf left)) ≡ all → plain_stmts made ≡ all
-leaves_all left cell made all none before =
-    sym (joined_none (plain_stmts made)) ∙ ap (λ l. joined (plain_stmts made) (renewals cell (map plain_leaf l))) (sym none) ∙ before
+pub values_all : (left : List FirstValues) (cell : ℕ) (made : List Stmt) (all : PlainStmts) → left ≡ [] →
+    joined (plain_stmts made) (values_renewals cell (map plain_values left)) ≡ all → plain_stmts made ≡ all
+values_all left cell made all none before =
+    sym (joined_none (plain_stmts made)) ∙ ap (λ l. joined (plain_stmts made) (values_renewals cell (map plain_values l))) (sym none) ∙ before
+
+-- the names of leaves don't count
+pub leaves_renew : (cell : ℕ) (leaves : List PlainLeaf) → values_renewals cell (map (λ (leaf : PlainLeaf). leaf.values) leaves) ≡ renewals cell leaves
+leaves_renew cell [] = refl
+leaves_renew cell (leaf ∷ rest) = ap (MoreStmts (OfRenew cell leaf.values)) (leaves_renew (cell + leaf.values.count) rest)
 
 pub nothing_left : {X : Type 0} (left : List X) → length left ≡ 0 → left ≡ []
 nothing_left [] h = refl

@@ -14,38 +14,37 @@ use Rattle.pearl_names.specs.Holding.{HoldsSense}
 use Rattle.pearl_names.specs.Layout.{Leaf, elements, slots_of}
 use Rattle.pearl_names.specs.Tables.{Sense, Variable, Control, OwnParameter, NewType, Semaphore, Interrupt, AlphicDation, BasicDation, Task, Procedure}
 use Rattle.pearl_names.proofs.Lists.{one_taken}
-use Rattle.pearl_program.specs.declared.table.Leaf.{Leaf as HeldLeaf}
-use Rattle.pearl_program.specs.PlainPrograms.{plain_leaf}
+use Rattle.pearl_program.specs.declared.table.FirstValues.{FirstValues}
+use Rattle.pearl_program.specs.PlainStatements.{plain_values}
 use Rattle.pearl_resolve.specs.Cells.{sense_cells}
-use Rattle.pearl_resolve.specs.Holding.{leaf_cells}
-use Rattle.pearl_resolve.specs.Laying.{cells_of_sense, filled_leaves, leaves_of_sense, left_behind, slots}
+use Rattle.pearl_resolve.specs.Holding.{values_cells}
+use Rattle.pearl_resolve.specs.Laying.{cells_of_sense, filled_values, leaves_of_sense, left_behind, slots}
 
 flat_push : {X Y : Type 0} (f : X → List Y) (xs : List X) (x : X) → flat_map f (xs ++ x ∷ []) ≡ flat_map f xs ++ f x
 flat_push f [] x = append-nil (f x)
 flat_push f (y ∷ xs) x = ap (λ l. f y ++ l) (flat_push f xs x) ∙ sym (append_assoc (f y) (flat_map f xs) (f x))
 
 -- the cells of one leaf more
-pub leaf_cells_more : (leaves : List HeldLeaf) (i : ℕ) (leaf : HeldLeaf) (old made more : List CellKind) → i < length leaves → leaf ≡ get_or leaves i leaf →
-    made ≡ old ++ flat_map leaf_cells (map plain_leaf (take i leaves)) → more ≡ made ++ leaf_cells (plain_leaf leaf) →
-    more ≡ old ++ flat_map leaf_cells (map plain_leaf (take (i + 1) leaves))
-leaf_cells_more leaves i leaf old made more inside is before adds =
+pub values_cells_more : (values : List FirstValues) (i : ℕ) (own : FirstValues) (old made more : List CellKind) → i < length values → own ≡ get_or values i own →
+    made ≡ old ++ flat_map values_cells (map plain_values (take i values)) → more ≡ made ++ values_cells (plain_values own) →
+    more ≡ old ++ flat_map values_cells (map plain_values (take (i + 1) values))
+values_cells_more values i own old made more inside is before adds =
     adds
-    ∙ ap (λ l. l ++ leaf_cells (plain_leaf leaf)) before
-    ∙ append_assoc old (flat_map leaf_cells (map plain_leaf (take i leaves))) (leaf_cells (plain_leaf leaf))
-    ∙ ap (λ l. old ++ l) (sym (ap (λ l. flat_map leaf_cells (map plain_leaf l)) (one_taken leaves i leaf inside is)
-    ∙ ap (flat_map leaf_cells) (map-append plain_leaf (take i leaves) (leaf ∷ []))
-    ∙ flat_push leaf_cells (map plain_leaf (take i leaves)) (plain_leaf leaf)))
+    ∙ ap (λ l. l ++ values_cells (plain_values own)) before
+    ∙ append_assoc old (flat_map values_cells (map plain_values (take i values))) (values_cells (plain_values own))
+    ∙ ap (λ l. old ++ l) (sym (ap (λ l. flat_map values_cells (map plain_values l)) (one_taken values i own inside is)
+    ∙ ap (flat_map values_cells) (map-append plain_values (take i values) (own ∷ []))
+    ∙ flat_push values_cells (map plain_values (take i values)) (plain_values own)))
 
 plain_replicate : (n : ℕ) (kind : Kind) → replicate n (Plain kind) ≡ map Plain (replicate n kind)
 plain_replicate zero kind = refl
 plain_replicate (suc n) kind = ap (λ l. Plain kind ∷ l) (plain_replicate n kind)
 
 -- the cells of filled leaves are the slots of the leaves
-pub filled_cells : (name : List ℕ) (constants : List ShownConst) (leaves : List Leaf) →
-    flat_map leaf_cells (filled_leaves name constants leaves) ≡ map Plain (slots_of leaves)
-filled_cells name constants [] = refl
-filled_cells name constants (leaf ∷ rest) =
-    (λ i. plain_replicate (elements leaf.bounds) leaf.kind i ++ filled_cells name (left_behind (elements leaf.bounds) constants) rest i)
+pub filled_cells : (constants : List ShownConst) (leaves : List Leaf) → flat_map values_cells (filled_values constants leaves) ≡ map Plain (slots_of leaves)
+filled_cells constants [] = refl
+filled_cells constants (leaf ∷ rest) =
+    (λ i. plain_replicate (elements leaf.bounds) leaf.kind i ++ filled_cells (left_behind (elements leaf.bounds) constants) rest i)
     ∙ sym (map-append Plain (replicate (elements leaf.bounds) leaf.kind) (slots_of rest))
 
 -- the cells of a variable

@@ -1,5 +1,5 @@
 -- What stands in memory of what the definitions say: the numbers of names, and how far a reference has come.
-use Rattle.std.specs.Prelude.{◌≡◌, ◌++◌, ℕ, Bool, false, List, [], ◌∷◌, map, replicate, option_map, unwrap_or, slice_get}
+use Rattle.std.specs.Prelude.{◌≡◌, ◌+◌, ◌++◌, ℕ, Bool, false, List, [], ◌∷◌, map, replicate, option_map, unwrap_or, slice_get}
 use Rattle.pearl_value.specs.declared.kind.CellKind.{CellKind}
 use Rattle.pearl_value.specs.declared.kind.CellKind.TheVariants.{Plain}
 use Rattle.pearl_tree.specs.ShownExpressions.{ShownPrimary, OfRef, ShownRef}
@@ -12,8 +12,8 @@ use Rattle.pearl_names.specs.Tables.{Parameter}
 use Rattle.pearl_program.specs.declared.statement.Branch.{Branch}
 use Rattle.pearl_program.specs.declared.statement.Stmt.{Stmt}
 use Rattle.pearl_program.specs.PlainExpressions.{plain_exprs}
-use Rattle.pearl_program.specs.PlainStatements.{PlainBranches, NoBranches, MoreBranches, plain_stmt, plain_stmts}
-use Rattle.pearl_program.specs.PlainPrograms.{PlainLeaf, PlainTask, PlainProcedure, plain_task, plain_procedure}
+use Rattle.pearl_program.specs.PlainStatements.{PlainValues, OfRenew, PlainStmts, NoStmts, MoreStmts, PlainBranches, NoBranches, MoreBranches, plain_stmt, plain_stmts}
+use Rattle.pearl_program.specs.PlainPrograms.{PlainTask, PlainProcedure, plain_task, plain_procedure}
 use Rattle.pearl_resolve.specs.declared.numbered.ScopeNumbers.{ScopeNumbers}
 use Rattle.pearl_resolve.specs.declared.numbered.NumberedTable.{NumberedTable}
 use Rattle.pearl_resolve.specs.declared.routines.Routines.{Routines}
@@ -128,9 +128,14 @@ AddsBody held hidden at declarations statements now cells more made new = (of : 
     (joined (plain_stmts made)
     (joined (declared_renewals of at.next declarations) (resolve_all of at.next (entered of.table hidden (at_in at)) statements)))
 
--- the cells in which a leaf of a variable lies
-abbrev pub leaf_cells : PlainLeaf → List CellKind
-leaf_cells leaf = replicate leaf.values.count (Plain leaf.values.kind)
+-- the cells of a leaf of a variable with these first values
+abbrev pub values_cells : PlainValues → List CellKind
+values_cells values = replicate values.count (Plain values.kind)
+
+-- leaves with these first values that lie in cells from this one on get them
+abbrev pub values_renewals : ℕ → List PlainValues → PlainStmts
+values_renewals cell [] = NoStmts
+values_renewals cell (values ∷ rest) = MoreStmts (OfRenew cell values) (values_renewals (cell + values.count) rest)
 
 -- the tasks and procedures that a part of the text adds
 pub record AddsRoutines (now : At) (old new : Routines) (after : At) (tasks : List PlainTask) (procedures : List PlainProcedure) : Type 0 where

@@ -6,23 +6,23 @@ ghost use Rattle.pearl_names.specs.Holding.{HoldsSense, HoldsTable, parameter_of
 ghost use Rattle.pearl_names.specs.Layout.{slots_of};
 ghost use Rattle.pearl_names.specs.Lengths.{length_at};
 ghost use Rattle.pearl_names.specs.Tables as tables;
-ghost use Rattle.pearl_program.specs.PlainPrograms.{plain_leaf};
+ghost use Rattle.pearl_program.specs.PlainStatements.{plain_values};
 ghost use Rattle.pearl_tree.specs.declared.typing.Sort.TheVariants.{Fixed};
 ghost use Rattle.pearl_value.specs.declared.kind.CellKind.TheVariants.{Plain};
 ghost use Rattle.pearl_resolve.specs.Cells as spec;
-ghost use Rattle.pearl_resolve.specs.Holding.{leaf_cells};
+ghost use Rattle.pearl_resolve.specs.Holding.{values_cells};
 ghost use Rattle.pearl_resolve.specs.Laying.{cells_of_sense, leaves_of_sense, slots};
 ghost use Rattle.pearl_resolve.specs.Numbers.{counts as does_count, senses_at};
 
 use crate::counter::counts;
-use crate::walk::kind_or_short;
 use pearl_data::counts::sum;
-use pearl_data::leaves::add_leaves;
+use pearl_data::devices::kind_or_short;
+use pearl_data::leaves::add_first_values;
 use pearl_names::length::Lengths;
 use pearl_names::sense::{Parameter, Sense};
 use pearl_names::table::SenseTable;
 use pearl_names::types::StructForm;
-use pearl_program::table::Leaf;
+use pearl_program::table::FirstValues;
 use pearl_tree::statement::Repeat;
 use pearl_tree::typing::Sort;
 use pearl_value::kind::{CellKind, Kind};
@@ -70,11 +70,11 @@ fn param_cell(parameter: Parameter) -> CellKind
     }
 }
 
-fn add_leaf_cells(leaves: &[Leaf], into: &mut Vec<CellKind>) -> Result<(), AllocError>
-    ensures { OnOk result (into.new.items ≡ into.old.items ++ flat_map leaf_cells (map plain_leaf leaves.now)) }
+fn add_values_cells(values: &[FirstValues], into: &mut Vec<CellKind>) -> Result<(), AllocError>
+    ensures { OnOk result (into.new.items ≡ into.old.items ++ flat_map values_cells (map plain_values values.now)) }
 {
-    for leaf in leaves {
-        add_cells(leaf.values.count as usize, leaf.values.kind, into)?;
+    for own in values {
+        add_cells(own.count as usize, own.kind, into)?;
     }
     Ok(())
 }
@@ -89,9 +89,9 @@ fn add_variable_cells(
     ensures cells { OnOk result ((of : tables.Sense) → HoldsSense forms.now sense.now of →
         into.new.items ≡ into.old.items ++ map Plain (slots_of (leaves_of_sense of))) }
 {
-    let mut leaves = Vec::new(alloc);
-    let count = add_leaves(alloc, forms, sense, &[], &[], &mut leaves)?;
-    add_leaf_cells(leaves.as_slice(), into)?;
+    let mut values = Vec::new(alloc);
+    let count = add_first_values(alloc, forms, sense, &[], &mut values)?;
+    add_values_cells(values.as_slice(), into)?;
     Ok(count)
 }
 

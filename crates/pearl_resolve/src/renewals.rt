@@ -1,7 +1,6 @@
 // The first values of the variables that a scope declares.
 
 ghost use Rattle.std.specs.Prelude.{◌≡◌, map, IfOk, OnOk};
-ghost use Rattle.pearl_program.specs.PlainPrograms.{plain_leaf};
 ghost use Rattle.pearl_program.specs.PlainStatements.{OfRenew, plain_stmt, plain_stmts, plain_values};
 ghost use Rattle.pearl_tree.specs.Names.{names_of};
 ghost use Rattle.pearl_tree.specs.ShownDeclarations.{shown_item, shown_names};
@@ -9,17 +8,17 @@ ghost use Rattle.pearl_tree.specs.ShownLiterals.{shown_const};
 ghost use Rattle.pearl_tree.specs.ShownStatements.{shown_body_decl};
 ghost use Rattle.pearl_names.specs.declared.scope.View.TheVariants.{Within};
 ghost use Rattle.pearl_resolve.specs.Expressions.{meant, meant_at};
-ghost use Rattle.pearl_resolve.specs.Holding.{Becomes};
+ghost use Rattle.pearl_resolve.specs.Holding.{Becomes, values_renewals};
 ghost use Rattle.pearl_resolve.specs.Statements as spec;
 
 use crate::numbered::NumberedTable;
 use pearl_data::counts::sum;
-use pearl_data::leaves::add_leaves;
+use pearl_data::leaves::add_first_values;
 use pearl_data::values::left_behind;
 use pearl_names::meaning::Found;
 use pearl_names::scope::View;
 use pearl_program::statement::{Renewal, Stmt};
-use pearl_program::table::{FirstValues, Leaf};
+use pearl_program::table::FirstValues;
 use pearl_tree::declaration::Item;
 use pearl_tree::literal::Const;
 use pearl_tree::name::Name;
@@ -33,19 +32,19 @@ fn renewal(alloc: Global, cell: u32, values: FirstValues) -> Result<Stmt, AllocE
     Ok(Stmt::Renew(made))
 }
 
-// Leaves that lie in cells from this one on get their first values.
-fn add_leaf_renewals(
+// The cells from this one on get these first values.
+fn add_values_renewals(
     alloc: Global,
     cell: u32,
-    leaves: Vec<Leaf>,
+    values: Vec<FirstValues>,
     into: &mut Vec<Stmt>,
 ) -> Result<(), AllocError>
-    ensures { OnOk result (plain_stmts into.new.items ≡ spec.joined (plain_stmts into.old.items) (spec.renewals cell (map plain_leaf leaves.items))) }
+    ensures { OnOk result (plain_stmts into.new.items ≡ spec.joined (plain_stmts into.old.items) (values_renewals cell (map plain_values values.items))) }
 {
     let mut next = cell;
-    for leaf in leaves {
-        let count = leaf.values.count;
-        let made = renewal(alloc, next, leaf.values)?;
+    for own in values {
+        let count = own.count;
+        let made = renewal(alloc, next, own)?;
         into.push(made)?;
         next = sum(next, count)?;
     }
@@ -66,10 +65,10 @@ fn add_found_renewals(
 {
     match numbered.table.sense_at(found) {
         Some(sense) => {
-            let mut leaves = Vec::new(alloc);
+            let mut values = Vec::new(alloc);
             let forms = numbered.table.forms();
-            let count = add_leaves(alloc, forms, sense, &[], constants, &mut leaves)?;
-            add_leaf_renewals(alloc, numbered.number_at(found), leaves, into)?;
+            let count = add_first_values(alloc, forms, sense, constants, &mut values)?;
+            add_values_renewals(alloc, numbered.number_at(found), values, into)?;
             Ok(count)
         }
         None => Ok(0),

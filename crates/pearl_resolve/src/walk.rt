@@ -20,6 +20,7 @@ use crate::bounds::{add_bounds, elements};
 use crate::counts::{further_on, product};
 use crate::numbered::NumberedTable;
 use pearl_data::counts::whole;
+use pearl_data::devices::kind_or_short;
 use pearl_names::meaning::Found;
 use pearl_names::scope::View;
 use pearl_names::sense::{Bounds, Form, Parameter, Sense};
@@ -103,15 +104,6 @@ fn own_or_param(ident: bool, number: u32) -> Target
         Target::Param(number)
     } else {
         Target::Own(number)
-    }
-}
-
-pub(crate) fn kind_or_short(kind: Option<Kind>) -> Kind
-    ensures { result ≡ unwrap_or kind (fixed.Fixed 31) }
-{
-    match kind {
-        Some(kind) => kind,
-        None => Kind::Fixed(31),
     }
 }
 

@@ -106,7 +106,7 @@ run_is kind last (suc n) constant (next ∷ rest) =
     run_more kind last n constant (next ∷ rest) ∙
     ap (λ cells. constant_in kind constant ∷ cells) (run_is kind (constant_in kind constant) n next rest)
 
-leaf_filled : (constants : List ShownConst) (leaf : Leaf) → first_cells (values_of_leaf constants leaf) ≡ filled (leaf_slots leaf) constants
+pub leaf_filled : (constants : List ShownConst) (leaf : Leaf) → first_cells (values_of_leaf constants leaf) ≡ filled (leaf_slots leaf) constants
 leaf_filled [] leaf = run_none leaf.kind (blank_of leaf.kind) (elements leaf.bounds) ∙ sym (run_blank leaf.kind (elements leaf.bounds))
 leaf_filled (constant ∷ rest) leaf = run_is leaf.kind (blank_of leaf.kind) (elements leaf.bounds) constant rest
 
@@ -119,7 +119,7 @@ init_fills name constants (leaf ∷ rest) =
     ap (λ n. filled (leaf_slots leaf) constants ++ filled (slots_of rest) (left_behind n constants)) (sym (length-replicate (elements leaf.bounds) leaf.kind)) ∙
     sym (slots_go_on (leaf_slots leaf) (slots_of rest) constants)
 
-slot_count : (leaves : List Leaf) → length (slots_of leaves) ≡ slots leaves
+pub slot_count : (leaves : List Leaf) → length (slots_of leaves) ≡ slots leaves
 slot_count [] = refl
 slot_count (leaf ∷ rest) =
     let own = length-append (leaf_slots leaf) (slots_of rest) in
@@ -133,7 +133,7 @@ cells_append : (one two : List PlainLeaf) → flat_map (λ (leaf : PlainLeaf). f
 cells_append one two = flat_map-append (λ (leaf : PlainLeaf). first_cells leaf.values) one two
 
 pub names_fill : (numbered : Numbered) (constants : List ShownConst) (names : List Name) (leaves : List Leaf) →
-    AllByRecursion (HasLeaves numbered leaves) names →
+    AllByRecursion (HasLeaves numbered 0 leaves) names →
     flat_map (λ (leaf : PlainLeaf). first_cells leaf.values) (names_leaves numbered constants names) ≡ filled (slots_of_names names leaves) constants
 names_fill numbered constants [] leaves all = refl
 names_fill numbered constants (name ∷ rest) leaves all =

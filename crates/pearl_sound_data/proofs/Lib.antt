@@ -11,5 +11,6 @@ pub mod Presets
 pub mod Devices
 pub mod Formats
 pub mod Filling
+pub mod Renewed
 pub mod Tables
 mod Examples

@@ -1,5 +1,5 @@
 -- What holds of first values, and of the leaves, devices, formats and presets of a program.
-use Rattle.std.specs.Prelude.{◌≡◌, ℕ, List, [], ◌++◌, length, Some}
+use Rattle.std.specs.Prelude.{◌≡◌, ℕ, List, [], ◌++◌, length, map, Some}
 use Rattle.std.specs.List.{AllByRecursion, flat_map}
 use Rattle.pearl_value.specs.declared.kind.Kind.{Kind}
 use Rattle.pearl_value.specs.Kinds.{IsKind}
@@ -28,10 +28,11 @@ use Rattle.pearl_program.specs.SoundStatements.{AreFirst}
 use Rattle.pearl_program.specs.Sound as sound
 use Rattle.pearl_program.specs.Sound.{IsLeaf, IsFormat, IsPreset, AreRising}
 use Rattle.pearl_data.specs.Laying.{leaves_in, leaves_of_sense, constant_in, left_behind, filled_leaves}
-use Rattle.pearl_resolve.specs.Expressions.{Numbered, Meant, meant}
+use Rattle.pearl_resolve.specs.Expressions.{Numbered, Meant, meant, number_of}
+use Rattle.pearl_resolve.specs.Statements.{names_renewals, variable_renewals}
 use Rattle.pearl_resolve.specs.Resolve.{names_leaves, resolve}
 use Rattle.pearl_sound_data.specs.Constants.{IsConstant, DeclHasConstants}
-use Rattle.pearl_sound_data.specs.Filling.{filled, ArePut}
+use Rattle.pearl_sound_data.specs.Filling.{filled, cells_from, renewed, ArePut}
 
 -- whatever a constant is put into, it becomes a value of that kind
 abbrev pub ConstantsBecomeValues : Type 0
@@ -88,16 +89,29 @@ abbrev pub InitFillsSlots : Type 0
 InitFillsSlots = (name : List ℕ) (constants : List ShownConst) (leaves : List Leaf) →
     flat_map (λ (leaf : PlainLeaf). first_cells leaf.values) (filled_leaves name constants leaves) ≡ filled (slots_of leaves) constants
 
--- a name of the module means a variable with these leaves
-abbrev pub HasLeaves : Numbered → List Leaf → Name → Type 0
-HasLeaves numbered leaves name = (thing : Meant) × (meant numbered (Within 0) name ≡ Some thing) × (leaves_of_sense thing.sense ≡ leaves)
+-- within a scope a name means a variable with these leaves
+abbrev pub HasLeaves : Numbered → (scope : ℕ) → List Leaf → Name → Type 0
+HasLeaves numbered scope leaves name = (thing : Meant) × (meant numbered (Within scope) name ≡ Some thing) × (leaves_of_sense thing.sense ≡ leaves)
 
--- the slots of names that are declared together hold what INIT puts into them one after the other
+-- the slots of names that the module declares together hold what INIT puts into them one after the other
 abbrev pub InitFillsNames : Type 0
 InitFillsNames = (numbered : Numbered) (constants : List ShownConst) (names : List Name) (leaves : List Leaf) →
-    AllByRecursion (HasLeaves numbered leaves) names →
+    AllByRecursion (HasLeaves numbered 0 leaves) names →
     flat_map (λ (leaf : PlainLeaf). first_cells leaf.values) (names_leaves numbered constants names) ≡
     filled (slots_of_names names leaves) constants
+
+-- the cells of a local variable, from that of its number on, get what INIT puts into its slots
+abbrev pub InitRenewsVariables : Type 0
+InitRenewsVariables = (numbered : Numbered) (scope : ℕ) (constants : List ShownConst) (name : Name) (leaves : List Leaf) →
+    HasLeaves numbered scope leaves name →
+    renewed (variable_renewals constants (meant numbered (Within scope) name)) ≡
+    cells_from (number_of numbered (Within scope) name) (filled (slots_of leaves) constants)
+
+-- the cells of names that a scope declares together get what INIT puts into their slots one after the other
+abbrev pub InitRenewsNames : Type 0
+InitRenewsNames = (numbered : Numbered) (scope : ℕ) (constants : List ShownConst) (names : List Name) (leaves : List Leaf) →
+    AllByRecursion (HasLeaves numbered scope leaves) names →
+    map (λ put. put.1) (renewed (names_renewals numbered scope constants names)) ≡ filled (slots_of_names names leaves) constants
 
 -- in the slots behind some INIT goes on with what these leave
 abbrev pub InitGoesOn : Type 0

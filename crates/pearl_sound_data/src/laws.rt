@@ -1,6 +1,6 @@
 // What holds of first values, and of the leaves, devices, formats and presets of a program.
 
-ghost use Rattle.pearl_sound_data.specs.Laws.{ConstantsArePut, ConstantsBecomeValues, DevicesAreSound, FormatsAreSound, InitFillsNames, InitFillsSlots, InitGoesOn, LeavesAreSound, LeavesHaveFirstValues, ModulesHaveConstants, PresetsAreSmall, TablesAreSound};
+ghost use Rattle.pearl_sound_data.specs.Laws.{ConstantsArePut, ConstantsBecomeValues, DevicesAreSound, FormatsAreSound, InitFillsNames, InitFillsSlots, InitGoesOn, InitRenewsNames, InitRenewsVariables, LeavesAreSound, LeavesHaveFirstValues, ModulesHaveConstants, PresetsAreSmall, TablesAreSound};
 
 /// Whatever a constant of INIT is put into, it becomes a value of that kind.
 pub fn constants_become_values()
@@ -47,9 +47,19 @@ pub fn init_fills_slots()
     ensures { InitFillsSlots }
 {}
 
-/// The slots of names that are declared together hold what INIT puts into them one after the other.
+/// The slots of names that the module declares together hold what INIT puts into them one after the other.
 pub fn init_fills_names()
     ensures { InitFillsNames }
+{}
+
+/// The cells of a local variable get what INIT puts into its slots.
+pub fn init_renews_variables()
+    ensures { InitRenewsVariables }
+{}
+
+/// The cells of names that are declared together in a body get what INIT puts into their slots one after the other.
+pub fn init_renews_names()
+    ensures { InitRenewsNames }
 {}
 
 /// In the slots behind some INIT goes on with what these leave.

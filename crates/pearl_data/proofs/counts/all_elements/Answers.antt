@@ -1,4 +1,4 @@
-use Rattle.pearl_data.proofs.Filling.{elements_more}
+use Rattle.pearl_data.proofs.Fills.{elements_more}
 use Rattle.pearl_names.proofs.Sized.{bounds_at, own_bounds}
 use Rattle.pearl_data.proofs.counts.all_elements.Goals as goal
 

@@ -3,11 +3,12 @@ use Rattle.pearl_tree.specs.ShownLiterals.{shown_const}
 use Rattle.pearl_names.specs.Holding.{HoldsForm}
 use Rattle.pearl_names.specs.Layout.{leaves_of}
 use Rattle.pearl_names.specs.Tables.{Form}
-use Rattle.pearl_program.specs.PlainPrograms.{plain_leaf}
-use Rattle.pearl_data.proofs.Filling.{Fills}
+use Rattle.pearl_program.specs.PlainPrograms.{PlainLeaf, plain_leaf}
+use Rattle.pearl_data.proofs.Fills.{Fills}
 use Rattle.pearl_data.proofs.leaves.add_form.Given as goal
 
 abbrev pub invariant-loop-leaf : goal.invariant-loop-leaf
 invariant-loop-leaf l = (of : Form) → HoldsForm l.forms (Some l.form) (Some of) →
-    Fills l.forms l.name l.next l.frames.items l.path.items (map plain_leaf l.into.items) (map plain_leaf l.fn.into.items)
-    (map shown_const l.left) (map shown_const l.constants) l.slots (leaves_of [] of.bounds of.shape)
+    Fills (λ (leaf : PlainLeaf). leaf) l.forms l.name l.filling.next l.filling.frames.items l.filling.name.items
+    (map plain_leaf l.into.items) (map plain_leaf l.fn.into.items)
+    (map shown_const l.filling.constants.now) (map shown_const l.constants) l.filling.slots (leaves_of [] of.bounds of.shape)

@@ -1,8 +1,8 @@
 use Rattle.std.proofs.Common.{◌++◌, [], map, ap, ◌∙◌}
 use Rattle.std.specs.List.{flat_map}
-use Rattle.pearl_program.specs.PlainPrograms.{plain_leaf}
-use Rattle.pearl_resolve.specs.Holding.{leaf_cells}
-use Rattle.pearl_resolve.specs.Laying.{filled_leaves, leaves_of_sense}
+use Rattle.pearl_program.specs.PlainStatements.{plain_values}
+use Rattle.pearl_resolve.specs.Holding.{values_cells}
+use Rattle.pearl_resolve.specs.Laying.{filled_values, leaves_of_sense}
 use Rattle.pearl_resolve.proofs.ScopeCells.{filled_cells}
 use Rattle.pearl_resolve.proofs.cells.add_variable_cells.Goals as goal
 
@@ -12,8 +12,8 @@ returns-clause-count c = c.in_ok-count.ensures.slots
 pub returns-clause-cells : goal.returns-clause-cells
 returns-clause-cells c = λ of h.
     let old = c.args.into.now.items in
-    c.in_ok-add_leaf_cells.ensures
-    ∙ ap (λ l. old ++ flat_map leaf_cells (map plain_leaf l)) c.as_slice.ensures.value
-    ∙ ap (λ l. old ++ flat_map leaf_cells l) (c.in_ok-count.ensures.leaves of h)
-    ∙ ap (λ l. old ++ flat_map leaf_cells (map plain_leaf l ++ filled_leaves [] [] (leaves_of_sense of))) c.new-leaves.ensures.items
-    ∙ ap (λ l. old ++ l) (filled_cells [] [] (leaves_of_sense of))
+    c.in_ok-add_values_cells.ensures
+    ∙ ap (λ l. old ++ flat_map values_cells (map plain_values l)) c.as_slice.ensures.value
+    ∙ ap (λ l. old ++ flat_map values_cells l) (c.in_ok-count.ensures.values of h)
+    ∙ ap (λ l. old ++ flat_map values_cells (map plain_values l ++ filled_values [] (leaves_of_sense of))) c.new-values.ensures.items
+    ∙ ap (λ l. old ++ l) (filled_cells [] (leaves_of_sense of))

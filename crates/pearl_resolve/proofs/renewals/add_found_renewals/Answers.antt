@@ -1,33 +1,36 @@
 use Rattle.std.proofs.Common.{◌++◌, List, [], map, sym, ap, subst, ◌∙◌}
 use Rattle.pearl_tree.specs.ShownLiterals.{shown_const}
 use Rattle.pearl_names.specs.Holding.{HoldsSense}
-use Rattle.pearl_program.specs.declared.table.Leaf.{Leaf}
-use Rattle.pearl_program.specs.PlainPrograms.{plain_leaf}
-use Rattle.pearl_program.specs.PlainStatements.{plain_stmts}
+use Rattle.pearl_program.specs.declared.table.FirstValues.{FirstValues}
+use Rattle.pearl_program.specs.PlainStatements.{plain_stmts, plain_values}
 use Rattle.pearl_resolve.specs.Expressions.{number_at}
-use Rattle.pearl_resolve.specs.Laying.{filled_leaves, leaves_of_sense}
-use Rattle.pearl_resolve.specs.Statements.{joined, renewals, slots_of_meant, variable_renewals}
+use Rattle.pearl_resolve.specs.Holding.{values_renewals}
+use Rattle.pearl_resolve.specs.Laying.{filled_leaves, filled_values, leaves_of_sense}
+use Rattle.pearl_resolve.specs.Statements.{joined, slots_of_meant, variable_renewals}
 use Rattle.pearl_resolve.proofs.Lookups.{meant_so, meant_nothing}
+use Rattle.pearl_resolve.proofs.Renewing.{leaves_renew}
 use Rattle.pearl_resolve.proofs.Resolving.{joined_none}
 use Rattle.pearl_resolve.proofs.renewals.add_found_renewals.Goals as goal
 
-pub returns-in_ok-add_leaf_renewals-in-Some-clause-slots : goal.returns-in_ok-add_leaf_renewals-in-Some-clause-slots
-returns-in_ok-add_leaf_renewals-in-Some-clause-slots c = λ of holds.
+pub returns-in_ok-add_values_renewals-in-Some-clause-slots : goal.returns-in_ok-add_values_renewals-in-Some-clause-slots
+returns-in_ok-add_values_renewals-in-Some-clause-slots c = λ of holds.
     let m = meant_so c.args.numbered.now.table.forms.items of c.args.found c.in-Some.sense.now (c.in-Some.ensures of.table holds.table) in
     let held = subst (λ f. HoldsSense f c.in-Some.sense.now m.meant) (sym c.forms-forms.ensures) m.holds in
     c.in_ok-count-in-Some.ensures.slots m.meant held ∙ ap slots_of_meant (sym m.is)
 
-pub returns-in_ok-add_leaf_renewals-in-Some-clause-renewals : goal.returns-in_ok-add_leaf_renewals-in-Some-clause-renewals
-returns-in_ok-add_leaf_renewals-in-Some-clause-renewals c = λ of holds.
+pub returns-in_ok-add_values_renewals-in-Some-clause-renewals : goal.returns-in_ok-add_values_renewals-in-Some-clause-renewals
+returns-in_ok-add_values_renewals-in-Some-clause-renewals c = λ of holds.
     let m = meant_so c.args.numbered.now.table.forms.items of c.args.found c.in-Some.sense.now (c.in-Some.ensures of.table holds.table) in
     let held = subst (λ f. HoldsSense f c.in-Some.sense.now m.meant) (sym c.forms-forms.ensures) m.holds in
     let old = plain_stmts c.args.into.now.items in
     let constants = map shown_const c.args.constants.now in
     let number = c.number_at.ensures ∙ ap (λ n. number_at n c.args.found) holds.numbers in
-    let leaves = c.in_ok-count-in-Some.ensures.leaves m.meant held
-    ∙ ap (λ (l : List Leaf). map plain_leaf l ++ filled_leaves [] constants (leaves_of_sense m.meant)) c.new-leaves.ensures.items in
-    c.in_ok-add_leaf_renewals-in-Some.ensures
-    ∙ (λ i. joined old (renewals (number i) (leaves i)))
+    let leaves = leaves_of_sense m.meant in
+    let values = c.in_ok-count-in-Some.ensures.values m.meant held
+    ∙ ap (λ (l : List FirstValues). map plain_values l ++ filled_values constants leaves) c.new-values.ensures.items in
+    c.in_ok-add_values_renewals-in-Some.ensures
+    ∙ (λ i. joined old (values_renewals (number i) (values i)))
+    ∙ ap (joined old) (leaves_renew (number_at of.numbers c.args.found) (filled_leaves [] constants leaves))
     ∙ ap (λ t. joined old (variable_renewals constants t)) (sym m.is)
 
 pub returns-in-None-clause-slots : goal.returns-in-None-clause-slots

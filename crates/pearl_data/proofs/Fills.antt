@@ -1,5 +1,5 @@
 -- Leaves that are made one after the other, how many slots they take, and how many elements there are within bounds.
-use Rattle.std.proofs.Common.{◌≡◌, ℕ, ◌+◌, ◌*◌, ◌<◌, List, [], ◌∷◌, ◌++◌, map, length, take, drop, get_or, Option, Some, None, refl, sym, ap, ◌∙◌, append_assoc, append-nil, arith}
+use Rattle.std.proofs.Common.{◌≡◌, ℕ, ◌+◌, ◌*◌, ◌<◌, List, [], ◌∷◌, ◌++◌, map, length, take, drop, get_or, Option, Some, None, sym, ap, ◌∙◌, append_assoc, append-nil, arith}
 use Rattle.std.proofs.Math.Nat.{mul_assoc}
 use Rattle.std.proofs.lemmas.List.Sums.{sum_by-cons}
 use Rattle.pearl_tree.specs.ShownLiterals.{ShownConst}
@@ -15,17 +15,21 @@ use Rattle.pearl_data.specs.Laying.{slots, constant_in, values_of_leaf, left_beh
 use Rattle.pearl_data.specs.Walks.{AllLeft, IsFound, GoesOn}
 use Rattle.pearl_data.proofs.Making.{one_left}
 
--- these leaves are left, what is made so far joined with them is all, and so are the slots
-pub record Fills (forms : List StructForm) (base : List ℕ) (next : Option Found) (frames : List Frame) (text : List ℕ) (made begun : List PlainLeaf) (constants first : List ShownConst) (count : ℕ) (all : List Leaf) : Type 0 where
+-- these leaves are left, what is kept of them so far joined with what is left is all, and so are the slots
+pub record Fills {X : Type 0} (kept : PlainLeaf → X) (forms : List StructForm) (base : List ℕ) (next : Option Found) (frames : List Frame) (text : List ℕ) (made begun : List X) (constants first : List ShownConst) (count : ℕ) (all : List Leaf) : Type 0 where
   pub left : List Leaf
   pub goes : GoesOn forms base next frames text left
-  pub leaves : made ++ filled_leaves base constants left ≡ begun ++ filled_leaves base first all
+  pub leaves : made ++ map kept (filled_leaves base constants left) ≡ begun ++ map kept (filled_leaves base first all)
   pub counted : count + slots left ≡ slots all
 
-pub fills_first : (forms : List StructForm) (base : List ℕ) (next : Option Found) (frames : List Frame) (text : List ℕ) (begun : List PlainLeaf) (first : List ShownConst) (all : List Leaf) →
-    GoesOn forms base next frames text all → Fills forms base next frames text begun begun first first 0 all
-fills_first forms base next frames text begun first all goes =
-    record { left = all; goes = goes; leaves = refl; counted = omega arith }
+pub fills_first : {X : Type 0} (kept : PlainLeaf → X) (forms : List StructForm) (base : List ℕ) (next : Option Found) (frames : List Frame) (text : List ℕ) (begun : List X) (constants first : List ShownConst) (count : ℕ) (all : List Leaf) →
+    constants ≡ first → count ≡ 0 → GoesOn forms base next frames text all → Fills kept forms base next frames text begun begun constants first count all
+fills_first kept forms base next frames text begun constants first count all same none goes = record {
+  left = all;
+  goes = goes;
+  leaves = ap (λ c. begun ++ map kept (filled_leaves base c all)) same;
+  counted = omega (arith, none);
+}
 
 -- the leaf that a walk has come to, with its first values
 abbrev pub plain_of : List ℕ → Found → List ShownConst → PlainLeaf
@@ -41,12 +45,12 @@ found_values base found text leaf constants is = λ i. record {
   values = record { kind = is.kind i; count = is.count i; constants = map (constant_in (is.kind i)) (take (is.count i) constants) };
 }
 
-pub fills_more : (forms : List StructForm) (base : List ℕ) (found : Found) (next : Option Found) (frames after : List Frame) (text new : List ℕ) (made more begun : List PlainLeaf) (constants others first : List ShownConst) (count total : ℕ) (all : List Leaf) →
-    Fills forms base (Some found) frames text made begun constants first count all →
-    more ≡ made ++ plain_of text found constants ∷ [] → others ≡ left_behind found.count constants → total ≡ count + found.count →
+pub fills_more : {X : Type 0} (kept : PlainLeaf → X) (forms : List StructForm) (base : List ℕ) (found : Found) (next : Option Found) (frames after : List Frame) (text new : List ℕ) (made more begun : List X) (constants others first : List ShownConst) (count total : ℕ) (all : List Leaf) →
+    Fills kept forms base (Some found) frames text made begun constants first count all →
+    more ≡ made ++ kept (plain_of text found constants) ∷ [] → others ≡ left_behind found.count constants → total ≡ count + found.count →
     ((left : List Leaf) → AllLeft forms base frames text left → GoesOn forms base next after new left) →
-    Fills forms base next after new more begun others first total all
-fills_more forms base found next frames after text new made more begun constants others first count total all so added behind sums goes =
+    Fills kept forms base next after new more begun others first total all
+fills_more kept forms base found next frames after text new made more begun constants others first count total all so added behind sums goes =
     let leaf = so.goes.0 in
     let rest = so.goes.1 in
     let is = so.goes.2 in
@@ -56,21 +60,21 @@ fills_more forms base found next frames after text new made more begun constants
     record {
       left = rest;
       goes = goes rest so.goes.3;
-      leaves = (λ i. added i ++ filled_leaves base (behind i) rest)
-          ∙ append_assoc made (plain_of text found constants ∷ []) (filled_leaves base (left_behind found.count constants) rest)
-          ∙ (λ i. made ++ found_values base found text leaf constants is i ∷ filled_leaves base (left_behind (is.count i) constants) rest)
-          ∙ ap (λ l. made ++ filled_leaves base constants l) (sym so.goes.4)
+      leaves = (λ i. added i ++ map kept (filled_leaves base (behind i) rest))
+          ∙ append_assoc made (kept (plain_of text found constants) ∷ []) (map kept (filled_leaves base (left_behind found.count constants) rest))
+          ∙ (λ i. made ++ kept (found_values base found text leaf constants is i) ∷ map kept (filled_leaves base (left_behind (is.count i) constants) rest))
+          ∙ ap (λ l. made ++ map kept (filled_leaves base constants l)) (sym so.goes.4)
           ∙ so.leaves;
       counted = omega (arith, sums, here, same, whole);
     }
 
 -- all leaves
-pub fills_all : (forms : List StructForm) (base : List ℕ) (frames : List Frame) (text : List ℕ) (made begun : List PlainLeaf) (constants first : List ShownConst) (count : ℕ) (all : List Leaf) →
-    Fills forms base None frames text made begun constants first count all → (made ≡ begun ++ filled_leaves base first all) × (count ≡ slots all)
-fills_all forms base frames text made begun constants first count all so =
+pub fills_all : {X : Type 0} (kept : PlainLeaf → X) (forms : List StructForm) (base : List ℕ) (frames : List Frame) (text : List ℕ) (made begun : List X) (constants first : List ShownConst) (count : ℕ) (all : List Leaf) →
+    Fills kept forms base None frames text made begun constants first count all → (made ≡ begun ++ map kept (filled_leaves base first all)) × (count ≡ slots all)
+fills_all kept forms base frames text made begun constants first count all so =
     let none : slots so.left ≡ 0 = ap slots so.goes in
     let whole = so.counted in
-    (sym (append-nil made) ∙ ap (λ l. made ++ filled_leaves base constants l) (sym so.goes) ∙ so.leaves, omega (arith, none, whole))
+    (sym (append-nil made) ∙ ap (λ l. made ++ map kept (filled_leaves base constants l)) (sym so.goes) ∙ so.leaves, omega (arith, none, whole))
 
 -- elements of one dimension more
 pub elements_more : (xs : List Bounds) (i : ℕ) (x : Bounds) (count own next total : ℕ) → i < length xs → x ≡ get_or xs i x → own ≡ elements (pair_of x ∷ []) → next ≡ count * own →
