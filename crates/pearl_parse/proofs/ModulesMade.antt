@@ -1,5 +1,6 @@
 -- Declarations and modules, made of what their rules say, one token or part after the other.
-use Rattle.std.proofs.Common.{◌≡◌, ℕ, ◌+◌, ◌<◌, ◌≤◌, ◌^◌, Bool, List, length, Option, refl, sym, ap, subst, arith}
+use Rattle.std.proofs.Common.{◌≡◌, ◌⊎◌, ℕ, ◌+◌, ◌<◌, ◌≤◌, ◌^◌, Bool, List, All, length, get_or, slice_get, IfSome, Option, Some, refl, sym, ◌∙◌, ap, subst, inl, inr, arith}
+use Rattle.std.proofs.lemmas.Option.{slice_get-get_or, slice_get_within, get_or_from_slice_get}
 use Rattle.std.specs.Option.{option_map}
 use Rattle.pearl_tree.specs.declared.typing.Basic.{Basic}
 use Rattle.pearl_tree.specs.declared.typing.Sort.{Sort}
@@ -9,13 +10,14 @@ use Rattle.pearl_tree.specs.declared.token.Token.{Token}
 use Rattle.pearl_tree.specs.declared.limit.TheConstants as limit
 use Rattle.pearl_tree.specs.Standing.{Spelling, HasWord, HasSymbol, IsNumber, SpellsName, SpellsBracketedNumber, SpellsList, SpellsMaybeBracketed, SpellsEach, SpellsSymbolFlag}
 use Rattle.pearl_tree.specs.Stops.{SomeBegins}
+use Rattle.pearl_tree.specs.Tokens.{AreLawful, IsLawfulWhat}
 use Rattle.pearl_tree.specs.Types.{SpellsWholeTyping, sort_word}
 use Rattle.pearl_tree.specs.Declarations.{SpellsDeclared, SpellsSpec, SpellsParam}
 use Rattle.pearl_tree.specs.Modules.{SpellsTaskHead, SpellsReturns, SpellsBlock, SpellsDecl, SpellsModuleName, SpellsSystem, SpellsTree}
 use Rattle.pearl_tree.specs.declared.symbol.TheConstants as s
 use Rattle.pearl_tree.specs.declared.word_code.TheConstants as w
-use Rattle.pearl_parse_expr.specs.Least.{ReachesIn}
-use Rattle.pearl_parse_expr.proofs.Reaching.{placed, placed_within}
+use Rattle.pearl_parse_expr.specs.Least.{AlikeBefore, LawfulFrom, ReachesIn}
+use Rattle.pearl_parse_expr.proofs.Reaching.{order, placed, placed_within}
 use Rattle.pearl_parse_expr.proofs.Trees.{parts_of}
 use Rattle.pearl_parse_decl.proofs.LocalLists.{after_of, each_long, list_long, maybe_bracketed_long}
 use Rattle.pearl_parse_decl.proofs.LocalLists as lists
@@ -191,5 +193,26 @@ module_made others from to small h =
     )
 
 -- a module that goes on as far as a stop begins with the tokens before it
-pub some_begins : (tokens : List Token) (room stop : ℕ) → ReachesIn room SpellsTree tokens 0 stop → SomeBegins tokens stop
-some_begins tokens room stop r = (r.part, r.others, (λ j below. ap (option_map (λ token. token.what)) (r.alike j below)), record { spells = r.spelled })
+-- tokens are lawful where they are lawful ones before some number, and lawful from there on
+all_lawful : (tokens others : List Token) (stop : ℕ) → All (λ token. IsLawfulWhat token.what) tokens → AlikeBefore tokens others stop →
+    LawfulFrom others stop → All (λ token. IsLawfulWhat token.what) others
+all_lawful tokens others stop lawful alike rest k other within = by (order k stop)
+  where
+    is : slice_get others k ≡ Some (get_or others k other)
+    is = slice_get-get_or others k other within
+
+    by : (k < stop) ⊎ (stop ≤ k) → IsLawfulWhat (get_or others k other).what
+    by (inl below) =
+        let same : slice_get tokens k ≡ Some (get_or others k other) = alike k below ∙ is in
+        let inside = slice_get_within tokens k (get_or others k other) same in
+        subst (λ token. IsLawfulWhat token.what) (get_or_from_slice_get tokens k (get_or others k other) other same) (lawful k other inside)
+    by (inr behind) = subst (λ found. IfSome (option_map (λ token. token.what) found) IsLawfulWhat) is (rest k behind)
+
+pub some_begins : (tokens : List Token) (room stop : ℕ) → AreLawful tokens → ReachesIn room SpellsTree tokens 0 stop → SomeBegins tokens stop
+some_begins tokens room stop lawful r = (
+  r.part,
+  r.others,
+  (λ j below. ap (option_map (λ token. token.what)) (r.alike j below)),
+  all_lawful tokens r.others stop lawful.spelled r.alike r.lawful,
+  record { spells = r.spelled },
+)

@@ -2,7 +2,8 @@
 use Rattle.std.specs.Prelude.{◌≡◌, ℕ, ◌≤◌, List, length, unwrap_or}
 use Rattle.pearl_tree.specs.declared.token.Token.{Token}
 use Rattle.pearl_tree.specs.Standing.{place_at}
-use Rattle.pearl_tree.specs.Stops.{NoneBegins, SomeBegins}
+use Rattle.pearl_tree.specs.Stops.{NoneBegins, IsFirstStop}
+use Rattle.pearl_tree.specs.Tokens.{AreLawful}
 use Rattle.pearl_parse_expr.specs.declared.fault.ParseFault.{ParseFault}
 use Rattle.pearl_parse_expr.specs.declared.fault.ParseFault.TheVariants as fault
 
@@ -10,13 +11,13 @@ use Rattle.pearl_parse_expr.specs.declared.fault.ParseFault.TheVariants as fault
 abbrev pub place_or_end : List Token → ℕ → ℕ → ℕ
 place_or_end tokens end k = unwrap_or (place_at tokens k) end
 
--- no source begins with the tokens up to and with the one at this place, and some does with those before it
+-- no source begins with the tokens up to and with the one at this place; of lawful tokens it is the first such one
 pub record IsRefusedAt (tokens : List Token) (end place : ℕ) : Type 0 where
   pub token : ℕ
   pub within : token ≤ length tokens
   pub stands : place ≡ place_or_end tokens end token
   pub none : NoneBegins tokens token
-  pub some : SomeBegins tokens token
+  pub first : AreLawful tokens → IsFirstStop tokens token
 
 -- what is told where there is no tree
 abbrev pub IsRefused : List Token → ℕ → ParseFault → Type 0

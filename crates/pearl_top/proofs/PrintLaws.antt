@@ -1,9 +1,10 @@
 -- A source that is printed: what is due for it is determined, and comes to its end where it is spelled.
-use Rattle.std.proofs.Common.{◌≡◌, ◌⊎◌, ℕ, List, length, ap, sym, ◌∙◌, subst, inl, inr}
+use Rattle.std.proofs.Common.{◌≡◌, ◌⊎◌, ℕ, List, length, ap, sym, ◌∙◌, subst, inl, inr, arith}
 use Rattle.pearl_tree.specs.Modules.{Spells}
 use Rattle.pearl_tree.specs.Stops.{NoneBegins, IsFirstStop}
 use Rattle.pearl_tree.proofs.FirstStop.{one_stop, stops_have_no_tree}
 use Rattle.pearl_lex.specs.Lexes.{IsStuck}
+use Rattle.pearl_lex.proofs.LawfulTokens.{lawful_tokens}
 use Rattle.pearl_lex.proofs.Unique.{one_reading, one_place, never_both}
 use Rattle.pearl_parse.specs.Refusals.{place_or_end}
 use Rattle.pearl_print.specs.Spelled.{text_of_tokens}
@@ -35,16 +36,18 @@ pub unspelled_once : (source bytes others : List ℕ) → IsUnspelled source byt
 unspelled_once source bytes others one two =
     one.text ∙ ap (λ place. refusal_line (refusal.Syntax place)) (by one.fault two.fault) ∙ sym two.text
   where
+    first : {place : ℕ} (stop : HasStop source place) → IsFirstStop stop.tokens stop.refused.token
+    first stop = stop.refused.first (lawful_tokens source stop.tokens stop.lexes (omega (arith, one.within)))
+
     by : IsStuck source one.place ⊎ HasStop source one.place → IsStuck source two.place ⊎ HasStop source two.place → one.place ≡ two.place
     by (inl stuck) (inl also) = one_place source one.place two.place stuck also
     by (inl stuck) (inr stop) = absurd (never_both source stop.tokens one.place stop.lexes stuck)
     by (inr stop) (inl stuck) = absurd (never_both source stop.tokens two.place stop.lexes stuck)
     by (inr stop) (inr also) =
         let same : also.tokens ≡ stop.tokens = one_reading source also.tokens stop.tokens also.lexes stop.lexes in
-        let second : IsFirstStop also.tokens also.refused.token = record { none = also.refused.none; some = also.refused.some } in
         let token : stop.refused.token ≡ also.refused.token =
-        one_stop stop.tokens stop.refused.token also.refused.token (record { none = stop.refused.none; some = stop.refused.some })
-        (subst (λ tokens. IsFirstStop tokens also.refused.token) same second) in
+        one_stop stop.tokens stop.refused.token also.refused.token (first stop)
+        (subst (λ tokens. IsFirstStop tokens also.refused.token) same (first also)) in
         stop.refused.stands ∙ (λ i. place_or_end (sym same i) (length source) (token i)) ∙ sym also.refused.stands
 
 -- what is due is settled by the source
