@@ -2,3 +2,5 @@
 pub mod Stops
 -- that a stop is the least one: some part begins with the tokens before it
 pub mod Least
+-- the expressions that begin at a token have one stop
+pub mod Laws
