@@ -80,6 +80,49 @@ fn refused() -> &'static [&'static str] {
     ]
 }
 
+// The place of the token with which each source is refused, as a number. Tokens before it begin a module.
+fn told() -> &'static [(&'static str, u32)] {
+    table![
+        "MODULE(m);PROBLEM;" => 18;
+        "MODULE(m);PROBLEM;MODEND;;" => 25;
+        "MODULE(m);PROBLEM;t:TASK;IF a THEN END;MODEND;" => 35;
+        "MODULE(m);PROBLEM;t:TASK;x(1 2):=3;END;MODEND;" => 29;
+        "MODULE(m);PROBLEM;t:TASK;x := a + * b;END;MODEND;" => 34;
+    ]
+}
+
+// Sources in which the refused token ends another alternative than the one that is read up to there.
+fn abandoned() -> &'static [&'static str] {
+    &[
+        "MODULE(m);PROBLEM;t:TASK;p(a).b^;END;MODEND;",
+        "MODULE(m);PROBLEM;t:TASK;p(a, b ^c);END;MODEND;",
+        "MODULE(m);PROBLEM;t:TASK;x(1, ^) := 3;END;MODEND;",
+        "MODULE(m);PROBLEM;t:TASK;x := 1 HRS 2^;END;MODEND;",
+        "MODULE(m);PROBLEM;t:TASK;x := 1 HRS 2 ^HRS;END;MODEND;",
+        "MODULE(m);PROBLEM;t:TASK;x := 1 MIN 2.5 ^+ y;END;MODEND;",
+        "MODULE(m);PROBLEM;t:TASK;x := 1 HRS 2 MIN 3^;END;MODEND;",
+        "MODULE(m);PROBLEM;t:TASK;x := 2 UPB ^;END;MODEND;",
+        "MODULE(m);PROBLEM;SPC d DATION IN ALPHIC ^c;MODEND;",
+        "MODULE(m);PROBLEM;SPC d DATION IN ALPHIC CONTROL^;MODEND;",
+        "MODULE(m);PROBLEM;SPC d DATION IN ALPHIC CONTROL(^c);MODEND;",
+        "MODULE(m);PROBLEM;SPC d DATION OUT BASIC CHAR(^c);MODEND;",
+        "MODULE(m);PROBLEM;t:TASK MAIN PRIO^;END;MODEND;",
+        "MODULE(m);PROBLEM;t:TASK PRIO 5 MAIN ^PRIO 5;END;MODEND;",
+        "MODULE(m);PROBLEM;t:TASK MAIN PRIO 5 ^MAIN;END;MODEND;",
+        "MODULE(m);PROBLEM;DCL a FIXED(^c);MODEND;",
+        "MODULE(m);PROBLEM;DCL a FIXED INIT(1 ^2);MODEND;",
+        "MODULE(m);PROBLEM;DCL s SEMA PRESET(1^;MODEND;",
+        "MODULE(m);PROBLEM;DCL a(1:^) FIXED;MODEND;",
+        "MODULE(m);PROBLEM;p:PROC(a FIXED ^INIT);END;MODEND;",
+        "MODULE(m);PROBLEM;p:PROC RETURNS(^t);END;MODEND;",
+        "MODULE(m);PROBLEM;t:TASK;RETURN ^a;END;MODEND;",
+        "MODULE(m);PROBLEM;t:TASK;CALL p(a)^(b);END;MODEND;",
+        "MODULE(m);PROBLEM;t:TASK;PUT a TO d BY SKIP(^c);END;MODEND;",
+        "MODULE(m);PROBLEM;t:TASK;PUT a TO d BY A(5^;END;MODEND;",
+        "MODULE(m);PROBLEM;t:TASK;ALL 1 SEC UNTIL 2:0:0 ^DURING;END;MODEND;",
+    ]
+}
+
 fn show_system(into: &mut Vec<u8>, system: &Option<Parts<Device>>) -> Result<(), AllocError> {
     if let Some(devices) = system {
         into.push(b's')?;
@@ -165,6 +208,30 @@ fn modules_are_read_from_the_first_token_to_the_last(rt: HostRuntime) -> Result<
 #[test]
 fn what_is_no_module_is_refused_where_it_stops(rt: HostRuntime) -> Result<(), fmt::Error> {
     for &case in refused() {
+        assert!(rt;
+            refuses(rt.alloc(), case.as_bytes()) == Some(true),
+            "{case}"
+        );
+    }
+    Ok(())
+}
+
+#[test]
+fn the_first_token_with_which_no_module_begins_is_told(rt: HostRuntime) -> Result<(), fmt::Error> {
+    for &(source, place) in told() {
+        let found = tokens_of(rt.alloc(), source.as_bytes());
+        let told = match &found {
+            Some((tokens, end)) => is_refused(rt.alloc(), tokens.as_slice(), *end, place),
+            None => false,
+        };
+        assert!(rt; told, "{source}");
+    }
+    Ok(())
+}
+
+#[test]
+fn an_abandoned_alternative_is_told_where_it_stops(rt: HostRuntime) -> Result<(), fmt::Error> {
+    for &case in abandoned() {
         assert!(rt;
             refuses(rt.alloc(), case.as_bytes()) == Some(true),
             "{case}"

@@ -1,6 +1,6 @@
 // Statements and bodies, worked out by hand. Each stands in the body of a module's task.
 
-use crate::cases::tokens_of;
+use crate::cases::{STOP, tokens_of};
 use crate::modules::refuses;
 use pearl_parse::parse::parse;
 use pearl_tree::statement::{Body, Stmt};
@@ -144,6 +144,58 @@ fn levels() -> &'static [(&'static str, &'static str)] {
     ]
 }
 
+// A limit of the grammar: what stands before the counted part, that part as often as the limit allows, and what makes a
+// body of both. Once more the part is refused, at its first token.
+struct Limit {
+    head: &'static str,
+    part: &'static str,
+    times: usize,
+    rest: &'static str,
+}
+
+fn limits() -> &'static [Limit] {
+    &[
+        Limit {
+            head: "x := ",
+            part: "(",
+            times: 32,
+            rest: "a))))))))))))))))))))))))))))))));",
+        },
+        Limit {
+            head: "x := a ",
+            part: "+ a ",
+            times: 100,
+            rest: ";",
+        },
+        Limit {
+            head: "x := ",
+            part: "- ",
+            times: 8,
+            rest: "a;",
+        },
+        Limit {
+            head: "DCL x ",
+            part: "STRUCT [ y ",
+            times: 8,
+            rest: "FIXED ] ] ] ] ] ] ] ];",
+        },
+    ]
+}
+
+// The part once more than it is allowed, or as often as it is.
+fn limited(alloc: Global, limit: &Limit, once_more: bool) -> Result<Vec<u8>, AllocError> {
+    let mut body = Vec::from_slice(alloc, limit.head.as_bytes())?;
+    for _ in 0..limit.times {
+        body.extend_from_slice(limit.part.as_bytes())?;
+    }
+    if once_more {
+        body.push(STOP)?;
+        body.extend_from_slice(limit.part.as_bytes())?;
+    }
+    body.extend_from_slice(limit.rest.as_bytes())?;
+    Ok(body)
+}
+
 // The source of a module whose one task has this body.
 fn module_of(alloc: Global, body: &[u8]) -> Result<Vec<u8>, AllocError> {
     let mut source = Vec::from_slice(alloc, HEAD)?;
@@ -246,6 +298,25 @@ fn thirty_two_levels_are_read_and_no_more(rt: HostRuntime) -> Result<(), fmt::Er
         assert!(rt;
             refuses_body(rt.alloc(), deeper.as_slice()) == Some(true),
             "{open}"
+        );
+    }
+    Ok(())
+}
+
+#[test]
+fn what_passes_a_limit_is_refused_at_its_first_token(rt: HostRuntime) -> Result<(), fmt::Error> {
+    for limit in limits() {
+        let body = limited(rt.alloc(), limit, false)?;
+        assert!(rt;
+            tree_of(rt.alloc(), body.as_slice()).is_some(),
+            "{}",
+            limit.part
+        );
+        let body = limited(rt.alloc(), limit, true)?;
+        assert!(rt;
+            refuses_body(rt.alloc(), body.as_slice()) == Some(true),
+            "{}",
+            limit.part
         );
     }
     Ok(())

@@ -1,5 +1,5 @@
 -- The ids that stand where one is missing: one letter is no word.
-use Rattle.std.proofs.Common.{◌≡◌, ◌≢◌, ℕ, zero, suc, ◌≤◌, Bool, true, false, true≢false, if◌then◌else◌, List, [], ◌∷◌, length, All, inl, inr, refl, sym, ap, ◌∙◌, arith}
+use Rattle.std.proofs.Common.{◌≡◌, ◌≢◌, ℕ, zero, suc, Bool, true, false, true≢false, if◌then◌else◌, List, [], ◌∷◌, All, inl, inr, refl, sym, ap, ◌∙◌, arith}
 use Rattle.pearl_tree.specs.Words.{words, meanings}
 use Rattle.pearl_tree.specs.Tokens.{IsLetter, IsIdByte, IsLawfulWhat}
 use Rattle.pearl_tree.specs.declared.name.Name.{Name}

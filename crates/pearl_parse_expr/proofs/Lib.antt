@@ -7,6 +7,7 @@ pub mod Halts
 pub mod Limits
 pub mod Closings
 pub mod PastEnd
+pub mod Between
 pub mod Local
 pub mod Reaching
 pub mod Ids
@@ -14,3 +15,4 @@ pub mod Trees
 pub mod Leaves
 pub mod Joining
 pub mod PartsBegin
+pub mod OneStop

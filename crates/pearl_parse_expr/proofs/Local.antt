@@ -1,222 +1,67 @@
 -- Which tokens a part depends on: those before its end alone.
-use Rattle.std.proofs.Common.{◌≡◌, ℕ, ◌+◌, ◌-◌, ◌<◌, ◌≤◌, List, [], ◌∷◌, Option, Some, None, sym, ap, ◌∙◌, arith}
-use Rattle.std.specs.Option.{option_map, option_and_then}
+use Rattle.std.proofs.Common.{◌≡◌, ℕ, ◌+◌, ◌<◌, ◌≤◌, List, slice_get, Option, arith}
 use Rattle.pearl_tree.specs.declared.name.Name.{Name}
 use Rattle.pearl_tree.specs.declared.name.Number.{Number}
 use Rattle.pearl_tree.specs.declared.literal.Secs.{Secs}
-use Rattle.pearl_tree.specs.declared.literal.Secs.TheVariants as secs
 use Rattle.pearl_tree.specs.declared.literal.Duration.{Duration}
-use Rattle.pearl_tree.specs.declared.literal.Duration.TheVariants.{Hours, Minutes, Seconds}
 use Rattle.pearl_tree.specs.declared.literal.Literal.{Literal}
-use Rattle.pearl_tree.specs.declared.literal.Literal.TheVariants as literal
 use Rattle.pearl_value.specs.declared.operator.Dyad.{Dyad}
 use Rattle.pearl_tree.specs.declared.expression.Monadic.{Monadic}
-use Rattle.pearl_tree.specs.declared.expression.Expr.{Expr, Operand', Dyadic'}
+use Rattle.pearl_tree.specs.declared.expression.Expr.{Expr}
 use Rattle.pearl_tree.specs.declared.expression.Primary.{Primary}
-use Rattle.pearl_tree.specs.declared.expression.Primary as primary
-use Rattle.pearl_tree.specs.declared.expression.Selector.{Selector, Subscripts', Component, Row_of-Expr, end_of-Expr, more_of-Expr}
-use Rattle.pearl_tree.specs.declared.expression.Ref.{Row_of-Selector, end_of-Selector, more_of-Selector}
+use Rattle.pearl_tree.specs.declared.expression.Selector.{Selector}
+use Rattle.pearl_tree.specs.declared.expression.Ref.{Row_of-Selector}
 use Rattle.pearl_tree.specs.declared.token.Token.{Token}
 use Rattle.pearl_tree.specs.Standing.{what_at, place_at, IsName, IsNumber, SpellsEach, SpellsMaybe, SpellsNumber}
-use Rattle.pearl_tree.specs.Expressions.{SpellsSecs, SpellsSeconds, SpellsMinutes, SpellsDuration, SpellsLiteral, SpellsMonadic, SpellsTerms, SpellsPrimary, SpellsSelectors, SpellsSelector, SpellsSubscripts, SpellsMoreSubscripts, HasDyad, dyad_of}
-use Rattle.pearl_tree.proofs.ExpressionsForward.{terms_after, primary_after, selector_after, monadics_after}
+use Rattle.pearl_tree.specs.Expressions.{SpellsSecs, SpellsMinutes, SpellsDuration, SpellsLiteral, SpellsMonadic, SpellsTerms, SpellsPrimary, SpellsSelectors, SpellsSelector, HasDyad}
 use Rattle.pearl_parse_expr.specs.Least.{AlikeBefore}
+use Rattle.pearl_parse_expr.proofs.Between as between
 
 module _ (tokens others : List Token) (k : ℕ) (alike : AlikeBefore tokens others k) where
+  within : (j : ℕ) → 0 ≤ j → j < k → slice_get tokens j ≡ slice_get others j
+  within j above below = alike j below
+
   pub what : (j : ℕ) → j < k → what_at others j ≡ what_at tokens j
-  what j below = ap (option_map (λ token. token.what)) (sym (alike j below))
+  what j below = between.what tokens others 0 k within j (omega arith) below
 
   pub place : (j : ℕ) → j < k → place_at others j ≡ place_at tokens j
-  place j below = ap (option_map (λ token. token.place)) (sym (alike j below))
+  place j below = between.place tokens others 0 k within j (omega arith) below
 
   pub dyad : (j : ℕ) (operator : Dyad) → j < k → HasDyad tokens j operator → HasDyad others j operator
-  dyad j operator below h = ap (option_and_then dyad_of) (what j below) ∙ h
+  dyad j x below h = between.dyad tokens others 0 k within j x (omega arith) below h
 
   pub name : (j : ℕ) (name : Name) → j < k → IsName tokens j name → IsName others j name
-  name j x below h = (what j below ∙ h.0, place j below ∙ h.1)
+  name j x below h = between.name tokens others 0 k within j x (omega arith) below h
 
   pub number : (j : ℕ) (number : Number) → j < k → IsNumber tokens j number → IsNumber others j number
-  number j x below h = (what j below ∙ h.0, place j below ∙ h.1)
+  number j x below h = between.number tokens others 0 k within j x (omega arith) below h
 
   pub secs_local : (from : ℕ) (part : Secs) (to : ℕ) → SpellsSecs tokens from part to → to ≤ k → SpellsSecs others from part to
-  secs_local from (secs.Number x) to h near = (number from x (omega (arith, h.1)) h.0, h.1)
-  secs_local from (secs.Decimal whole thousandths at) to h near =
-      let below : from < k = omega (arith, h.2) in (what from below ∙ h.0, place from below ∙ h.1, h.2)
-
-  secs_after : (from : ℕ) (part : Secs) (to : ℕ) → SpellsSecs tokens from part to → from < to
-  secs_after from (secs.Number x) to h = omega (arith, h.1)
-  secs_after from (secs.Decimal whole thousandths at) to h = omega (arith, h.2)
-
-  pub seconds_local : (from : ℕ) (part : Secs) (to : ℕ) → SpellsSeconds tokens from part to → to ≤ k → SpellsSeconds others from part to
-  seconds_local from part to h near =
-      (h.0, secs_local from part h.0 h.1 (omega (arith, h.3)), what h.0 (omega (arith, h.3)) ∙ h.2, h.3)
-
-  seconds_after : (from : ℕ) (part : Secs) (to : ℕ) → SpellsSeconds tokens from part to → from < to
-  seconds_after from part to h = omega (arith, secs_after from part h.0 h.1, h.3)
-
-  pub maybe_seconds_local : (from : ℕ) (part : Option Secs) (to : ℕ) → SpellsMaybe (SpellsSeconds tokens) from part to → to ≤ k → SpellsMaybe (SpellsSeconds others) from part to
-  maybe_seconds_local from None to h near = h
-  maybe_seconds_local from (Some part) to h near = seconds_local from part to h near
-
-  maybe_seconds_after : (from : ℕ) (part : Option Secs) (to : ℕ) → SpellsMaybe (SpellsSeconds tokens) from part to → from ≤ to
-  maybe_seconds_after from None to h = omega (arith, h)
-  maybe_seconds_after from (Some part) to h = omega (arith, seconds_after from part to h)
+  secs_local from x to h near = between.secs_local tokens others 0 k within from x to h (omega arith) near
 
   pub maybe_minutes_local : (from : ℕ) (part : Option Number) (to : ℕ) → SpellsMaybe (SpellsMinutes tokens) from part to → to ≤ k → SpellsMaybe (SpellsMinutes others) from part to
-  maybe_minutes_local from None to h near = h
-  maybe_minutes_local from (Some x) to h near = (number from x (omega (arith, h.2)) h.0, what (from + 1) (omega (arith, h.2)) ∙ h.1, h.2)
-
-  maybe_minutes_after : (from : ℕ) (part : Option Number) (to : ℕ) → SpellsMaybe (SpellsMinutes tokens) from part to → from ≤ to
-  maybe_minutes_after from None to h = omega (arith, h)
-  maybe_minutes_after from (Some x) to h = omega (arith, h.2)
-
-  pub duration_local : (from : ℕ) (part : Duration) (to : ℕ) → SpellsDuration tokens from part to → to ≤ k → SpellsDuration others from part to
-  duration_local from (Hours hours minutes seconds at) to h near =
-      let behind : from + 2 ≤ h.0 = omega (arith, maybe_minutes_after (from + 2) minutes h.0 h.4) in
-      let end : h.0 ≤ to = omega (arith, maybe_seconds_after h.0 seconds to h.5) in (
-        h.0,
-        place from (omega arith) ∙ h.1,
-        number from hours (omega arith) h.2,
-        what (from + 1) (omega arith) ∙ h.3,
-        maybe_minutes_local (from + 2) minutes h.0 h.4 (omega arith),
-        maybe_seconds_local h.0 seconds to h.5 near,
-      )
-  duration_local from (Minutes minutes seconds at) to h near =
-      let end : from + 2 ≤ to = omega (arith, maybe_seconds_after (from + 2) seconds to h.3) in (
-        place from (omega arith) ∙ h.0,
-        number from minutes (omega arith) h.1,
-        what (from + 1) (omega arith) ∙ h.2,
-        maybe_seconds_local (from + 2) seconds to h.3 near,
-      )
-  duration_local from (Seconds seconds at) to h near =
-      (place from (omega (arith, seconds_after from seconds to h.1)) ∙ h.0, seconds_local from seconds to h.1 near)
+  maybe_minutes_local from x to h near = between.maybe_minutes_local tokens others 0 k within from x to h (omega arith) near
 
   pub duration_far : (from : ℕ) (part : Duration) (to : ℕ) → SpellsDuration tokens from part to → from + 2 ≤ to
-  duration_far from (Hours hours minutes seconds at) to h =
-      omega (arith, maybe_minutes_after (from + 2) minutes h.0 h.4, maybe_seconds_after h.0 seconds to h.5)
-  duration_far from (Minutes minutes seconds at) to h = omega (arith, maybe_seconds_after (from + 2) seconds to h.3)
-  duration_far from (Seconds seconds at) to h = omega (arith, secs_after from seconds h.1.0 h.1.1, h.1.3)
+  duration_far from x to h = between.duration_far tokens others 0 k within from x to h
 
   pub literal_local : (from : ℕ) (part : Literal) (to : ℕ) → SpellsLiteral tokens from part to → to ≤ k → SpellsLiteral others from part to
-  literal_local from (literal.Number x) to h near = (number from x (omega (arith, h.1)) h.0, h.1)
-  literal_local from (literal.Bits len value at) to h near =
-      let below : from < k = omega (arith, h.2) in (what from below ∙ h.0, place from below ∙ h.1, h.2)
-  literal_local from (literal.Text text at) to h near =
-      let below : from < k = omega (arith, h.2) in (what from below ∙ h.0, place from below ∙ h.1, h.2)
-  literal_local from (literal.Clock milliseconds at) to h near =
-      let below : from < k = omega (arith, h.2) in (what from below ∙ h.0, place from below ∙ h.1, h.2)
-  literal_local from (literal.Duration part) to h near = duration_local from part.value to h near
+  literal_local from x to h near = between.literal_local tokens others 0 k within from x to h (omega arith) near
 
   pub monadics_local : (from : ℕ) (list : List Monadic) (to : ℕ) → SpellsEach (SpellsMonadic tokens) from list to → to ≤ k → SpellsEach (SpellsMonadic others) from list to
-  monadics_local from [] to h near = h
-  monadics_local from (x ∷ xs) to h near =
-      let behind : from < k = omega (arith, h.1.2, monadics_after tokens h.0 xs to h.2) in
-      (h.0, (what from behind ∙ h.1.0, place from behind ∙ h.1.1, h.1.2), monadics_local h.0 xs to h.2 near)
+  monadics_local from x to h near = between.monadics_local tokens others 0 k within from x to h (omega arith) near
 
   pub dimension_local : (from : ℕ) (part : Option Number) (to : ℕ) → SpellsMaybe (SpellsNumber tokens) from part to → to ≤ k → SpellsMaybe (SpellsNumber others) from part to
-  dimension_local from None to h near = h
-  dimension_local from (Some x) to h near = (number from x (omega (arith, h.1)) h.0, h.1)
+  dimension_local from x to h near = between.dimension_local tokens others 0 k within from x to h (omega arith) near
 
-  dimension_after : (from : ℕ) (dimension : Option Number) (to : ℕ) → SpellsMaybe (SpellsNumber tokens) from dimension to → from ≤ to
-  dimension_after from None to h = omega (arith, h)
-  dimension_after from (Some x) to h = omega (arith, h.1)
+  pub terms_local : (depth from : ℕ) (expr : Expr) (to : ℕ) → SpellsTerms tokens depth from expr to → to ≤ k → SpellsTerms others depth from expr to
+  terms_local depth from x to h near = between.terms_local tokens others 0 k within depth from x to h (omega arith) near
 
-  selectors_after : (depth from : ℕ) (n : _) (row : Row_of-Selector n) (to : ℕ) → SpellsSelectors tokens depth from row to → from ≤ to
-  selectors_after depth from _ end_of-Selector to h = omega (arith, h)
-  selectors_after depth from _ (more_of-Selector selector rest) to h =
-      omega (arith, selector_after tokens depth from selector h.0 h.1, selectors_after depth h.0 _ rest to h.2)
+  pub primary_local : (depth from : ℕ) (part : Primary) (to : ℕ) → SpellsPrimary tokens depth from part to → to ≤ k → SpellsPrimary others depth from part to
+  primary_local depth from x to h near = between.primary_local tokens others 0 k within depth from x to h (omega arith) near
 
-  more_after : (depth from : ℕ) (n : _) (row : Row_of-Expr n) (to : ℕ) → SpellsMoreSubscripts tokens depth from row to → from ≤ to
-  more_after depth from _ end_of-Expr to h = omega (arith, h)
-  more_after depth from _ (more_of-Expr expr rest) to h =
-      omega (arith, terms_after tokens depth (from + 1) expr h.0 h.2.0, more_after depth h.0 _ rest to h.3)
+  pub selectors_local : (depth from : ℕ) (n : _) (row : Row_of-Selector n) (to : ℕ) → SpellsSelectors tokens depth from row to → to ≤ k → SpellsSelectors others depth from row to
+  selectors_local depth from n row to h near = between.selectors_local tokens others 0 k within depth from n row to h (omega arith) near
 
-  subscripts_after : (depth from : ℕ) (n : _) (row : Row_of-Expr n) (to : ℕ) → SpellsSubscripts tokens depth from row to → from < to
-  subscripts_after depth from _ end_of-Expr to h = absurd h
-  subscripts_after depth from _ (more_of-Expr expr rest) to h =
-      omega (arith, terms_after tokens depth from expr h.0 h.1.0, more_after depth h.0 _ rest to h.2)
-
-  mutual
-    pub terms_local : (depth from : ℕ) (expr : Expr) (to : ℕ) → SpellsTerms tokens depth from expr to → to ≤ k → SpellsTerms others depth from expr to
-    terms_local depth from (Operand' monadics part at) to h near =
-        let first = monadics_after tokens from monadics.items.items h.0 h.3 in
-        let second = primary_after tokens depth h.0 part to h.4 in
-        (h.0, place from (omega arith) ∙ h.1, h.2, monadics_local from monadics.items.items h.0 h.3 (omega arith), primary_local depth h.0 part to h.4 near)
-    terms_local depth from (Dyadic' _ left dyadic _ right at) to h near =
-        let first = terms_after tokens depth from left h.0 h.2 in
-        let second = terms_after tokens depth (h.0 + 1) right to h.5 in (
-          h.0,
-          place from (omega arith) ∙ h.1,
-          terms_local depth from left h.0 h.2 (omega arith),
-          dyad h.0 dyadic.operator (omega arith) h.3,
-          place h.0 (omega arith) ∙ h.4,
-          terms_local depth (h.0 + 1) right to h.5 near,
-          h.6,
-          h.7,
-        )
-
-    pub primary_local : (depth from : ℕ) (part : Primary) (to : ℕ) → SpellsPrimary tokens depth from part to → to ≤ k → SpellsPrimary others depth from part to
-    primary_local depth from (primary.Literal part) to h near = literal_local from part to h near
-    primary_local depth from (primary.Ref' x _ selectors at) to h near =
-        let behind = selectors_after depth (from + 1) _ selectors to h.2 in
-        (place from (omega arith) ∙ h.0, name from x (omega arith) h.1, selectors_local depth (from + 1) _ selectors to h.2 near)
-    primary_local depth from (primary.Group' _ inner at) to h near =
-        let inside = terms_after tokens (depth - 1) (from + 1) inner h.0 h.4.0 in
-        let below : from < k = omega (arith, h.6) in (
-          h.0,
-          place from below ∙ h.1,
-          what from below ∙ h.2,
-          h.3,
-          (terms_local (depth - 1) (from + 1) inner h.0 h.4.0 (omega (arith, h.6)), h.4.1),
-          what h.0 (omega (arith, h.6)) ∙ h.5,
-          h.6,
-        )
-    primary_local depth from (primary.Now at) to h near =
-        let below : from < k = omega (arith, h.2) in (place from below ∙ h.0, what from below ∙ h.1, h.2)
-    primary_local depth from (primary.Try x at) to h near =
-        let below : from + 1 < k = omega (arith, h.3) in
-        (place from (omega arith) ∙ h.0, what from (omega arith) ∙ h.1, name (from + 1) x below h.2, h.3)
-    primary_local depth from (primary.Limit' dimension side _ x _ selectors ref_place at) to h near =
-        let first = dimension_after from dimension h.0 h.2 in
-        let behind = selectors_after depth (h.0 + 1 + 1) _ selectors to h.4.2 in (
-          h.0,
-          place from (omega arith) ∙ h.1,
-          dimension_local from dimension h.0 h.2 (omega arith),
-          what h.0 (omega arith) ∙ h.3,
-          (place (h.0 + 1) (omega arith) ∙ h.4.0, name (h.0 + 1) x (omega arith) h.4.1, selectors_local depth (h.0 + 1 + 1) _ selectors to h.4.2 near),
-        )
-
-    pub selectors_local : (depth from : ℕ) (n : _) (row : Row_of-Selector n) (to : ℕ) → SpellsSelectors tokens depth from row to → to ≤ k → SpellsSelectors others depth from row to
-    selectors_local depth from _ end_of-Selector to h near = h
-    selectors_local depth from _ (more_of-Selector selector rest) to h near =
-        let behind = selectors_after depth h.0 _ rest to h.2 in
-        (h.0, selector_local depth from selector h.0 h.1 (omega arith), selectors_local depth h.0 _ rest to h.2 near)
-
-    pub selector_local : (depth from : ℕ) (selector : Selector) (to : ℕ) → SpellsSelector tokens depth from selector to → to ≤ k → SpellsSelector others depth from selector to
-    selector_local depth from (Subscripts' _ subscripts at) to h near =
-        let inside = subscripts_after (depth - 1) (from + 1) _ subscripts h.0 h.4 in
-        let below : from < k = omega (arith, h.6) in (
-          h.0,
-          place from below ∙ h.1,
-          what from below ∙ h.2,
-          h.3,
-          subscripts_local (depth - 1) (from + 1) _ subscripts h.0 h.4 (omega (arith, h.6)),
-          what h.0 (omega (arith, h.6)) ∙ h.5,
-          h.6,
-        )
-    selector_local depth from (Component x at) to h near =
-        let below : from + 1 < k = omega (arith, h.3) in
-        (place from (omega arith) ∙ h.0, what from (omega arith) ∙ h.1, name (from + 1) x below h.2, h.3)
-
-    subscripts_local : (depth from : ℕ) (n : _) (row : Row_of-Expr n) (to : ℕ) → SpellsSubscripts tokens depth from row to → to ≤ k → SpellsSubscripts others depth from row to
-    subscripts_local depth from _ end_of-Expr to h near = h
-    subscripts_local depth from _ (more_of-Expr expr rest) to h near =
-        let behind = more_after depth h.0 _ rest to h.2 in
-        (h.0, (terms_local depth from expr h.0 h.1.0 (omega arith), h.1.1), more_subscripts_local depth h.0 _ rest to h.2 near)
-
-    more_subscripts_local : (depth from : ℕ) (n : _) (row : Row_of-Expr n) (to : ℕ) → SpellsMoreSubscripts tokens depth from row to → to ≤ k → SpellsMoreSubscripts others depth from row to
-    more_subscripts_local depth from _ end_of-Expr to h near = h
-    more_subscripts_local depth from _ (more_of-Expr expr rest) to h near =
-        let behind = more_after depth h.0 _ rest to h.3 in
-        let inside = terms_after tokens depth (from + 1) expr h.0 h.2.0 in
-        (h.0, what from (omega arith) ∙ h.1, (terms_local depth (from + 1) expr h.0 h.2.0 (omega arith), h.2.1), more_subscripts_local depth h.0 _ rest to h.3 near)
+  pub selector_local : (depth from : ℕ) (selector : Selector) (to : ℕ) → SpellsSelector tokens depth from selector to → to ≤ k → SpellsSelector others depth from selector to
+  selector_local depth from x to h near = between.selector_local tokens others 0 k within depth from x to h (omega arith) near

@@ -42,7 +42,7 @@ begun_last tokens n last within =
     ap (slice_get (begun tokens n (last ∷ []))) same ∙ begun_at tokens n 0 (last ∷ []) within
 
 module _ (tokens : List Token) (n : ℕ) (more : List Token) (within : n ≤ length tokens) where
-  stands : (i k : ℕ) → k ≡ n + i → slice_get (begun tokens n more) k ≡ slice_get more i
+  pub stands : (i k : ℕ) → k ≡ n + i → slice_get (begun tokens n more) k ≡ slice_get more i
   stands i k is = ap (slice_get (begun tokens n more)) is ∙ begun_at tokens n i more within
 
   pub what_stands : (i k : ℕ) → k ≡ n + i → what_at (begun tokens n more) k ≡ what_at more i

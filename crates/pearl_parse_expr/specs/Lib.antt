@@ -2,3 +2,7 @@
 pub mod Stops
 -- that a stop is the least one: some part begins with the tokens before it
 pub mod Least
+-- what is known where a part is read, or isn't
+pub mod Reads
+-- the expressions that begin at a token have one stop
+pub mod Laws

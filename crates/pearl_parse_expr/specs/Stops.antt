@@ -155,10 +155,11 @@ SpellsSubscriptsList tokens depth = SpellsList tokens (SpellsExpr tokens depth)
 abbrev pub stop_place : List Token → ℕ → ℕ
 stop_place tokens stop = unwrap_or (place_at tokens stop) (2 ^ 32 - 1)
 
--- no expression that begins at number `from` goes on past number k, whatever tokens stand behind it
+-- no expression that begins at number `from` goes on past number k, whatever tokens stand behind it, and before `from`
 abbrev pub NoneGoesOn : List Token → ℕ → ℕ → Type 0
 NoneGoesOn tokens from k =
-    (expr : Expr) (to : ℕ) (others : List Token) → BeginAlike tokens others k → SpellsWhole others from expr to → to ≤ k
+    (expr : Expr) (to : ℕ) (others : List Token) → ((j : ℕ) → from ≤ j → j ≤ k → what_at tokens j ≡ what_at others j) →
+    SpellsWhole others from expr to → to ≤ k
 
 -- some expression goes on as far as number k with the tokens from `from` up to it, and lawful ones from there on
 abbrev pub SomeGoesOn : List Token → ℕ → ℕ → Type 0

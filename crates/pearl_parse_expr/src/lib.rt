@@ -4,6 +4,7 @@
 pub mod expression;
 pub mod fault;
 mod grouping;
+pub mod laws;
 mod leaf;
 pub mod literal;
 mod operator;

@@ -5,8 +5,8 @@ ghost use Rattle.pearl_parse_expr.specs.declared.reading.Halt.{Halt};
 
 use std::alloc::Global;
 
-/// A part, the number of the token after it, and the number of a token past which nothing of its kind goes that begins
-/// where it does.
+/// A part, the number of the token after it, and the number of the first token past which nothing of its kind goes that
+/// begins where it does.
 #[derive(Drop)]
 pub struct Reading<T> {
     pub part: T,
@@ -17,7 +17,7 @@ pub struct Reading<T> {
 /// Why a part is not read.
 #[derive(Drop)]
 pub enum Halt {
-    /// The number of a token with which nothing of this kind begins.
+    /// The number of the first token up to and with which nothing of this kind begins.
     Refused(usize),
     NoMemory,
 }

@@ -1,0 +1,5 @@
+use Rattle.pearl_parse_expr.proofs.OneStop.{one_stop}
+use Rattle.pearl_parse_expr.proofs.laws.one_stop.Goals as goal
+
+pub returns : goal.returns
+returns c = one_stop
