@@ -161,14 +161,14 @@ fn a_form_that_is_not_carried_out_is_told_by_its_place(rt: HostRuntime) -> Resul
 fn chain(alloc: Global, count: usize) -> Result<String, AllocError> {
     let mut source = String::from_str(alloc, HEAD)?;
     source.push_str("p0: PROC RETURNS(FIXED); RETURN(1); END;\n")?;
+    let mut last = 0;
     for number in 1..count {
-        let before = number - 1;
         write!(
             source,
-            "p{number}: PROC RETURNS(FIXED); RETURN(p{before} + 1); END;\n"
+            "p{number}: PROC RETURNS(FIXED); RETURN(p{last} + 1); END;\n"
         )?;
+        last = number;
     }
-    let last = count - 1;
     write!(
         source,
         "main: TASK MAIN; PUT p{last} TO tty BY F(5); END;\nMODEND;\n"
