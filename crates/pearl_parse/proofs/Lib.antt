@@ -40,3 +40,4 @@ pub mod StatementLeast
 pub mod UnitLeast
 pub mod SystemLeast
 pub mod ModuleLeast
+pub mod Unread

@@ -16,3 +16,5 @@ pub mod Modules
 pub mod Refusals
 -- how far some part goes on, where that is told no earlier than what stands before it was stopped
 pub mod Reached
+-- what is known where a statement is read, or isn't
+pub mod Reads

@@ -1,9 +1,8 @@
 // Assignments, calls and returns.
 
-ghost use Rattle.std.specs.Prelude.{◌≡◌, ◌+◌, ◌<◌, ◌≤◌, ℕ, length, IfOk, IfErr, true};
-ghost use Rattle.pearl_tree.specs.Standing.{what_at, HasWord, HasSymbol, SpellsMaybeBracketed, SpellsMaybe};
-ghost use Rattle.pearl_tree.specs.Expressions.{SpellsWhole};
-ghost use Rattle.pearl_tree.specs.Statements.{SpellsStmt, SpellsValue, HasBecomes};
+ghost use Rattle.std.specs.Prelude.{◌≡◌, ◌+◌, ◌<◌, ◌≤◌, length, IfOk, IfErr, true};
+ghost use Rattle.pearl_tree.specs.Standing.{what_at, HasWord, HasSymbol, SpellsMaybe};
+ghost use Rattle.pearl_tree.specs.Statements.{SpellsValue, HasBecomes};
 ghost use Rattle.pearl_tree.specs.declared.word_code.TheConstants as w;
 ghost use Rattle.pearl_tree.specs.declared.symbol.TheConstants as s;
 ghost use Rattle.pearl_parse_expr.specs.Stops.{IsOnly, IsAhead, IsHalted, is_name, is_symbol};
@@ -11,6 +10,7 @@ ghost use Rattle.pearl_parse.specs.Stops as spec;
 ghost use Rattle.pearl_parse.specs.Calls as calls;
 ghost use Rattle.pearl_parse.specs.Reached.{IsLeastBehind};
 ghost use Rattle.pearl_parse_expr.specs.Least.{IsLeastIn};
+ghost use Rattle.pearl_parse.specs.Reads.{ReadsStatement};
 
 use crate::step::{expr, name, symbol};
 use pearl_parse_decl::expression::own_reference;
@@ -73,11 +73,7 @@ fn maybe_value(alloc: Global, tokens: &[Token], from: usize) -> Result<Reading<O
 pub fn return_(alloc: Global, tokens: &[Token], from: usize) -> Result<Reading<Stmt>, Halt>
     requires within { from < length tokens.now }
     requires word { HasWord tokens.now from w.RETURN }
-    ensures spells { IfOk result (λ reading. (depth : ℕ) → SpellsStmt tokens.now depth from reading.part reading.end) }
-    ensures only { IfOk result (λ reading. (depth : ℕ) → IsOnly (λ tokens. SpellsStmt tokens depth) tokens.now from reading.end reading.stop) }
-    ensures ahead { IfOk result (λ reading. IsAhead tokens.now from reading.end reading.stop) }
-    ensures refused { IfErr result (λ halt. (depth : ℕ) → IsHalted (λ tokens. SpellsStmt tokens depth) tokens.now from halt) }
-    ensures least { (depth : ℕ) → IsLeastIn 24 (λ tokens. SpellsStmt tokens depth) tokens.now from result }
+    ensures { ReadsStatement tokens.now from result }
 {
     let value = maybe_value(alloc, tokens, from + 1)?;
     symbol(tokens, value.end, value.stop, SEMICOLON)?;
@@ -136,11 +132,7 @@ fn arguments(
 pub fn call(alloc: Global, tokens: &[Token], from: usize) -> Result<Reading<Stmt>, Halt>
     requires within { from < length tokens.now }
     requires word { HasWord tokens.now from w.CALL }
-    ensures spells { IfOk result (λ reading. (depth : ℕ) → SpellsStmt tokens.now depth from reading.part reading.end) }
-    ensures only { IfOk result (λ reading. (depth : ℕ) → IsOnly (λ tokens. SpellsStmt tokens depth) tokens.now from reading.end reading.stop) }
-    ensures ahead { IfOk result (λ reading. IsAhead tokens.now from reading.end reading.stop) }
-    ensures refused { IfErr result (λ halt. (depth : ℕ) → IsHalted (λ tokens. SpellsStmt tokens depth) tokens.now from halt) }
-    ensures least { (depth : ℕ) → IsLeastIn 24 (λ tokens. SpellsStmt tokens depth) tokens.now from result }
+    ensures { ReadsStatement tokens.now from result }
 {
     let called = name(tokens, from + 1, from)?;
     let arguments = arguments(alloc, tokens, from + 2, from)?;
@@ -173,11 +165,7 @@ fn becomes(tokens: &[Token], at: usize) -> bool
 pub fn named(alloc: Global, tokens: &[Token], from: usize) -> Result<Reading<Stmt>, Halt>
     requires within { from < length tokens.now }
     requires name { is_name (what_at tokens.now from) ≡ true }
-    ensures spells { IfOk result (λ reading. (depth : ℕ) → SpellsStmt tokens.now depth from reading.part reading.end) }
-    ensures only { IfOk result (λ reading. (depth : ℕ) → IsOnly (λ tokens. SpellsStmt tokens depth) tokens.now from reading.end reading.stop) }
-    ensures ahead { IfOk result (λ reading. IsAhead tokens.now from reading.end reading.stop) }
-    ensures refused { IfErr result (λ halt. (depth : ℕ) → IsHalted (λ tokens. SpellsStmt tokens depth) tokens.now from halt) }
-    ensures least { (depth : ℕ) → IsLeastIn 24 (λ tokens. SpellsStmt tokens depth) tokens.now from result }
+    ensures { ReadsStatement tokens.now from result }
 {
     let target = own_reference(alloc, tokens, from)?;
     if becomes(tokens, target.end) {

@@ -1,11 +1,9 @@
 // Statements that begin with WHEN.
 
-ghost use Rattle.std.specs.Prelude.{◌≡◌, ℕ, ◌+◌, ◌<◌, ◌≤◌, length, IfOk, IfErr};
+ghost use Rattle.std.specs.Prelude.{◌+◌, ◌<◌, length};
 ghost use Rattle.pearl_tree.specs.Standing.{HasWord};
-ghost use Rattle.pearl_tree.specs.Statements.{SpellsStmt};
 ghost use Rattle.pearl_tree.specs.declared.word_code.TheConstants as w;
-ghost use Rattle.pearl_parse_expr.specs.Stops.{IsOnly, IsAhead, IsHalted};
-ghost use Rattle.pearl_parse_expr.specs.Least.{IsLeastIn};
+ghost use Rattle.pearl_parse.specs.Reads.{ReadsStatement};
 
 use crate::schedule::begin;
 use crate::step::{maybe_after, name, symbol};
@@ -21,11 +19,7 @@ use std::alloc::Global;
 pub fn when(alloc: Global, tokens: &[Token], from: usize) -> Result<Reading<Stmt>, Halt>
     requires within { from < length tokens.now }
     requires word { HasWord tokens.now from w.WHEN }
-    ensures spells { IfOk result (λ reading. (depth : ℕ) → SpellsStmt tokens.now depth from reading.part reading.end) }
-    ensures only { IfOk result (λ reading. (depth : ℕ) → IsOnly (λ tokens. SpellsStmt tokens depth) tokens.now from reading.end reading.stop) }
-    ensures ahead { IfOk result (λ reading. IsAhead tokens.now from reading.end reading.stop) }
-    ensures refused { IfErr result (λ halt. (depth : ℕ) → IsHalted (λ tokens. SpellsStmt tokens depth) tokens.now from halt) }
-    ensures least { (depth : ℕ) → IsLeastIn 24 (λ tokens. SpellsStmt tokens depth) tokens.now from result }
+    ensures { ReadsStatement tokens.now from result }
 {
     let interrupt = name(tokens, from + 1, from)?;
     let place = place_at(tokens, from);

@@ -1,12 +1,11 @@
 // Statements without expressions, and those that send and take.
 
-ghost use Rattle.std.specs.Prelude.{◌≡◌, ◌≢◌, ◌+◌, ◌<◌, ◌≤◌, ℕ, length, IfOk, IfErr};
+ghost use Rattle.std.specs.Prelude.{◌≢◌, ◌+◌, ◌<◌, length, IfErr};
 ghost use Rattle.pearl_tree.specs.Standing.{HasWord};
-ghost use Rattle.pearl_tree.specs.Statements.{SpellsStmt, task_word, sema_word, interrupt_word};
+ghost use Rattle.pearl_tree.specs.Statements.{task_word, interrupt_word};
 ghost use Rattle.pearl_tree.specs.declared.word_code.TheConstants as w;
 ghost use Rattle.pearl_parse_expr.specs.declared.reading.Halt.{Halt};
-ghost use Rattle.pearl_parse_expr.specs.Stops.{IsOnly, IsAhead, IsHalted};
-ghost use Rattle.pearl_parse_expr.specs.Least.{IsLeastIn};
+ghost use Rattle.pearl_parse.specs.Reads.{ReadsStatement};
 
 use crate::step::{expr, maybe_name, name, symbol, word as word_here};
 use pearl_parse_decl::expression::own_reference;
@@ -22,11 +21,7 @@ use std::alloc::Global;
 pub fn exit(tokens: &[Token], from: usize) -> Result<Reading<Stmt>, Halt>
     requires within { from < length tokens.now }
     requires word { HasWord tokens.now from w.EXIT }
-    ensures spells { IfOk result (λ reading. (depth : ℕ) → SpellsStmt tokens.now depth from reading.part reading.end) }
-    ensures only { IfOk result (λ reading. (depth : ℕ) → IsOnly (λ tokens. SpellsStmt tokens depth) tokens.now from reading.end reading.stop) }
-    ensures ahead { IfOk result (λ reading. IsAhead tokens.now from reading.end reading.stop) }
-    ensures refused { IfErr result (λ halt. (depth : ℕ) → IsHalted (λ tokens. SpellsStmt tokens depth) tokens.now from halt) }
-    ensures least { (depth : ℕ) → IsLeastIn 24 (λ tokens. SpellsStmt tokens depth) tokens.now from result }
+    ensures reads { ReadsStatement tokens.now from result }
     ensures memory { IfErr result (λ halt. halt ≢ Halt.NoMemory) }
 {
     symbol(tokens, from + 1, from, SEMICOLON)?;
@@ -48,11 +43,7 @@ pub fn on_task(
 ) -> Result<Reading<Stmt>, Halt>
     requires within { from < length tokens.now }
     requires word { HasWord tokens.now from (task_word word) }
-    ensures spells { IfOk result (λ reading. (depth : ℕ) → SpellsStmt tokens.now depth from reading.part reading.end) }
-    ensures only { IfOk result (λ reading. (depth : ℕ) → IsOnly (λ tokens. SpellsStmt tokens depth) tokens.now from reading.end reading.stop) }
-    ensures ahead { IfOk result (λ reading. IsAhead tokens.now from reading.end reading.stop) }
-    ensures refused { IfErr result (λ halt. (depth : ℕ) → IsHalted (λ tokens. SpellsStmt tokens depth) tokens.now from halt) }
-    ensures least { (depth : ℕ) → IsLeastIn 24 (λ tokens. SpellsStmt tokens depth) tokens.now from result }
+    ensures { ReadsStatement tokens.now from result }
 {
     let task = maybe_name(tokens, from + 1);
     symbol(tokens, task.end, task.stop, SEMICOLON)?;
@@ -77,11 +68,7 @@ pub fn on_interrupt(
 ) -> Result<Reading<Stmt>, Halt>
     requires within { from < length tokens.now }
     requires word { HasWord tokens.now from (interrupt_word word) }
-    ensures spells { IfOk result (λ reading. (depth : ℕ) → SpellsStmt tokens.now depth from reading.part reading.end) }
-    ensures only { IfOk result (λ reading. (depth : ℕ) → IsOnly (λ tokens. SpellsStmt tokens depth) tokens.now from reading.end reading.stop) }
-    ensures ahead { IfOk result (λ reading. IsAhead tokens.now from reading.end reading.stop) }
-    ensures refused { IfErr result (λ halt. (depth : ℕ) → IsHalted (λ tokens. SpellsStmt tokens depth) tokens.now from halt) }
-    ensures least { (depth : ℕ) → IsLeastIn 24 (λ tokens. SpellsStmt tokens depth) tokens.now from result }
+    ensures { ReadsStatement tokens.now from result }
 {
     let interrupt = name(tokens, from + 1, from)?;
     symbol(tokens, from + 2, from, SEMICOLON)?;
@@ -101,11 +88,7 @@ pub fn on_interrupt(
 pub fn send(alloc: Global, tokens: &[Token], from: usize) -> Result<Reading<Stmt>, Halt>
     requires within { from < length tokens.now }
     requires word { HasWord tokens.now from w.SEND }
-    ensures spells { IfOk result (λ reading. (depth : ℕ) → SpellsStmt tokens.now depth from reading.part reading.end) }
-    ensures only { IfOk result (λ reading. (depth : ℕ) → IsOnly (λ tokens. SpellsStmt tokens depth) tokens.now from reading.end reading.stop) }
-    ensures ahead { IfOk result (λ reading. IsAhead tokens.now from reading.end reading.stop) }
-    ensures refused { IfErr result (λ halt. (depth : ℕ) → IsHalted (λ tokens. SpellsStmt tokens depth) tokens.now from halt) }
-    ensures least { (depth : ℕ) → IsLeastIn 24 (λ tokens. SpellsStmt tokens depth) tokens.now from result }
+    ensures { ReadsStatement tokens.now from result }
 {
     let value = expr(alloc, tokens, from + 1, from)?;
     word_here(tokens, value.end, value.stop, TO)?;
@@ -127,11 +110,7 @@ pub fn send(alloc: Global, tokens: &[Token], from: usize) -> Result<Reading<Stmt
 pub fn take(alloc: Global, tokens: &[Token], from: usize) -> Result<Reading<Stmt>, Halt>
     requires within { from < length tokens.now }
     requires word { HasWord tokens.now from w.TAKE }
-    ensures spells { IfOk result (λ reading. (depth : ℕ) → SpellsStmt tokens.now depth from reading.part reading.end) }
-    ensures only { IfOk result (λ reading. (depth : ℕ) → IsOnly (λ tokens. SpellsStmt tokens depth) tokens.now from reading.end reading.stop) }
-    ensures ahead { IfOk result (λ reading. IsAhead tokens.now from reading.end reading.stop) }
-    ensures refused { IfErr result (λ halt. (depth : ℕ) → IsHalted (λ tokens. SpellsStmt tokens depth) tokens.now from halt) }
-    ensures least { (depth : ℕ) → IsLeastIn 24 (λ tokens. SpellsStmt tokens depth) tokens.now from result }
+    ensures { ReadsStatement tokens.now from result }
 {
     let target = own_reference(alloc, tokens, from + 1)?;
     word_here(tokens, target.end, target.stop, FROM)?;

@@ -29,8 +29,9 @@ fn place_or_end(tokens: &[Token], end: u32, at: usize) -> u32
 /// tree has the place of MODEND too.
 ///
 /// `Refused` comes where the tokens are no module, with the place of a token up to and with which no module begins,
-/// whatever stands behind it. A token behind the end of a module is such a token. It is the first one: some module begins
-/// with the tokens before it. `NoMemory` comes where there is no memory for the tree, be the tokens a module or not.
+/// whatever stands behind it. A token behind the end of a module is such a token. Where the tokens are lawful, it is the
+/// first one: some module begins with the tokens before it. `NoMemory` comes where there is no memory for the tree, be
+/// the tokens a module or not.
 pub fn parse(alloc: Global, tokens: &[Token], end: u32) -> Result<Tree, ParseFault>
     ensures spells { IfOk result (λ tree. Spells tree tokens.now) }
     ensures lawful { AreLawful tokens.now → IfOk result (λ tree. IsLawful tree) }

@@ -1,15 +1,15 @@
 // Periods and activations.
 
-ghost use Rattle.std.specs.Prelude.{◌≡◌, ◌≢◌, ℕ, ◌+◌, ◌<◌, ◌≤◌, length, IfOk, IfErr};
+ghost use Rattle.std.specs.Prelude.{◌+◌, ◌<◌, ◌≤◌, length, IfOk, IfErr};
 ghost use Rattle.pearl_tree.specs.Standing.{HasWord, SpellsMaybe};
-ghost use Rattle.pearl_tree.specs.Statements.{SpellsPeriodEnd, SpellsPeriod, SpellsStmt};
+ghost use Rattle.pearl_tree.specs.Statements.{SpellsPeriodEnd, SpellsPeriod};
 ghost use Rattle.pearl_tree.specs.declared.word_code.TheConstants as w;
 ghost use Rattle.pearl_parse_expr.specs.declared.reading.Halt.{Halt};
-ghost use Rattle.pearl_parse_expr.specs.Stops.{IsLongest, IsOnly, IsAhead, IsHalted, extends_expression};
+ghost use Rattle.pearl_parse_expr.specs.Stops.{IsLongest, IsOnly, extends_expression};
 ghost use Rattle.pearl_parse.specs.Stops as spec;
 ghost use Rattle.pearl_parse.specs.Schedules as schedules;
-ghost use Rattle.pearl_parse_expr.specs.Least.{IsLeastIn};
 ghost use Rattle.pearl_parse.specs.Reached.{IsLeastBehind};
+ghost use Rattle.pearl_parse.specs.Reads.{ReadsStatement};
 
 use crate::step::{after, maybe_after, name, symbol, word};
 use pearl_parse_expr::reading::{Halt, Reading, boxed};
@@ -210,11 +210,7 @@ pub fn immediate_activation(
 ) -> Result<Reading<Stmt>, Halt>
     requires within { from < length tokens.now }
     requires word { HasWord tokens.now from w.ACTIVATE }
-    ensures spells { IfOk result (λ reading. (depth : ℕ) → SpellsStmt tokens.now depth from reading.part reading.end) }
-    ensures only { IfOk result (λ reading. (depth : ℕ) → IsOnly (λ tokens. SpellsStmt tokens depth) tokens.now from reading.end reading.stop) }
-    ensures ahead { IfOk result (λ reading. IsAhead tokens.now from reading.end reading.stop) }
-    ensures refused { IfErr result (λ halt. (depth : ℕ) → IsHalted (λ tokens. SpellsStmt tokens depth) tokens.now from halt) }
-    ensures least { (depth : ℕ) → IsLeastIn 24 (λ tokens. SpellsStmt tokens depth) tokens.now from result }
+    ensures { ReadsStatement tokens.now from result }
 {
     let activation = activate(alloc, tokens, from, from)?;
     let activate = Activate {
@@ -238,11 +234,7 @@ pub fn immediate_continuation(
 ) -> Result<Reading<Stmt>, Halt>
     requires within { from < length tokens.now }
     requires word { HasWord tokens.now from w.CONTINUE }
-    ensures spells { IfOk result (λ reading. (depth : ℕ) → SpellsStmt tokens.now depth from reading.part reading.end) }
-    ensures only { IfOk result (λ reading. (depth : ℕ) → IsOnly (λ tokens. SpellsStmt tokens depth) tokens.now from reading.end reading.stop) }
-    ensures ahead { IfOk result (λ reading. IsAhead tokens.now from reading.end reading.stop) }
-    ensures refused { IfErr result (λ halt. (depth : ℕ) → IsHalted (λ tokens. SpellsStmt tokens depth) tokens.now from halt) }
-    ensures least { (depth : ℕ) → IsLeastIn 24 (λ tokens. SpellsStmt tokens depth) tokens.now from result }
+    ensures { ReadsStatement tokens.now from result }
 {
     let task = name(tokens, from + 1, from)?;
     symbol(tokens, from + 2, from, SEMICOLON)?;
@@ -262,11 +254,7 @@ pub fn immediate_continuation(
 pub fn periodic(alloc: Global, tokens: &[Token], from: usize) -> Result<Reading<Stmt>, Halt>
     requires within { from < length tokens.now }
     requires word { HasWord tokens.now from w.ALL }
-    ensures spells { IfOk result (λ reading. (depth : ℕ) → SpellsStmt tokens.now depth from reading.part reading.end) }
-    ensures only { IfOk result (λ reading. (depth : ℕ) → IsOnly (λ tokens. SpellsStmt tokens depth) tokens.now from reading.end reading.stop) }
-    ensures ahead { IfOk result (λ reading. IsAhead tokens.now from reading.end reading.stop) }
-    ensures refused { IfErr result (λ halt. (depth : ℕ) → IsHalted (λ tokens. SpellsStmt tokens depth) tokens.now from halt) }
-    ensures least { (depth : ℕ) → IsLeastIn 24 (λ tokens. SpellsStmt tokens depth) tokens.now from result }
+    ensures { ReadsStatement tokens.now from result }
 {
     let period = period(alloc, tokens, from, from)?;
     let activation = activate(alloc, tokens, period.end, period.stop)?;

@@ -1,12 +1,13 @@
 // Statements that hold no others, by their first tokens.
 
-ghost use Rattle.std.specs.Prelude.{ℕ, ◌<◌, ◌≤◌, length, IfOk, IfErr};
+ghost use Rattle.std.specs.Prelude.{ℕ, ◌<◌, length};
 ghost use Rattle.pearl_tree.specs.Standing.{HasSymbol};
 ghost use Rattle.pearl_tree.specs.Statements.{SpellsStmt};
 ghost use Rattle.pearl_tree.specs.declared.symbol.TheConstants as s;
-ghost use Rattle.pearl_parse_expr.specs.Stops.{IsOnly, IsAhead, IsHalted};
-ghost use Rattle.pearl_parse_expr.specs.Least.{GoesIn, IsLeastIn};
+ghost use Rattle.pearl_parse_expr.specs.Stops.{IsOnly, IsAhead};
+ghost use Rattle.pearl_parse_expr.specs.Least.{GoesIn};
 ghost use Rattle.pearl_parse.specs.Firsts.{BeginsSimple};
+ghost use Rattle.pearl_parse.specs.Reads.{ReadsStatement};
 
 use crate::call::{call, named, return_};
 use crate::first::Simple;
@@ -48,11 +49,7 @@ pub fn simple(
 ) -> Result<Reading<Stmt>, Halt>
     requires within { from < length tokens.now }
     requires first { BeginsSimple tokens.now from first }
-    ensures spells { IfOk result (λ reading. (depth : ℕ) → SpellsStmt tokens.now depth from reading.part reading.end) }
-    ensures only { IfOk result (λ reading. (depth : ℕ) → IsOnly (λ tokens. SpellsStmt tokens depth) tokens.now from reading.end reading.stop) }
-    ensures ahead { IfOk result (λ reading. IsAhead tokens.now from reading.end reading.stop) }
-    ensures refused { IfErr result (λ halt. (depth : ℕ) → IsHalted (λ tokens. SpellsStmt tokens depth) tokens.now from halt) }
-    ensures least { (depth : ℕ) → IsLeastIn 24 (λ tokens. SpellsStmt tokens depth) tokens.now from result }
+    ensures { ReadsStatement tokens.now from result }
 {
     match first {
         Simple::Empty => Ok(empty(tokens, from)),

@@ -1,12 +1,11 @@
 // Statements that begin with AT or AFTER.
 
-ghost use Rattle.std.specs.Prelude.{◌≡◌, ℕ, ◌+◌, ◌<◌, ◌≤◌, List, length, IfOk, IfErr};
+ghost use Rattle.std.specs.Prelude.{◌≡◌, ℕ, ◌+◌, ◌<◌, List, length};
 ghost use Rattle.pearl_tree.specs.declared.token.Token.{Token};
 ghost use Rattle.pearl_tree.specs.Standing.{IsAt, HasWord, SpellsMaybe};
-ghost use Rattle.pearl_tree.specs.Statements.{SpellsAfter, SpellsPeriod, SpellsStart, SpellsOnce, SpellsStmt};
-ghost use Rattle.pearl_parse_expr.specs.Stops.{IsOnly, IsAhead, IsHalted};
-ghost use Rattle.pearl_parse_expr.specs.Least.{IsLeastIn};
+ghost use Rattle.pearl_tree.specs.Statements.{SpellsAfter, SpellsPeriod, SpellsStart, SpellsOnce};
 ghost use Rattle.pearl_parse.specs.Schedules as schedules;
+ghost use Rattle.pearl_parse.specs.Reads.{ReadsStatement};
 
 use crate::schedule::begin;
 use crate::step::{after, name, symbol};
@@ -65,11 +64,7 @@ pub fn timed(
 ) -> Result<Reading<Stmt>, Halt>
     requires within { from < length tokens.now }
     requires word { HasWord tokens.now from (schedules.time_word later) }
-    ensures spells { IfOk result (λ reading. (depth : ℕ) → SpellsStmt tokens.now depth from reading.part reading.end) }
-    ensures only { IfOk result (λ reading. (depth : ℕ) → IsOnly (λ tokens. SpellsStmt tokens depth) tokens.now from reading.end reading.stop) }
-    ensures ahead { IfOk result (λ reading. IsAhead tokens.now from reading.end reading.stop) }
-    ensures refused { IfErr result (λ halt. (depth : ℕ) → IsHalted (λ tokens. SpellsStmt tokens depth) tokens.now from halt) }
-    ensures least { (depth : ℕ) → IsLeastIn 24 (λ tokens. SpellsStmt tokens depth) tokens.now from result }
+    ensures { ReadsStatement tokens.now from result }
 {
     let time = after(alloc, tokens, from, from, time_word(later))?;
     let place = place_at(tokens, from);

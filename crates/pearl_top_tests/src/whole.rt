@@ -156,3 +156,34 @@ fn a_form_that_is_not_carried_out_is_told_by_its_place(rt: HostRuntime) -> Resul
     }
     Ok(())
 }
+
+// Procedures each of which calls the one before it.
+fn chain(alloc: Global, count: usize) -> Result<String, AllocError> {
+    let mut source = String::from_str(alloc, HEAD)?;
+    source.push_str("p0: PROC RETURNS(FIXED); RETURN(1); END;\n")?;
+    for number in 1..count {
+        let before = number - 1;
+        write!(
+            source,
+            "p{number}: PROC RETURNS(FIXED); RETURN(p{before} + 1); END;\n"
+        )?;
+    }
+    let last = count - 1;
+    write!(
+        source,
+        "main: TASK MAIN; PUT p{last} TO tty BY F(5); END;\nMODEND;\n"
+    )?;
+    Ok(source)
+}
+
+#[test]
+fn calls_stand_200_deep(rt: HostRuntime) -> Result<(), Fail> {
+    let alloc = rt.alloc();
+    let source = chain(alloc, 200)?;
+    let (status, written) = carry_out(alloc, RUN, source.as_bytes(), b"run 300\n", 4096)?;
+    let text: &[u8] =
+        b"0 start main 255\n0 out 1 '  200'\n0 end main\n0 state main dormant\n0 close\n";
+    assert_eq!(rt; written.as_slice(), text);
+    assert_eq!(rt; status, Status::Done);
+    Ok(())
+}

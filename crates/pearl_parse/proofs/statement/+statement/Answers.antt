@@ -2,9 +2,9 @@ use Rattle.std.proofs.Common.{◌+◌, ◌-◌, ◌<◌, ◌≤◌, refl, sym, a
 use Rattle.pearl_tree.specs.Standing.{SpellsEach, SpellsSome, SpellsMaybe}
 use Rattle.pearl_tree.specs.Statements.{SpellsStmt, SpellsAfter, SpellsBranch, SpellsBodyDecl}
 use Rattle.pearl_tree.specs.declared.word_code.TheConstants as w
-use Rattle.pearl_parse_expr.specs.Stops.{IsHalted, extends_expression, is_word}
+use Rattle.pearl_parse_expr.specs.Stops.{extends_expression, is_word}
 use Rattle.pearl_parse_expr.proofs.Lists.{each_one_more}
-use Rattle.pearl_parse_expr.proofs.Halts.{stuck_of, at_depth, ok_map}
+use Rattle.pearl_parse_expr.proofs.Halts.{stuck_of}
 use Rattle.pearl_parse.specs.Stops.{begins_statement}
 use Rattle.pearl_parse.specs.Bodies.{extends_body, extends_alternatives, SpellsStatements, SpellsHeaded, SpellsOptionalHeaded, SpellsChoices, SpellsBlock, SpellsClosing, SpellsCondition, SpellsHeads, SpellsInner}
 use Rattle.pearl_parse.proofs.Steps.{Ends, Then, err_told, goes_longer, past, past_only, no_first, no_part, ends, itself, optional_is_none, optional_is_longest, only_is_longest}
@@ -363,13 +363,16 @@ pub statement-returns-in-None-clause-refused : goal.statement-returns-in-None-cl
 statement-returns-in-None-clause-refused t c = no_statement c.args.tokens.now c.args.depth c.args.from c.requires (c.in-None.ensures.none refl)
 
 pub statement-returns-in-Simple-clause-spells : goal.statement-returns-in-Simple-clause-spells
-statement-returns-in-Simple-clause-spells t c = ok_map _ _ c.simple.result (λ reading h. h c.args.depth) c.simple.ensures.spells
+statement-returns-in-Simple-clause-spells t c = (c.simple.ensures c.args.depth).spells
 
 pub statement-returns-in-Simple-clause-only : goal.statement-returns-in-Simple-clause-only
-statement-returns-in-Simple-clause-only t c = ok_map _ _ c.simple.result (λ reading h. h c.args.depth) c.simple.ensures.only
+statement-returns-in-Simple-clause-only t c = (c.simple.ensures c.args.depth).only
+
+pub statement-returns-in-Simple-clause-ahead : goal.statement-returns-in-Simple-clause-ahead
+statement-returns-in-Simple-clause-ahead t c = (c.simple.ensures c.args.depth).ahead
 
 pub statement-returns-in-Simple-clause-refused : goal.statement-returns-in-Simple-clause-refused
-statement-returns-in-Simple-clause-refused t c = at_depth (λ depth halt. IsHalted (λ tokens. SpellsStmt tokens depth) c.args.tokens.now c.args.from halt) c.args.depth c.simple.result c.simple.ensures.refused
+statement-returns-in-Simple-clause-refused t c = (c.simple.ensures c.args.depth).refused
 
 pub statements-each-init : goal.statements-each-init
 statements-each-init t c =
@@ -762,4 +765,4 @@ statement-returns-in-None-clause-least t c =
 
 pub statement-returns-in-Simple-clause-least : goal.statement-returns-in-Simple-clause-least
 statement-returns-in-Simple-clause-least t c =
-    c.simple.ensures.least c.args.depth
+    (c.simple.ensures c.args.depth).least
