@@ -9,11 +9,11 @@ macro_rules! table {
 #[cfg(test)]
 mod expression_text;
 #[cfg(test)]
-mod made;
-#[cfg(test)]
 mod program_text;
 #[cfg(test)]
 mod programs;
+#[cfg(test)]
+mod source;
 #[cfg(test)]
 mod statement_text;
 #[cfg(test)]

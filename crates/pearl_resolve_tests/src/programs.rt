@@ -1,7 +1,9 @@
-// Small modules with what their programs say, worked out by hand.
+// Small modules with what their programs say, or with the first rule that they break, worked out by hand.
 
-use crate::made::program_of;
 use crate::program_text::text_of;
+use crate::source::tree_of;
+use pearl_check::fault::CheckFault;
+use pearl_module::program_of;
 use std::alloc::{AllocError, Global};
 use std::test::Fail;
 
@@ -36,17 +38,42 @@ fn modules() -> &'static [(&'static str, &'static str)] {
     ]
 }
 
-// What the program of a source says.
+fn broken_modules() -> &'static [(&'static str, &'static str)] {
+    table![
+        "PROBLEM;DCL a FIXED;t:TASK;b:=a;END;" => "S2 at 34";
+        "PROBLEM;t:TASK PRIO 0;x:=1;END;" => "S30 at 27";
+        "PROBLEM;DCL i INV FIXED INIT(1);t:TASK;i:='a';END;" => "S24 at 46";
+        "PROBLEM;p:PROC;q;END;q:PROC;p;END;" => "S28 at 15";
+        "SYSTEM;d:INPUT(1);PROBLEM;SPC d DATION OUT BASIC BIT;" => "S14 at 37";
+        "PROBLEM;DCL a(65535) FIXED,b FIXED,c FIXED;" => "S34 at 42";
+    ]
+}
+
+// What the program of a source says, or the rule that it breaks, with its place.
 fn told(alloc: Global, source: &str) -> Result<String, AllocError> {
-    match program_of(alloc, source.as_bytes()) {
-        Some(program) => text_of(alloc, &program),
-        None => format!(in alloc; "no program"),
+    let Some(tree) = tree_of(alloc, source.as_bytes())? else {
+        return format!(in alloc; "no tree");
+    };
+    match program_of(alloc, &tree) {
+        Ok(program) => text_of(alloc, program.parts()),
+        Err(CheckFault::Refused(fault)) => format!(in alloc; "S{} at {}", fault.rule, fault.place),
+        Err(CheckFault::NoMemory) => Err(AllocError),
     }
 }
 
 #[test]
 fn modules_mean_these_programs(rt: HostRuntime) -> Result<(), Fail> {
     for &(parts, expected) in modules() {
+        let source = format!(in rt.alloc(); "MODULE;{parts}MODEND")?;
+        let found = told(rt.alloc(), source.as_str())?;
+        assert_eq!(rt; found.as_str(), expected, "{parts}");
+    }
+    Ok(())
+}
+
+#[test]
+fn broken_modules_tell_their_first_fault(rt: HostRuntime) -> Result<(), Fail> {
+    for &(parts, expected) in broken_modules() {
         let source = format!(in rt.alloc(); "MODULE;{parts}MODEND")?;
         let found = told(rt.alloc(), source.as_str())?;
         assert_eq!(rt; found.as_str(), expected, "{parts}");

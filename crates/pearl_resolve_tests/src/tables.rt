@@ -1,7 +1,7 @@
 // The calls that make tables of a program, each by itself.
 
-use crate::made::tree_of;
 use crate::program_text::{put_devices, put_formats, put_leaves, put_semaphores};
+use crate::source::tree_of;
 use pearl_data::devices::program_devices;
 use pearl_data::formats::module_formats;
 use pearl_data::leaves::add_leaves;
@@ -27,7 +27,7 @@ fn first_item(tree: &Tree) -> Option<&Item> {
 
 // The leaves of the first name of a module, how many slots they take, and how many constants are left behind two slots.
 fn leaves_of(alloc: Global, source: &[u8]) -> Option<String> {
-    let tree = tree_of(alloc, source)?;
+    let tree = tree_of(alloc, source).ok()??;
     let table = table_of(alloc, &tree).ok()?;
     let sense = table.senses_in(0).first()?;
     let constants = first_item(&tree)?.init.as_slice();
@@ -45,7 +45,7 @@ fn leaves_of(alloc: Global, source: &[u8]) -> Option<String> {
 }
 
 fn presets_of(alloc: Global, source: &[u8]) -> Option<String> {
-    let tree = tree_of(alloc, source)?;
+    let tree = tree_of(alloc, source).ok()??;
     let presets = module_presets(alloc, &tree).ok()?;
     let mut text = String::new(alloc);
     put_semaphores(&mut text, presets.as_slice()).ok()?;
@@ -53,7 +53,7 @@ fn presets_of(alloc: Global, source: &[u8]) -> Option<String> {
 }
 
 fn formats_of(alloc: Global, source: &[u8]) -> Option<String> {
-    let tree = tree_of(alloc, source)?;
+    let tree = tree_of(alloc, source).ok()??;
     let formats = module_formats(alloc, &tree).ok()?;
     let mut text = String::new(alloc);
     put_formats(&mut text, formats.as_slice()).ok()?;
@@ -61,7 +61,7 @@ fn formats_of(alloc: Global, source: &[u8]) -> Option<String> {
 }
 
 fn devices_of(alloc: Global, source: &[u8]) -> Option<String> {
-    let tree = tree_of(alloc, source)?;
+    let tree = tree_of(alloc, source).ok()??;
     let table = table_of(alloc, &tree).ok()?;
     let (specified, _) = system(alloc, &tree).ok()?;
     let devices = program_devices(alloc, table.lengths(), specified.as_slice()).ok()?;
