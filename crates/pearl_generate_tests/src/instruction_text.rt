@@ -6,12 +6,12 @@ use pearl_value::cell::Cell;
 use pearl_value::kind::Kind;
 use std::alloc::{AllocError, Global};
 
-/// A kind by the first letter of its word and its length: `F31`, `B1`, `C3`, `T` for CLOCK and `D` for DURATION.
+/// A kind by its word and its length: `FIXED31`, `BIT1`, `CHAR3`, `T` for CLOCK and `D` for DURATION.
 fn put_kind(into: &mut String, kind: Kind) -> Result<(), AllocError> {
     match kind {
-        Kind::Fixed(len) => write!(into, "F{len}"),
-        Kind::Bits(len) => write!(into, "B{len}"),
-        Kind::Chars(len) => write!(into, "C{len}"),
+        Kind::Fixed(len) => write!(into, "FIXED{len}"),
+        Kind::Bits(len) => write!(into, "BIT{len}"),
+        Kind::Chars(len) => write!(into, "CHAR{len}"),
         Kind::Clock => write!(into, "T"),
         Kind::Span => write!(into, "D"),
     }
@@ -22,11 +22,11 @@ fn put_of_kind(into: &mut String, word: &str, kind: Kind) -> Result<(), AllocErr
     put_kind(into, kind)
 }
 
-// A value with its kind, as `F31:5`, or a text between apostrophes.
+// A value with its kind, as `FIXED31:5`, or a text between apostrophes.
 fn put_value(into: &mut String, value: &Cell) -> Result<(), AllocError> {
     match value {
-        Cell::Fixed { len, value } => write!(into, "F{len}:{value}"),
-        Cell::Bits { len, value } => write!(into, "B{len}:{value}"),
+        Cell::Fixed { len, value } => write!(into, "FIXED{len}:{value}"),
+        Cell::Bits { len, value } => write!(into, "BIT{len}:{value}"),
         Cell::Chars(text) => {
             into.push('\'')?;
             for &byte in text.as_slice() {
