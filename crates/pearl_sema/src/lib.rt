@@ -1,0 +1,4 @@
+// Semaphores: their counts, and which tasks wait for which of them.
+#![tactic(auto)]
+
+pub mod semas;
