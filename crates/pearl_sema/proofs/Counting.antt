@@ -4,7 +4,7 @@ use Rattle.std.specs.List.{AllByRecursion, IsDistinct}
 use Rattle.std.proofs.Math.Seq.{drop-cons}
 use Rattle.std.proofs.lemmas.Bool.{true≢false, and_parts, eqb-false, lt-ltb, le-ltb}
 use Rattle.std.proofs.lemmas.Option.{slice_get_read}
-use Rattle.pearl_sema.specs.Counts.{count_or_zero, count_at, all_free, all_below_most, lowered, raised}
+use Rattle.pearl_rules.specs.Counts.{count_or_zero, count_at, all_free, all_below_most, lowered, raised}
 use Rattle.pearl_sema.specs.Waiting.{AreCounts}
 
 -- what stands at a place is the first of what begins there
@@ -26,7 +26,7 @@ there_at n (s ∷ list) zero there less = there.0
 there_at n (s ∷ list) (suc i) there less = there_at n list i there.1 (omega (arith, less))
 
 -- another place than the one that is written
-get_other : (xs : List ℕ) (i j v : ℕ) → i ≢ j → slice_get (set xs i v) j ≡ slice_get xs j
+pub get_other : (xs : List ℕ) (i j v : ℕ) → i ≢ j → slice_get (set xs i v) j ≡ slice_get xs j
 get_other [] i j v differ = refl
 get_other (x ∷ xs) zero zero v differ = absurd (differ refl)
 get_other (x ∷ xs) zero (suc j) v differ = refl

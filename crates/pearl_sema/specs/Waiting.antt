@@ -1,6 +1,7 @@
 -- What the calls see of semaphores: their counts, and for which of them each task waits; and which waiting task comes next.
-use Rattle.std.specs.Prelude.{◌≡◌, ℕ, ◌<◌, ◌≤◌, ◌^◌, List, [], Option, Some, None, IsTrue, length, nat_eq, slice_index_or}
+use Rattle.std.specs.Prelude.{◌≡◌, ℕ, ◌<◌, ◌≤◌, List, [], Bool, Option, Some, None, IsTrue, length, nat_eq, slice_index_or}
 use Rattle.std.specs.List.{AllByRecursion, IsDistinct, list_any}
+use Rattle.pearl_rules.specs.Tables.{IsPreset}
 
 -- the count of each semaphore; of each task the semaphores that it waits for, none where it doesn't wait
 pub record Sema : Type 0 where
@@ -14,11 +15,15 @@ pub record AreThere (counts list : List ℕ) : Type 0 where
 
 -- no count is above 2^31 - 1
 abbrev pub AreCounts : List ℕ → Type 0
-AreCounts counts = AllByRecursion (λ count. count < 2 ^ 31) counts
+AreCounts counts = AllByRecursion IsPreset counts
+
+-- whether a list names a semaphore
+abbrev pub names : List ℕ → ℕ → Bool
+names list semaphore = list_any (λ named. nat_eq named semaphore) list
 
 -- a task waits for some semaphores, and this is one of them
 abbrev pub Waits : List (List ℕ) → ℕ → ℕ → Type 0
-Waits waiting semaphore t = IsTrue (list_any (λ named. nat_eq named semaphore) (slice_index_or waiting t []))
+Waits waiting semaphore t = IsTrue (names (slice_index_or waiting t []) semaphore)
 
 -- a task comes after another, or after none
 abbrev pub IsBehind : Option ℕ → ℕ → Type 0
