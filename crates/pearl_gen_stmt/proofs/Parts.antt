@@ -8,6 +8,7 @@ use Rattle.pearl_value.specs.declared.kind.Kind.{Kind}
 use Rattle.pearl_value.specs.declared.cell.Cell.{Cell}
 use Rattle.pearl_rules.specs.declared.action.Action.{Action}
 use Rattle.pearl_rules.specs.declared.action.Answer.{Answer}
+use Rattle.pearl_stack.specs.Frames.{Frame}
 use Rattle.pearl_program.specs.PlainExpressions.{OfVariable}
 use Rattle.pearl_program.specs.PlainPrograms.{PlainRoutine, PlainProcedure, PlainTask, PlainProg}
 use Rattle.pearl_program.specs.Typing.{Around}
@@ -28,6 +29,10 @@ use Rattle.pearl_meaning.specs.Values.{eval, hand_over}
 use Rattle.pearl_meaning.specs.Transfers.{offset}
 use Rattle.pearl_meaning.specs.Execution.{exec_all}
 use Rattle.pearl_meaning.specs.Hearing.{SuitsNeed, HeardInAfter}
+use Rattle.pearl_meaning.specs.Laws.{UsesUp}
+use Rattle.pearl_meaning.proofs.ExpressionsUse.{calls_uses, eval_uses, hand_over_uses}
+use Rattle.pearl_meaning.proofs.StatementsUse.{target_uses, exec_all_uses, calls_use_up}
+use Rattle.pearl_meaning.proofs.HeardUses.{LeavesNone, heard_used}
 use Rattle.pearl_gen_expr.specs.Comes.{or_lost, Comes}
 use Rattle.pearl_gen_expr.specs.Contexts.{Standing, stack, Context, at, lowest, HasCells, IsStoreOf}
 use Rattle.pearl_gen_expr.specs.Carrying.{End, meant, Carries}
@@ -71,15 +76,22 @@ module _ (leads : RowsLead) (keeps : KeepsTask) (p : PlainProg) (o : Object) (ge
         by (Needs a) e suits others = (a, e, suits_same p o generated.tables store.task a answer suits, others)
         by (Fails trap) e suits others = absurd suits
 
-  pub part_arrives : {X : Type 0} (end : End X) (place : ℕ) (operands : List Cell) (does : Does X) → Carries o c end (at c place operands) does →
+  -- where no answer is left by what is meant none is left at the end
+  none_at : {X : Type 0} (end : End X) (answers : List Answer) (m : Outcome X) → LeavesNone m → (frames : List Frame) (rest : List Answer) →
+      (meant o c end answers m).Reached frames rest → rest ≡ []
+  none_at end answers (Value x store left) none frames rest is = is.answers ∙ none
+  none_at end answers (Needs a) none frames rest is = absurd is
+  none_at end answers (Fails trap) none frames rest is = absurd is
+
+  pub part_arrives : {X : Type 0} (end : End X) (place : ℕ) (operands : List Cell) (does : Does X) → UsesUp does → Carries o c end (at c place operands) does →
       Arrives p o c end (at c place operands) does
-  part_arrives end place operands does carries = record { over = λ store answers of is heard.
+  part_arrives end place operands does uses carries = record { over = λ store answers of is heard.
       let here : IsHere leads keeps o valid object store.task (at c place operands store) = record {
         stack = is;
         own = stack_owned o store.task (record { routine = c.routine; place = place; operands = operands }) c.callers store.frames of.cells of.task;
       } in
       arrives leads keeps o valid object store.task (Asks end place operands does store) (meant o c end answers (does store answers)) (at_stack o (meant o c end answers (does store answers)))
-      (λ frames rest here is. (is, here.stack)) (λ a is. is) answers (at c place operands store) here
+      (λ frames rest here is. (is, here.stack, none_at end answers (does store answers) (heard_used p does uses store answers heard) frames rest is)) (λ a is. is) answers (at c place operands store) here
       (λ more a e. subst (λ m. Comes o (at c place operands store) more (or_lost (meant o c end more m))) e (carries.over store more of))
       (are_heard end place operands does store [] answers heard) (carries.over store answers of) }
 
@@ -139,21 +151,24 @@ module _ (leads : RowsLead) (keeps : KeepsTask) (p : PlainProg) (o : Object) (ge
   parts_arrive : IsPlaced o c setting around (length p.procedures) → PartsArrive p o c setting around
   parts_arrive is_placed =
       let code = expressions_carry o c setting around (length p.procedures) is_placed.known in
+      let calls = calls_use_up p (length p.procedures) in
       let many : length around.procedures ≡ length p.procedures = ap length is_placed.known.stands.procedures ∙ length-map p.procedures signature_of in
       record {
         expr = λ from to e kind operands has is. let less = expr_there around e kind has in
-            part_arrives leads keeps p o generated valid object c (on_top c to operands) from operands (eval setting e)
+            part_arrives leads keeps p o generated valid object c (on_top c to operands) from operands (eval setting e) (eval_uses setting calls e)
             (code.expr from to e kind operands has (omega (arith, less, many)) is);
         call = λ from to number procedure arguments operands there suit is.
             let one = in_list p.procedures number procedure there in let two = arguments_there around arguments (params_of procedure) suit in
             part_arrives leads keeps p o generated valid object c (result_on_top c to operands procedure.result) from operands
             (values.calls setting number (λ params. hand_over setting params arguments))
+            (calls_uses setting calls number (λ params. hand_over_uses setting calls params arguments))
             (code.call from to number procedure arguments operands there suit (omega (arith, one)) (omega (arith, two, many)) is);
         offset = λ from to target bounds subscripts kind operands is stands. let less = variable_there around (OfVariable target bounds subscripts) kind is in
             part_arrives leads keeps p o generated valid object c (offset_on_top c to operands bounds) from operands (offset setting (OfVariable target bounds subscripts))
+            (target_uses setting calls (OfVariable target bounds subscripts))
             (code.offset from to target bounds subscripts kind operands is (omega (arith, less, many)) stands);
         statements = λ leave out from to statements leads_out are is. let less = stmts_there statements around are in
-            part_arrives leads keeps p o generated valid object c (ways c to out result) from [] (exec_all setting statements)
+            part_arrives leads keeps p o generated valid object c (ways c to out result) from [] (exec_all setting statements) (exec_all_uses setting calls statements)
             (statements_carry o c setting around (length p.procedures) is_placed leave out from to statements leads_out are (omega (arith, less, many)) is);
       }
 

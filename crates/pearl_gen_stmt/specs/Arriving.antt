@@ -33,12 +33,12 @@ use Rattle.pearl_gen_stmt.specs.StmtCode.{StmtsAt}
 use Rattle.pearl_gen_stmt.specs.Generated.{within_program, IsGenerated}
 use Rattle.pearl_gen_stmt.specs.Laws.{LeadsOut}
 
--- the same, where the stack that is reached is one of the object
+-- the same, where the stack that is reached is one of the object, and no answer is left there
 abbrev pub at_stack : Object → Aim → Aim
-at_stack o aim = record aim { Reached = λ frames rest. aim.Reached frames rest × IsStack o frames }
+at_stack o aim = record aim { Reached = λ frames rest. aim.Reached frames rest × IsStack o frames × (rest ≡ []) }
 
--- From a stack of the object the code does what is meant, each row being there, over all answers that the part can
--- have: it arrives at the part's end, which is a stack of the object again, or offers what the part needs, or the trap.
+-- From a stack of the object the code does what is meant, each row being there. Once it has had any answers that the part
+-- can have, it arrives at the part's end, which is a stack of the object again, or offers what the part needs, or the trap.
 pub record Arrives (p : PlainProg) (o : Object) (c : Context) {X : Type 0} (end : End X) (from : Store → List Frame)
     (does : Does X) : Type 0 where
   pub over : (store : Store) (answers : List Answer) → IsStoreOf o c store → IsStack o (from store) →

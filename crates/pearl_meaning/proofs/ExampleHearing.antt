@@ -2,18 +2,23 @@
 use Rattle.std.specs.Prelude.{◌≡◌, ℕ, pos, List, [], ◌∷◌, Some, None, codes, true, false}
 use Rattle.std.proofs.Common.{refl, arith}
 use Rattle.pearl_value.specs.declared.kind.Kind.TheVariants as kind
+use Rattle.pearl_value.specs.declared.cell.Cell.{Cell}
 use Rattle.pearl_value.specs.declared.cell.Cell.TheVariants.{Fixed, Bits, Clock}
+use Rattle.pearl_value.specs.declared.operator.Dyad.TheVariants.{Add}
 use Rattle.pearl_rules.specs.declared.action.Action.TheVariants.{Read, Try, Take, Get}
 use Rattle.pearl_rules.specs.declared.action.Answer.{Answer}
 use Rattle.pearl_rules.specs.declared.action.Answer.TheVariants.{Nothing, One, Many}
 use Rattle.pearl_rules.specs.declared.setup.Direction.TheVariants.{InOut}
 use Rattle.pearl_rules.specs.declared.setup.Device.TheVariants.{Interrupt, Terminal, Input, Output}
 use Rattle.pearl_rules.specs.declared.setup.TaskEntry.{TaskEntry}
-use Rattle.pearl_program.specs.PlainExpressions.{OfRead, OfNow}
-use Rattle.pearl_program.specs.PlainStatements.{OfAt, OfActivate, OfTake, OfTerminate}
+use Rattle.pearl_program.specs.PlainExpressions.{OfRead, OfDyadic, OfNow}
+use Rattle.pearl_program.specs.PlainStatements.{OfAt, OfActivate, OfTake, OfTerminate, NoStmts}
 use Rattle.pearl_program.specs.PlainPrograms.{PlainProg}
-use Rattle.pearl_meaning.specs.Programs.{offer}
-use Rattle.pearl_meaning.specs.Hearing.{IsOneOf, Suits, Heard}
+use Rattle.pearl_meaning.specs.Programs.{setting_of, call_within, offer}
+use Rattle.pearl_meaning.specs.Frames.{Store}
+use Rattle.pearl_meaning.specs.Evaluation.{Does}
+use Rattle.pearl_meaning.specs.Values.{eval}
+use Rattle.pearl_meaning.specs.Hearing.{IsOneOf, Suits, Heard, HeardIn}
 use Rattle.pearl_meaning.specs.ProgramRuns.{setup_of, slots_of}
 use Rattle.pearl_meaning.proofs.Examples.{number, hears, a, b, two, doing, program}
 use Rattle.pearl_meaning.proofs.ExamplePlant.{plant, degrees}
@@ -62,6 +67,22 @@ hears_no_number heard = no_clock heard.1.1.0
 hears_no_more : Heard asking 0 (hears 75 ∷ Nothing ∷ One (Clock 5) ∷ hears 9 ∷ Nothing ∷ Nothing ∷ []) → ⊥
 unfolding offer
 hears_no_more heard = heard.1.1.1.1.1.0
+
+-- a + b, in a task without own variables, hears one number for each, and then nothing
+abbrev sum : Does Cell
+sum = eval (setting_of asking (call_within asking 0) None (record { cells = []; body = NoStmts })) (OfDyadic Add (OfRead a) (OfRead b))
+
+abbrev begun : Store
+begun = record { task = 0; frames = [] ∷ [] }
+
+hears_both : HeardIn asking sum begun (hears 75 ∷ hears 9 ∷ [])
+hears_both = (number_75, (number_9, tt))
+
+hears_no_third : HeardIn asking sum begun (hears 75 ∷ hears 9 ∷ hears 9 ∷ []) → ⊥
+hears_no_third heard = heard.1.1.0
+
+hears_no_time : HeardIn asking sum begun (hears 75 ∷ One (Clock 5) ∷ []) → ⊥
+hears_no_time heard = let e = heard.1.0.same_kind in cc (e)
 
 -- TERMINATE; ends the own task, and TERMINATE task 1; another one
 hears_nothing : (answer : Answer) → Heard (doing (OfTerminate None)) 0 (answer ∷ []) → ⊥

@@ -7,6 +7,7 @@ pub mod StatementsAlike
 pub mod CallsAlike
 pub mod ExpressionsUse
 pub mod StatementsUse
+pub mod HeardUses
 mod ExampleValues
 mod ExampleLoops
 mod ExampleCalls

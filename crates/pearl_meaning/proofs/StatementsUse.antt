@@ -1,6 +1,8 @@
 -- No statement of a program gives back more answers than there were, whatever calls stand in it.
-use Rattle.std.specs.Prelude.{ℕ, zero, suc, ◌+◌, pos, ℤ, Bool, ◌&&◌, List, [], ◌∷◌, length, Option, Some, None, Result, Ok, Err, is_some, option_map, unsigned_abs, slice_get}
+use Rattle.std.specs.Prelude.{ℕ, zero, suc, ◌+◌, pos, ℤ, Bool, ◌&&◌, List, [], ◌∷◌, ◌++◌, length, Option, Some, None, Result, Ok, Err, is_some, option_map, unsigned_abs, slice_get}
 use Rattle.std.specs.Ordering.{int_eq}
+use Rattle.std.proofs.Common.{subst, arith}
+use Rattle.std.proofs.lemmas.List.{length-append}
 use Rattle.pearl_value.specs.declared.kind.Kind.{Kind}
 use Rattle.pearl_value.specs.declared.cell.Cell.{Cell}
 use Rattle.pearl_value.specs.declared.cell.Cell.TheVariants.{Fixed}
@@ -20,9 +22,9 @@ use Rattle.pearl_meaning.specs.Schedules.{acts, start_of, once_of, with_end, rep
 use Rattle.pearl_meaning.specs.Transfers.{puts_text, delivers, assigns, takes, offset, keep_offsets, kept_reference, write_targets, kinds_of, gets}
 use Rattle.pearl_meaning.specs.Execution.{on_flow, acts_on, terminates, returns, alternative, chosen, exec, exec_all, exec_nth}
 use Rattle.pearl_meaning.specs.Programs.{result_at_end, result_of, call_within}
-use Rattle.pearl_meaning.specs.Laws.{UsesUp, StatementsUseUp, standing, LoopsTurn}
+use Rattle.pearl_meaning.specs.Laws.{GoesOn, UsesUp, StatementsUseUp, standing, LoopsTurn}
 use Rattle.pearl_meaning.proofs.Uses.{bind_uses, next_uses, gives_uses, fails_uses, ask_uses, stop_uses, value_uses, given_uses, either_uses, own_cell_uses, own_task_uses, put_cell_uses, put_cells_uses, push_frame_uses, drop_frame_uses}
-use Rattle.pearl_meaning.proofs.Turning.{turns_again}
+use Rattle.pearl_meaning.proofs.Turning.{same_turns, turns_again}
 use Rattle.pearl_meaning.proofs.ExpressionsUse.{CallsUse, convert_uses, offset_uses, reference_uses, write_uses, calls_uses, eval_uses, taken_uses, all_use, hand_over_uses}
 
 -- LOOPS
@@ -60,7 +62,13 @@ turns_use (suc n) asks does counts = turn_uses asks does counts (turns_use n ask
 
 repeats_uses : {more advance : Does Bool} {statements : Does Flow} → UsesUp more → UsesUp statements → UsesUp advance →
     UsesUp (repeats more statements advance)
-repeats_uses asks does counts = record { leaves = λ store rest. (turns_use (length rest) asks does counts).leaves store rest }
+repeats_uses {more = asking} {advance = advance} {statements = statements} asks does counts = record {
+  leaves = λ store rest. (turns_use (length rest) asks does counts).leaves store rest;
+  goes_on = λ store rest more. let long = length-append rest more in
+      subst (λ o. GoesOn more o (repeats asking statements advance store (rest ++ more)))
+      (same_turns asking statements advance asks does counts (length (rest ++ more)) (length rest) (length rest) (omega (arith, long)) (omega arith) store rest (omega arith))
+      ((turns_use (length (rest ++ more)) asks does counts).goes_on store rest more);
+}
 
 -- SINGLE STATEMENTS
 
@@ -165,7 +173,7 @@ module _ (setting : Setting) (calls_use : CallsUse setting) where
   takes_uses : (target : PlainVariable) (device : ℕ) → UsesUp (takes setting target device)
   takes_uses target device = bind_uses (taken_uses setting calls_use target) (λ to. bind_uses value_uses (λ x. delivers_uses target to x))
 
-  target_uses : (target : PlainVariable) → UsesUp (offset setting target)
+  pub target_uses : (target : PlainVariable) → UsesUp (offset setting target)
   target_uses (OfVariable target bounds subscripts) =
       bind_uses (all_use setting calls_use subscripts) (λ xs. offset_uses (elements_before bounds xs))
 

@@ -54,7 +54,7 @@ module _ (more : Does Bool) (statements : Does Flow) (advance : Does Bool)
   same_turn count again other same store (answer ∷ rest) less =
       same_bind count more (inside again) (inside other) asks (same_inside count again other same) store rest (omega (arith, less))
 
-  same_turns : (n k count : ℕ) → count ≤ n → count ≤ k → SameWithin count (turns n more statements advance) (turns k more statements advance)
+  pub same_turns : (n k count : ℕ) → count ≤ n → count ≤ k → SameWithin count (turns n more statements advance) (turns k more statements advance)
   same_turns zero zero count small few store rest less = refl
   same_turns zero (suc k) count small few store [] less = refl
   same_turns zero (suc k) count small few store (answer ∷ rest) less = absurd (omega (arith, small, less))

@@ -1,6 +1,6 @@
 -- What holds of loops and calls: a loop is a turn and then the same loop again, since no statement gives back more answers than there
--- were, and a call is what its procedure's statements do, in which calls mean the same.
-use Rattle.std.specs.Prelude.{◌≡◌, ℕ, ◌<◌, ◌≤◌, List, length, Option, Some, slice_get}
+-- were; over more answers a statement does the same; and a call is what its procedure's statements do, in which calls mean the same.
+use Rattle.std.specs.Prelude.{◌≡◌, ℕ, ◌<◌, ◌≤◌, List, ◌++◌, length, Option, Some, slice_get}
 use Rattle.pearl_value.specs.declared.kind.Kind.{Kind}
 use Rattle.pearl_value.specs.declared.cell.Cell.{Cell}
 use Rattle.pearl_rules.specs.declared.action.Answer.{Answer}
@@ -21,14 +21,29 @@ LeavesNoMore rest (Value x store left) = length left ≤ length rest
 LeavesNoMore rest (Needs action) = Unit {0}
 LeavesNoMore rest (Fails trap) = Unit {0}
 
+-- fewer answers are left than these
+abbrev pub LeavesFewer : {X : Type 0} → List Answer → Outcome X → Type 0
+LeavesFewer more (Value x store left) = length left < length more
+LeavesFewer more (Needs action) = Unit {0}
+LeavesFewer more (Fails trap) = Unit {0}
+
+-- What was done without these answers, and then with them behind the others: it is the same, and they are left; or an answer was needed,
+-- and one of them is used.
+abbrev pub GoesOn : {X : Type 0} → List Answer → (without having : Outcome X) → Type 0
+GoesOn more (Value x store left) having = having ≡ Value x store (left ++ more)
+GoesOn more (Needs action) having = LeavesFewer more having
+GoesOn more (Fails trap) having = having ≡ Fails trap
+
+-- answers are used up one after the other
 pub record UsesUp {X : Type 0} (does : Does X) : Type 0 where
   pub leaves : (store : Store) (rest : List Answer) → LeavesNoMore rest (does store rest)
+  pub goes_on : (store : Store) (rest more : List Answer) → GoesOn more (does store rest) (does store (rest ++ more))
 
 -- where statements of a program stand, in whatever routine
 abbrev pub standing : PlainProg → (depth : ℕ) → Option Kind → PlainRoutine → Setting
 standing p depth result routine = setting_of p (call_within p depth) result routine
 
--- no statement gives back more answers than there were
+-- no statement gives back more answers than there were, and over more answers each does the same
 abbrev pub StatementsUseUp : Type 0
 StatementsUseUp = (p : PlainProg) (depth : ℕ) (result : Option Kind) (routine : PlainRoutine) (statements : PlainStmts) →
     UsesUp (exec_all (standing p depth result routine) statements)

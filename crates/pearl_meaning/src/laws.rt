@@ -2,7 +2,8 @@
 
 ghost use Rattle.pearl_meaning.specs.Laws.{CallsRun, LoopsTurn, StatementsUseUp};
 
-/// No statement gives back more answers than there were.
+/// No statement gives back more answers than there were. With more answers behind these each does the same and leaves them,
+/// or, where it needed an answer, uses one of them.
 pub fn statements_use_up()
     ensures { StatementsUseUp }
 {}
