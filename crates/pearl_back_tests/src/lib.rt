@@ -1,5 +1,7 @@
-// Tests of the lines that a run and a refusal write.
+// Tests of what a journal's lines mean, and of the lines that a run and a refusal write.
 #![tactic(auto)]
 
+#[cfg(test)]
+mod journal;
 #[cfg(test)]
 mod lines;

@@ -1,8 +1,10 @@
 -- An accepted entry can come where it is read.
-use Rattle.std.proofs.Common.{◌≡◌, ◌<◌, ◌≤◌, ◌^◌, ℕ, ◌+◌, ◌*◌, ◌-◌, List, [], ◌∷◌, Bool, true, false, length, refl, lit<, nat_lt, subst, sym}
+use Rattle.std.proofs.Common.{◌≡◌, ◌<◌, ◌≤◌, ◌^◌, ℕ, ◌&&◌, List, [], ◌∷◌, Bool, true, false, length, refl, lit<, nat_lt, subst, sym}
 use Rattle.std.proofs.lemmas.Bool.{ltb-true}
 use Rattle.std.specs.Prelude.{Option, Some, None, Result, Ok, Err, IfSome, IfOk, codes, bytes_eq, nat_le, if◌then◌else◌}
 use Rattle.std.specs.List.{before_first, position_or_len}
+use Rattle.std.specs.Str.{all_ascii_digits}
+use Rattle.std.specs.Str.Parse.{digits_value}
 use Rattle.pearl_rules.specs.declared.entry.Entry.{Entry}
 use Rattle.pearl_rules.specs.declared.entry.Entry.TheVariants as entry
 use Rattle.pearl_rules.specs.declared.setup.Setup.{Setup}
@@ -12,7 +14,7 @@ use Rattle.pearl_journal.specs.declared.limits.TheConstants.{LAST_MOMENT, LINE_L
 use Rattle.pearl_journal.specs.declared.reading.Line.{Line}
 use Rattle.pearl_journal.specs.declared.reading.Line.TheVariants.{Blank, Item, Wrong}
 use Rattle.pearl_journal.specs.Lines.{without_return}
-use Rattle.pearl_journal.specs.Words.{is_blank, is_digit, behind_blanks, before_blanks, behind_word, limited, followed, and_then, number, number_from, task_named}
+use Rattle.pearl_journal.specs.Words.{is_blank, behind_blanks, before_blanks, behind_word, limited, number, task_named}
 use Rattle.pearl_journal.specs.Readings.{Reading, EntryFits, moment_after}
 use Rattle.pearl_journal.specs.Meaning.{entry_of, found_or, is_skipped, line_of, meaning, run_entry, state_entry, text_meaning, turn_entry}
 use Rattle.pearl_journal.specs.Entries.{IfItem}
@@ -25,24 +27,12 @@ either_some : (test : Bool) (o : Option ℕ) (P : ℕ → Type 0) → IfSome o P
 either_some true o P h = h
 either_some false o P h = tt
 
-followed-below : (n byte : ℕ) → IfSome (followed n byte) (λ m. m < 2 ^ 63)
-followed-below n byte =
-    let next = n * 10 + (byte - 48) in
-    either_some (is_digit byte) (limited next) (λ m. m < 2 ^ 63) (some_if (nat_lt next (2 ^ 63)) next (λ m. m < 2 ^ 63) (ltb-true next (2 ^ 63)))
-
-and_then-below : (o : Option ℕ) (go : ℕ → Option ℕ) (P : ℕ → Type 0) → IfSome o P → ((m : ℕ) → P m → IfSome (go m) P) → IfSome (and_then o go) P
-and_then-below None go P h more = tt
-and_then-below (Some m) go P h more = more m h
-
-number_from-below : (n : ℕ) (bytes : List ℕ) → n < 2 ^ 63 → IfSome (number_from n bytes) (λ m. m < 2 ^ 63)
-number_from-below n [] below = below
-number_from-below n (byte ∷ bytes) below =
-    and_then-below (followed n byte) (λ m. number_from m bytes) (λ m. m < 2 ^ 63) (followed-below n byte) (λ m h. number_from-below m bytes h)
-
 -- a number is below 2^63
-pub number-below : (bytes : List ℕ) → IfSome (number bytes) (λ m. m < 2 ^ 63)
+pub number-below : (text : List ℕ) → IfSome (number text) (λ n. n < 2 ^ 63)
 number-below [] = tt
-number-below (byte ∷ bytes) = number_from-below 0 (byte ∷ bytes) (lit< tt)
+number-below (byte ∷ bytes) =
+    let n = digits_value 10 (byte ∷ bytes) in
+    either_some (all_ascii_digits (byte ∷ bytes)) (limited n) (λ m. m < 2 ^ 63) (some_if (nat_lt n (2 ^ 63)) n (λ m. m < 2 ^ 63) (ltb-true n (2 ^ 63)))
 
 -- the task of a name is one of the tasks
 pub task_named-within : (tasks : List TaskEntry) (name : List ℕ) → IfSome (task_named tasks name) (λ task. task < length tasks)

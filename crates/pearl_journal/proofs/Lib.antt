@@ -1,2 +1,5 @@
 pub mod JournalLaws
 pub mod FitLaws
+pub mod NumberLaws
+pub mod BlankLaws
+pub mod MeaningLaws

@@ -8,3 +8,5 @@ pub mod Readings
 pub mod Meaning
 -- which entries a journal has, read from left to right
 pub mod Entries
+-- what lines say that are written otherwise, and which lines are skipped
+pub mod Laws

@@ -1,6 +1,9 @@
 -- Which words a line has, and which of them are numbers and names.
-use Rattle.std.specs.Prelude.{ℕ, ◌+◌, ◌-◌, ◌*◌, ◌^◌, List, [], ◌∷◌, Bool, Option, Some, None, length, take, drop, nat_lt, nat_le, ◌==◌, ◌&&◌, ◌||◌, if◌then◌else◌, bytes_eq}
+use Rattle.std.specs.Prelude.{ℕ, ◌+◌, ◌-◌, ◌*◌, ◌^◌, List, [], ◌∷◌, Bool, Option, Some, None, length, take, drop, nat_lt, ◌==◌, ◌||◌, if◌then◌else◌, bytes_eq}
+use Rattle.std.specs.Char.{digit_value, is_ascii_digit}
 use Rattle.std.specs.List.{prefix_len, suffix_len, after_first, position}
+use Rattle.std.specs.Str.{all_ascii_digits}
+use Rattle.std.specs.Str.Parse.{digits_value}
 use Rattle.pearl_rules.specs.declared.setup.TaskEntry.{TaskEntry}
 
 -- WORDS
@@ -23,28 +26,17 @@ behind_word text = behind_blanks (after_first is_blank text)
 
 -- NUMBERS
 
-abbrev pub is_digit : ℕ → Bool
-is_digit byte = nat_le 48 byte && nat_le byte 57
-
 abbrev pub limited : ℕ → Option ℕ
 limited n = if nat_lt n (2 ^ 63) then Some n else None
-
--- a number with one more digit behind it, at most 2^63 - 1
-abbrev pub followed : ℕ → ℕ → Option ℕ
-followed n byte = if is_digit byte then limited (n * 10 + (byte - 48)) else None
-
-abbrev pub and_then : Option ℕ → (ℕ → Option ℕ) → Option ℕ
-and_then None go = None
-and_then (Some n) go = go n
-
-abbrev pub number_from : ℕ → List ℕ → Option ℕ
-number_from n [] = Some n
-number_from n (byte ∷ bytes) = and_then (followed n byte) (λ m. number_from m bytes)
 
 -- the number that digits spell in decimal, at most 2^63 - 1
 abbrev pub number : List ℕ → Option ℕ
 number [] = None
-number (byte ∷ bytes) = number_from 0 (byte ∷ bytes)
+number (byte ∷ bytes) = if all_ascii_digits (byte ∷ bytes) then limited (digits_value 10 (byte ∷ bytes)) else None
+
+-- a number with one more digit behind it, at most 2^63 - 1
+abbrev pub followed : ℕ → ℕ → Option ℕ
+followed n byte = if is_ascii_digit byte then limited (n * 10 + digit_value byte) else None
 
 -- NAMES
 

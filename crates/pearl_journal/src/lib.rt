@@ -4,6 +4,7 @@
 #![tactic(auto)]
 
 mod forms;
+pub mod laws;
 mod limits;
 pub mod lines;
 pub mod reading;

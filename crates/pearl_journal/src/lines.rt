@@ -35,14 +35,8 @@ fn line_length(bytes: &[u8]) -> usize
 pub(crate) fn without_return(line: &[u8]) -> &[u8]
     ensures { result.now ≡ line_without_return line.now }
 {
-    match line.split_last() {
-        Some((last, front)) => {
-            if *last == b'\r' {
-                front
-            } else {
-                line
-            }
-        }
-        None => line,
-    }
+    let Some((last, front)) = line.split_last() else {
+        return line;
+    };
+    if *last == b'\r' { front } else { line }
 }

@@ -1,5 +1,6 @@
 use Rattle.std.proofs.Common.{◌≡◌, ◌<◌, ◌^◌, drop}
-use Rattle.pearl_journal.specs.Words.{number, number_from}
+use Rattle.pearl_journal.specs.Words.{number}
+use Rattle.pearl_journal.proofs.NumberLaws.{number_from}
 use Rattle.pearl_journal.proofs.words.number_of.Given as goal
 
 abbrev pub invariant-loop-digit : goal.invariant-loop-digit
