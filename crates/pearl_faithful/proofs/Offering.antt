@@ -11,7 +11,8 @@ use Rattle.pearl_gen_expr.proofs.Moves.{ComesFrom, further}
 use Rattle.pearl_gen_stmt.specs.Offering.{OffersAfter}
 
 module _ (o : Object) (frames : List Frame) where
-  onward : (step : Step) (rest : List Answer) (action : Action) → row o frames ≡ step → OffersAfter o frames rest action → ComesFrom o step rest (offers action)
+  onward : (step : Step) (rest : List Answer) (action : Action) → row o frames ≡ step → OffersAfter o frames rest action →
+      ComesFrom o step rest (offers action)
   onward step rest action e comes = further o frames step rest (offers action) (λ is. is) e comes
 
   pub offers_next : (next : List Frame) (rest : List Answer) (action : Action) → row o frames ≡ Silent next → OffersAfter o frames rest action →

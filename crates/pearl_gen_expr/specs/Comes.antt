@@ -24,7 +24,8 @@ offers action = record { Reached = λ frames rest. ⊥; Offered = λ offered. of
 abbrev pub or_lost : Aim → Aim
 or_lost aim = record aim { Lost = Unit {0} }
 
--- An action that is offered once no answer is left is the right one; else this holds of the stack that is left, and of the answers that are.
+-- An action that is offered once no answer is left is the right one; else this holds of the stack that is left, and of the
+-- answers that are.
 abbrev pub Onward : Aim → (List Frame → List Answer → Type 0) → Step → List Answer → Type 0
 Onward aim goes (Silent frames) rest = goes frames rest
 Onward aim goes (Offers offered go) [] = aim.Offered offered

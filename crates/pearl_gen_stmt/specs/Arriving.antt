@@ -37,12 +37,13 @@ use Rattle.pearl_gen_stmt.specs.Laws.{LeadsOut}
 abbrev pub at_stack : Object → Aim → Aim
 at_stack o aim = record aim { Reached = λ frames rest. aim.Reached frames rest × IsStack o frames × (rest ≡ []) }
 
--- From a stack of the object the code does what is meant, each row being there. Once it has had any answers that the part
--- can have, it arrives at the part's end, which is a stack of the object again, or offers what the part needs, or the trap.
+-- From a stack of the object the code does what is meant, each row being there. Over any answers that the part can have
+-- it arrives at the part's end, which is a stack of the object again, or offers what the part needs, or the trap.
 pub record Arrives (p : PlainProg) (o : Object) (c : Context) {X : Type 0} (end : End X) (from : Store → List Frame)
     (does : Does X) : Type 0 where
   pub over : (store : Store) (answers : List Answer) → IsStoreOf o c store → IsStack o (from store) →
-      HeardIn p does store answers → Comes o (from store) answers (at_stack o (meant o c end answers (does store answers)))
+      HeardIn p does store answers →
+      Comes o (from store) answers (at_stack o (meant o c end answers (does store answers)))
 
 -- a routine of the program, by its number in the object: that of a procedure, with what RETURNS says, or that of a task
 abbrev pub IsRoutineOf : PlainProg → Object → (number : ℕ) → (returns : Option (Option Kind)) → PlainRoutine → Type 0
@@ -58,7 +59,8 @@ result_of None = None
 result_of (Some result) = result
 
 -- what stands around a part of a routine, within loops with these control variables or within none
-abbrev pub around_part : PlainProg → PlainRoutine → Option (Option Kind) → (controls : List ℕ) → (in_loop : Bool) → Around
+abbrev pub around_part : PlainProg → PlainRoutine → Option (Option Kind) → (controls : List ℕ) → (in_loop : Bool) →
+    Around
 around_part p routine returns controls in_loop =
     record (around_of p routine returns) { controls = controls; in_loop = in_loop }
 
@@ -66,7 +68,8 @@ module _ (p : PlainProg) (o : Object) (c : Context) (setting : Setting) (around 
   -- an expression's code arrives behind it, with its value on the operands
   abbrev pub ExprArrives : Type 0
   ExprArrives = (from to : ℕ) (e : PlainExpr) (kind : Kind) (operands : List Cell) → HasKind around e kind →
-      ExprAt p (code_of o c.routine) from e to → Arrives p o c (on_top c to operands) (at c from operands) (eval setting e)
+      ExprAt p (code_of o c.routine) from e to →
+      Arrives p o c (on_top c to operands) (at c from operands) (eval setting e)
 
   -- a call's code arrives behind the call, with the result on the operands, if there is one
   abbrev pub CallArrives : Type 0
@@ -99,6 +102,6 @@ pub record PartsArrive (p : PlainProg) (o : Object) (c : Context) (setting : Set
 -- in a valid object that a sound program becomes, in each of its routines
 abbrev pub CodeArrives : Type 0
 CodeArrives = (p : PlainProg) (o : Object) → IsSound p → IsGenerated p o → IsValid o → IsObject o →
-    (c : Context) (returns : Option (Option Kind)) (routine : PlainRoutine) → IsRoutineOf p o c.routine returns routine →
-    (controls : List ℕ) (in_loop : Bool) →
+    (c : Context) (returns : Option (Option Kind)) (routine : PlainRoutine) →
+    IsRoutineOf p o c.routine returns routine → (controls : List ℕ) (in_loop : Bool) →
     PartsArrive p o c (within_program p (result_of returns) routine) (around_part p routine returns controls in_loop)

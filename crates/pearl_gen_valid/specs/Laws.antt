@@ -29,6 +29,6 @@ GeneratedOffers = (p : PlainProg) (o : Object) → IsSound p → IsGenerated p o
 -- wherever sound parts of a routine stand, their code arrives at what they mean
 abbrev pub GeneratedArrives : Type 0
 GeneratedArrives = (p : PlainProg) (o : Object) → IsSound p → IsGenerated p o → length o.formats < 2 ^ 32 →
-    (c : Context) (returns : Option (Option Kind)) (routine : PlainRoutine) → IsRoutineOf p o c.routine returns routine →
-    (controls : List ℕ) (in_loop : Bool) →
+    (c : Context) (returns : Option (Option Kind)) (routine : PlainRoutine) →
+    IsRoutineOf p o c.routine returns routine → (controls : List ℕ) (in_loop : Bool) →
     PartsArrive p o c (within_program p (result_of returns) routine) (around_part p routine returns controls in_loop)

@@ -27,17 +27,20 @@ none_of_one answer (Fails trap) few = tt
 
 module _ (p : PlainProg) {X : Type 0} (does : Does X) (uses : UsesUp does) (store : Store) where
   -- where an answer is needed it is used
-  used : (answer : Answer) (o having : Outcome X) → GoesOn (answer ∷ []) o having → SuitsNeed p store.task o answer → LeavesNone having
+  used : (answer : Answer) (o having : Outcome X) → GoesOn (answer ∷ []) o having → SuitsNeed p store.task o answer →
+      LeavesNone having
   used answer (Value x after left) having same suits = absurd suits
   used answer (Needs action) having less suits = none_of_one answer having less
   used answer (Fails trap) having same suits = absurd suits
 
-  all_used : (before answers : List Answer) → LeavesNone (does store before) → HeardInAfter p does store before answers → LeavesNone (does store (before ++ answers))
+  all_used : (before answers : List Answer) → LeavesNone (does store before) →
+      HeardInAfter p does store before answers → LeavesNone (does store (before ++ answers))
   all_used before [] none heard = subst (λ answers. LeavesNone (does store answers)) (sym (append-nil before)) none
   all_used before (answer ∷ answers) none heard =
       subst (λ answers. LeavesNone (does store answers)) (append_assoc before (answer ∷ []) answers)
       (all_used (before ++ answer ∷ []) answers
-      (used answer (does store before) (does store (before ++ answer ∷ [])) (uses.goes_on store before (answer ∷ [])) heard.0) heard.1)
+      (used answer (does store before) (does store (before ++ answer ∷ [])) (uses.goes_on store before (answer ∷ []))
+      heard.0) heard.1)
 
   pub heard_used : (answers : List Answer) → HeardIn p does store answers → LeavesNone (does store answers)
   heard_used answers heard = all_used [] answers (none_of (does store []) (uses.leaves store [])) heard

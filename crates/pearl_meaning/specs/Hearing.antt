@@ -1,4 +1,4 @@
--- Which answers suit an action, and which answers a task can have since its start, or a part of a program since it began.
+-- Which answers suit an action, and which a task can have since its start, or a part of a program since it began.
 use Rattle.std.specs.Prelude.{◌≡◌, ◌≢◌, ℕ, ◌-◌, nat_lt, if◌then◌else◌, List, [], ◌∷◌, ◌++◌, Option, Some, None, slice_get}
 use Rattle.std.specs.List.{AllZip}
 use Rattle.pearl_value.specs.declared.kind.Kind.{Kind}

@@ -27,8 +27,8 @@ LeavesFewer more (Value x store left) = length left < length more
 LeavesFewer more (Needs action) = Unit {0}
 LeavesFewer more (Fails trap) = Unit {0}
 
--- What was done without these answers, and then with them behind the others: it is the same, and they are left; or an answer was needed,
--- and one of them is used.
+-- What was done without these answers, and then with them behind the others: it is the same, and they are left; or an
+-- answer was needed, and one of them is used.
 abbrev pub GoesOn : {X : Type 0} → List Answer → (without having : Outcome X) → Type 0
 GoesOn more (Value x store left) having = having ≡ Value x store (left ++ more)
 GoesOn more (Needs action) having = LeavesFewer more having
