@@ -43,7 +43,7 @@ fn task(name: &[u8]) -> TaskEntry {
     entry
 }
 
-// Five tasks. Two have one name, which an object may have, one the longest name, and one a word's letters in lower case.
+// Five tasks. Two have one name, as an object's may, one the longest name, and one that of a word in small letters.
 fn five_tasks(alloc: Global) -> Result<Setup, AllocError>
     ensures { IfOk result (λ setup. length setup.tasks ≡ 5) }
 {

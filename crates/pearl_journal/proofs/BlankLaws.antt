@@ -1,10 +1,9 @@
 -- Blanks at the ends of texts and between words.
-use Rattle.std.proofs.Common.{◌≡◌, ◌≢◌, ◌≤◌, ℕ, ◌+◌, ◌-◌, List, [], ◌∷◌, ◌++◌, Bool, true, false, length, take, drop, reverse, cond, not, ◌⊎◌, inl, inr, refl, ap, sym, ◌∙◌, subst, arith, add-one}
+use Rattle.std.proofs.Common.{◌≡◌, ◌≢◌, ◌≤◌, ℕ, ◌+◌, ◌-◌, List, [], ◌∷◌, ◌++◌, Bool, true, false, length, take, drop, reverse, cond, ◌⊎◌, inl, inr, refl, ap, sym, ◌∙◌, arith, add-one}
 use Rattle.std.proofs.lemmas.List.{append_assoc, append-nil, reverse-append, length-reverse, take_all, take-append-le}
-use Rattle.std.proofs.lemmas.List.Sums.{suffix_len-le-length}
 use Rattle.std.specs.List.{AllByRecursion, after_first, before_first, position_or_len, prefix_len, suffix_len}
-use Rattle.pearl_journal.specs.Words.{is_blank, behind_blanks, before_blanks, behind_word}
-use Rattle.pearl_journal.specs.Laws.{IsBare, IsGap, IsWord}
+use Rattle.pearl_journal.specs.Words.{is_blank, behind_blanks, before_blanks}
+use Rattle.pearl_journal.specs.Laws.{IsGap}
 
 drop-more : (n byte : ℕ) (bytes : List ℕ) → drop (1 + n) (byte ∷ bytes) ≡ drop n bytes
 drop-more n byte bytes = let e : 1 + n ≡ n + 1 = omega arith in rw (e, add-one n) refl
@@ -55,13 +54,13 @@ before_blanks-gap text (byte ∷ gap) h =
 has_last : (text : List ℕ) → (text ≡ []) ⊎ ((front : List ℕ) × (last : ℕ) × (text ≡ front ++ last ∷ []))
 has_last [] = inl refl
 has_last (byte ∷ rest) = elim (has_last rest) [
-  inl e ↦ inr ([], byte, ap (λ bytes. byte ∷ bytes) e)
+  | inl e ↦ inr ([], byte, ap (λ bytes. byte ∷ bytes) e)
   | inr h ↦ inr (byte ∷ h.0, h.1, ap (λ bytes. byte ∷ bytes) h.2)
 ]
 
 pub before_blanks-bare : (text : List ℕ) → ((front : List ℕ) (byte : ℕ) → text ≡ front ++ byte ∷ [] → is_blank byte ≡ false) → before_blanks text ≡ text
 before_blanks-bare text h = elim (has_last text) [
-  inl e ↦ ap before_blanks e ∙ sym e
+  | inl e ↦ ap before_blanks e ∙ sym e
   | inr l ↦ ap before_blanks l.2 ∙ before_blanks-solid l.0 l.1 (h l.0 l.1 l.2) ∙ sym l.2
 ]
 
@@ -95,7 +94,7 @@ after_first-word (byte ∷ word) rest solid stops =
 pub before_blanks-behind : (before text : List ℕ) → text ≢ [] → ((front : List ℕ) (byte : ℕ) → text ≡ front ++ byte ∷ [] → is_blank byte ≡ false) →
     before_blanks (before ++ text) ≡ before ++ text
 before_blanks-behind before text some ends = elim (has_last text) [
-  inl e ↦ absurd (some e)
+  | inl e ↦ absurd (some e)
   | inr l ↦ let whole : before ++ text ≡ before ++ l.0 ++ l.1 ∷ [] = ap (λ bytes. before ++ bytes) l.2 ∙ sym (append_assoc before l.0 (l.1 ∷ [])) in
       ap before_blanks whole ∙ before_blanks-solid (before ++ l.0) l.1 (ends l.0 l.1 l.2) ∙ sym whole
 ]
@@ -113,7 +112,7 @@ stops_before : (bytes : List ℕ) (byte : ℕ) → is_blank byte ≡ false → p
 stops_before [] byte h = rw (h) (omega arith)
 stops_before (b ∷ bytes) byte h =
     let less : cond (is_blank b) (1 + prefix_len is_blank (bytes ++ byte ∷ [])) 0 ≤ length bytes + 1 =
-        at_most (is_blank b) (prefix_len is_blank (bytes ++ byte ∷ [])) (length bytes) (stops_before bytes byte h) in omega (arith, less)
+    at_most (is_blank b) (prefix_len is_blank (bytes ++ byte ∷ [])) (length bytes) (stops_before bytes byte h) in omega (arith, less)
   where
     at_most : (test : Bool) (m n : ℕ) → m ≤ n → cond test (1 + m) 0 ≤ n + 1
     at_most true m n le = omega arith

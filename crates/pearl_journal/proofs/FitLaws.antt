@@ -1,5 +1,5 @@
 -- An accepted entry can come where it is read.
-use Rattle.std.proofs.Common.{◌≡◌, ◌<◌, ◌≤◌, ◌^◌, ℕ, ◌&&◌, List, [], ◌∷◌, Bool, true, false, length, refl, lit<, nat_lt, subst, sym}
+use Rattle.std.proofs.Common.{◌≡◌, ◌<◌, ◌≤◌, ◌^◌, ℕ, List, [], ◌∷◌, Bool, true, false, length, refl, nat_lt, subst, sym}
 use Rattle.std.proofs.lemmas.Bool.{ltb-true}
 use Rattle.std.specs.Prelude.{Option, Some, None, Result, Ok, Err, IfSome, IfOk, codes, bytes_eq, nat_le, if◌then◌else◌}
 use Rattle.std.specs.List.{before_first, position_or_len}

@@ -1,14 +1,12 @@
 -- What lines mean that are written otherwise, and which lines are skipped.
-use Rattle.std.proofs.Common.{◌≡◌, ◌≢◌, ◌≤◌, ◌<◌, ℕ, ◌+◌, List, [], ◌∷◌, ◌++◌, Bool, true, false, length, drop, refl, ap, sym, ◌∙◌, subst, arith, inl, inr}
+use Rattle.std.proofs.Common.{◌≡◌, ◌≢◌, ◌≤◌, ◌<◌, ℕ, List, [], ◌∷◌, ◌++◌, false, length, drop, refl, ap, sym, ◌∙◌, subst, arith, inl, inr}
 use Rattle.std.proofs.lemmas.Bool.{ne_eqb, le-leb}
 use Rattle.std.proofs.lemmas.Bool.Decides.{leb_tells}
 use Rattle.std.proofs.lemmas.List.{append_assoc, append-nil}
-use Rattle.std.specs.Prelude.{Ok, Err, nat_le}
-use Rattle.std.specs.List.{after_first, before_first}
+use Rattle.std.specs.List.{before_first}
 use Rattle.pearl_rules.specs.declared.setup.Setup.{Setup}
 use Rattle.pearl_journal.specs.declared.limits.TheConstants.{LINE_LIMIT, NO_FORM}
-use Rattle.pearl_journal.specs.declared.reading.Line.{Line}
-use Rattle.pearl_journal.specs.declared.reading.Line.TheVariants.{Blank, Item, Wrong}
+use Rattle.pearl_journal.specs.declared.reading.Line.TheVariants.{Blank, Wrong}
 use Rattle.pearl_journal.specs.Lines.{without_return}
 use Rattle.pearl_journal.specs.Words.{is_blank, behind_blanks, before_blanks, behind_word}
 use Rattle.pearl_journal.specs.Readings.{Reading}
@@ -43,7 +41,7 @@ meaning-within setup reading line h short = ap (meaning_within setup reading) (w
 
 above_if : (setup : Setup) (reading : Reading) (line : List ℕ) → LINE_LIMIT < length line → meaning_within setup reading line ≡ Wrong NO_FORM
 above_if setup reading line long = elim (leb_tells (length line) LINE_LIMIT) [
-  inl h ↦ absurd (omega (arith, h.1))
+  | inl h ↦ absurd (omega (arith, h.1))
   | inr h ↦ rw (h.0) refl
 ]
 
@@ -77,7 +75,7 @@ pub comments_skipped : (setup : Setup) (reading : Reading) (line : List ℕ) →
 comments_skipped setup reading line comment h short =
     let begins : behind_blanks (35 ∷ comment.rest) ≡ 35 ∷ comment.rest = behind_blanks-bare (35 ∷ comment.rest) (λ byte rest e. cc) in
     let text : behind_blanks line ≡ 35 ∷ comment.rest =
-        ap behind_blanks comment.spelled ∙ behind_blanks-gap comment.front (35 ∷ comment.rest) comment.is_gap ∙ begins in
+    ap behind_blanks comment.spelled ∙ behind_blanks-gap comment.front (35 ∷ comment.rest) comment.is_gap ∙ begins in
     meaning-within setup reading line h short ∙ ap (λ bytes. text_meaning setup reading (before_blanks bytes)) text ∙ comment_text setup reading comment.rest
 
 -- WORDS
@@ -118,7 +116,7 @@ with_back : (setup : Setup) (reading : Reading) (word gap text back : List ℕ) 
 with_back setup reading word gap [] back h is_gap is_back bare parted =
     let ends : before_blanks word ≡ word = before_blanks-behind [] word h.some (λ front byte e. solid_last front byte (subst IsSolid e h.solid)) in
     let text : before_blanks (word ++ (gap ++ back)) ≡ word =
-        ap before_blanks (sym (append_assoc word gap back)) ∙ before_blanks-gap (word ++ gap) back is_back ∙ before_blanks-gap word gap is_gap ∙ ends in
+    ap before_blanks (sym (append_assoc word gap back)) ∙ before_blanks-gap (word ++ gap) back is_back ∙ before_blanks-gap word gap is_gap ∙ ends in
     ap (text_meaning setup reading) (text ∙ sym (append-nil word)) ∙ lone_word_says setup reading word h
 with_back setup reading word gap (byte ∷ rest) back h is_gap is_back bare parted =
     let spoken = byte ∷ rest in
@@ -126,8 +124,8 @@ with_back setup reading word gap (byte ∷ rest) back h is_gap is_back bare part
     let some : gap ≢ [] = λ e. none (parted e) in
     let whole : word ++ (gap ++ (spoken ++ back)) ≡ word ++ gap ++ spoken ++ back = sym (append_assoc (word ++ gap) spoken back ∙ append_assoc word gap (spoken ++ back)) in
     let text : before_blanks (word ++ (gap ++ (spoken ++ back))) ≡ word ++ (gap ++ spoken) =
-        ap before_blanks whole ∙ before_blanks-gap (word ++ gap ++ spoken) back is_back ∙ before_blanks-behind (word ++ gap) spoken none bare.ends
-        ∙ append_assoc word gap spoken in
+    ap before_blanks whole ∙ before_blanks-gap (word ++ gap ++ spoken) back is_back ∙ before_blanks-behind (word ++ gap) spoken none bare.ends
+    ∙ append_assoc word gap spoken in
     ap (text_meaning setup reading) text ∙ two_say setup reading word gap spoken h is_gap some bare
 
 pub blanks_free : (setup : Setup) (reading : Reading) (line word text : List ℕ) → SaysWordAndText line word text → EndsInNoReturn line →
@@ -135,7 +133,7 @@ pub blanks_free : (setup : Setup) (reading : Reading) (line word text : List ℕ
 blanks_free setup reading line word text says h short =
     let inner = word ++ (says.gap ++ (text ++ says.back)) in
     let begins : behind_blanks inner ≡ inner =
-        behind_blanks-bare inner (solid_begins word (says.gap ++ (text ++ says.back)) says.is_word.solid says.is_word.some) in
+    behind_blanks-bare inner (solid_begins word (says.gap ++ (text ++ says.back)) says.is_word.solid says.is_word.some) in
     let front : behind_blanks line ≡ inner = ap behind_blanks says.spelled ∙ behind_blanks-gap says.front inner says.front_is_gap ∙ begins in
     meaning-within setup reading line h short ∙ ap (λ bytes. text_meaning setup reading (before_blanks bytes)) front
     ∙ with_back setup reading word says.gap text says.back says.is_word says.gap_is_gap says.back_is_gap says.is_bare says.parted

@@ -1,5 +1,5 @@
 -- What lines say that are written otherwise, and which lines are skipped.
-use Rattle.std.specs.Prelude.{◌≡◌, ◌≢◌, ℕ, List, [], ◌∷◌, ◌++◌, IsTrue, true, false}
+use Rattle.std.specs.Prelude.{◌≡◌, ◌≢◌, ℕ, List, [], ◌∷◌, ◌++◌, true, false}
 use Rattle.std.specs.List.{AllByRecursion}
 use Rattle.pearl_journal.specs.Words.{is_blank}
 

@@ -2,7 +2,7 @@
 
 ghost use Rattle.std.specs.Prelude.{◌≡◌, ◌<◌, ◌^◌, length, IfSome};
 ghost use Rattle.std.specs.List.{before_first};
-ghost use Rattle.pearl_journal.specs.Meaning.{entry_of as entry_by_word, run_entry as entry_of_run, state_entry as entry_of_state, turn_entry as entry_of_turn};
+ghost use Rattle.pearl_journal.specs.Meaning as spec;
 ghost use Rattle.pearl_journal.specs.Words.{behind_word, is_blank, task_named};
 
 use crate::limits::{NO_FORM, NOT_DECLARED};
@@ -13,7 +13,7 @@ use pearl_rules::setup::{Setup, TaskEntry};
 /// The entry of a text without blanks at its ends, or the code of its refusal.
 pub(crate) fn entry_of(setup: &Setup, text: &[u8]) -> Result<Entry, u8>
     requires { length setup.now.tasks < 2 ^ 32 }
-    ensures { result ≡ entry_by_word setup.now (before_first is_blank text.now) (behind_word text.now) }
+    ensures { result ≡ spec.entry_of setup.now (before_first is_blank text.now) (behind_word text.now) }
 {
     let (word, rest) = split_word(text);
     match word {
@@ -26,7 +26,7 @@ pub(crate) fn entry_of(setup: &Setup, text: &[u8]) -> Result<Entry, u8>
 
 // `run N`
 fn run_entry(rest: &[u8]) -> Result<Entry, u8>
-    ensures { result ≡ entry_of_run rest.now }
+    ensures { result ≡ spec.run_entry rest.now }
 {
     match number_of(rest) {
         Some(picks) => Ok(Entry::Run(picks)),
@@ -37,7 +37,7 @@ fn run_entry(rest: &[u8]) -> Result<Entry, u8>
 // `turn NAME`
 fn turn_entry(setup: &Setup, rest: &[u8]) -> Result<Entry, u8>
     requires { length setup.now.tasks < 2 ^ 32 }
-    ensures { result ≡ entry_of_turn setup.now rest.now }
+    ensures { result ≡ spec.turn_entry setup.now rest.now }
 {
     if !is_name(rest) {
         return Err(NO_FORM);
@@ -69,7 +69,7 @@ fn place_of(tasks: &[TaskEntry], name: &[u8]) -> Option<usize>
 
 // `state`
 fn state_entry(rest: &[u8]) -> Result<Entry, u8>
-    ensures { result ≡ entry_of_state rest.now }
+    ensures { result ≡ spec.state_entry rest.now }
 {
     if rest.is_empty() {
         Ok(Entry::State)

@@ -1,7 +1,8 @@
 //! The lines of a journal.
 
 ghost use Rattle.std.specs.Prelude.{◌≡◌, ◌<◌, ◌≤◌, ◌∷◌, [], length, MatchOption};
-ghost use Rattle.pearl_journal.specs.Lines.{ended_lines, journal_lines, line_end, without_return as line_without_return};
+ghost use Rattle.pearl_journal.specs.Lines.{ended_lines, journal_lines, line_end};
+ghost use Rattle.pearl_journal.specs.Lines as spec;
 
 /// The first line that is ended by byte 10, and the bytes after that byte; none where there is no byte 10.
 pub fn next_line(bytes: &[u8]) -> Option<(&[u8], &[u8])>
@@ -33,7 +34,7 @@ fn line_length(bytes: &[u8]) -> usize
 
 /// A line without the byte 13 at its end, where one stands there.
 pub(crate) fn without_return(line: &[u8]) -> &[u8]
-    ensures { result.now ≡ line_without_return line.now }
+    ensures { result.now ≡ spec.without_return line.now }
 {
     let Some((last, front)) = line.split_last() else {
         return line;

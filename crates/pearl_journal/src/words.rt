@@ -4,19 +4,19 @@ ghost use Rattle.std.specs.Prelude.{◌≡◌, ◌<◌, ◌≤◌, ◌^◌, leng
 ghost use Rattle.std.specs.Char.{is_ascii_alphabetic};
 ghost use Rattle.std.specs.List.{before_first, list_all, position_or_len};
 ghost use Rattle.pearl_rules.specs.Tables.{is_id, is_name_byte as is_id_byte};
-ghost use Rattle.pearl_journal.specs.Words.{is_blank as is_blank_byte, behind_blanks as text_behind_blanks, before_blanks as text_before_blanks, behind_word, followed, number};
+ghost use Rattle.pearl_journal.specs.Words as spec;
 
 use crate::limits::NAME_LIMIT;
 
 fn is_blank(byte: u8) -> bool
-    ensures { result ≡ is_blank_byte byte }
+    ensures { result ≡ spec.is_blank byte }
 {
     byte == b' ' || byte == b'\t'
 }
 
 // A text without the blanks at its front.
 fn behind_blanks(text: &[u8]) -> &[u8]
-    ensures { result.now ≡ text_behind_blanks text.now }
+    ensures { result.now ≡ spec.behind_blanks text.now }
 {
     let mut start = 0;
     while start < text.len() && is_blank(text[start]) {
@@ -27,7 +27,7 @@ fn behind_blanks(text: &[u8]) -> &[u8]
 
 // A text without the blanks at its end.
 fn before_blanks(text: &[u8]) -> &[u8]
-    ensures { result.now ≡ text_before_blanks text.now }
+    ensures { result.now ≡ spec.before_blanks text.now }
 {
     let mut end = text.len();
     while end > 0 && is_blank(text[end - 1]) {
@@ -38,14 +38,14 @@ fn before_blanks(text: &[u8]) -> &[u8]
 
 /// A text without the blanks at both ends.
 pub(crate) fn trimmed(text: &[u8]) -> &[u8]
-    ensures { result.now ≡ text_before_blanks (text_behind_blanks text.now) }
+    ensures { result.now ≡ spec.before_blanks (spec.behind_blanks text.now) }
 {
     before_blanks(behind_blanks(text))
 }
 
 // How many bytes come before the first blank.
 fn word_length(text: &[u8]) -> usize
-    ensures value { result ≡ position_or_len is_blank_byte text.now }
+    ensures value { result ≡ position_or_len spec.is_blank text.now }
     ensures within { result ≤ length text.now }
 {
     let mut end = 0;
@@ -57,8 +57,8 @@ fn word_length(text: &[u8]) -> usize
 
 /// The first word of a text, and what stands behind it and the blanks after it.
 pub(crate) fn split_word(text: &[u8]) -> (&[u8], &[u8])
-    ensures word { result.0.now ≡ before_first is_blank_byte text.now }
-    ensures rest { result.1.now ≡ behind_word text.now }
+    ensures word { result.0.now ≡ before_first spec.is_blank text.now }
+    ensures rest { result.1.now ≡ spec.behind_word text.now }
 {
     let end = word_length(text);
     if end < text.len() {
@@ -70,7 +70,7 @@ pub(crate) fn split_word(text: &[u8]) -> (&[u8], &[u8])
 
 /// The number that digits spell in decimal, at most 2^63 - 1.
 pub(crate) fn number_of(digits: &[u8]) -> Option<u64>
-    ensures { result ≡ number digits.now }
+    ensures { result ≡ spec.number digits.now }
 {
     if digits.is_empty() {
         return None;
@@ -85,7 +85,7 @@ pub(crate) fn number_of(digits: &[u8]) -> Option<u64>
 // The number with one more digit, below 2^63.
 fn followed_by(value: u64, digit: u8) -> Option<u64>
     requires { value < 2 ^ 63 }
-    ensures { result ≡ followed value digit }
+    ensures { result ≡ spec.followed value digit }
 {
     if !digit.is_ascii_digit() {
         return None;

@@ -1,4 +1,4 @@
-use Rattle.std.proofs.Common.{ap, sym, ◌∙◌, subst, ◌≡◌, List, ℕ, ◌++◌, ◌∷◌, []}
+use Rattle.std.proofs.Common.{ap, sym, ◌∙◌, ◌≡◌, ◌++◌, ◌∷◌, []}
 use Rattle.pearl_journal.specs.Lines.{without_return}
 use Rattle.pearl_journal.proofs.JournalLaws.{without_return-drops, without_return-keeps}
 use Rattle.pearl_journal.proofs.lines.without_return.Goals as goal

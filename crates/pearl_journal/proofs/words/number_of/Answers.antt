@@ -1,4 +1,4 @@
-use Rattle.std.proofs.Common.{arith, rules, lit<}
+use Rattle.std.proofs.Common.{rules}
 use Rattle.pearl_journal.proofs.NumberLaws.{number_from-start}
 use Rattle.pearl_journal.proofs.words.number_of.Goals as goal
 
