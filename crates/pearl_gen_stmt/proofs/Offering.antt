@@ -28,9 +28,12 @@ module _ (p : PlainProg) (o : Object) (generated : IsGenerated p o) (t : ℕ) wh
 
   are_heard : (before answers : List Answer) → HeardAfter p t before answers → AreHeard o t Asks before answers
   are_heard before [] heard = tt
-  are_heard before (answer ∷ answers) heard =
-      (offer p t before, refl, suits_same p o generated.tables t (offer p t before) answer heard.0,
-      are_heard (before ++ answer ∷ []) answers heard.1)
+  are_heard before (answer ∷ answers) heard = (
+    offer p t before,
+    refl,
+    suits_same p o generated.tables t (offer p t before) answer heard.0,
+    are_heard (before ++ answer ∷ []) answers heard.1,
+  )
 
 code_there : (code : Option Code) (place : ℕ) (instr : Instr) →
     slice_get (instructions_or_none code) place ≡ Some instr → (found : Code) × (code ≡ Some found)

@@ -98,14 +98,16 @@ module _ (leads : RowsLead) (keeps : KeepsTask) (p : PlainProg) (o : Object) (ge
 
     pub part_arrives : UsesUp does → Carries o c end (at c place operands) does →
         Arrives p o c end (at c place operands) does
-    part_arrives uses carries = record { over = λ store answers of is heard.
-        let aim = meant o c end answers (does store answers) in
-        let none = none_at end answers (does store answers) (heard_used p does uses store answers heard) in
-        arrives leads keeps o valid object store.task (Asks does store) aim (at_stack o aim)
-        (λ frames rest at it. (it, at.stack, none frames rest it)) (λ a is. is) answers (at c place operands store)
-        (here store of is)
-        (λ more a e. subst (λ m. Comes o (at c place operands store) more (or_lost (meant o c end more m))) e
-        (carries.over store more of)) (are_heard does store [] answers heard) (carries.over store answers of) }
+    part_arrives uses carries = record {
+      over = λ store answers of is heard.
+          let aim = meant o c end answers (does store answers) in
+          let none = none_at end answers (does store answers) (heard_used p does uses store answers heard) in
+          arrives leads keeps o valid object store.task (Asks does store) aim (at_stack o aim)
+          (λ frames rest at it. (it, at.stack, none frames rest it)) (λ a is. is) answers (at c place operands store)
+          (here store of is)
+          (λ more a e. subst (λ m. Comes o (at c place operands store) more (or_lost (meant o c end more m))) e
+          (carries.over store more of)) (are_heard does store [] answers heard) (carries.over store answers of);
+    }
 
 -- ALL PARTS OF A ROUTINE
 
