@@ -3,9 +3,11 @@ use Rattle.std.proofs.Common.{◌≡◌, ◌≢◌, ℕ, zero, suc, ◌<◌, ◌
 use Rattle.std.proofs.lemmas.Bool.{true≢false, eqb-false, or_cases, or_parts, and_parts, and_cases, cases_lt}
 use Rattle.std.proofs.lemmas.Option.{same_Some, slice_get_within}
 use Rattle.pearl_rules.specs.declared.action.Action.{Action}
+use Rattle.pearl_rules.specs.declared.action.Action.TheVariants.{Request}
 use Rattle.pearl_rules.specs.declared.row.TaskRow.{TaskRow}
 use Rattle.pearl_rules.specs.Core.{Core, row_of}
-use Rattle.pearl_rules.specs.Pick.{Offered, is_possible, is_ready_row, is_eligible, priority_of, priority_of_row, is_last_of, is_last, goes_before, better_if, better, pick_first, pick, IsPicked, shown_of, states_first, states}
+use Rattle.pearl_rules.specs.Counts.{all_free}
+use Rattle.pearl_rules.specs.Pick.{Offered, guard, is_possible, is_ready_row, is_eligible, priority_of, priority_of_row, is_last_of, is_last, goes_before, better_if, better, pick_first, pick, IsPicked, shown_of, states_first, states, last_if, can_turn, turned}
 
 -- who acted last, as a test
 last_true : (o : Option ℕ) (t : ℕ) → is_last_of o t ≡ true → o ≡ Some t
@@ -246,19 +248,34 @@ states-same core other offers others moment rows last able = go (length core.tas
     go zero = refl
     go (suc n) = cc (go n, moment, shown n)
 
--- whether an offer can be acted on, where the rows and who acted last are the same
-possible-same : (core other : Core) (offer : Option Action) → is_possible core offer ≡ is_possible other offer
-possible-same core other None = refl
-possible-same core other (Some action) = refl
+-- whether an action can be done now, where the counts are the same
+guard-same : (core other : Core) (action : Action) → core.counts ≡ other.counts → guard core action ≡ guard other action
+guard-same core other (Request list) counts = ap (λ cs. all_free cs list.items) counts
+guard-same core other action counts = refl
+
+-- the same of an offer
+possible-same : (core other : Core) (offer : Option Action) → core.counts ≡ other.counts → is_possible core offer ≡ is_possible other offer
+possible-same core other None counts = refl
+possible-same core other (Some action) counts = guard-same core other action counts
 
 -- the same offers at each task
-pub pick-offers : (core other : Core) (offers others : Offered) → core.tasks ≡ other.tasks → core.last ≡ other.last → ((t : ℕ) → offers t ≡ others t) →
-    pick core offers ≡ pick other others
-pick-offers core other offers others rows last same =
-    pick-same core other offers others rows last (λ t. possible-same core other (offers t) ∙ ap (λ o. is_possible other o) (same t))
+pub pick-offers : (core other : Core) (offers others : Offered) → core.tasks ≡ other.tasks → core.last ≡ other.last → core.counts ≡ other.counts →
+    ((t : ℕ) → offers t ≡ others t) → pick core offers ≡ pick other others
+pick-offers core other offers others rows last counts same =
+    pick-same core other offers others rows last (λ t. possible-same core other (offers t) counts ∙ ap (λ o. is_possible other o) (same t))
 
 -- the same for how the tasks stand
 pub states-offers : (core other : Core) (offers others : Offered) → core.moment ≡ other.moment → core.tasks ≡ other.tasks → core.last ≡ other.last →
-    ((t : ℕ) → offers t ≡ others t) → states core offers ≡ states other others
-states-offers core other offers others moment rows last same =
-    states-same core other offers others moment rows last (λ t. possible-same core other (offers t) ∙ ap (λ o. is_possible other o) (same t))
+    core.counts ≡ other.counts → ((t : ℕ) → offers t ≡ others t) → states core offers ≡ states other others
+states-offers core other offers others moment rows last counts same =
+    states-same core other offers others moment rows last (λ t. possible-same core other (offers t) counts ∙ ap (λ o. is_possible other o) (same t))
+
+-- TURNS
+
+-- what becomes a task's turn changes nothing but who acted last
+pub turned-is : (core : Core) (offers : Offered) (t : ℕ) → turned core offers t ≡ record core { last = (turned core offers t).last }
+turned-is core offers t = by_test (can_turn core offers t)
+  where
+    by_test : (b : Bool) → last_if b core t ≡ record core { last = (last_if b core t).last }
+    by_test true = refl
+    by_test false = refl

@@ -21,13 +21,14 @@ pub fn picks_the_most_urgent()
     ensures none { (core : Core) (offers : Offered) → pick core offers ≡ None → (t : ℕ) → is_eligible core offers t ≡ false }
 {}
 
-/// Who acts next, and how the tasks stand, depends only on the tasks' rows, on who acted last and on what each task offers;
-/// the moment is shown beside it.
+/// Who acts next, and how the tasks stand, depends only on the tasks' rows, on the counts, on who acted last and on what each
+/// task offers; the moment is shown beside it.
 pub fn picks_alike()
     ensures pick { (core other : Core) (offers others : Offered) → core.tasks ≡ other.tasks → core.last ≡ other.last →
-        ((t : ℕ) → offers t ≡ others t) → pick core offers ≡ pick other others }
+        core.counts ≡ other.counts → ((t : ℕ) → offers t ≡ others t) → pick core offers ≡ pick other others }
     ensures states { (core other : Core) (offers others : Offered) → core.moment ≡ other.moment → core.tasks ≡ other.tasks →
-        core.last ≡ other.last → ((t : ℕ) → offers t ≡ others t) → states core offers ≡ states other others }
+        core.last ≡ other.last → core.counts ≡ other.counts → ((t : ℕ) → offers t ≡ others t) →
+        states core offers ≡ states other others }
 {}
 
 /// An action that fits the tables keeps the kinds of the module's variables, and is answered by what suits it: a read by a
