@@ -1,0 +1,39 @@
+-- When the numbers in an action name what is there, and what of this a kernel keeps.
+use Rattle.std.specs.Prelude.{◌≡◌, ℕ, ◌<◌, ◌≤◌, List, Option, Some, length}
+use Rattle.pearl_rules.specs.declared.action.Action.{Action}
+use Rattle.pearl_rules.specs.declared.action.Action.TheVariants as action
+use Rattle.pearl_rules.specs.declared.action.Start.TheVariants.{Free}
+use Rattle.pearl_rules.specs.declared.action.Repeat.TheVariants.{Once}
+use Rattle.pearl_rules.specs.Core.{Core}
+use Rattle.pearl_sema.specs.Waiting.{AreThere}
+use Rattle.pearl_kernel.specs.Kept.{Kept, offered}
+use Rattle.pearl_kernel.specs.Eligible.{IsSetOf}
+
+-- an action without a row isn't built yet, and no task offers it
+abbrev pub Names : Core → Action → Type 0
+Names core (action.Read slot) = slot < length core.slots
+Names core (action.Write slot value) = slot < length core.slots
+Names core action.Turn = Unit {0}
+Names core action.Enter = Unit {0}
+Names core (action.Request list) = AreThere core.counts list.items
+Names core (action.Release list) = AreThere core.counts list.items
+Names core (action.Try semaphore) = semaphore < length core.counts
+Names core (action.Activate task Free Once priority) = task < length core.tasks
+Names core (action.Continue task Free) = task < length core.tasks
+Names core (action.Suspend task) = task < length core.tasks
+Names core (action.Terminate task) = task < length core.tasks
+Names core (action.Put device text) = Unit {0}
+Names core action.End = Unit {0}
+Names core (action.Trap trap) = Unit {0}
+Names core other = ⊥
+
+-- each offer names what is there
+abbrev pub NamesAll : Kept → Type 0
+NamesAll k = (t : ℕ) (a : Action) → offered k t ≡ Some a → Names k.core a
+
+-- at most 200 tasks, each with its place for an offer; each offer names what is there, and the set has the tasks that can act
+pub record IsKept (k : Kept) (set : List (Option ℕ)) : Type 0 where
+  pub few : length k.core.tasks ≤ 200
+  pub same : length k.offers ≡ length k.core.tasks
+  pub names : NamesAll k
+  pub ready : IsSetOf k set
