@@ -1,7 +1,7 @@
 -- The picked task acts.
-use Rattle.std.proofs.Common.{◌≡◌, ◌≢◌, ℕ, ◌<◌, ◌≤◌, ◌⊎◌, inl, inr, nat_eq, suc, ◌+◌, List, [], ◌∷◌, ◌++◌, Bool, true, false, Option, Some, None, length, slice_get, slice_set, refl, sym, ap, subst, ◌∙◌, length-set, eqb-true, arith}
+use Rattle.std.proofs.Common.{◌≡◌, ◌≢◌, ℕ, ◌<◌, ◌≤◌, ◌⊎◌, inl, inr, suc, ◌+◌, List, [], ◌∷◌, ◌++◌, Bool, true, false, Option, Some, None, length, slice_get, slice_set, refl, sym, ap, subst, ◌∙◌, length-set, arith}
 use Rattle.std.specs.List.{AllByRecursion, AllZip, IsDistinct}
-use Rattle.std.proofs.lemmas.Bool.{true≢false, eqb-false}
+use Rattle.std.proofs.lemmas.Bool.{true≢false}
 use Rattle.std.proofs.lemmas.Option.{none-some, same_Some}
 use Rattle.pearl_value.specs.declared.cell.Cell.{Cell}
 use Rattle.pearl_rules.specs.declared.action.Action.{Action}
@@ -22,7 +22,7 @@ use Rattle.pearl_rules.proofs.EffectLaws.{leaves, effect-length}
 use Rattle.pearl_sema.specs.Waiting.{AreThere}
 use Rattle.pearl_kernel.specs.Kept.{Kept, offered, done, IsLawful}
 use Rattle.pearl_kernel.specs.Names.{Names, NamesAll, IsKept}
-use Rattle.pearl_kernel.specs.Eligible.{entry, IsSetOf}
+use Rattle.pearl_kernel.specs.Eligible.{entry}
 use Rattle.pearl_kernel.specs.declared.kernel.Touched.{Touched}
 use Rattle.pearl_kernel.specs.declared.kernel.Touched.TheVariants.{Own, Other, All}
 use Rattle.pearl_kernel.specs.Touched.{IsUntouched, Leaves, IsThere, IsRenewed}
@@ -123,7 +123,7 @@ pub names-after : (k : Kept) (own : ℕ) (a : Action) → NamesAll k → NamesAl
 names-after k own a names t b e =
     let after = leaves k.core own a in
     names-same k.core (effect k.core own a).core b (effect-length k.core own a) after.slots after.counts
-        (names t b (some-before k.offers own t b (some-dropped (effect k.core own a).ended (slice_set k.offers own None) t b e)))
+    (names t b (some-before k.offers own t b (some-dropped (effect k.core own a).ended (slice_set k.offers own None) t b e)))
 
 pub there-after : (k : Kept) (own : ℕ) (a : Action) (touched : Touched) → IsThere k.core touched → IsThere (done k own a).core touched
 there-after k own a Own there = tt
@@ -203,8 +203,8 @@ renewed-other k own u set mid new there named size m e =
       each = λ t within. by_task t own _
           (λ same. inl (refreshed-at k first own t same (subst (λ n. own < n) (sym (length-set set u (entry k u) ∙ size)) there)))
           (λ other. by_task t u _
-              (λ same. inl (get-other first own t (entry k own) other ∙ refreshed-at k set u t same (subst (λ n. u < n) (sym size) named)))
-              (λ far. inr (other, far, get-other first own t (entry k own) other ∙ get-other set u t (entry k u) far)));
+          (λ same. inl (get-other first own t (entry k own) other ∙ refreshed-at k set u t same (subst (λ n. u < n) (sym size) named)))
+          (λ far. inr (other, far, get-other first own t (entry k own) other ∙ get-other set u t (entry k u) far)));
     })
   where
     first : List (Option ℕ)
@@ -216,5 +216,5 @@ pub renewed-next : (k : Kept) (set new : List (Option ℕ)) (u : ℕ) → u < le
     (t : ℕ) → t < u + 1 → slice_get new t ≡ Some (entry k t)
 renewed-next k set new u there size before e t within =
     subst (λ n. slice_get n t ≡ Some (entry k t)) (sym e)
-        (by_task t u _ (λ same. refreshed-at k set u t same (subst (λ n. u < n) (sym size) there))
-            (λ other. get-other set u t (entry k u) other ∙ before t (omega (arith, other))))
+    (by_task t u _ (λ same. refreshed-at k set u t same (subst (λ n. u < n) (sym size) there))
+    (λ other. get-other set u t (entry k u) other ∙ before t (omega (arith, other))))

@@ -9,13 +9,13 @@ use Rattle.pearl_rules.specs.declared.row.Mode.TheVariants.{Dormant, Active}
 use Rattle.pearl_rules.specs.declared.row.TaskRow.{TaskRow}
 use Rattle.pearl_rules.specs.declared.setup.TaskEntry.{TaskEntry}
 use Rattle.pearl_rules.specs.declared.setup.Setup.{Setup}
-use Rattle.pearl_rules.specs.Core.{Core, Report, opening, row_of, first_row, first_mode, first_events, first_events_if}
+use Rattle.pearl_rules.specs.Core.{opening, row_of, first_row, first_mode, first_events, first_events_if}
 use Rattle.pearl_rules.specs.Pick.{is_ready, is_ready_row, is_possible, priority_of}
 use Rattle.pearl_rules.specs.Runs.{kept_at}
 use Rattle.pearl_rules.specs.Slots.{IsUrgency}
 use Rattle.pearl_rules.specs.Tables.{IsTaskEntry, IsSetup}
 use Rattle.pearl_rules.proofs.EffectLaws.{opening-kinds}
-use Rattle.pearl_kernel.specs.Kept.{Kept, offered, IsUrgent, IsUrgentMode, IsReportOf, IsLawful}
+use Rattle.pearl_kernel.specs.Kept.{Kept, IsUrgent, IsUrgentMode, IsReportOf, IsLawful}
 use Rattle.pearl_kernel.specs.Names.{IsKept}
 use Rattle.pearl_kernel.specs.Eligible.{entry, number_if}
 
@@ -46,7 +46,7 @@ cannot-act (Some row) = by_mode row.mode
 no-entry : (setup : Setup) (t : ℕ) → entry (at_start setup) t ≡ None
 no-entry setup t =
     ap (λ o. number_if (is_ready_row (row_of (opening setup) t) (is_possible (opening setup) o)) (priority_of (opening setup) t)) (none-offered (length setup.tasks) t)
-        ∙ ap (λ b. number_if b (priority_of (opening setup) t)) (cannot-act (row_of (opening setup) t))
+    ∙ ap (λ b. number_if b (priority_of (opening setup) t)) (cannot-act (row_of (opening setup) t))
 
 first-urgent : (main : Bool) (priority : ℕ) → IsUrgency priority → IsUrgentMode (first_mode main priority)
 first-urgent true priority is = is
@@ -96,4 +96,4 @@ pub ready-opening : (setup : Setup) (k : Kept) (ready : List (Option ℕ)) (coun
 ready-opening setup k ready count is e same empty =
     let size : count ≡ length setup.tasks = same ∙ ap (λ (x : Kept). length x.core.tasks) e ∙ length-map setup.tasks first_row in
     subst (λ (x : Kept). IsKept x ready) (sym e)
-        (subst (λ xs. IsKept (at_start setup) xs) (sym (empty ∙ ap (λ n. replicate n None) size)) (kept-opening setup is))
+    (subst (λ xs. IsKept (at_start setup) xs) (sym (empty ∙ ap (λ n. replicate n None) size)) (kept-opening setup is))

@@ -1,5 +1,5 @@
 -- An action leaves a lawful kernel.
-use Rattle.std.proofs.Common.{◌≡◌, ◌≢◌, ℕ, zero, suc, ◌<◌, ◌≤◌, List, [], ◌∷◌, ◌++◌, Bool, true, false, Option, Some, None, IfSome, nat_eq, nat_lt, length, slice_get, slice_set, refl, sym, ap, subst, ◌∙◌, length-set, arith}
+use Rattle.std.proofs.Common.{◌≡◌, ℕ, zero, suc, ◌<◌, List, [], ◌∷◌, ◌++◌, Bool, true, false, Option, Some, None, IfSome, nat_lt, length, slice_get, slice_set, refl, sym, subst, ◌∙◌, length-set, arith}
 use Rattle.std.specs.List.{AllByRecursion}
 use Rattle.std.proofs.lemmas.Bool.{true≢false}
 use Rattle.std.proofs.lemmas.Option.{none-some, same_Some, slice_get_within}
@@ -17,12 +17,12 @@ use Rattle.pearl_rules.specs.declared.setup.Device.{Device}
 use Rattle.pearl_rules.specs.declared.setup.Setup.{Setup}
 use Rattle.pearl_rules.specs.Core.{Core, Report, Happened, note, row_of, with_row, is_active_row, is_active_mode, is_active, mode_of, mode_of_row}
 use Rattle.pearl_rules.specs.Counts.{all_below_most, count_at}
-use Rattle.pearl_rules.specs.Effect.{Effect, effect, on_row, with_mode, finished, ending, declared_or_zero, priority_or_declared, started, started_by, marked_mode, with_mark, stopped_by, stopped_tasks, stopping, releasing, trying}
+use Rattle.pearl_rules.specs.Effect.{effect, on_row, with_mode, finished, ending, declared_or_zero, priority_or_declared, started, started_by, marked_mode, with_mark, stopped_by, stopped_tasks, releasing, trying}
 use Rattle.pearl_rules.specs.Runs.{dropped, kept_at}
-use Rattle.pearl_rules.specs.Slots.{Fits, HasKinds, IsUrgency}
+use Rattle.pearl_rules.specs.Slots.{Fits, IsUrgency}
 use Rattle.pearl_rules.specs.Tables.{IsWritable}
 use Rattle.pearl_rules.proofs.EffectLaws.{leaves, effect-length, effect-kinds}
-use Rattle.pearl_kernel.specs.Kept.{Kept, offered, done, IsUrgent, IsUrgentMode, NamesWhatIsThere, IsReportOf, IsLawful}
+use Rattle.pearl_kernel.specs.Kept.{Kept, done, IsUrgent, IsUrgentMode, NamesWhatIsThere, IsReportOf, IsLawful}
 use Rattle.pearl_kernel.proofs.Places.{none-less, some-before, some-dropped, dropped-length}
 
 -- TASKS THAT AREN'T ACTIVE HAVE OFFERED NOTHING

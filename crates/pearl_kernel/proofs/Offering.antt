@@ -1,11 +1,11 @@
 -- A task offers its next action.
-use Rattle.std.proofs.Common.{◌≡◌, ◌≢◌, ℕ, ◌<◌, List, Bool, true, false, ◌&&◌, Option, Some, None, nat_eq, length, slice_get, slice_set, refl, sym, ap, subst, ◌∙◌, length-set, eqb-true}
-use Rattle.std.proofs.lemmas.Bool.{true≢false, eqb-false}
-use Rattle.std.proofs.lemmas.Option.{none-some, slice_get_within}
+use Rattle.std.proofs.Common.{◌≡◌, ℕ, ◌<◌, List, Bool, true, false, ◌&&◌, Option, Some, None, length, slice_get, slice_set, refl, sym, ap, subst, ◌∙◌, length-set}
+use Rattle.std.proofs.lemmas.Bool.{true≢false}
+use Rattle.std.proofs.lemmas.Option.{slice_get_within}
 use Rattle.pearl_rules.specs.declared.action.Action.{Action}
 use Rattle.pearl_rules.specs.declared.row.TaskRow.{TaskRow}
 use Rattle.pearl_rules.specs.declared.setup.Setup.{Setup}
-use Rattle.pearl_rules.specs.Core.{Core, row_of, is_active, is_active_row}
+use Rattle.pearl_rules.specs.Core.{row_of, is_active, is_active_row}
 use Rattle.pearl_rules.specs.Slots.{Fits}
 use Rattle.pearl_kernel.specs.Kept.{Kept, offered, is_silent, is_unsettled, IsLawful}
 use Rattle.pearl_kernel.specs.Names.{Names, NamesAll, IsKept}
@@ -21,8 +21,8 @@ offer-is : (k : Kept) (task : ℕ) (a : Action) (P : Action → Type 0) → P a 
     (t : ℕ) (b : Action) → offered (offering k task a) t ≡ Some b → P b
 offer-is k task a P new old t b e =
     by_task t task (P b)
-        (λ same. subst P (kept-set k.offers task a b (subst (λ u. offered (offering k task a) u ≡ Some b) same e)) new)
-        (λ other. old t b (sym (kept-other k.offers task t (Some a) other) ∙ e))
+    (λ same. subst P (kept-set k.offers task a b (subst (λ u. offered (offering k task a) u ≡ Some b) same e)) new)
+    (λ other. old t b (sym (kept-other k.offers task t (Some a) other) ∙ e))
 
 -- a task that is unsettled is active, and so it is there
 first_true : (x y : Bool) → (x && y) ≡ true → x ≡ true
@@ -69,8 +69,8 @@ kept-offering k set task a there names kept =
         size = length-set set task (entry new task) ∙ kept.ready.size;
         each = λ t within. by_task t task (slice_get (slice_set set task (entry new task)) t ≡ Some (entry new t))
             (λ same. subst (λ u. slice_get (slice_set set task (entry new task)) u ≡ Some (entry new u)) (sym same)
-                (get-same set task (entry new task) (subst (λ n. task < n) (sym kept.ready.size) there)))
+            (get-same set task (entry new task) (subst (λ n. task < n) (sym kept.ready.size) there)))
             (λ other. get-other set task t (entry new task) other ∙ kept.ready.each t within
-                ∙ ap (λ e. Some e) (sym (entry-same k new t refl (kept-other k.offers task t (Some a) other) refl)));
+            ∙ ap (λ e. Some e) (sym (entry-same k new t refl (kept-other k.offers task t (Some a) other) refl)));
       };
     }

@@ -1,6 +1,5 @@
 -- Whether a task can act doesn't change by what touches neither its row, its offer nor the counts.
-use Rattle.std.proofs.Common.{◌≡◌, ◌≢◌, ◌⊎◌, inl, inr, ℕ, List, [], ◌∷◌, Bool, true, false, Option, Some, None, nat_eq, nat_lt, slice_get, slice_set, refl, sym, ap, subst, ◌∙◌}
-use Rattle.pearl_value.specs.declared.trap.Trap.TheVariants.{SemaLimit}
+use Rattle.std.proofs.Common.{◌≡◌, ◌≢◌, ◌⊎◌, inl, inr, ℕ, List, [], ◌∷◌, true, false, Option, Some, None, slice_set, refl, sym, ap, subst, ◌∙◌}
 use Rattle.pearl_rules.specs.declared.action.Action.{Action}
 use Rattle.pearl_rules.specs.declared.action.Action.TheVariants as action
 use Rattle.arrayvec.specs.declared.array_vec.ArrayVec.{ArrayVec}
@@ -15,13 +14,12 @@ use Rattle.pearl_rules.specs.declared.row.Mode.TheVariants.{Dormant, Active}
 use Rattle.pearl_rules.specs.declared.row.TaskRow.{TaskRow}
 use Rattle.pearl_rules.specs.Core.{Core, note, row_of, with_row, mode_of}
 use Rattle.pearl_rules.specs.Counts.{all_free}
-use Rattle.pearl_rules.specs.Effect.{effect, on_row, with_mode, finished, ending, priority_or_declared, started, started_by, marked_mode, with_mark, stopped_by, stopped_tasks, stopping}
+use Rattle.pearl_rules.specs.Effect.{effect, on_row, with_mode, finished, ending, priority_or_declared, started, started_by, marked_mode, with_mark, stopped_by, stopped_tasks}
 use Rattle.pearl_rules.specs.Pick.{is_ready_row, is_possible, priority_of_row}
 use Rattle.pearl_rules.specs.Runs.{dropped, kept_at}
 use Rattle.pearl_kernel.specs.Kept.{Kept, offered, done}
 use Rattle.pearl_kernel.specs.Eligible.{entry, number_if}
 use Rattle.pearl_kernel.specs.declared.kernel.Touched.{Touched}
-use Rattle.pearl_kernel.specs.declared.kernel.Touched.TheVariants.{Own, Other, All}
 use Rattle.pearl_kernel.specs.Touched.{IsUntouched, Leaves}
 use Rattle.pearl_kernel.proofs.Places.{kept-other, get-other}
 
@@ -37,7 +35,7 @@ pub entry-same : (k new : Kept) (t : ℕ) → row_of new.core t ≡ row_of k.cor
 entry-same k new t row offer counts =
     let possible = possible-same new.core k.core (offered new t) counts ∙ ap (λ o. is_possible k.core o) offer in
     ap (λ r. number_if (is_ready_row r (is_possible new.core (offered new t))) (priority_of_row r)) row
-        ∙ ap (λ b. number_if (is_ready_row (row_of k.core t) b) (priority_of_row (row_of k.core t))) possible
+    ∙ ap (λ b. number_if (is_ready_row (row_of k.core t) b) (priority_of_row (row_of k.core t))) possible
 
 -- one task's row and the counts are the same
 record Unmoved (old core : Core) (t : ℕ) : Type 0 where

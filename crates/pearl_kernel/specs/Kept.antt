@@ -1,5 +1,5 @@
 -- What contracts see of a kernel, when it is lawful, and what its calls do.
-use Rattle.std.specs.Prelude.{◌≡◌, ℕ, ◌<◌, ◌≤◌, List, Bool, true, false, ◌&&◌, Option, Some, None, length, slice_set, map}
+use Rattle.std.specs.Prelude.{◌≡◌, ℕ, ◌<◌, List, Bool, true, false, ◌&&◌, Option, Some, None, length, slice_set, map}
 use Rattle.std.specs.List.{AllByRecursion}
 use Rattle.pearl_rules.specs.declared.action.Action.{Action}
 use Rattle.pearl_rules.specs.declared.event.Event.{Event}

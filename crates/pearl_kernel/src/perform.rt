@@ -128,7 +128,13 @@ impl State {
         match self.mode(task) {
             Mode::Dormant => {
                 let suspended = false;
-                self.set_mode(task, Mode::Active { priority, suspended });
+                self.set_mode(
+                    task,
+                    Mode::Active {
+                        priority,
+                        suspended,
+                    },
+                );
                 self.note(Event::Start { task, priority });
             }
             Mode::Active { .. } => self.note(Event::Overrun(task)),
@@ -142,7 +148,10 @@ impl State {
     {
         let mode = match self.mode(task) {
             Mode::Dormant => Mode::Dormant,
-            Mode::Active { priority, .. } => Mode::Active { priority, suspended },
+            Mode::Active { priority, .. } => Mode::Active {
+                priority,
+                suspended,
+            },
         };
         self.set_mode(task, mode);
     }

@@ -41,8 +41,8 @@ pub struct State {
 impl Model for State {
     ghost use Rattle.std.specs.Prelude.{◌≡◌};
     ghost use Rattle.pearl_rules.specs.Tables.{IsPreset};
-ghost use Rattle.pearl_sema.specs.Waiting.{AreThere};
-ghost use Rattle.pearl_kernel.specs.Kept.{Kept, stamped};
+    ghost use Rattle.pearl_sema.specs.Waiting.{AreThere};
+    ghost use Rattle.pearl_kernel.specs.Kept.{Kept, stamped};
 
     ghost Value = { Kept };
 

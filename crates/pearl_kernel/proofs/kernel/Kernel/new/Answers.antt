@@ -1,7 +1,5 @@
-use Rattle.std.proofs.Common.{None, replicate, length, sym, subst, ap, ◌∙◌}
-use Rattle.pearl_rules.specs.Core.{opening}
+use Rattle.std.proofs.Common.{sym, subst}
 use Rattle.pearl_kernel.specs.Kept.{Kept, IsLawful}
-use Rattle.pearl_kernel.specs.Names.{IsKept}
 use Rattle.pearl_kernel.proofs.AtStart.{lawful-opening, ready-opening}
 use Rattle.pearl_kernel.proofs.kernel.Kernel.new.Goals as goal
 

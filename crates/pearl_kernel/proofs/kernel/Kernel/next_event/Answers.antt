@@ -8,4 +8,4 @@ pub invariant_of-self : goal.invariant_of-self
 invariant_of-self c =
     let s = c.self.inside in
     subst (λ (k : Kept). IsKept k s.ready) (sym c.next_event.ensures.same)
-        (kept-told s.state s.ready c.next_event.new.self.core.told c.self.invariant)
+    (kept-told s.state s.ready c.next_event.new.self.core.told c.self.invariant)

@@ -1,7 +1,6 @@
-use Rattle.std.proofs.Common.{◌≡◌, true, sym, subst, ap, ◌∙◌, slice_set}
-use Rattle.pearl_rules.specs.Slots.{Fits}
+use Rattle.std.proofs.Common.{◌≡◌, true, sym, subst, slice_set}
 use Rattle.pearl_kernel.specs.Kept.{Kept, is_unsettled, IsLawful}
-use Rattle.pearl_kernel.specs.Names.{Names, NamesAll, IsKept}
+use Rattle.pearl_kernel.specs.Names.{NamesAll, IsKept}
 use Rattle.pearl_kernel.specs.Eligible.{entry}
 use Rattle.pearl_kernel.proofs.Acting.{fits-names}
 use Rattle.pearl_kernel.proofs.Offering.{unsettled-there, names-offering, lawful-offering, kept-offering}
@@ -13,7 +12,7 @@ refresh-requires-clause-names c =
     let f = c.requires.fits in
     let lawful = subst (λ (k : Kept). IsLawful f.0 k) (sym c.self.view_is) f.1 in
     subst (λ (k : Kept). NamesAll k) (sym c.set_offer.ensures)
-        (names-offering s c.args.task c.args.action c.self.invariant.names (fits-names f.0 s c.args.action lawful f.2))
+    (names-offering s c.args.task c.args.action c.self.invariant.names (fits-names f.0 s c.args.action lawful f.2))
 
 pub invariant_of-self : goal.invariant_of-self
 invariant_of-self c =
@@ -22,9 +21,9 @@ invariant_of-self c =
     let lawful = subst (λ (k : Kept). IsLawful f.0 k) (sym c.self.view_is) f.1 in
     let unsettled = subst (λ (k : Kept). is_unsettled k c.args.task ≡ true) (sym c.self.view_is) c.requires.unsettled in
     let kept = kept-offering s.state s.ready c.args.task c.args.action (unsettled-there s.state c.args.task unsettled)
-        (fits-names f.0 s.state c.args.action lawful f.2) c.self.invariant in
+    (fits-names f.0 s.state c.args.action lawful f.2) c.self.invariant in
     subst (λ xs. IsKept c.set_offer.new.self xs) (sym c.refresh.ensures)
-        (subst (λ (k : Kept). IsKept k (slice_set s.ready c.args.task (entry k c.args.task))) (sym c.set_offer.ensures) kept)
+    (subst (λ (k : Kept). IsKept k (slice_set s.ready c.args.task (entry k c.args.task))) (sym c.set_offer.ensures) kept)
 
 pub returns-clause-lawful : goal.returns-clause-lawful
 returns-clause-lawful c = λ setup lawful fits.

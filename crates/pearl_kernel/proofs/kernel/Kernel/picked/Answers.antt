@@ -1,4 +1,4 @@
-use Rattle.std.proofs.Common.{◌≡◌, ◌<◌, ◌≤◌, Option, Some, None, ℕ, length, sym, subst, ◌∙◌, arith}
+use Rattle.std.proofs.Common.{◌≡◌, ◌<◌, length, sym, subst, ◌∙◌, arith}
 use Rattle.pearl_rules.specs.Pick.{pick}
 use Rattle.pearl_kernel.specs.Kept.{Kept, offered}
 use Rattle.pearl_kernel.proofs.Picking.{best-found, best-there}
