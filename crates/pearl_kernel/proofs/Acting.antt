@@ -21,7 +21,8 @@ use Rattle.pearl_rules.proofs.PickLaws.{picked}
 use Rattle.pearl_rules.proofs.EffectLaws.{leaves, effect-length}
 use Rattle.pearl_sema.specs.Waiting.{AreThere}
 use Rattle.pearl_kernel.specs.Kept.{Kept, offered, done, IsLawful}
-use Rattle.pearl_kernel.specs.Names.{Names, NamesAll, IsKept}
+use Rattle.pearl_kernel.specs.Names.{Names, NamesAll}
+use Rattle.pearl_kernel.specs.Whole.{IsWhole}
 use Rattle.pearl_kernel.specs.Eligible.{entry}
 use Rattle.pearl_kernel.specs.declared.kernel.Touched.{Touched}
 use Rattle.pearl_kernel.specs.declared.kernel.Touched.TheVariants.{Own, Other, All}
@@ -130,8 +131,8 @@ there-after k own a Own there = tt
 there-after k own a (Other u) there = subst (λ n. u < n) (sym (effect-length k.core own a)) there
 there-after k own a All there = tt
 
-pub kept-after : (k : Kept) (set after : List (Option ℕ)) (own : ℕ) (a : Action) (touched : Touched) → IsKept k set → Leaves a touched →
-    IsRenewed (done k own a) own touched set after → IsKept (done k own a) after
+pub kept-after : (k : Kept) (set after : List (Option ℕ)) (own : ℕ) (a : Action) (touched : Touched) → IsWhole k set → Leaves a touched →
+    IsRenewed (done k own a) own touched set after → IsWhole (done k own a) after
 kept-after k set after own a touched kept leaving renewed =
     let size = effect-length k.core own a in
     record {
@@ -160,7 +161,7 @@ done-is k mid new own a m n = n ∙ ap then m
 
 -- WHAT CHANGES NO TASK
 
-pub kept-last : (k : Kept) (set : List (Option ℕ)) (last : Option ℕ) → IsKept k set → IsKept (record k { core = record k.core { last = last } }) set
+pub kept-last : (k : Kept) (set : List (Option ℕ)) (last : Option ℕ) → IsWhole k set → IsWhole (record k { core = record k.core { last = last } }) set
 kept-last k set last kept =
     let new : Kept = record k { core = record k.core { last = last } } in
     record {
@@ -170,7 +171,7 @@ kept-last k set last kept =
       ready = record { size = kept.ready.size; each = λ t there. kept.ready.each t there ∙ ap (λ e. Some e) (sym (entry-same k new t refl refl refl)) };
     }
 
-pub kept-told : (k : Kept) (set : List (Option ℕ)) (told : List (ℕ × Report)) → IsKept k set → IsKept (record k { core = record k.core { told = told } }) set
+pub kept-told : (k : Kept) (set : List (Option ℕ)) (told : List (ℕ × Report)) → IsWhole k set → IsWhole (record k { core = record k.core { told = told } }) set
 kept-told k set told kept =
     let new : Kept = record k { core = record k.core { told = told } } in
     record {

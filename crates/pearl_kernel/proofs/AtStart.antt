@@ -15,12 +15,9 @@ use Rattle.pearl_rules.specs.Runs.{kept_at}
 use Rattle.pearl_rules.specs.Slots.{IsUrgency}
 use Rattle.pearl_rules.specs.Tables.{IsTaskEntry, IsSetup}
 use Rattle.pearl_rules.proofs.EffectLaws.{opening-kinds}
-use Rattle.pearl_kernel.specs.Kept.{Kept, IsUrgent, IsUrgentMode, IsReportOf, IsLawful}
-use Rattle.pearl_kernel.specs.Names.{IsKept}
+use Rattle.pearl_kernel.specs.Kept.{Kept, at_start, IsUrgent, IsUrgentMode, IsReportOf, IsLawful}
+use Rattle.pearl_kernel.specs.Whole.{IsWhole}
 use Rattle.pearl_kernel.specs.Eligible.{entry, number_if}
-
-abbrev at_start : Setup → Kept
-at_start setup = record { core = opening setup; offers = replicate (length setup.tasks) None }
 
 -- nothing was offered
 none-offered : (n t : ℕ) → kept_at (replicate {A = Option Action} n None) t ≡ None
@@ -70,6 +67,7 @@ pub lawful-opening : (setup : Setup) → IsSetup setup → IsLawful setup (at_st
 lawful-opening setup is = record {
   tasks = length-map setup.tasks first_row;
   counts = refl;
+  counted = is.semaphores;
   kinds = opening-kinds setup.slots is.slots;
   urgent = all-urgent setup.tasks is.tasks;
   same = length-replicate (length setup.tasks) None ∙ sym (length-map setup.tasks first_row);
@@ -78,7 +76,7 @@ lawful-opening setup is = record {
   told = first-reports setup 0 setup.tasks (omega arith);
 }
 
-kept-opening : (setup : Setup) → IsSetup setup → IsKept (at_start setup) (replicate (length setup.tasks) None)
+kept-opening : (setup : Setup) → IsSetup setup → IsWhole (at_start setup) (replicate (length setup.tasks) None)
 kept-opening setup is =
     let size = length-map setup.tasks first_row in
     record {
@@ -92,8 +90,8 @@ kept-opening setup is =
     }
 
 pub ready-opening : (setup : Setup) (k : Kept) (ready : List (Option ℕ)) (count : ℕ) → IsSetup setup → k ≡ at_start setup → count ≡ length k.core.tasks →
-    ready ≡ replicate count None → IsKept k ready
+    ready ≡ replicate count None → IsWhole k ready
 ready-opening setup k ready count is e same empty =
     let size : count ≡ length setup.tasks = same ∙ ap (λ (x : Kept). length x.core.tasks) e ∙ length-map setup.tasks first_row in
-    subst (λ (x : Kept). IsKept x ready) (sym e)
-    (subst (λ xs. IsKept (at_start setup) xs) (sym (empty ∙ ap (λ n. replicate n None) size)) (kept-opening setup is))
+    subst (λ (x : Kept). IsWhole x ready) (sym e)
+    (subst (λ xs. IsWhole (at_start setup) xs) (sym (empty ∙ ap (λ n. replicate n None) size)) (kept-opening setup is))

@@ -23,6 +23,7 @@ use Rattle.pearl_rules.specs.Slots.{Fits, IsUrgency}
 use Rattle.pearl_rules.specs.Tables.{IsWritable}
 use Rattle.pearl_rules.proofs.EffectLaws.{leaves, effect-length, effect-kinds}
 use Rattle.pearl_kernel.specs.Kept.{Kept, done, IsUrgent, IsUrgentMode, NamesWhatIsThere, IsReportOf, IsLawful}
+use Rattle.pearl_kernel.proofs.Counted.{counted_after}
 use Rattle.pearl_kernel.proofs.Places.{none-less, some-before, some-dropped, dropped-length}
 
 -- TASKS THAT AREN'T ACTIVE HAVE OFFERED NOTHING
@@ -302,6 +303,7 @@ lawful_after setup k own a there fits lawful =
     record {
       tasks = size ∙ lawful.tasks;
       counts = (leaves k.core own a).counts ∙ lawful.counts;
+      counted = counted_after setup k.core own a fits lawful.counted;
       kinds = effect-kinds setup k.core own a lawful.kinds fits;
       urgent = urgent_after setup k.core own a lawful.tasks fits lawful.urgent;
       same = dropped-length after.ended left ∙ length-set k.offers own None ∙ lawful.same ∙ sym size;

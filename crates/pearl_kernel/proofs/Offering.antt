@@ -8,7 +8,8 @@ use Rattle.pearl_rules.specs.declared.setup.Setup.{Setup}
 use Rattle.pearl_rules.specs.Core.{row_of, is_active, is_active_row}
 use Rattle.pearl_rules.specs.Slots.{Fits}
 use Rattle.pearl_kernel.specs.Kept.{Kept, offered, is_silent, is_unsettled, IsLawful}
-use Rattle.pearl_kernel.specs.Names.{Names, NamesAll, IsKept}
+use Rattle.pearl_kernel.specs.Names.{Names, NamesAll}
+use Rattle.pearl_kernel.specs.Whole.{IsWhole}
 use Rattle.pearl_kernel.specs.Eligible.{entry}
 use Rattle.pearl_kernel.proofs.Places.{by_task, kept-other, kept-set, get-same, get-other}
 use Rattle.pearl_kernel.proofs.Standing.{entry-same}
@@ -47,6 +48,7 @@ pub lawful-offering : (setup : Setup) (k : Kept) (task : ℕ) (a : Action) → i
 lawful-offering setup k task a unsettled fits lawful = record {
   tasks = lawful.tasks;
   counts = lawful.counts;
+  counted = lawful.counted;
   kinds = lawful.kinds;
   urgent = lawful.urgent;
   same = length-set k.offers task (Some a) ∙ lawful.same;
@@ -57,8 +59,8 @@ lawful-offering setup k task a unsettled fits lawful = record {
   told = lawful.told;
 }
 
-pub kept-offering : (k : Kept) (set : List (Option ℕ)) (task : ℕ) (a : Action) → task < length k.core.tasks → Names k.core a → IsKept k set →
-    IsKept (offering k task a) (slice_set set task (entry (offering k task a) task))
+pub kept-offering : (k : Kept) (set : List (Option ℕ)) (task : ℕ) (a : Action) → task < length k.core.tasks → Names k.core a → IsWhole k set →
+    IsWhole (offering k task a) (slice_set set task (entry (offering k task a) task))
 kept-offering k set task a there names kept =
     let new : Kept = offering k task a in
     record {

@@ -1,5 +1,5 @@
 -- What contracts see of a kernel, when it is lawful, and what its calls do.
-use Rattle.std.specs.Prelude.{◌≡◌, ℕ, ◌<◌, List, Bool, true, false, ◌&&◌, Option, Some, None, length, slice_set, map}
+use Rattle.std.specs.Prelude.{◌≡◌, ℕ, ◌<◌, List, Bool, true, false, ◌&&◌, Option, Some, None, length, slice_set, map, replicate}
 use Rattle.std.specs.List.{AllByRecursion}
 use Rattle.pearl_rules.specs.declared.action.Action.{Action}
 use Rattle.pearl_rules.specs.declared.event.Event.{Event}
@@ -8,11 +8,12 @@ use Rattle.pearl_rules.specs.declared.row.Mode.{Mode}
 use Rattle.pearl_rules.specs.declared.row.Mode.TheVariants.{Dormant, Active}
 use Rattle.pearl_rules.specs.declared.row.TaskRow.{TaskRow}
 use Rattle.pearl_rules.specs.declared.setup.Setup.{Setup}
-use Rattle.pearl_rules.specs.Core.{Core, Report, Happened, Shows, is_active}
-use Rattle.pearl_rules.specs.Effect.{Reply, Hears, Ends, effect}
+use Rattle.pearl_rules.specs.Core.{Core, Report, Happened, Shows, is_active, opening}
+use Rattle.pearl_rules.specs.Effect.{Effect, Reply, Hears, Ends, effect}
 use Rattle.pearl_rules.specs.Pick.{Offered, pick}
 use Rattle.pearl_rules.specs.Runs.{dropped, kept_at}
 use Rattle.pearl_rules.specs.Slots.{Fits, HasKinds, IsUrgency}
+use Rattle.pearl_rules.specs.Tables.{IsPreset}
 use Rattle.pearl_kernel.specs.declared.kernel.Acted.{Acted}
 use Rattle.pearl_kernel.specs.declared.kernel.Acted.TheVariants.{Idle, Went, Ended}
 
@@ -24,6 +25,10 @@ pub record Kept : Type 0 where
 abbrev pub offered : Kept → Offered
 offered k t = kept_at k.offers t
 
+-- a kernel at the start of a run
+abbrev pub at_start : Setup → Kept
+at_start setup = record { core = opening setup; offers = replicate (length setup.tasks) None }
+
 -- events with the moment at which they happened
 abbrev pub stamped : ℕ → List Event → List (ℕ × Report)
 stamped moment events = map {B = ℕ × Report} (λ event. (moment, Happened event)) events
@@ -34,7 +39,7 @@ abbrev pub IsUrgentMode : Mode → Type 0
 IsUrgentMode Dormant = Unit {0}
 IsUrgentMode (Active priority suspended) = IsUrgency priority
 
--- a task's priorities are from 1 to 255
+-- its declared priority and, where it is active, its own one
 abbrev pub IsUrgent : TaskRow → Type 0
 IsUrgent row = IsUrgency row.declared × IsUrgentMode row.mode
 
@@ -54,11 +59,13 @@ abbrev pub IsReportOf : Setup → ℕ × Report → Type 0
 IsReportOf setup (moment, Happened event) = NamesWhatIsThere setup event
 IsReportOf setup (moment, Shows task shown) = ⊥
 
--- The kernel is one of these tables: it has their tasks, slots and semaphores, and each slot holds a value of its kind. A task that
--- isn't active has offered nothing, and what is offered fits the tables. What is still to be told happened, and names what is there.
+-- The kernel is one of these tables: it has their tasks, slots and semaphores. No count is above the greatest one, each slot
+-- holds a value of its kind, and priorities are from 1 to 255. A task that isn't active has offered nothing, and what is
+-- offered fits the tables. What is still to be told happened, and names what is there.
 pub record IsLawful (setup : Setup) (k : Kept) : Type 0 where
   pub tasks : length k.core.tasks ≡ length setup.tasks
   pub counts : length k.core.counts ≡ length setup.semaphores
+  pub counted : AllByRecursion IsPreset k.core.counts
   pub kinds : HasKinds setup k.core
   pub urgent : AllByRecursion IsUrgent k.core.tasks
   pub same : length k.offers ≡ length k.core.tasks
@@ -88,12 +95,13 @@ AllSettled k = (u : ℕ) → is_unsettled k u ≡ false
 
 -- WHAT A TASK DOES
 
--- the action of task t is done; neither its offer remains nor that of a task which ended
+-- what an effect leaves; the offers of tasks that ended are gone
+abbrev pub after : Kept → Effect → Kept
+after k e = record { core = e.core; offers = dropped e.ended k.offers }
+
+-- the action of task t is done, and its offer is gone
 abbrev pub done : Kept → ℕ → Action → Kept
-done k t action = record {
-  core = (effect k.core t action).core;
-  offers = dropped (effect k.core t action).ended (slice_set k.offers t None);
-}
+done k t action = after (record k { offers = slice_set k.offers t None }) (effect k.core t action)
 
 -- task t is picked, and its action is done
 pub record Acts (old : Kept) (t : ℕ) (reply : Reply) (new : Kept) : Type 0 where

@@ -1,5 +1,5 @@
--- When the numbers in an action name what is there, and what of this a kernel keeps.
-use Rattle.std.specs.Prelude.{◌≡◌, ℕ, ◌<◌, ◌≤◌, List, Option, Some, length}
+-- When the numbers in an action name what is there.
+use Rattle.std.specs.Prelude.{◌≡◌, ℕ, ◌<◌, Some, length}
 use Rattle.pearl_rules.specs.declared.action.Action.{Action}
 use Rattle.pearl_rules.specs.declared.action.Action.TheVariants as action
 use Rattle.pearl_rules.specs.declared.action.Start.TheVariants.{Free}
@@ -7,7 +7,6 @@ use Rattle.pearl_rules.specs.declared.action.Repeat.TheVariants.{Once}
 use Rattle.pearl_rules.specs.Core.{Core}
 use Rattle.pearl_sema.specs.Waiting.{AreThere}
 use Rattle.pearl_kernel.specs.Kept.{Kept, offered}
-use Rattle.pearl_kernel.specs.Eligible.{IsSetOf}
 
 -- an action without a row isn't built yet, and no task offers it
 abbrev pub Names : Core → Action → Type 0
@@ -30,10 +29,3 @@ Names core other = ⊥
 -- each offer names what is there
 abbrev pub NamesAll : Kept → Type 0
 NamesAll k = (t : ℕ) (a : Action) → offered k t ≡ Some a → Names k.core a
-
--- at most 200 tasks, each with its place for an offer; each offer names what is there, and the set has the tasks that can act
-pub record IsKept (k : Kept) (set : List (Option ℕ)) : Type 0 where
-  pub few : length k.core.tasks ≤ 200
-  pub same : length k.offers ≡ length k.core.tasks
-  pub names : NamesAll k
-  pub ready : IsSetOf k set

@@ -1,13 +1,15 @@
 // The core's steps, one call for each.
 
-ghost use Rattle.std.specs.Prelude.{◌≡◌, ◌<◌, ◌≤◌, ℕ, [], ◌∷◌, Some, None, true, IfOk, IfSome, MatchOption, length, replicate, slice_set};
+ghost use Rattle.std.specs.Prelude.{◌≡◌, ◌<◌, ◌≤◌, [], ◌∷◌, Some, None, true};
+ghost use Rattle.std.specs.Prelude.{IfOk, IfSome, MatchOption, length, slice_set};
 ghost use Rattle.pearl_rules.specs.declared.setup.Setup as Tables;
 ghost use Rattle.pearl_rules.specs.declared.action.Action as Acting;
-ghost use Rattle.pearl_rules.specs.Core.{Core, opening, Happened, is_active as is_active_in};
+ghost use Rattle.pearl_rules.specs.Core.{Core, Happened, is_active as is_active_in};
 ghost use Rattle.pearl_rules.specs.Pick.{pick, turned, can_turn as can_turn_in, shown_of};
 ghost use Rattle.pearl_rules.specs.Slots.{Fits};
 ghost use Rattle.pearl_rules.specs.Tables.{IsSetup};
-ghost use Rattle.pearl_kernel.specs.Kept.{Kept, offered as offered_of, IsLawful, Marks, is_unsettled as is_unsettled_in, IsFirst, AllSettled, NamesWhatIsThere};
+ghost use Rattle.pearl_kernel.specs.Kept.{at_start, offered as offered_of, IsLawful, Marks, NamesWhatIsThere};
+ghost use Rattle.pearl_kernel.specs.Kept.{is_unsettled as is_unsettled_in, IsFirst, AllSettled};
 ghost use Rattle.pearl_kernel.specs.Names.{Names, NamesAll};
 ghost use Rattle.pearl_kernel.specs.Eligible.{entry};
 ghost use Rattle.pearl_kernel.specs.Touched.{Leaves, IsThere, IsRenewed};
@@ -32,7 +34,7 @@ pub enum Acted {
     Ended(u32),
 }
 
-/// The core, with the actions that the tasks offer. Contracts see both; of what was told they see what wasn't taken yet.
+/// The core, with the actions that the tasks offer. Contracts see both, and of what was told what wasn't taken yet.
 #[derive(Drop)]
 pub struct Kernel {
     state: State,
@@ -42,20 +44,20 @@ pub struct Kernel {
 
 impl Model for Kernel {
     ghost use Rattle.pearl_kernel.specs.Kept.{Kept};
-    ghost use Rattle.pearl_kernel.specs.Names.{IsKept};
+    ghost use Rattle.pearl_kernel.specs.Whole.{IsWhole};
 
     ghost Value = { Kept };
 
     ghost view = { λ k. k.state };
 
-    ghost invariant = { λ k. IsKept k.state k.ready };
+    ghost invariant = { λ k. IsWhole k.state k.ready };
 }
 
 impl Kernel {
     /// The kernel at the start of a run. It takes all the memory that the run needs.
     pub fn new(alloc: Global, setup: &Setup) -> Result<Kernel, AllocError>
         requires { IsSetup setup.now }
-        ensures opening { IfOk result (λ k. k ≡ record { core = opening setup.now; offers = replicate (length setup.now.tasks) None }) }
+        ensures opening { IfOk result (λ k. k ≡ at_start setup.now) }
         ensures lawful { IfOk result (IsLawful setup.now) }
     {
         let state = State::new(alloc, setup)?;

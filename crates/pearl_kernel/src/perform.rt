@@ -3,12 +3,13 @@
 ghost use Rattle.std.specs.Prelude.{◌≡◌, ◌<◌, [], ◌∷◌, IsTrue, true, length, nat_lt};
 ghost use Rattle.pearl_rules.specs.Core.{mode_of};
 ghost use Rattle.pearl_rules.specs.Counts.{all_below_most, count_at};
-ghost use Rattle.pearl_rules.specs.Effect.{effect, effect_of, ending, started, priority_or_declared, stopping, releasing, trying, with_mark, with_mode};
+ghost use Rattle.pearl_rules.specs.Effect.{effect, effect_of, ending, started, priority_or_declared};
+ghost use Rattle.pearl_rules.specs.Effect.{stopping, releasing, trying, with_mark};
 ghost use Rattle.pearl_rules.specs.Pick.{guard};
-ghost use Rattle.pearl_rules.specs.Runs.{dropped};
 ghost use Rattle.pearl_sema.specs.Waiting.{AreThere};
-ghost use Rattle.pearl_kernel.specs.Kept.{Replied};
+ghost use Rattle.pearl_kernel.specs.Kept.{after, Replied};
 ghost use Rattle.pearl_kernel.specs.Names.{Names};
+ghost use Rattle.pearl_kernel.specs.Whole.{HasRoom};
 
 use crate::kernel::Acted;
 use crate::state::State;
@@ -23,12 +24,10 @@ impl State {
     /// Does an action of the task `own`, which acted last from now on.
     #[tactic(auto, unfolding(pearl_rules::specs::Effect::effect))]
     pub fn act(&mut self, own: u32, action: Action) -> Acted
-        requires own { own < length self.old.core.tasks }
-        requires same { length self.old.offers ≡ length self.old.core.tasks }
-        requires room { length self.old.core.told < 200 }
+        requires room { HasRoom self.old own }
         requires names { Names self.old.core action }
         requires able { guard self.old.core action ≡ true }
-        ensures state { let e = effect self.old.core own action in self.new ≡ record { core = e.core; offers = dropped e.ended self.old.offers } }
+        ensures state { self.new ≡ after self.old (effect self.old.core own action) }
         ensures reply { Replied own (effect self.old.core own action).reply result }
     {
         self.set_last(own);
@@ -37,12 +36,10 @@ impl State {
 
     // One arm for each row of the actions.
     fn perform(&mut self, own: u32, action: Action) -> Acted
-        requires own { own < length self.old.core.tasks }
-        requires same { length self.old.offers ≡ length self.old.core.tasks }
-        requires room { length self.old.core.told < 200 }
+        requires room { HasRoom self.old own }
         requires names { Names self.old.core action }
         requires able { guard self.old.core action ≡ true }
-        ensures state { let e = effect_of self.old.core own action in self.new ≡ record { core = e.core; offers = dropped e.ended self.old.offers } }
+        ensures state { self.new ≡ after self.old (effect_of self.old.core own action) }
         ensures reply { Replied own (effect_of self.old.core own action).reply result }
     {
         match action {
@@ -85,10 +82,8 @@ impl State {
 
     // The task ends, and this event tells it.
     fn end(&mut self, own: u32, event: Event) -> Acted
-        requires own { own < length self.old.core.tasks }
-        requires same { length self.old.offers ≡ length self.old.core.tasks }
-        requires room { length self.old.core.told < 200 }
-        ensures state { let e = ending self.old.core own event in self.new ≡ record { core = e.core; offers = dropped e.ended self.old.offers } }
+        requires { HasRoom self.old own }
+        ensures state { self.new ≡ after self.old (ending self.old.core own event) }
         ensures reply { Replied own (ending self.old.core own event).reply result }
     {
         self.finish(own, event);
@@ -97,10 +92,8 @@ impl State {
 
     // A task becomes dormant, and its offer is gone.
     fn finish(&mut self, task: u32, event: Event)
-        requires task { task < length self.old.core.tasks }
-        requires same { length self.old.offers ≡ length self.old.core.tasks }
-        requires room { length self.old.core.told < 200 }
-        ensures { let e = ending self.old.core task event in self.new ≡ record { core = e.core; offers = dropped e.ended self.old.offers } }
+        requires { HasRoom self.old task }
+        ensures { self.new ≡ after self.old (ending self.old.core task event) }
     {
         self.set_offer(task, None);
         self.set_mode(task, Mode::Dormant);
@@ -158,10 +151,8 @@ impl State {
 
     // An end from outside.
     fn stop(&mut self, own: u32, task: u32) -> Acted
-        requires task { task < length self.old.core.tasks }
-        requires same { length self.old.offers ≡ length self.old.core.tasks }
-        requires room { length self.old.core.told < 200 }
-        ensures state { let e = stopping self.old.core own task in self.new ≡ record { core = e.core; offers = dropped e.ended self.old.offers } }
+        requires { HasRoom self.old task }
+        ensures state { self.new ≡ after self.old (stopping self.old.core own task) }
         ensures reply { Replied own (stopping self.old.core own task).reply result }
     {
         match self.mode(task) {
@@ -177,13 +168,12 @@ impl State {
 
     // Each of these counts is higher by 1, or where one can't be raised none is, and the task is broken off.
     fn release(&mut self, own: u32, list: &ArrayVec<u16, 16>) -> Acted
-        requires own { own < length self.old.core.tasks }
+        requires room { HasRoom self.old own }
         requires list { AreThere self.old.core.counts list.now.items }
-        requires same { length self.old.offers ≡ length self.old.core.tasks }
-        requires room { length self.old.core.told < 200 }
-        ensures state { let e = releasing self.old.core own list.now.items (all_below_most self.old.core.counts list.now.items) in
-            self.new ≡ record { core = e.core; offers = dropped e.ended self.old.offers } }
-        ensures reply { Replied own (releasing self.old.core own list.now.items (all_below_most self.old.core.counts list.now.items)).reply result }
+        ensures state { let can_raise = all_below_most self.old.core.counts list.now.items in
+            self.new ≡ after self.old (releasing self.old.core own list.now.items can_raise) }
+        ensures reply { let can_raise = all_below_most self.old.core.counts list.now.items in
+            Replied own (releasing self.old.core own list.now.items can_raise).reply result }
     {
         if self.raise(list) {
             return Acted::Went(own, Answer::Nothing);
@@ -195,9 +185,10 @@ impl State {
     // A semaphore's count is lower by 1 where it is above 0, and the answer tells whether it was.
     fn attempt(&mut self, own: u32, semaphore: u16) -> Acted
         requires { semaphore < length self.old.core.counts }
-        ensures state { let e = trying self.old.core semaphore (nat_lt 0 (count_at self.old.core.counts semaphore)) in
-            self.new ≡ record { core = e.core; offers = dropped e.ended self.old.offers } }
-        ensures reply { Replied own (trying self.old.core semaphore (nat_lt 0 (count_at self.old.core.counts semaphore))).reply result }
+        ensures state { let free = nat_lt 0 (count_at self.old.core.counts semaphore) in
+            self.new ≡ after self.old (trying self.old.core semaphore free) }
+        ensures reply { let free = nat_lt 0 (count_at self.old.core.counts semaphore) in
+            Replied own (trying self.old.core semaphore free).reply result }
     {
         let mut list = ArrayVec::new();
         list.push(semaphore);

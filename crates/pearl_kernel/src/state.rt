@@ -1,15 +1,17 @@
 // The core's state with the offered actions, and its small changes.
 
-ghost use Rattle.std.specs.Prelude.{◌≡◌, ◌<◌, ◌≤◌, [], ◌∷◌, Some, None, true, false, IsTrue, IfOk, MatchOption, length, replicate, slice_get, slice_set};
+ghost use Rattle.std.specs.Prelude.{◌≡◌, ◌<◌, ◌≤◌, [], ◌∷◌, Some, None, true, false};
+ghost use Rattle.std.specs.Prelude.{IsTrue, IfOk, MatchOption, length, slice_get, slice_set};
 ghost use Rattle.std.specs.List.{AllByRecursion};
 ghost use Rattle.pearl_rules.specs.declared.action.Action as Acting;
-ghost use Rattle.pearl_rules.specs.Core.{opening, Happened, note as noted, is_active as is_active_in, mode_of, value_at};
+ghost use Rattle.pearl_rules.specs.Core.{Happened, note as noted, is_active as is_active_in, mode_of, value_at};
 ghost use Rattle.pearl_rules.specs.Counts.{all_free, all_below_most, lowered, raised};
 ghost use Rattle.pearl_rules.specs.Effect.{with_mode, declared_or_zero};
 ghost use Rattle.pearl_rules.specs.Pick.{is_possible as is_possible_in, guard};
 ghost use Rattle.pearl_rules.specs.Tables.{IsPreset};
 ghost use Rattle.pearl_sema.specs.Waiting.{AreThere};
-ghost use Rattle.pearl_kernel.specs.Kept.{Kept, stamped, offered as offered_of, is_silent as is_silent_in, is_unsettled as is_unsettled_in};
+ghost use Rattle.pearl_kernel.specs.Kept.{at_start, offered as offered_of};
+ghost use Rattle.pearl_kernel.specs.Kept.{is_silent as is_silent_in, is_unsettled as is_unsettled_in};
 ghost use Rattle.pearl_kernel.specs.Names.{Names};
 ghost use Rattle.pearl_kernel.specs.Eligible.{entry};
 
@@ -40,8 +42,6 @@ pub struct State {
 
 impl Model for State {
     ghost use Rattle.std.specs.Prelude.{◌≡◌};
-    ghost use Rattle.pearl_rules.specs.Tables.{IsPreset};
-    ghost use Rattle.pearl_sema.specs.Waiting.{AreThere};
     ghost use Rattle.pearl_kernel.specs.Kept.{Kept, stamped};
 
     ghost Value = { Kept };
@@ -66,7 +66,7 @@ impl State {
     pub fn new(alloc: Global, setup: &Setup) -> Result<State, AllocError>
         requires tasks { length setup.now.tasks ≤ 200 }
         requires semaphores { AllByRecursion IsPreset setup.now.semaphores }
-        ensures { IfOk result (λ s. s ≡ record { core = opening setup.now; offers = replicate (length setup.now.tasks) None }) }
+        ensures { IfOk result (λ s. s ≡ at_start setup.now) }
     {
         let tasks = setup.tasks.as_slice();
         let rows = first_rows(alloc, tasks)?;
@@ -182,7 +182,8 @@ impl State {
 
     pub fn set_slot(&mut self, slot: u32, value: Cell)
         requires { slot < length self.old.core.slots }
-        ensures { self.new ≡ record self.old { core = record self.old.core { slots = slice_set self.old.core.slots slot value } } }
+        ensures { let core = self.old.core in
+            self.new ≡ record self.old { core = record core { slots = slice_set core.slots slot value } } }
     {
         self.slots[slot as usize] = value;
     }
@@ -199,7 +200,8 @@ impl State {
     pub fn lower(&mut self, list: &ArrayVec<u16, 16>)
         requires list { AreThere self.old.core.counts list.now.items }
         requires free { IsTrue (all_free self.old.core.counts list.now.items) }
-        ensures { self.new ≡ record self.old { core = record self.old.core { counts = lowered self.old.core.counts list.now.items } } }
+        ensures { let core = self.old.core in
+            self.new ≡ record self.old { core = record core { counts = lowered core.counts list.now.items } } }
     {
         self.semas.lower(list);
     }
@@ -208,7 +210,8 @@ impl State {
     pub fn raise(&mut self, list: &ArrayVec<u16, 16>) -> bool
         requires { AreThere self.old.core.counts list.now.items }
         ensures answer { result ≡ all_below_most self.old.core.counts list.now.items }
-        ensures raised { result ≡ true → self.new ≡ record self.old { core = record self.old.core { counts = raised self.old.core.counts list.now.items } } }
+        ensures raised { let core = self.old.core in
+            result ≡ true → self.new ≡ record self.old { core = record core { counts = raised core.counts list.now.items } } }
         ensures full { result ≡ false → self.new ≡ self.old }
     {
         self.semas.raise(list)

@@ -2,7 +2,8 @@ use Rattle.std.proofs.Common.{◌≡◌, ◌<◌, ◌≤◌, Some, true, length,
 use Rattle.pearl_rules.specs.Pick.{pick, guard}
 use Rattle.pearl_rules.proofs.EffectLaws.{effect-length}
 use Rattle.pearl_kernel.specs.Kept.{Kept, offered, IsLawful}
-use Rattle.pearl_kernel.specs.Names.{Names, NamesAll, IsKept}
+use Rattle.pearl_kernel.specs.Names.{Names, NamesAll}
+use Rattle.pearl_kernel.specs.Whole.{IsWhole}
 use Rattle.pearl_kernel.specs.Touched.{IsThere, IsRenewed}
 use Rattle.pearl_kernel.proofs.Acting.{picked-offers, picked-able, names-after, there-after, kept-after, done-is}
 use Rattle.pearl_kernel.proofs.Lawful.{lawful_after}
@@ -76,7 +77,7 @@ invariant_of-self-2 c =
     let s = c.self.inside in
     let is = done-is s.state c.take_offer.new.self c.act-acted.new.self c.in-Some.task c.in-Some-take_offer.action c.take_offer.ensures.rest c.act-acted.ensures.state in
     let renewed = subst (λ (k : Kept). IsRenewed k c.in-Some.task c.touched_by-touched.result s.ready c.renew.new.ready) is c.renew.ensures in
-    subst (λ (k : Kept). IsKept k c.renew.new.ready) (sym is)
+    subst (λ (k : Kept). IsWhole k c.renew.new.ready) (sym is)
     (kept-after s.state s.ready c.renew.new.ready c.in-Some.task c.in-Some-take_offer.action c.touched_by-touched.result c.self.invariant
     c.touched_by-touched.ensures.leaves renewed)
 

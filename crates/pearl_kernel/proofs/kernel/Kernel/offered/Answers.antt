@@ -1,6 +1,7 @@
 use Rattle.std.proofs.Common.{◌≡◌, true, sym, subst, slice_set}
 use Rattle.pearl_kernel.specs.Kept.{Kept, is_unsettled, IsLawful}
-use Rattle.pearl_kernel.specs.Names.{NamesAll, IsKept}
+use Rattle.pearl_kernel.specs.Names.{NamesAll}
+use Rattle.pearl_kernel.specs.Whole.{IsWhole}
 use Rattle.pearl_kernel.specs.Eligible.{entry}
 use Rattle.pearl_kernel.proofs.Acting.{fits-names}
 use Rattle.pearl_kernel.proofs.Offering.{unsettled-there, names-offering, lawful-offering, kept-offering}
@@ -22,8 +23,8 @@ invariant_of-self c =
     let unsettled = subst (λ (k : Kept). is_unsettled k c.args.task ≡ true) (sym c.self.view_is) c.requires.unsettled in
     let kept = kept-offering s.state s.ready c.args.task c.args.action (unsettled-there s.state c.args.task unsettled)
     (fits-names f.0 s.state c.args.action lawful f.2) c.self.invariant in
-    subst (λ xs. IsKept c.set_offer.new.self xs) (sym c.refresh.ensures)
-    (subst (λ (k : Kept). IsKept k (slice_set s.ready c.args.task (entry k c.args.task))) (sym c.set_offer.ensures) kept)
+    subst (λ xs. IsWhole c.set_offer.new.self xs) (sym c.refresh.ensures)
+    (subst (λ (k : Kept). IsWhole k (slice_set s.ready c.args.task (entry k c.args.task))) (sym c.set_offer.ensures) kept)
 
 pub returns-clause-lawful : goal.returns-clause-lawful
 returns-clause-lawful c = λ setup lawful fits.
