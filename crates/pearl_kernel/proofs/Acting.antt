@@ -24,11 +24,11 @@ use Rattle.pearl_kernel.specs.Kept.{Kept, offered, done, IsLawful}
 use Rattle.pearl_kernel.specs.Names.{Names, NamesAll}
 use Rattle.pearl_kernel.specs.Whole.{IsWhole}
 use Rattle.pearl_kernel.specs.Eligible.{entry}
-use Rattle.pearl_kernel.specs.declared.kernel.Touched.{Touched}
-use Rattle.pearl_kernel.specs.declared.kernel.Touched.TheVariants.{Own, Other, All}
+use Rattle.pearl_kernel.specs.declared.standing.Touched.{Touched}
+use Rattle.pearl_kernel.specs.declared.standing.Touched.TheVariants.{Own, Other, All}
 use Rattle.pearl_kernel.specs.Touched.{IsUntouched, Leaves, IsThere, IsRenewed}
 use Rattle.pearl_kernel.proofs.Places.{some-before, some-dropped, dropped-length, by_task, get-same, get-other}
-use Rattle.pearl_kernel.proofs.Standing.{entry-same}
+use Rattle.pearl_kernel.proofs.Entries.{entry-same}
 
 -- WHAT IS PICKED CAN BE DONE
 

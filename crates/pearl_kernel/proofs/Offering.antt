@@ -12,7 +12,7 @@ use Rattle.pearl_kernel.specs.Names.{Names, NamesAll}
 use Rattle.pearl_kernel.specs.Whole.{IsWhole}
 use Rattle.pearl_kernel.specs.Eligible.{entry}
 use Rattle.pearl_kernel.proofs.Places.{by_task, kept-other, kept-set, get-same, get-other}
-use Rattle.pearl_kernel.proofs.Standing.{entry-same}
+use Rattle.pearl_kernel.proofs.Entries.{entry-same}
 
 abbrev offering : Kept → ℕ → Action → Kept
 offering k task a = record k { offers = slice_set k.offers task (Some a) }

@@ -1,6 +1,6 @@
-use Rattle.pearl_kernel.specs.declared.kernel.Touched.TheVariants.{Own, Other}
-use Rattle.pearl_kernel.proofs.Standing.{IsRest, leaves-far, start-far, stop-far, rest-far}
-use Rattle.pearl_kernel.proofs.kernel.touched_by.Goals as goal
+use Rattle.pearl_kernel.specs.declared.standing.Touched.TheVariants.{Own, Other}
+use Rattle.pearl_kernel.proofs.Entries.{IsRest, leaves-far, start-far, stop-far, rest-far}
+use Rattle.pearl_kernel.proofs.standing.touched_by.Goals as goal
 
 pub returns-in_default : goal.returns-in_default
 returns-in_default c =

@@ -1,9 +1,9 @@
 use Rattle.std.proofs.Common.{◌<◌, sym, subst, ap, ◌∙◌, length-set, length}
-use Rattle.pearl_kernel.specs.declared.kernel.Touched.{Touched}
+use Rattle.pearl_kernel.specs.declared.standing.Touched.{Touched}
 use Rattle.pearl_kernel.specs.Eligible.{entry}
 use Rattle.pearl_kernel.specs.Touched.{IsThere, IsRenewed}
 use Rattle.pearl_kernel.proofs.Acting.{renewed-own, renewed-other, renewed-next}
-use Rattle.pearl_kernel.proofs.kernel.renew.Goals as goal
+use Rattle.pearl_kernel.proofs.standing.renew.Goals as goal
 
 pub loop-task-preserved : goal.loop-task-preserved
 loop-task-preserved c =

@@ -19,7 +19,7 @@ use Rattle.pearl_rules.specs.Pick.{is_ready_row, is_possible, priority_of_row}
 use Rattle.pearl_rules.specs.Runs.{dropped, kept_at}
 use Rattle.pearl_kernel.specs.Kept.{Kept, offered, done}
 use Rattle.pearl_kernel.specs.Eligible.{entry, number_if}
-use Rattle.pearl_kernel.specs.declared.kernel.Touched.{Touched}
+use Rattle.pearl_kernel.specs.declared.standing.Touched.{Touched}
 use Rattle.pearl_kernel.specs.Touched.{IsUntouched, Leaves}
 use Rattle.pearl_kernel.proofs.Places.{kept-other, get-other}
 
