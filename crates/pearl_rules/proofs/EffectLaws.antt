@@ -21,16 +21,12 @@ use Rattle.pearl_rules.specs.declared.event.Event.TheVariants as event
 use Rattle.pearl_rules.specs.declared.action.Answer.{Answer}
 use Rattle.pearl_rules.specs.declared.action.Answer.TheVariants.{Nothing, One}
 use Rattle.pearl_rules.specs.declared.setup.Setup.{Setup}
-use Rattle.pearl_rules.specs.Core.{Core, Report, Happened, value_at, note, row_of, with_row, mode_of}
+use Rattle.pearl_rules.specs.Core.{Core, Report, Happened, value_at, note, row_of, with_row, mode_of, declared_of}
 use Rattle.pearl_rules.specs.Counts.{count_at, all_below_most, lowered, raised}
 use Rattle.pearl_rules.specs.Effect.{Reply, Hears, Ends, effect, on_row, with_mode, finished, ending, priority_or_declared, started_by, started, marked_mode, with_mark, stopped_by, reply_if_other, stopping, releasing, trying}
 use Rattle.pearl_rules.specs.Slots.{Suits, Fits, IsLike, HasKinds}
 
 -- WHAT AN ACTION LEAVES
-
--- a row's declared priority
-abbrev pub declared_of : TaskRow → ℕ
-declared_of row = row.declared
 
 -- another mode in a row leaves the declared priorities
 declared-set : (rows : List TaskRow) (t : ℕ) (row : TaskRow) (mode : Mode) → slice_get rows t ≡ Some row →
@@ -48,11 +44,11 @@ pub record Keeps (old core : Core) : Type 0 where
   pub told : core.told ≡ old.told ++ more
 
 -- nothing changed
-keeps_all : (core : Core) → Keeps core core
+pub keeps_all : (core : Core) → Keeps core core
 keeps_all core = record { declared = refl; slots = refl; counts = refl; more = []; told = sym (append-nil core.told) }
 
 -- one more event
-keeps_note : (old core : Core) (e : Event) → Keeps old core → Keeps old (note core e)
+pub keeps_note : (old core : Core) (e : Event) → Keeps old core → Keeps old (note core e)
 keeps_note old core e k = record {
   declared = k.declared;
   slots = k.slots;
@@ -62,7 +58,7 @@ keeps_note old core e k = record {
 }
 
 -- another mode of a task
-keeps_mode : (core : Core) (t : ℕ) (mode : Mode) → Keeps core (with_mode core t mode)
+pub keeps_mode : (core : Core) (t : ℕ) (mode : Mode) → Keeps core (with_mode core t mode)
 keeps_mode core t mode = by_row (row_of core t) refl
   where
     by_row : (row : Option TaskRow) → row_of core t ≡ row → Keeps core (on_row row core (λ r. with_row core t (record r { mode = mode })))
@@ -71,7 +67,7 @@ keeps_mode core t mode = by_row (row_of core t) refl
         record { declared = declared-set core.tasks t row mode e; slots = refl; counts = refl; more = []; told = sym (append-nil core.told) }
 
 -- a start
-keeps_started : (core : Core) (t priority : ℕ) → Keeps core (started core t priority)
+pub keeps_started : (core : Core) (t priority : ℕ) → Keeps core (started core t priority)
 keeps_started core t priority = by_mode (mode_of core t)
   where
     by_mode : (mode : Mode) → Keeps core (started_by mode core t priority)
@@ -79,15 +75,15 @@ keeps_started core t priority = by_mode (mode_of core t)
     by_mode (Active own suspended) = keeps_note core core (event.Overrun t) (keeps_all core)
 
 -- a mark of suspension
-keeps_mark : (core : Core) (t : ℕ) (suspended : Bool) → Keeps core (with_mark core t suspended)
+pub keeps_mark : (core : Core) (t : ℕ) (suspended : Bool) → Keeps core (with_mark core t suspended)
 keeps_mark core t suspended = keeps_mode core t (marked_mode suspended (mode_of core t))
 
 -- an end
-keeps_ending : (core : Core) (t : ℕ) (e : Event) → Keeps core (ending core t e).core
+pub keeps_ending : (core : Core) (t : ℕ) (e : Event) → Keeps core (ending core t e).core
 keeps_ending core t e = keeps_note core (finished core t) e (keeps_mode core t Dormant)
 
 -- an end from outside
-keeps_stopping : (core : Core) (own t : ℕ) → Keeps core (stopping core own t).core
+pub keeps_stopping : (core : Core) (own t : ℕ) → Keeps core (stopping core own t).core
 keeps_stopping core own t = by_mode (mode_of core t)
   where
     by_mode : (mode : Mode) → Keeps core (stopped_by mode core t)
@@ -95,13 +91,13 @@ keeps_stopping core own t = by_mode (mode_of core t)
     by_mode (Active priority suspended) = keeps_note core (finished core t) (event.Stop t) (keeps_mode core t Dormant)
 
 -- lower counts are as many
-lowered-length : (counts semaphores : List ℕ) → length (lowered counts semaphores) ≡ length counts
+pub lowered-length : (counts semaphores : List ℕ) → length (lowered counts semaphores) ≡ length counts
 lowered-length counts [] = refl
 lowered-length counts (s ∷ others) =
     lowered-length (slice_set counts s (count_at counts s - 1)) others ∙ length-set counts s (count_at counts s - 1)
 
 -- and so are higher ones
-raised-length : (counts semaphores : List ℕ) → length (raised counts semaphores) ≡ length counts
+pub raised-length : (counts semaphores : List ℕ) → length (raised counts semaphores) ≡ length counts
 raised-length counts [] = refl
 raised-length counts (s ∷ others) =
     raised-length (slice_set counts s (count_at counts s + 1)) others ∙ length-set counts s (count_at counts s + 1)
