@@ -1,11 +1,7 @@
-pub mod Scheduling
-pub mod Depth
-pub mod Ready
+pub mod Listed
+pub mod Rows
 pub mod Steps
-pub mod Goes
+pub mod Places
 pub mod Marking
+pub mod Owned
 pub mod LastValue
-pub mod Slots
-pub mod Performing
-pub mod Runs
-pub mod Closing
