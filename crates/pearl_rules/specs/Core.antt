@@ -38,9 +38,17 @@ value_at slots slot = cell_or_zero (slice_get slots slot)
 abbrev pub note : Core → Event → Core
 note core event = record core { told = core.told ++ (core.moment, Happened event) ∷ [] }
 
+-- the same core with this told before all that it has told
+abbrev pub told_before : List (ℕ × Report) → Core → Core
+told_before before core = record core { told = before ++ core.told }
+
 -- a task's row
 abbrev pub row_of : Core → ℕ → Option TaskRow
 row_of core t = slice_get core.tasks t
+
+-- a row's declared priority
+abbrev pub declared_of : TaskRow → ℕ
+declared_of row = row.declared
 
 -- the core with another row for a task
 abbrev pub with_row : Core → ℕ → TaskRow → Core

@@ -1,4 +1,5 @@
--- The kinds of the module's variables: which actions fit them, which answers suit an action, and when every slot holds a value of its kind.
+-- The kinds of the module's variables: which actions fit them, which answers suit an action, and when every slot holds a value of its kind;
+-- and which counts and priorities there are.
 use Rattle.std.specs.Prelude.{◌≡◌, ◌≢◌, ℕ, ◌<◌, ◌≤◌, List, None, IfSome, All, nat_eq, length}
 use Rattle.std.specs.List.{AllByRecursion, AllZip, IsDistinct}
 use Rattle.pearl_value.specs.declared.kind.Kind.{Kind}
@@ -12,9 +13,12 @@ use Rattle.pearl_rules.specs.declared.action.Start.TheVariants.{Free}
 use Rattle.pearl_rules.specs.declared.action.Repeat.TheVariants.{Once}
 use Rattle.pearl_rules.specs.declared.action.Answer.{Answer}
 use Rattle.pearl_rules.specs.declared.action.Answer.TheVariants.{Nothing, One, Many}
+use Rattle.pearl_rules.specs.declared.row.Mode.{Mode}
+use Rattle.pearl_rules.specs.declared.row.Mode.TheVariants.{Dormant, Active}
+use Rattle.pearl_rules.specs.declared.row.TaskRow.{TaskRow}
 use Rattle.pearl_rules.specs.declared.setup.Setup.{Setup}
 use Rattle.pearl_rules.specs.Core.{Core, cell_or_zero, value_at}
-use Rattle.pearl_rules.specs.Tables.{TakesTexts}
+use Rattle.pearl_rules.specs.Tables.{IsPreset, TakesTexts}
 use Rattle.pearl_format.specs.Bytes.{IsTextByte}
 
 -- the kind of a slot's values: that of its first value
@@ -74,3 +78,21 @@ IsLike first x = IsValueOf (kind_of first) x
 -- each slot holds a value of its kind
 abbrev pub HasKinds : Setup → Core → Type 0
 HasKinds setup core = AllZip IsLike setup.slots core.slots
+
+-- as many counts as there are semaphores, each below 2^31
+pub record HasCounts (setup : Setup) (core : Core) : Type 0 where
+  pub as_many : length core.counts ≡ length setup.semaphores
+  pub small : AllByRecursion IsPreset core.counts
+
+-- an active task's priority is from 1 to 255
+abbrev pub IsUrgentMode : Mode → Type 0
+IsUrgentMode Dormant = Unit {0}
+IsUrgentMode (Active priority suspended) = IsUrgency priority
+
+-- and so is its declared one
+abbrev pub IsUrgentRow : TaskRow → Type 0
+IsUrgentRow row = IsUrgency row.declared × IsUrgentMode row.mode
+
+-- each task has such priorities
+abbrev pub HasUrgencies : Core → Type 0
+HasUrgencies core = AllByRecursion IsUrgentRow core.tasks
