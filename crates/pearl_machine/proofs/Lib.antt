@@ -4,4 +4,9 @@ pub mod Steps
 pub mod Places
 pub mod Marking
 pub mod Owned
+pub mod Taken
+pub mod ReadyLaws
 pub mod LastValue
+pub mod Going
+pub mod Making
+pub mod Acting

@@ -6,3 +6,5 @@ pub mod Parts
 pub mod Known
 -- what a sink has taken of the lines that a run tells
 pub mod Told
+-- what holds of a machine between its calls
+pub mod Ready
