@@ -26,14 +26,14 @@ use Rattle.pearl_kernel.specs.Kept.{Kept, IsLawful, AllSettled, offered, is_sile
 use Rattle.pearl_solo.specs.Answered.{CanHear}
 use Rattle.pearl_machine.specs.Known.{Known}
 use Rattle.pearl_machine.specs.Parts.{HasMemories, stack_in, is_going, running_of, heard_part}
-use Rattle.pearl_machine.specs.Ready.{IsReady, IsDue, Stands, AllStand, seen_of}
+use Rattle.pearl_machine.specs.Ready.{IsReady, IsDue, Stands, AllStand, untold, seen_of}
 use Rattle.pearl_machine.specs.Seen.{Seen, ActsFirst}
 use Rattle.pearl_machine.specs.declared.part.Part.{Part}
 use Rattle.pearl_machine.proofs.Listed.{get_elsewhere, kept_gone, kept_elsewhere}
 use Rattle.pearl_machine.proofs.Rows.{table_refreshed, table_kept}
 use Rattle.pearl_machine.proofs.Marking.{rows_after, parts_after, dropped_none}
 use Rattle.pearl_machine.proofs.Owned.{own_of, hears_here}
-use Rattle.pearl_machine.proofs.ReadyLaws.{all_still, tasks_are, stand_set}
+use Rattle.pearl_machine.proofs.ReadyLaws.{all_still, tasks_are, stand_set, told_past}
 use Rattle.pearl_machine.proofs.Making.{active_here, stands_at, acts_first}
 
 -- STACKS
@@ -87,6 +87,17 @@ stand_refreshed o rows xs known valid object size all i running e =
     by_kept true (Some r) is found h = all i running (found ∙ h)
 
 -- A MARK
+
+answer_in : Reply → Option Answer
+answer_in (Hears answer) = Some answer
+answer_in Ends = None
+
+pub same_answer : (a b : Answer) → Hears a ≡ Hears b → a ≡ b
+unfolding answer_in
+same_answer a b e = same_Some a b (ap answer_in e)
+
+pub ends_unheard : (answer : Answer) → Ends ≡ Hears answer → ⊥
+ends_unheard answer e = cc
 
 module _ (o : Object) (setup : Setup) (k k2 : Kept) (parts : List Part) (due : ℕ) (r : IsReady o setup k parts due) (all : AllSettled k) (known : Known)
     (past : length k.core.tasks ≤ due) (t : ℕ) (reply : Reply) (acts : kernel.Acts k t reply k2) where
@@ -224,3 +235,9 @@ ready_turned o setup k k2 parts due t r same lawful =
   where
     is : k2 ≡ record k { core = record k.core { last = (turned k.core (offered k) t).last } }
     is = same ∙ ap (λ c. let n : Kept = record k { core = c } in n) (turned-is k.core (offered k) t)
+
+pub turned_taken : (k k2 : Kept) (due t : ℕ) → k2 ≡ record k { core = turned k.core (offered k) t } → k.core.told ≡ [] → length k.core.tasks ≤ due →
+    untold k2 due ≡ []
+turned_taken k k2 due t same taken past =
+    ap (λ n. untold n due) (same ∙ ap (λ c. let n : Kept = record k { core = c } in n) (turned-is k.core (offered k) t))
+    ∙ (told_past (record k { core = record k.core { last = (turned k.core (offered k) t).last } }) due past ∙ taken)

@@ -10,3 +10,6 @@ pub mod LastValue
 pub mod Going
 pub mod Making
 pub mod Acting
+pub mod Loading
+pub mod Entering
+pub mod Calls

@@ -6,5 +6,9 @@
 #![tactic(auto)]
 
 mod known;
+mod lines;
+mod machine;
 mod part;
 mod tables;
+
+pub use machine::Machine;

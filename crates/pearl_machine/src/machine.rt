@@ -1,0 +1,301 @@
+//! The machine, from the start of a run to its end.
+
+ghost use Rattle.std.specs.Prelude.{◌≡◌, ◌≢◌, ℕ, ◌≤◌, List, [], ◌∷◌, ◌++◌, None, IfOk, OnOk, OnErr, is_some};
+ghost use Rattle.pearl_rules.specs.Core.{Report};
+ghost use Rattle.pearl_rules.specs.Pick.{states};
+ghost use Rattle.pearl_rules.specs.declared.entry.Entry.{Entry};
+ghost use Rattle.pearl_rules.specs.declared.entry.Entry.TheVariants.{Run};
+ghost use Rattle.pearl_rules.specs.Runs.{machine_start, machine_step, machine_offers, unsettled, Tells, Turns};
+ghost use Rattle.pearl_engine.specs.Built.{OnlyBuilt};
+ghost use Rattle.pearl_engine.specs.Engines.{engine};
+ghost use Rattle.pearl_engine.specs.Setups.{setup_of};
+ghost use Rattle.pearl_io.specs.Outside.{Takes, TakesFront, WriteFailed};
+ghost use Rattle.pearl_script.specs.Lines.{close_line as line_of_close, lines_of};
+ghost use Rattle.pearl_machine.specs.Seen.{Seen, Handles, IsEntryOf, SettledBy, ActedBy, Makes, TakesNext, retold};
+ghost use Rattle.pearl_machine.specs.Told.{IsCutOff};
+
+use crate::lines::state_of;
+use crate::known::laws_hold;
+use crate::part::{Part, answer_part, new_parts, settle_part, step_part};
+use crate::tables::tables;
+use arrayvec::ArrayVec;
+use pearl_instructions::valid::Valid;
+use pearl_io::{Sink, WriteFault, put_all};
+use pearl_kernel::{Acted, Kernel};
+use pearl_rules::entry::Entry;
+use pearl_rules::setup::Setup;
+use pearl_script::transcript::{close_line, event_line};
+use std::alloc::{AllocError, Global};
+use std::marker::Model;
+
+/// Executes a valid object whose instructions are all built. Contracts see the object, and a state of its run that has told
+/// only what isn't written yet.
+#[derive(Drop)]
+pub struct Machine {
+    code: Valid,
+    setup: Setup,
+    kernel: Kernel,
+    parts: Vec<Part>,
+    // The task of which a state line comes next; where none is due, how many tasks there are.
+    due: u32,
+}
+
+impl Model for Machine {
+    ghost use Rattle.pearl_machine.specs.Seen.{Seen};
+    ghost use Rattle.pearl_machine.specs.Ready.{IsReady, seen_of};
+
+    ghost Value = { Seen };
+
+    ghost view = { λ m. seen_of m.code m.kernel m.parts.items m.due };
+
+    ghost invariant = { λ m. IsReady m.code m.setup m.kernel m.parts.items m.due };
+}
+
+impl Machine {
+    /// The machine at the start of a run. It takes all the memory that the run needs.
+    pub fn load(alloc: Global, code: Valid) -> Result<Machine, AllocError>
+        requires built { OnlyBuilt code }
+        ensures object { IfOk result (λ machine. machine.object ≡ code) }
+        ensures start { IfOk result (λ machine. machine.state ≡ machine_start (engine code) (setup_of code) []) }
+    {
+        laws_hold(&code);
+        let setup = tables(alloc, code.object())?;
+        let kernel = Kernel::new(alloc, &setup)?;
+        let parts = new_parts(alloc, &code)?;
+        let due = kernel.tasks();
+        Ok(Machine {
+            code,
+            setup,
+            kernel,
+            parts,
+            due,
+        })
+    }
+
+    /// The tables of the object.
+    pub fn setup(&self) -> &Setup
+        ensures { result.now ≡ setup_of self.now.object }
+    {
+        &self.setup
+    }
+
+    /// The moment, in milliseconds since the start.
+    pub fn now(&self) -> u64
+        ensures { result ≡ self.now.state.core.moment }
+    {
+        self.kernel.now()
+    }
+
+    /// Whether the run's next step is an instruction.
+    pub fn unsettled(&self) -> bool
+        ensures { result ≡ is_some (unsettled self.now.state) }
+    {
+        self.kernel.unsettled().is_some()
+    }
+
+    /// One instruction of the first task that has offered nothing.
+    pub fn instruction(&mut self)
+        requires { unsettled self.old.state ≢ None }
+        ensures { self.new ≡ record self.old { state = machine_step (engine self.old.object) self.old.state } }
+    {
+        let task = self.kernel.unsettled().unwrap();
+        if let Some(action) = step_part(&self.code, &mut self.parts, task) {
+            self.kernel.offered(task, action);
+        }
+    }
+
+    /// Hands the sink the lines that open a run: for each task that is active at the start, that it started.
+    pub fn begin<K: Sink>(&mut self, sink: &mut K) -> Result<(), WriteFault>
+        ensures same { self.new ≡ retold self.old self.new.state.core.told }
+        ensures ok { OnOk result (Takes (K.taken sink.old) (K.taken sink.new) (lines_of (setup_of self.old.object) self.old.state.core.told)) }
+        ensures all { OnOk result (self.new.state.core.told ≡ []) }
+        ensures err { OnErr result (IsCutOff (setup_of self.old.object) (K.taken sink.old) (K.taken sink.new)
+            self.old.state.core.told self.new.state.core.told) }
+        ensures cause { OnErr result (WriteFailed (K.faults sink.old) (K.faults sink.new) (K.full sink.new)) }
+        ensures later { K.faults sink.old ≤ K.faults sink.new }
+    {
+        self.tell(sink)
+    }
+
+    /// Makes all marks of one entry, and hands the sink the line of all that they tell, each line as one piece.
+    ///
+    /// After [`WriteFault`] the machine stands after the mark whose lines were not taken whole.
+    pub fn entry<K: Sink>(&mut self, entry: &Entry, sink: &mut K) -> Result<(), WriteFault>
+        requires taken { self.old.state.core.told ≡ [] }
+        requires named { IsEntryOf (setup_of self.old.object) entry.now }
+        ensures object { self.new.object ≡ self.old.object }
+        ensures ok { OnOk result ((told : List (ℕ × Report)) × Handles self.old (entry.now ∷ []) [] self.new told
+            × Takes (K.taken sink.old) (K.taken sink.new) (lines_of (setup_of self.old.object) told)) }
+        ensures settled { OnOk result (unsettled self.new.state ≡ None) }
+        ensures all { OnOk result (self.new.state.core.told ≡ []) }
+        ensures err { OnErr result ((told : List (ℕ × Report)) × (left : List Entry) × Handles self.old (entry.now ∷ []) left self.new told
+            × IsCutOff (setup_of self.old.object) (K.taken sink.old) (K.taken sink.new) told self.new.state.core.told) }
+        ensures cause { OnErr result (WriteFailed (K.faults sink.old) (K.faults sink.new) (K.full sink.new)) }
+        ensures later { K.faults sink.old ≤ K.faults sink.new }
+    {
+        self.settle();
+        match entry {
+            Entry::Run(count) => self.run(*count, sink),
+            Entry::Turn(task) => {
+                self.turn(*task);
+                Ok(())
+            }
+            Entry::State => {
+                self.show();
+                self.tell(sink)
+            }
+            // The others aren't built yet: no mark comes of them.
+            _ => Ok(()),
+        }
+    }
+
+    /// Hands the sink the last lines: how each task stands, and that the run is closed, each as one piece.
+    ///
+    /// After [`WriteFault`] a front of these bytes was taken, and not all.
+    pub fn close<K: Sink>(&mut self, sink: &mut K) -> Result<(), WriteFault>
+        requires taken { self.old.state.core.told ≡ [] }
+        ensures object { self.new.object ≡ self.old.object }
+        ensures settled { unsettled self.new.state ≡ None }
+        ensures handles { (from : List Entry) → Handles self.old from from self.new [] }
+        ensures ok { OnOk result (Takes (K.taken sink.old) (K.taken sink.new) (lines_of (setup_of self.old.object)
+            (states self.new.state.core (machine_offers self.new.state)) ++ line_of_close self.new.state.core.moment)) }
+        ensures err { OnErr result (TakesFront (K.taken sink.old) (K.taken sink.new) (lines_of (setup_of self.old.object)
+            (states self.new.state.core (machine_offers self.new.state)) ++ line_of_close self.new.state.core.moment)) }
+        ensures cause { OnErr result (WriteFailed (K.faults sink.old) (K.faults sink.new) (K.full sink.new)) }
+        ensures later { K.faults sink.old ≤ K.faults sink.new }
+    {
+        self.settle();
+        self.show();
+        self.tell(sink)?;
+        let mut line = ArrayVec::new();
+        close_line(self.now(), &mut line);
+        put_all(sink, line.as_slice())
+    }
+
+    // The first task that has offered nothing goes on to its next action, if there is one.
+    fn settle_first(&mut self) -> bool
+        ensures { SettledBy self.old self.new result }
+    {
+        let Some(task) = self.kernel.unsettled() else {
+            return false;
+        };
+        let action = settle_part(&self.code, &mut self.parts, task);
+        self.kernel.offered(task, action);
+        true
+    }
+
+    // Every active task goes on to its next action.
+    fn settle(&mut self)
+        ensures object { self.new.object ≡ self.old.object }
+        ensures told { self.new.state.core.told ≡ self.old.state.core.told }
+        ensures settled { unsettled self.new.state ≡ None }
+        ensures handles { (from : List Entry) → Handles self.old from from self.new [] }
+    {
+        while self.settle_first() {}
+    }
+
+    // The task that acts next does its action, if there is one.
+    fn act(&mut self) -> bool
+        requires settled { unsettled self.old.state ≡ None }
+        requires taken { self.old.state.core.told ≡ [] }
+        ensures object { self.new.object ≡ self.old.object }
+        ensures acted { ActedBy self.old self.new result }
+    {
+        laws_hold(&self.code);
+        match self.kernel.act() {
+            Acted::Idle => false,
+            Acted::Went(task, answer) => {
+                answer_part(&self.code, &mut self.parts, task, answer);
+                true
+            }
+            Acted::Ended(_) => true,
+        }
+    }
+
+    // Up to so many marks, with the lines of each.
+    fn run<K: Sink>(&mut self, count: u64, sink: &mut K) -> Result<(), WriteFault>
+        requires settled { unsettled self.old.state ≡ None }
+        requires taken { self.old.state.core.told ≡ [] }
+        ensures object { self.new.object ≡ self.old.object }
+        ensures ok { OnOk result ((told : List (ℕ × Report)) × Handles self.old (Run count ∷ []) [] self.new told
+            × Takes (K.taken sink.old) (K.taken sink.new) (lines_of (setup_of self.old.object) told)) }
+        ensures settled { OnOk result (unsettled self.new.state ≡ None) }
+        ensures all { OnOk result (self.new.state.core.told ≡ []) }
+        ensures err { OnErr result ((told : List (ℕ × Report)) × (left : List Entry) × Handles self.old (Run count ∷ []) left self.new told
+            × IsCutOff (setup_of self.old.object) (K.taken sink.old) (K.taken sink.new) told self.new.state.core.told) }
+        ensures cause { OnErr result (WriteFailed (K.faults sink.old) (K.faults sink.new) (K.full sink.new)) }
+        ensures later { K.faults sink.old ≤ K.faults sink.new }
+    {
+        let mut left = count;
+        while left > 0 {
+            if !self.act() {
+                return Ok(());
+            }
+            left -= 1;
+            self.tell(sink)?;
+            self.settle();
+        }
+        Ok(())
+    }
+
+    // It becomes a task's turn, where it can.
+    fn turn(&mut self, task: u32)
+        requires settled { unsettled self.old.state ≡ None }
+        requires taken { self.old.state.core.told ≡ [] }
+        ensures object { self.new.object ≡ self.old.object }
+        ensures settled { unsettled self.new.state ≡ None }
+        ensures taken { self.new.state.core.told ≡ [] }
+        ensures turns { Makes self.old (Turns task) self.new }
+    {
+        self.kernel.turn(task);
+    }
+
+    // How each task stands is told.
+    fn show(&mut self)
+        requires settled { unsettled self.old.state ≡ None }
+        requires taken { self.old.state.core.told ≡ [] }
+        ensures same { self.new ≡ retold self.old (states self.old.state.core (machine_offers self.old.state)) }
+        ensures tells { Makes self.old Tells self.new }
+    {
+        self.due = 0;
+    }
+
+    // Makes `into` the line of what is told next, if something is left to tell.
+    fn next_line(&mut self, into: &mut ArrayVec<u8, 2304>) -> bool
+        ensures same { self.new ≡ retold self.old self.new.state.core.told }
+        ensures next { TakesNext self.old self.new into.new.items result }
+    {
+        let moment = self.kernel.now();
+        match self.kernel.next_event() {
+            Some(event) => {
+                event_line(moment, &event, &self.setup, into);
+                true
+            }
+            None => {
+                if self.due >= self.kernel.tasks() {
+                    return false;
+                }
+                state_of(&self.kernel, &self.setup, self.due, into);
+                self.due += 1;
+                true
+            }
+        }
+    }
+
+    // Hands the sink the line of all that is told and not written.
+    fn tell<K: Sink>(&mut self, sink: &mut K) -> Result<(), WriteFault>
+        ensures same { self.new ≡ retold self.old self.new.state.core.told }
+        ensures ok { OnOk result (Takes (K.taken sink.old) (K.taken sink.new) (lines_of (setup_of self.old.object) self.old.state.core.told)) }
+        ensures all { OnOk result (self.new.state.core.told ≡ []) }
+        ensures err { OnErr result (IsCutOff (setup_of self.old.object) (K.taken sink.old) (K.taken sink.new)
+            self.old.state.core.told self.new.state.core.told) }
+        ensures cause { OnErr result (WriteFailed (K.faults sink.old) (K.faults sink.new) (K.full sink.new)) }
+        ensures later { K.faults sink.old ≤ K.faults sink.new }
+    {
+        let mut line = ArrayVec::new();
+        while self.next_line(&mut line) {
+            put_all(sink, line.as_slice())?;
+        }
+        Ok(())
+    }
+}
