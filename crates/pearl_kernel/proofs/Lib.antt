@@ -1,0 +1,10 @@
+pub mod Events
+pub mod Places
+pub mod Standing
+pub mod Picking
+pub mod Counted
+pub mod Lawful
+pub mod Stays
+pub mod Acting
+pub mod Offering
+pub mod AtStart

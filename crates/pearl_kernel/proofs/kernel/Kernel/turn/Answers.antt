@@ -1,0 +1,10 @@
+use Rattle.std.proofs.Common.{Some, sym, subst}
+use Rattle.pearl_kernel.specs.Kept.{Kept}
+use Rattle.pearl_kernel.specs.Whole.{IsWhole}
+use Rattle.pearl_kernel.proofs.Acting.{kept-last}
+use Rattle.pearl_kernel.proofs.kernel.Kernel.turn.Goals as goal
+
+pub invariant_of-self : goal.invariant_of-self
+invariant_of-self c =
+    let s = c.self.inside in
+    subst (λ (k : Kept). IsWhole k s.ready) (sym c.set_last.ensures) (kept-last s.state s.ready (Some c.args.task) c.self.invariant)

@@ -1,0 +1,249 @@
+// The core's steps, one call for each.
+
+ghost use Rattle.std.specs.Prelude.{◌≡◌, ◌<◌, ◌≤◌, [], ◌∷◌, Some, None, true};
+ghost use Rattle.std.specs.Prelude.{IfOk, IfSome, MatchOption, length, slice_set};
+ghost use Rattle.pearl_rules.specs.declared.setup.Setup as Tables;
+ghost use Rattle.pearl_rules.specs.declared.action.Action as Acting;
+ghost use Rattle.pearl_rules.specs.Core.{Core, Happened, is_active as is_active_in};
+ghost use Rattle.pearl_rules.specs.Pick.{pick, turned, can_turn as can_turn_in, shown_of};
+ghost use Rattle.pearl_rules.specs.Slots.{Fits};
+ghost use Rattle.pearl_rules.specs.Tables.{IsSetup};
+ghost use Rattle.pearl_kernel.specs.Kept.{at_start, offered as offered_of, IsLawful, Marks, NamesWhatIsThere};
+ghost use Rattle.pearl_kernel.specs.Kept.{is_unsettled as is_unsettled_in, IsFirst, AllSettled};
+ghost use Rattle.pearl_kernel.specs.Names.{Names, NamesAll};
+ghost use Rattle.pearl_kernel.specs.Eligible.{entry};
+ghost use Rattle.pearl_kernel.specs.Touched.{Leaves, IsThere, IsRenewed};
+
+use crate::state::State;
+use pearl_ready::ready::Ready;
+use pearl_rules::action::{Action, Answer};
+use pearl_rules::event::{Event, Shown};
+use pearl_rules::row::Mode;
+use pearl_rules::setup::Setup;
+use std::alloc::{AllocError, Global};
+use std::marker::Model;
+
+/// What became of the task that was to act.
+#[derive(Drop)]
+pub enum Acted {
+    /// No task can act.
+    Idle,
+    /// It goes on with this answer.
+    Went(u32, Answer),
+    /// It ended.
+    Ended(u32),
+}
+
+/// The core, with the actions that the tasks offer. Contracts see both, and of what was told what wasn't taken yet.
+#[derive(Drop)]
+pub struct Kernel {
+    state: State,
+    // The tasks that can act.
+    ready: Ready,
+}
+
+impl Model for Kernel {
+    ghost use Rattle.pearl_kernel.specs.Kept.{Kept};
+    ghost use Rattle.pearl_kernel.specs.Whole.{IsWhole};
+
+    ghost Value = { Kept };
+
+    ghost view = { λ k. k.state };
+
+    ghost invariant = { λ k. IsWhole k.state k.ready };
+}
+
+impl Kernel {
+    /// The kernel at the start of a run. It takes all the memory that the run needs.
+    pub fn new(alloc: Global, setup: &Setup) -> Result<Kernel, AllocError>
+        requires { IsSetup setup.now }
+        ensures opening { IfOk result (λ k. k ≡ at_start setup.now) }
+        ensures lawful { IfOk result (IsLawful setup.now) }
+    {
+        let state = State::new(alloc, setup)?;
+        let ready = Ready::new(alloc, state.tasks())?;
+        Ok(Kernel { state, ready })
+    }
+
+    /// The first active task that has offered nothing.
+    pub fn unsettled(&self) -> Option<u32>
+        ensures { MatchOption result (AllSettled self.now) (IsFirst self.now) }
+    {
+        let count = self.state.tasks() as u32;
+        for task in 0..count {
+            if self.state.is_unsettled(task) {
+                return Some(task);
+            }
+        }
+        None
+    }
+
+    /// A task offers its next action.
+    pub fn offered(&mut self, task: u32, action: Action)
+        requires unsettled { is_unsettled_in self.old task ≡ true }
+        requires fits { (setup : Tables.Setup) × IsLawful setup self.old × Fits setup action }
+        ensures offers { self.new ≡ record self.old { offers = slice_set self.old.offers task (Some action) } }
+        ensures lawful { (setup : Tables.Setup) → IsLawful setup self.old → Fits setup action → IsLawful setup self.new }
+    {
+        self.state.set_offer(task, Some(action));
+        refresh(&self.state, &mut self.ready, task);
+    }
+
+    /// The picked task does its action.
+    pub fn act(&mut self) -> Acted
+        requires { self.old.core.told ≡ [] }
+        ensures acted { Marks self.old self.new result }
+        ensures lawful { (setup : Tables.Setup) → IsLawful setup self.old → IsLawful setup self.new }
+    {
+        let Some(task) = self.picked() else {
+            return Acted::Idle;
+        };
+        let Some(action) = self.state.take_offer(task) else {
+            return Acted::Idle;
+        };
+        let touched = touched_by(&action);
+        let acted = self.state.act(task, action);
+        renew(&self.state, &mut self.ready, task, touched);
+        acted
+    }
+
+    // The task that acts next.
+    fn picked(&self) -> Option<u32>
+        ensures picked { result ≡ pick self.now.core (offered_of self.now) }
+        ensures there { IfSome result (λ t. t < length self.now.core.tasks) }
+    {
+        let task = self.ready.best(self.state.last())?;
+        Some(task as u32)
+    }
+
+    /// It is a task's turn, where it can be: the task counts as the one that acted last.
+    pub fn turn(&mut self, task: u32)
+        ensures turned { self.new ≡ record self.old { core = turned self.old.core (offered_of self.old) task } }
+        ensures lawful { (setup : Tables.Setup) → IsLawful setup self.old → IsLawful setup self.new }
+    {
+        if self.can_turn(task) {
+            self.state.set_last(task);
+        }
+    }
+
+    fn can_turn(&self, task: u32) -> bool
+        ensures { result ≡ can_turn_in self.now.core (offered_of self.now) task }
+    {
+        let Some(best) = self.picked() else {
+            return false;
+        };
+        match self.state.entry(task) {
+            None => false,
+            entry => entry == self.state.entry(best),
+        }
+    }
+
+    /// How a task stands; a number that names none is told to be dormant.
+    pub fn shown(&self, task: u32) -> Shown
+        ensures { result ≡ shown_of self.now.core (offered_of self.now) task }
+    {
+        match self.state.mode(task) {
+            Mode::Dormant => Shown::Dormant,
+            Mode::Active {
+                priority,
+                suspended: true,
+            } => Shown::Suspended(priority),
+            Mode::Active { priority, .. } => {
+                if !self.state.is_possible(task) {
+                    Shown::Blocked(priority)
+                } else if self.picked() == Some(task) {
+                    Shown::Running(priority)
+                } else {
+                    Shown::Runnable(priority)
+                }
+            }
+        }
+    }
+
+    /// The next event that wasn't taken.
+    pub fn next_event(&mut self) -> Option<Event>
+        ensures rest { MatchOption result ((self.old.core.told ≡ []) × (self.new ≡ self.old))
+            (λ e. self.old.core.told ≡ (self.old.core.moment, Happened e) ∷ self.new.core.told) }
+        ensures same { self.new ≡ record self.old { core = record self.old.core { told = self.new.core.told } } }
+        ensures named { (setup : Tables.Setup) → IsLawful setup self.old → IfSome result (NamesWhatIsThere setup) }
+        ensures lawful { (setup : Tables.Setup) → IsLawful setup self.old → IsLawful setup self.new }
+    {
+        self.state.next_event()
+    }
+
+    /// The moment, in milliseconds since the start.
+    pub fn now(&self) -> u64
+        ensures { result ≡ self.now.core.moment }
+    {
+        self.state.now()
+    }
+
+    /// Whether a task is active.
+    pub fn is_active(&self, task: u32) -> bool
+        ensures { result ≡ is_active_in self.now.core task }
+    {
+        self.state.is_active(task)
+    }
+
+    /// How many tasks there are.
+    pub fn tasks(&self) -> u32
+        ensures { result ≡ length self.now.core.tasks }
+    {
+        self.state.tasks() as u32
+    }
+}
+
+// Which tasks besides the one that acts may be able to act, or not any more, after an action.
+enum Touched {
+    Own,
+    Other(u32),
+    All,
+}
+
+fn touched_by(action: &Action) -> Touched
+    ensures leaves { Leaves action.now result }
+    ensures there { (core : Core) → Names core action.now → IsThere core result }
+{
+    match action {
+        Action::Request(_) | Action::Release(_) | Action::Try(_) => Touched::All,
+        Action::Activate { task, .. } | Action::Continue { task, .. } => Touched::Other(*task),
+        Action::Suspend(task) | Action::Terminate(task) => Touched::Other(*task),
+        _ => Touched::Own,
+    }
+}
+
+// The set has a task where it can act, with its priority, and else hasn't.
+fn refresh(state: &State, ready: &mut Ready, task: u32)
+    requires there { task < length ready.old }
+    requires names { NamesAll state.now }
+    ensures { ready.new ≡ slice_set ready.old task (entry state.now task) }
+{
+    match state.entry(task) {
+        None => ready.take(task as usize),
+        Some(priority) => ready.put(task as usize, priority),
+    }
+}
+
+// After the act of the task `own` the set has each task where it can act.
+fn renew(state: &State, ready: &mut Ready, own: u32, touched: Touched)
+    requires few { length state.now.core.tasks ≤ 200 }
+    requires size { length ready.old ≡ length state.now.core.tasks }
+    requires own { own < length state.now.core.tasks }
+    requires there { IsThere state.now.core touched }
+    requires names { NamesAll state.now }
+    ensures { IsRenewed state.now own touched ready.old ready.new }
+{
+    match touched {
+        Touched::Own => refresh(state, ready, own),
+        Touched::Other(task) => {
+            refresh(state, ready, task);
+            refresh(state, ready, own);
+        }
+        Touched::All => {
+            let count = state.tasks() as u32;
+            for task in 0..count {
+                refresh(state, ready, task);
+            }
+        }
+    }
+}

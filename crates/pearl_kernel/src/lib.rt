@@ -1,0 +1,14 @@
+//! The core of a run of any number of tasks, with the actions that they offer: who acts next, what an action does, and
+//! what it tells.
+//!
+//! [`Kernel::new`] takes all the memory that a run needs. Each task that is active offers its next action
+//! ([`Kernel::unsettled`], [`Kernel::offered`]); then [`Kernel::act`] does the action of the one whose turn it is, and
+//! [`Kernel::next_event`] hands out what it told.
+#![tactic(auto)]
+
+mod kernel;
+mod opening;
+mod perform;
+mod state;
+
+pub use kernel::{Acted, Kernel};

@@ -1,0 +1,81 @@
+// What a state begins with.
+
+ghost use Rattle.std.specs.Prelude.{◌≡◌, ◌≤◌, [], None, IfOk, length, map, replicate};
+ghost use Rattle.pearl_rules.specs.Core.{first_row as first_row_of, first_events};
+ghost use Rattle.pearl_kernel.specs.Kept.{stamped};
+
+use circular_buffer::HeapCircularBuffer;
+use pearl_rules::action::Action;
+use pearl_rules::event::Event;
+use pearl_rules::row::{Mode, TaskRow};
+use pearl_rules::setup::TaskEntry;
+use pearl_value::cell::{Cell, copy_of};
+use std::alloc::{AllocError, Global};
+
+fn first_row(task: &TaskEntry) -> TaskRow
+    ensures { result ≡ first_row_of task.now }
+{
+    let mode = if task.main {
+        Mode::Active {
+            priority: task.priority,
+            suspended: false,
+        }
+    } else {
+        Mode::Dormant
+    };
+    TaskRow {
+        mode,
+        declared: task.priority,
+    }
+}
+
+/// How each task stands at the start.
+pub fn first_rows(alloc: Global, tasks: &[TaskEntry]) -> Result<Vec<TaskRow>, AllocError>
+    ensures { IfOk result (λ rows. rows.items ≡ map first_row_of tasks.now) }
+{
+    let mut rows = Vec::with_capacity(alloc, tasks.len())?;
+    for task in tasks {
+        rows.push(first_row(task))?;
+    }
+    Ok(rows)
+}
+
+/// Room for the offer of each task.
+pub fn no_offers(alloc: Global, count: usize) -> Result<Vec<Option<Action>>, AllocError>
+    ensures { IfOk result (λ offers. offers.items ≡ replicate count None) }
+{
+    let mut offers = Vec::with_capacity(alloc, count)?;
+    for _ in 0..count {
+        offers.push(None)?;
+    }
+    Ok(offers)
+}
+
+/// The first value of each slot.
+pub fn first_values(alloc: Global, first: &[Cell]) -> Result<Vec<Cell>, AllocError>
+    ensures { IfOk result (λ slots. slots.items ≡ first.now) }
+{
+    let mut slots = Vec::with_capacity(alloc, first.len())?;
+    for value in first {
+        slots.push(copy_of(value))?;
+    }
+    Ok(slots)
+}
+
+/// Tells the starts of the MAIN tasks.
+pub fn tell_starts(tasks: &[TaskEntry], events: &mut HeapCircularBuffer<Event>)
+    requires few { length tasks.now ≤ 200 }
+    requires room { events.old.capacity ≡ 200 }
+    requires empty { events.old.items ≡ [] }
+    ensures room { events.new.capacity ≡ 200 }
+    ensures told { stamped 0 events.new.items ≡ first_events 0 tasks.now }
+{
+    for (task, entry) in tasks.iter().enumerate() {
+        if entry.main {
+            events.push_back(Event::Start {
+                task: task as u32,
+                priority: entry.priority,
+            });
+        }
+    }
+}

@@ -1,0 +1,202 @@
+// What an action does.
+
+ghost use Rattle.std.specs.Prelude.{◌≡◌, ◌<◌, [], ◌∷◌, IsTrue, true, length, nat_lt};
+ghost use Rattle.pearl_rules.specs.Core.{mode_of};
+ghost use Rattle.pearl_rules.specs.Counts.{all_below_most, count_at};
+ghost use Rattle.pearl_rules.specs.Effect.{effect, effect_of, ending, started, priority_or_declared};
+ghost use Rattle.pearl_rules.specs.Effect.{stopping, releasing, trying, with_mark};
+ghost use Rattle.pearl_rules.specs.Pick.{guard};
+ghost use Rattle.pearl_sema.specs.Waiting.{AreThere};
+ghost use Rattle.pearl_kernel.specs.Kept.{after, Replied};
+ghost use Rattle.pearl_kernel.specs.Names.{Names};
+ghost use Rattle.pearl_kernel.specs.Whole.{HasRoom};
+
+use crate::kernel::Acted;
+use crate::state::State;
+use arrayvec::ArrayVec;
+use pearl_rules::action::{Action, Answer, Repeat, Start};
+use pearl_rules::event::Event;
+use pearl_rules::row::Mode;
+use pearl_value::cell::Cell;
+use pearl_value::trap::Trap;
+
+impl State {
+    /// Does an action of the task `own`, which acted last from now on.
+    #[tactic(auto, unfolding(pearl_rules::specs::Effect::effect))]
+    pub fn act(&mut self, own: u32, action: Action) -> Acted
+        requires room { HasRoom self.old own }
+        requires names { Names self.old.core action }
+        requires able { guard self.old.core action ≡ true }
+        ensures state { self.new ≡ after self.old (effect self.old.core own action) }
+        ensures reply { Replied own (effect self.old.core own action).reply result }
+    {
+        self.set_last(own);
+        self.perform(own, action)
+    }
+
+    // One arm for each row of the actions.
+    fn perform(&mut self, own: u32, action: Action) -> Acted
+        requires room { HasRoom self.old own }
+        requires names { Names self.old.core action }
+        requires able { guard self.old.core action ≡ true }
+        ensures state { self.new ≡ after self.old (effect_of self.old.core own action) }
+        ensures reply { Replied own (effect_of self.old.core own action).reply result }
+    {
+        match action {
+            Action::Read(slot) => return Acted::Went(own, Answer::One(self.slot(slot))),
+            Action::Write(slot, value) => self.set_slot(slot, value),
+            Action::Turn | Action::Enter => {}
+            Action::Request(list) => self.lower(&list),
+            Action::Release(list) => return self.release(own, &list),
+            Action::Try(semaphore) => return self.attempt(own, semaphore),
+            Action::Activate {
+                task,
+                start: Start::Free,
+                repeat: Repeat::Once,
+                priority,
+            } => self.activate(task, priority),
+            Action::Continue {
+                task,
+                start: Start::Free,
+            } => self.mark(task, false),
+            Action::Suspend(task) => self.mark(task, true),
+            Action::Terminate(task) => return self.stop(own, task),
+            Action::Put { device, text } => self.note(Event::Out { device, text }),
+            Action::End => return self.end(own, Event::End(own)),
+            Action::Trap(trap) => return self.end(own, Event::Trap { task: own, trap }),
+            // These aren't built yet: no task offers them.
+            Action::Now
+            | Action::Activate { .. }
+            | Action::Continue { .. }
+            | Action::Resume(_)
+            | Action::Prevent(_)
+            | Action::Enable(_)
+            | Action::Disable(_)
+            | Action::Trigger(_)
+            | Action::Get { .. }
+            | Action::Take(_)
+            | Action::Send(..) => unreachable!(),
+        }
+        Acted::Went(own, Answer::Nothing)
+    }
+
+    // The task ends, and this event tells it.
+    fn end(&mut self, own: u32, event: Event) -> Acted
+        requires { HasRoom self.old own }
+        ensures state { self.new ≡ after self.old (ending self.old.core own event) }
+        ensures reply { Replied own (ending self.old.core own event).reply result }
+    {
+        self.finish(own, event);
+        Acted::Ended(own)
+    }
+
+    // A task becomes dormant, and its offer is gone.
+    fn finish(&mut self, task: u32, event: Event)
+        requires { HasRoom self.old task }
+        ensures { self.new ≡ after self.old (ending self.old.core task event) }
+    {
+        self.set_offer(task, None);
+        self.set_mode(task, Mode::Dormant);
+        self.note(event);
+    }
+
+    // A start of a task, with this priority or with the declared one.
+    fn activate(&mut self, task: u32, priority: Option<u8>)
+        requires task { task < length self.old.core.tasks }
+        requires room { length self.old.core.told < 200 }
+        ensures { self.new ≡ record self.old { core = started self.old.core task (priority_or_declared self.old.core task priority) } }
+    {
+        let priority = match priority {
+            None => self.declared(task),
+            Some(priority) => priority,
+        };
+        self.start(task, priority);
+    }
+
+    fn start(&mut self, task: u32, priority: u8)
+        requires task { task < length self.old.core.tasks }
+        requires room { length self.old.core.told < 200 }
+        ensures { self.new ≡ record self.old { core = started self.old.core task priority } }
+    {
+        match self.mode(task) {
+            Mode::Dormant => {
+                let suspended = false;
+                self.set_mode(
+                    task,
+                    Mode::Active {
+                        priority,
+                        suspended,
+                    },
+                );
+                self.note(Event::Start { task, priority });
+            }
+            Mode::Active { .. } => self.note(Event::Overrun(task)),
+        }
+    }
+
+    // An active task has this mark of suspension from now on.
+    fn mark(&mut self, task: u32, suspended: bool)
+        requires { task < length self.old.core.tasks }
+        ensures { self.new ≡ record self.old { core = with_mark self.old.core task suspended } }
+    {
+        let mode = match self.mode(task) {
+            Mode::Dormant => Mode::Dormant,
+            Mode::Active { priority, .. } => Mode::Active {
+                priority,
+                suspended,
+            },
+        };
+        self.set_mode(task, mode);
+    }
+
+    // An end from outside.
+    fn stop(&mut self, own: u32, task: u32) -> Acted
+        requires { HasRoom self.old task }
+        ensures state { self.new ≡ after self.old (stopping self.old.core own task) }
+        ensures reply { Replied own (stopping self.old.core own task).reply result }
+    {
+        match self.mode(task) {
+            Mode::Dormant => {}
+            Mode::Active { .. } => self.finish(task, Event::Stop(task)),
+        }
+        if task == own {
+            Acted::Ended(own)
+        } else {
+            Acted::Went(own, Answer::Nothing)
+        }
+    }
+
+    // Each of these counts is higher by 1, or where one can't be raised none is, and the task is broken off.
+    fn release(&mut self, own: u32, list: &ArrayVec<u16, 16>) -> Acted
+        requires room { HasRoom self.old own }
+        requires list { AreThere self.old.core.counts list.now.items }
+        ensures state { let can_raise = all_below_most self.old.core.counts list.now.items in
+            self.new ≡ after self.old (releasing self.old.core own list.now.items can_raise) }
+        ensures reply { let can_raise = all_below_most self.old.core.counts list.now.items in
+            Replied own (releasing self.old.core own list.now.items can_raise).reply result }
+    {
+        if self.raise(list) {
+            return Acted::Went(own, Answer::Nothing);
+        }
+        let trap = Trap::SemaLimit;
+        self.end(own, Event::Trap { task: own, trap })
+    }
+
+    // A semaphore's count is lower by 1 where it is above 0, and the answer tells whether it was.
+    fn attempt(&mut self, own: u32, semaphore: u16) -> Acted
+        requires { semaphore < length self.old.core.counts }
+        ensures state { let free = nat_lt 0 (count_at self.old.core.counts semaphore) in
+            self.new ≡ after self.old (trying self.old.core semaphore free) }
+        ensures reply { let free = nat_lt 0 (count_at self.old.core.counts semaphore) in
+            Replied own (trying self.old.core semaphore free).reply result }
+    {
+        let mut list = ArrayVec::new();
+        list.push(semaphore);
+        let free = self.is_free(&list);
+        if free {
+            self.lower(&list);
+        }
+        let value = u64::from(free);
+        Acted::Went(own, Answer::One(Cell::Bits { len: 1, value }))
+    }
+}

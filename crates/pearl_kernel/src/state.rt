@@ -1,0 +1,283 @@
+// The core's state with the offered actions, and its small changes.
+
+ghost use Rattle.std.specs.Prelude.{◌≡◌, ◌<◌, ◌≤◌, [], ◌∷◌, Some, None, true, false};
+ghost use Rattle.std.specs.Prelude.{IsTrue, IfOk, MatchOption, length, slice_get, slice_set};
+ghost use Rattle.std.specs.List.{AllByRecursion};
+ghost use Rattle.pearl_rules.specs.declared.action.Action as Acting;
+ghost use Rattle.pearl_rules.specs.Core.{Happened, note as noted, is_active as is_active_in, mode_of, value_at};
+ghost use Rattle.pearl_rules.specs.Counts.{all_free, all_below_most, lowered, raised};
+ghost use Rattle.pearl_rules.specs.Effect.{with_mode, declared_or_zero};
+ghost use Rattle.pearl_rules.specs.Pick.{is_possible as is_possible_in, guard};
+ghost use Rattle.pearl_rules.specs.Tables.{IsPreset};
+ghost use Rattle.pearl_sema.specs.Waiting.{AreThere};
+ghost use Rattle.pearl_kernel.specs.Kept.{at_start, offered as offered_of};
+ghost use Rattle.pearl_kernel.specs.Kept.{is_silent as is_silent_in, is_unsettled as is_unsettled_in};
+ghost use Rattle.pearl_kernel.specs.Names.{Names};
+ghost use Rattle.pearl_kernel.specs.Eligible.{entry};
+
+use crate::opening::{first_rows, first_values, no_offers, tell_starts};
+use arrayvec::ArrayVec;
+use circular_buffer::HeapCircularBuffer;
+use pearl_rules::action::Action;
+use pearl_rules::event::Event;
+use pearl_rules::row::{Mode, TaskRow};
+use pearl_rules::setup::Setup;
+use pearl_sema::semas::Semas;
+use pearl_value::cell::{Cell, copy_of};
+use std::alloc::{AllocError, Global};
+use std::marker::Model;
+
+/// The core, and of each task the action that it has offered.
+#[derive(Drop)]
+pub struct State {
+    rows: Vec<TaskRow>,
+    offers: Vec<Option<Action>>,
+    slots: Vec<Cell>,
+    semas: Semas,
+    last: Option<usize>,
+    moment: u64,
+    // What was told and not taken yet.
+    events: HeapCircularBuffer<Event>,
+}
+
+impl Model for State {
+    ghost use Rattle.std.specs.Prelude.{◌≡◌};
+    ghost use Rattle.pearl_kernel.specs.Kept.{Kept, stamped};
+
+    ghost Value = { Kept };
+
+    ghost view = { λ s. record {
+      core = record {
+        moment = s.moment;
+        tasks = s.rows.items;
+        slots = s.slots.items;
+        counts = s.semas.counts;
+        last = s.last;
+        told = stamped s.moment s.events.items;
+      };
+      offers = s.offers.items;
+    } };
+
+    ghost invariant = { λ s. s.events.capacity ≡ 200 };
+}
+
+impl State {
+    /// The state at the start of a run.
+    pub fn new(alloc: Global, setup: &Setup) -> Result<State, AllocError>
+        requires tasks { length setup.now.tasks ≤ 200 }
+        requires semaphores { AllByRecursion IsPreset setup.now.semaphores }
+        ensures { IfOk result (λ s. s ≡ at_start setup.now) }
+    {
+        let tasks = setup.tasks.as_slice();
+        let rows = first_rows(alloc, tasks)?;
+        let offers = no_offers(alloc, tasks.len())?;
+        let slots = first_values(alloc, setup.slots.as_slice())?;
+        let semas = Semas::new(alloc, setup.semaphores.as_slice(), tasks.len())?;
+        let mut events = HeapCircularBuffer::with_capacity(alloc, 200)?;
+        tell_starts(tasks, &mut events);
+        Ok(State {
+            rows,
+            offers,
+            slots,
+            semas,
+            last: None,
+            moment: 0,
+            events,
+        })
+    }
+
+    /// How many tasks there are.
+    pub fn tasks(&self) -> usize
+        ensures { result ≡ length self.now.core.tasks }
+    {
+        self.rows.len()
+    }
+
+    /// How a task stands.
+    pub fn mode(&self, task: u32) -> Mode
+        ensures { result ≡ mode_of self.now.core task }
+    {
+        match self.rows.get(task as usize) {
+            None => Mode::Dormant,
+            Some(row) => row.mode,
+        }
+    }
+
+    pub fn is_active(&self, task: u32) -> bool
+        ensures { result ≡ is_active_in self.now.core task }
+    {
+        match self.rows.get(task as usize) {
+            None => false,
+            Some(row) => row.mode != Mode::Dormant,
+        }
+    }
+
+    /// Whether a task is active and has offered nothing.
+    pub fn is_unsettled(&self, task: u32) -> bool
+        ensures { result ≡ is_unsettled_in self.now task }
+    {
+        self.is_active(task) && self.is_silent(task)
+    }
+
+    fn is_silent(&self, task: u32) -> bool
+        ensures { result ≡ is_silent_in (offered_of self.now task) }
+    {
+        match self.offers.get(task as usize) {
+            Some(Some(_)) => false,
+            _ => true,
+        }
+    }
+
+    /// The priority that a start of a task has where it names none.
+    pub fn declared(&self, task: u32) -> u8
+        requires { task < length self.now.core.tasks }
+        ensures { Some result ≡ Some (declared_or_zero (slice_get self.now.core.tasks task)) }
+    {
+        self.rows[task as usize].declared
+    }
+
+    /// The task stands so from now on.
+    pub fn set_mode(&mut self, task: u32, mode: Mode)
+        requires { task < length self.old.core.tasks }
+        ensures { self.new ≡ record self.old { core = with_mode self.old.core task mode } }
+    {
+        self.rows[task as usize].mode = mode;
+    }
+
+    /// One more event.
+    pub fn note(&mut self, event: Event)
+        requires { length self.old.core.told < 200 }
+        ensures { self.new ≡ record self.old { core = noted self.old.core event } }
+    {
+        self.events.push_back(event);
+    }
+
+    pub fn set_last(&mut self, task: u32)
+        ensures { self.new ≡ record self.old { core = record self.old.core { last = Some task } } }
+    {
+        self.last = Some(task as usize);
+    }
+
+    pub fn set_offer(&mut self, task: u32, offer: Option<Action>)
+        requires { task < length self.old.offers }
+        ensures { self.new ≡ record self.old { offers = slice_set self.old.offers task offer } }
+    {
+        self.offers[task as usize] = offer;
+    }
+
+    pub fn take_offer(&mut self, task: u32) -> Option<Action>
+        requires { task < length self.old.offers }
+        ensures taken { result ≡ offered_of self.old task }
+        ensures rest { self.new ≡ record self.old { offers = slice_set self.old.offers task None } }
+    {
+        self.offers[task as usize].take()
+    }
+
+    pub fn slot(&self, slot: u32) -> Cell
+        requires { slot < length self.now.core.slots }
+        ensures { result ≡ value_at self.now.core.slots slot }
+    {
+        copy_of(&self.slots[slot as usize])
+    }
+
+    pub fn set_slot(&mut self, slot: u32, value: Cell)
+        requires { slot < length self.old.core.slots }
+        ensures { let core = self.old.core in
+            self.new ≡ record self.old { core = record core { slots = slice_set core.slots slot value } } }
+    {
+        self.slots[slot as usize] = value;
+    }
+
+    /// Whether each of these semaphores has a count above 0.
+    pub fn is_free(&self, list: &ArrayVec<u16, 16>) -> bool
+        requires { AreThere self.now.core.counts list.now.items }
+        ensures { result ≡ all_free self.now.core.counts list.now.items }
+    {
+        self.semas.free(list)
+    }
+
+    /// Each of these counts is lower by 1.
+    pub fn lower(&mut self, list: &ArrayVec<u16, 16>)
+        requires list { AreThere self.old.core.counts list.now.items }
+        requires free { IsTrue (all_free self.old.core.counts list.now.items) }
+        ensures { let core = self.old.core in
+            self.new ≡ record self.old { core = record core { counts = lowered core.counts list.now.items } } }
+    {
+        self.semas.lower(list);
+    }
+
+    /// Each of these counts is higher by 1, or where one can't be raised none is.
+    pub fn raise(&mut self, list: &ArrayVec<u16, 16>) -> bool
+        requires { AreThere self.old.core.counts list.now.items }
+        ensures answer { result ≡ all_below_most self.old.core.counts list.now.items }
+        ensures raised { let core = self.old.core in
+            result ≡ true → self.new ≡ record self.old { core = record core { counts = raised core.counts list.now.items } } }
+        ensures full { result ≡ false → self.new ≡ self.old }
+    {
+        self.semas.raise(list)
+    }
+
+    /// Whether what a task has offered can be done now.
+    pub fn is_possible(&self, task: u32) -> bool
+        requires { (a : Acting.Action) → offered_of self.now task ≡ Some a → Names self.now.core a }
+        ensures { result ≡ is_possible_in self.now.core (offered_of self.now task) }
+    {
+        match self.offers.get(task as usize) {
+            Some(Some(action)) => self.can_do(action),
+            _ => false,
+        }
+    }
+
+    fn can_do(&self, action: &Action) -> bool
+        requires { Names self.now.core action.now }
+        ensures { result ≡ guard self.now.core action.now }
+    {
+        match action {
+            Action::Request(list) => self.is_free(list),
+            _ => true,
+        }
+    }
+
+    /// The priority number of a task that can act.
+    pub fn entry(&self, task: u32) -> Option<u8>
+        requires { (a : Acting.Action) → offered_of self.now task ≡ Some a → Names self.now.core a }
+        ensures { result ≡ entry self.now task }
+    {
+        match self.mode(task) {
+            Mode::Active {
+                priority,
+                suspended: false,
+            } => {
+                if self.is_possible(task) {
+                    Some(priority)
+                } else {
+                    None
+                }
+            }
+            _ => None,
+        }
+    }
+
+    /// The next event that wasn't taken.
+    pub fn next_event(&mut self) -> Option<Event>
+        ensures rest { MatchOption result ((self.old.core.told ≡ []) × (self.new ≡ self.old))
+            (λ e. self.old.core.told ≡ (self.old.core.moment, Happened e) ∷ self.new.core.told) }
+        ensures same { self.new ≡ record self.old { core = record self.old.core { told = self.new.core.told } } }
+    {
+        self.events.pop_front()
+    }
+
+    /// The moment.
+    pub fn now(&self) -> u64
+        ensures { result ≡ self.now.core.moment }
+    {
+        self.moment
+    }
+
+    /// The task that acted last.
+    pub fn last(&self) -> Option<usize>
+        ensures { result ≡ self.now.core.last }
+    {
+        self.last
+    }
+}
