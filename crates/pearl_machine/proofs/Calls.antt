@@ -66,7 +66,7 @@ module _ (o : Object) (setup : Setup) (k : Kept) (parts : List Part) (due : ℕ)
 
   pub some_first : (found : Option ℕ) → MatchOption found (AllSettled k) (IsFirst k) → (unsettled s.state ≡ None → ⊥) → IsSome found
   some_first None all some = absurd (some (none_unsettled all))
-  some_first (Some t) first some = tt
+  some_first (Some t) first some = refl
 
   -- WHAT IT DOES
 

@@ -1,6 +1,6 @@
 //! The machine, from the start of a run to its end.
 
-ghost use Rattle.std.specs.Prelude.{◌≡◌, ◌≢◌, ℕ, ◌≤◌, List, [], ◌∷◌, ◌++◌, None, IfOk, OnOk, OnErr, is_some};
+ghost use Rattle.std.specs.Prelude.{◌≡◌, ◌≢◌, ℕ, ◌≤◌, List, [], ◌∷◌, ◌++◌, None, IfOk, OnOk, OnErr, is_some, length};
 ghost use Rattle.pearl_rules.specs.Core.{Report};
 ghost use Rattle.pearl_rules.specs.Pick.{states};
 ghost use Rattle.pearl_rules.specs.declared.entry.Entry.{Entry};
@@ -74,7 +74,8 @@ impl Machine {
 
     /// The tables of the object.
     pub fn setup(&self) -> &Setup
-        ensures { result.now ≡ setup_of self.now.object }
+        ensures value { result.now ≡ setup_of self.now.object }
+        ensures few { length result.now.tasks ≤ 200 }
     {
         &self.setup
     }

@@ -11,8 +11,8 @@ use Rattle.pearl_machine.proofs.Acting.{acts_there, acts_own, acts_hears, ready_
 use Rattle.pearl_machine.proofs.Calls.{all_settled, no_event, none_due, idle_call, acts_call}
 use Rattle.pearl_machine.proofs.machine.Machine.act.Goals as goal
 
-pub act-requires-clause-lawful : goal.act-requires-clause-lawful
-act-requires-clause-lawful c =
+pub act-requires : goal.act-requires
+act-requires c =
     let m = c.self.inside in
     no_event m.code m.setup m.kernel m.parts.items m.due c.self.invariant c.args.self.now c.self.view_is c.requires.taken
 

@@ -3,7 +3,9 @@ use Rattle.std.proofs.lemmas.Result.{err_from_is_err_and}
 use Rattle.pearl_rules.specs.declared.entry.Entry.TheVariants.{Run}
 use Rattle.pearl_rules.specs.Runs.{unsettled}
 use Rattle.pearl_engine.specs.Setups.{setup_of}
-use Rattle.pearl_machine.specs.Seen.{Seen}
+use Rattle.pearl_io.specs.Outside.{Takes}
+use Rattle.pearl_script.specs.Lines.{lines_of}
+use Rattle.pearl_machine.specs.Told.{IsCutOff}
 use Rattle.pearl_machine.proofs.Going.{handles_none, handles_on, handles_idle, handles_done}
 use Rattle.pearl_machine.proofs.Taken.{takes_nothing, takes_lines, cut_behind}
 use Rattle.pearl_machine.proofs.Entering.{one_more, told_object}
@@ -30,7 +32,41 @@ returns-clause-ok g c =
     (i.goes.0, handles_done c.args.self.now c.loop-left.self (Run c.args.count ∷ []) c.loop-left.left i.goes.0 (omega arith) i.goes.1, i.goes.2)
 
 pub returns-in_err-tell-clause-err : goal.returns-in_err-tell-clause-err
-returns-in_err-tell-clause-err g c = ?
+returns-in_err-tell-clause-err g c =
+    let i = c.loop-left.invariant in
+    let p = err_from_is_err_and c.from_residual.result c.from_residual.ensures.1 in
+    let object = c.if-not-act.ensures.object ∙ i.object in
+    rw p.1 (
+      i.goes.0 ++ c.act.new.self.state.core.told,
+      Run (c.loop-left.left - 1) ∷ [],
+      one_more c.args.self.now c.loop-left.self c.act.new.self c.tell.new.self c.args.count c.loop-left.left i.goes.0 i.object i.settled (omega arith) i.goes.1
+      c.if-not-act.ensures.acted c.in_err-tell.ensures.same,
+      cut_behind (setup_of c.args.self.now.object) (g.K.Sink.taken c.args.sink.now) (g.K.Sink.taken c.loop-left.sink) (g.K.Sink.taken c.tell.new.sink) i.goes.0
+      c.act.new.self.state.core.told c.tell.new.self.state.core.told i.goes.2
+      (subst (λ o. IsCutOff (setup_of o) (g.K.Sink.taken c.loop-left.sink) (g.K.Sink.taken c.tell.new.sink) c.act.new.self.state.core.told c.tell.new.self.state.core.told)
+      object c.in_err-tell.ensures.err),
+    )
 
 pub loop-left-preserved : goal.loop-left-preserved
-loop-left-preserved g c = ?
+loop-left-preserved g c =
+    let i = c.loop-left.invariant in
+    let told = i.goes.0 ++ c.act.new.self.state.core.told in
+    let acted = c.if-not-act.ensures.object ∙ i.object in
+    let object = told_object c.act.new.self c.tell.new.self c.in_ok-tell.ensures.same ∙ acted in
+    record {
+      object = c.settle.ensures.object ∙ object;
+      settled = c.settle.ensures.settled;
+      taken = c.settle.ensures.told ∙ c.in_ok-tell.ensures.all;
+      goes = (
+        told,
+        handles_on c.args.self.now c.tell.new.self c.settle.new.self (Run c.args.count ∷ []) (Run (c.loop-left.left - 1) ∷ []) (Run (c.loop-left.left - 1) ∷ []) told object
+            (one_more c.args.self.now c.loop-left.self c.act.new.self c.tell.new.self c.args.count c.loop-left.left i.goes.0 i.object i.settled (omega arith) i.goes.1
+            c.if-not-act.ensures.acted c.in_ok-tell.ensures.same)
+            (c.settle.ensures.handles (Run (c.loop-left.left - 1) ∷ [])),
+        takes_lines (setup_of c.args.self.now.object) (g.K.Sink.taken c.args.sink.now) (g.K.Sink.taken c.loop-left.sink) (g.K.Sink.taken c.tell.new.sink) i.goes.0
+            c.act.new.self.state.core.told i.goes.2
+            (subst (λ o. Takes (g.K.Sink.taken c.loop-left.sink) (g.K.Sink.taken c.tell.new.sink) (lines_of (setup_of o) c.act.new.self.state.core.told)) acted
+            c.in_ok-tell.ensures.ok),
+      );
+      later = omega (arith, i.later, c.in_ok-tell.ensures.later);
+    }
