@@ -1,185 +1,141 @@
--- One mark of a machine of one task.
-use Rattle.std.proofs.Common.{◌≡◌, ℕ, zero, suc, ◌+◌, ◌<◌, List, [], ◌∷◌, ◌++◌, Bool, true, false, Option, Some, None, slice_get, slice_set, refl, sym, ap, ◌∙◌, subst, arith}
-use Rattle.std.specs.Option.{is_some}
-use Rattle.std.proofs.lemmas.List.{append-nil}
-use Rattle.pearl_value.specs.declared.cell.Cell.{Cell}
+-- One mark of a machine, from the core's mark and the row of stacks.
+use Rattle.std.proofs.Common.{◌≡◌, ◌≢◌, ℕ, zero, suc, ◌+◌, ◌<◌, ◌≤◌, List, [], ◌∷◌, ◌++◌, Bool, true, false, nat_eq, Option, Some, None, length, slice_get, slice_set, refl, sym, ap, ap₂, subst, ◌∙◌, arith, length-set, eqb-true, zero-add}
+use Rattle.std.proofs.lemmas.Bool.{true≢false, eqb-false}
+use Rattle.std.proofs.lemmas.Option.{none-some}
 use Rattle.pearl_rules.specs.declared.action.Action.{Action}
-use Rattle.pearl_rules.specs.declared.action.Action.TheVariants as action
 use Rattle.pearl_rules.specs.declared.action.Answer.{Answer}
-use Rattle.pearl_rules.specs.declared.action.Answer.TheVariants.{Nothing, One}
-use Rattle.pearl_rules.specs.declared.entry.Entry.{Entry}
-use Rattle.pearl_rules.specs.declared.event.Event.{Event}
-use Rattle.pearl_rules.specs.declared.event.Event.TheVariants as events
-use Rattle.pearl_rules.specs.declared.row.Mode.{Mode}
-use Rattle.pearl_rules.specs.declared.row.Mode.TheVariants.{Dormant, Active}
-use Rattle.pearl_rules.specs.declared.row.TaskRow.{TaskRow}
-use Rattle.pearl_rules.specs.Core.{Core, Report, Happened, value_at}
-use Rattle.pearl_rules.specs.Pick.{Offered, is_possible, is_eligible, better, pick}
-use Rattle.pearl_rules.specs.Runs.{Machine, Acts, machine_offers, machine_next, machine_mark_by, machine_after, unsettled, unsettled_from}
+use Rattle.pearl_rules.specs.Core.{Core, is_active}
+use Rattle.pearl_rules.specs.Effect.{Reply, Hears, Ends}
+use Rattle.pearl_rules.specs.Runs.{Running, kept, kept_at, refreshed, dropped, answered, fresh}
 use Rattle.pearl_stack.specs.Frames.{Frame, Stack}
 use Rattle.pearl_instructions.specs.declared.object.Object.{Object}
-use Rattle.pearl_instructions.specs.Rows.{row as row_at, after as after_answer}
 use Rattle.pearl_engine.specs.Engines.{engine}
-use Rattle.pearl_machine.specs.declared.task.Task.{Task}
-use Rattle.pearl_machine.specs.Task.{running_of, kept_of, HasOffered, Resumes, Performs}
-use Rattle.pearl_machine.specs.Seen.{Seen, Goes, Picks, Marks, told_by}
-use Rattle.pearl_machine.proofs.Steps.{one, going, core_at, read_mark, write_mark, turn_mark, enter_mark, put_mark, heard_steps, end_steps, trap_steps}
-use Rattle.pearl_machine.proofs.Goes.{at, goes_to, picks_by, goes_by}
+use Rattle.pearl_machine.specs.Parts.{shown, shown_active, start_of, frames_if, going_frames, stack_in, is_going, running_of, heard_part}
+use Rattle.pearl_machine.specs.declared.part.Part.{Part}
+use Rattle.pearl_machine.proofs.Listed.{get_here, get_elsewhere, kept_here, kept_gone, kept_elsewhere}
+use Rattle.pearl_machine.proofs.Rows.{table_alike, table-length, table_refreshed}
+use Rattle.pearl_machine.proofs.Places.{running_at}
 
--- what is seen of a machine
-abbrev pub seen_of : Object → List Cell → Task → Option ℕ → ℕ → Seen
-seen_of o slots task last moment =
-    record { object = o; moment = moment; tasks = task.row ∷ []; slots = slots; last = last; running = kept_of task ∷ [] }
+abbrev starting : List Frame → Running (List Frame)
+starting start = record { stack = start; offer = None }
 
--- an action that is offered can be done
-able : (o : Object) (core : Core) (mode : Mode) (stack : List Frame) (offer : Option Action) → HasOffered o mode stack offer →
-    is_some offer ≡ is_possible core (machine_offers (one core (running_of mode stack offer) []) 0)
-able o core Dormant stack None h = refl
-able o core Dormant stack (Some action) h = absurd h
-able o core (Active priority suspended) stack None h = absurd h
-able o core (Active priority suspended) stack (Some action) h = refl
+-- a task that isn't under way stands at its beginning, where it has offered nothing
+still_starts : (start : List Frame) (p : Option Part) → is_going p ≡ false → going_frames start p ≡ start
+still_starts start p still = ap (λ going. frames_if going start (stack_in p).frames) still
 
--- who is picked is the task that acts next
-pub picks : (o : Object) (slots : List Cell) (task : Task) (last : Option ℕ) (moment : ℕ) (possible : Bool) (result : Option ℕ) →
-    HasOffered o task.row.mode task.stack.frames task.offer → possible ≡ is_some task.offer →
-    ((core : Core) (offers : Offered) → core.tasks ≡ task.row ∷ [] → core.last ≡ last →
-    ((t : ℕ) → t < 1 → slice_get (possible ∷ []) t ≡ Some (is_possible core (offers t))) → result ≡ pick core offers) →
-    Picks (seen_of o slots task last moment) result
-picks o slots task last moment possible result offered is picked =
-    picks_by (seen_of o slots task last moment) result (λ told entries.
-    let m : Machine (List Frame) = at (seen_of o slots task last moment) told entries in
-    sym (picked m.core (machine_offers m) refl refl
-    (only m.core m (ap Some (is ∙ able o m.core task.row.mode task.stack.frames task.offer offered)))))
+-- where it becomes active it begins afresh, and where it is active it stands as before
+fits_now : (active : Bool) (start : List Frame) (offer : Option Action) (p : Option Part) → (active ≡ false → offer ≡ None) → is_going p ≡ false →
+    kept true (starting start) (shown active start offer p) ≡ shown true start offer p
+fits_now true start None p quiet still = refl
+fits_now true start (Some action) p quiet still = refl
+fits_now false start None p quiet still = ap (λ frames. Some (starting frames)) (sym (still_starts start p still))
+fits_now false start (Some action) p quiet still = absurd (none-some action (sym (quiet refl)))
+
+-- as many places are left where tasks ended
+pub dropped-length : {X : Type 0} (ended : List ℕ) (xs : List (Option X)) → length (dropped ended xs) ≡ length xs
+dropped-length [] xs = refl
+dropped-length (u ∷ ended) xs = dropped-length ended (slice_set xs u None) ∙ length-set xs u None
+
+-- also where tasks ended
+fits_dropped : (ended : List ℕ) (xs : List (Option (Running (List Frame)))) (offers : List (Option Action)) (i : ℕ) (start : List Frame) (p : Option Part) →
+    is_going p ≡ false → kept true (starting start) (kept_at xs i) ≡ shown true start (kept_at offers i) p →
+    kept true (starting start) (kept_at (dropped ended xs) i) ≡ shown true start (kept_at (dropped ended offers) i) p
+fits_dropped [] xs offers i start p still e = e
+fits_dropped (u ∷ ended) xs offers i start p still e =
+    fits_dropped ended (slice_set xs u None) (slice_set offers u None) i start p still (by_place (nat_eq u i) refl)
   where
-    only : (core : Core) (m : Machine (List Frame)) → slice_get (possible ∷ []) 0 ≡ Some (is_possible core (machine_offers m 0)) →
-        (t : ℕ) → t < 1 → slice_get (possible ∷ []) t ≡ Some (is_possible core (machine_offers m t))
-    only core m here zero less = here
-    only core m here (suc t) less = absurd (omega arith)
+    by_place : (b : Bool) → nat_eq u i ≡ b →
+        kept true (starting start) (kept_at (slice_set xs u None) i) ≡ shown true start (kept_at (slice_set offers u None) i) p
+    by_place false differ =
+        let other = eqb-false u i differ in
+        ap (kept true (starting start)) (kept_elsewhere xs u i None other)
+        ∙ (e ∙ ap (λ x. shown true start x p) (sym (kept_elsewhere offers u i None other)))
+    by_place true is =
+        let same = eqb-true u i is in
+        ap (λ n. kept true (starting start) (kept_at (slice_set xs n None) i)) same
+        ∙ (ap (kept true (starting start)) (kept_gone xs i) ∙ (fits_now false start None p (λ e. refl) still
+        ∙ (ap (λ x. shown true start x p) (sym (kept_gone offers i)) ∙ ap (λ n. shown true start (kept_at (slice_set offers n None) i) p) (sym same))))
 
--- of one task that task is picked
-first_of_one : (core : Core) (b : Bool) (t : ℕ) → better core None 0 b ≡ Some t → t ≡ 0
-first_of_one core false t e = cc
-first_of_one core true t e = cc
-
-pub picks_first : (o : Object) (slots : List Cell) (task : Task) (last : Option ℕ) (moment t : ℕ) → Picks (seen_of o slots task last moment) (Some t) → t ≡ 0
-picks_first o slots task last moment t p =
-    let m : Machine (List Frame) = at (seen_of o slots task last moment) [] [] in
-    first_of_one m.core (is_eligible m.core (machine_offers m) 0) t
-    (p m (record { moment = refl; tasks = refl; slots = refl; last = refl; running = refl }))
-
--- a mark of an active task that goes on
-module _ (o : Object) (priority : ℕ) (suspended : Bool) (frame : Stack) (offer : Option Action) (new : Task) (last : Option ℕ) (moment : ℕ) (before : List (ℕ × Report)) (entries rest : List Entry) where
-  abbrev mode : Mode
-  mode = Active priority suspended
-
-  abbrev from_task : Option Action → Task
-  from_task x = record { row = record { mode = mode }; stack = frame; offer = x }
-
-  goes_heard : (slots after : List Cell) (action : Action) (answer : Answer) (told : List (ℕ × Report)) →
-      machine_next (at (seen_of o slots (from_task (Some action)) last moment) before entries) ≡ Some (record { mark = Acts 0; rest = rest }) →
-      machine_mark_by (engine o) (at (seen_of o slots (from_task (Some action)) last moment) before entries) (Some (record { mark = Acts 0; rest = rest }))
-      ≡ one (core_at moment mode after (Some 0) (before ++ told)) (going (after_answer (row_at o frame.frames) answer)) rest →
-      Resumes o (from_task offer) answer new →
-      Goes (at (seen_of o slots (from_task (Some action)) last moment) before entries) rest (seen_of o after new (Some 0) moment) told
-  goes_heard slots after action answer told next mark r =
-      let f : TaskRow → Option Action → Machine (List Frame) =
-      λ row x. at (seen_of o after (record { row = row; stack = new.stack; offer = x }) (Some 0) moment) (before ++ told) rest in
-      let same : f (record { mode = mode }) (Some r.next) ≡ f new.row new.offer =
-      ap (λ row. f row (Some r.next)) (sym r.row_is) ∙ ap (λ x. f new.row x) (sym r.offer) in
-      goes_to _ rest (seen_of o after new (Some 0) moment) told (1 + suc r.settles.rows)
-      (heard_steps o (core_at moment mode slots last before) (core_at moment mode after (Some 0) (before ++ told)) entries rest frame.frames new.stack.frames action r.next answer next mark r.settles ∙ same)
-      (ap unsettled (sym same))
-
-  -- a mark that ends the task
-  goes_ended : (slots : List Cell) (action : Action) (told : List (ℕ × Report)) → new.row.mode ≡ Dormant →
-      machine_after (engine o) (at (seen_of o slots (from_task (Some action)) last moment) before entries) 1
-      ≡ one (core_at moment Dormant slots (Some 0) (before ++ told)) None rest →
-      Goes (at (seen_of o slots (from_task (Some action)) last moment) before entries) rest (seen_of o slots new (Some 0) moment) told
-  goes_ended slots action told dormant steps =
-      let f : Mode → Machine (List Frame) =
-      λ m. at (seen_of o slots (record { row = record { mode = m }; stack = new.stack; offer = new.offer }) (Some 0) moment) (before ++ told) rest in
-      let same : f Dormant ≡ f new.row.mode = ap f (sym dormant) in
-      goes_to _ rest (seen_of o slots new (Some 0) moment) told 1 (steps ∙ same) (ap unsettled (sym same))
-
-  -- a read and a write tell nothing
-  nothing_told : (slots : List Cell) (answer : Answer) →
-      one (core_at moment mode slots (Some 0) before) (going (after_answer (row_at o frame.frames) answer)) rest
-      ≡ one (core_at moment mode slots (Some 0) (before ++ [])) (going (after_answer (row_at o frame.frames) answer)) rest
-  nothing_told slots answer =
-      ap (λ told. one (core_at moment mode slots (Some 0) told) (going (after_answer (row_at o frame.frames) answer)) rest) (sym (append-nil before))
-
-  goes_active : (slots after : List Cell) (action : Action) (event : Option Event) → Performs o slots (from_task offer) action after new event →
-      machine_next (at (seen_of o slots (from_task (Some action)) last moment) before entries) ≡ Some (record { mark = Acts 0; rest = rest }) →
-      Goes (at (seen_of o slots (from_task (Some action)) last moment) before entries) rest (seen_of o after new (Some 0) moment) (told_by moment event)
-  goes_active slots after (action.Read slot) event p next =
-      rw (p.1, p.2) (goes_heard slots slots (action.Read slot) (One (value_at slots slot)) [] next
-      (read_mark o moment priority suspended slots last before entries rest frame.frames slot ∙ nothing_told slots (One (value_at slots slot))) p.0)
-  goes_active slots after (action.Write slot value) event p next =
-      rw (p.1, p.2) (goes_heard slots (slice_set slots slot value) (action.Write slot value) Nothing [] next
-      (write_mark o moment priority suspended slots last before entries rest frame.frames slot value ∙ nothing_told (slice_set slots slot value) Nothing) p.0)
-  goes_active slots after action.Turn event p next =
-      rw (p.1, p.2) (goes_heard slots slots action.Turn Nothing [] next
-      (turn_mark o moment priority suspended slots last before entries rest frame.frames ∙ nothing_told slots Nothing) p.0)
-  goes_active slots after action.Enter event p next =
-      rw (p.1, p.2) (goes_heard slots slots action.Enter Nothing [] next
-      (enter_mark o moment priority suspended slots last before entries rest frame.frames ∙ nothing_told slots Nothing) p.0)
-  goes_active slots after (action.Put device text) event p next =
-      rw (p.1, p.2) (goes_heard slots slots (action.Put device text) Nothing ((moment, Happened (events.Out device text)) ∷ []) next
-      (put_mark o moment priority suspended slots last before entries rest frame.frames device text) p.0)
-  goes_active slots after action.End event p next =
-      rw (p.1, p.2) (goes_ended slots action.End ((moment, Happened (events.End 0)) ∷ []) p.0
-      (end_steps o moment priority suspended slots last before entries rest frame.frames next))
-  goes_active slots after (action.Trap trap) event p next =
-      rw (p.1, p.2) (goes_ended slots (action.Trap trap) ((moment, Happened (events.Trap 0 trap)) ∷ []) p.0
-      (trap_steps o moment priority suspended slots last before entries rest frame.frames trap next))
-  goes_active slots after action event p next = absurd p
-
--- the mark
-marks_by : (o : Object) (slots after : List Cell) (mode : Mode) (frame : Stack) (offer : Option Action) (action : Action) (last : Option ℕ) (moment : ℕ) (new : Task) (event : Option Event) →
-    HasOffered o mode frame.frames (Some action) → Performs o slots (record { row = record { mode = mode }; stack = frame; offer = offer }) action after new event →
-    (before : List (ℕ × Report)) (entries rest : List Entry) →
-    machine_next (at (seen_of o slots (record { row = record { mode = mode }; stack = frame; offer = Some action }) last moment) before entries) ≡ Some (record { mark = Acts 0; rest = rest }) →
-    Goes (at (seen_of o slots (record { row = record { mode = mode }; stack = frame; offer = Some action }) last moment) before entries) rest
-    (seen_of o after new (Some 0) moment) (told_by moment event)
-marks_by o slots after Dormant frame offer action last moment new event offered p before entries rest next = absurd offered
-marks_by o slots after (Active priority suspended) frame offer action last moment new event offered p before entries rest next =
-    goes_active o priority suspended frame offer new last moment before entries rest slots after action event p next
-
-pub marks : (o : Object) (slots after : List Cell) (row : TaskRow) (frame : Stack) (offer : Option Action) (action : Action) (last : Option ℕ) (moment : ℕ) (new : Task) (event : Option Event) →
-    HasOffered o row.mode frame.frames (Some action) → Performs o slots (record { row = row; stack = frame; offer = offer }) action after new event →
-    Picks (seen_of o slots (record { row = row; stack = frame; offer = Some action }) last moment) (Some 0) →
-    Marks (seen_of o slots (record { row = row; stack = frame; offer = Some action }) last moment) (seen_of o after new (Some 0) moment) event
-marks o slots after row frame offer action last moment new event offered p picked = record {
-  picks = picked;
-  goes = goes_by (seen_of o slots (record { row = row; stack = frame; offer = Some action }) last moment) (seen_of o after new (Some 0) moment) (told_by moment event)
-      (marks_by o slots after row.mode frame offer action last moment new event offered p);
-}
-
--- the same for the action that a task has offered, where the task is picked
-pub marked : (o : Object) (slots after : List Cell) (task : Task) (last : Option ℕ) (moment : ℕ) (possible : Bool) (t : ℕ) (action : Action) (offer : Option Action) (new : Task) (event : Option Event) →
-    HasOffered o task.row.mode task.stack.frames task.offer → possible ≡ is_some task.offer →
-    ((core : Core) (offers : Offered) → core.tasks ≡ task.row ∷ [] → core.last ≡ last →
-    ((t : ℕ) → t < 1 → slice_get (possible ∷ []) t ≡ Some (is_possible core (offers t))) → Some t ≡ pick core offers) →
-    Some action ≡ task.offer → Performs o slots (record { row = task.row; stack = task.stack; offer = offer }) action after new event →
-    Marks (seen_of o slots task last moment) (seen_of o after new (Some t) moment) event
-marked o slots after task last moment possible t action offer new event offered is picked here performs =
-    let chosen : Picks (seen_of o slots task last moment) (Some t) = picks o slots task last moment possible (Some t) offered is picked in
-    let first : t ≡ 0 = picks_first o slots task last moment t chosen in
-    let with_offer : Option Action → Task = λ x. record { row = task.row; stack = task.stack; offer = x } in
-    let offers : HasOffered o task.row.mode task.stack.frames (Some action) = subst (λ x. HasOffered o task.row.mode task.stack.frames x) (sym here) offered in
-    let zero_chosen : Picks (seen_of o slots (with_offer (Some action)) last moment) (Some 0) =
-    subst (λ x. Picks (seen_of o slots (with_offer x) last moment) (Some 0)) (sym here) (subst (λ n. Picks (seen_of o slots task last moment) (Some n)) first chosen) in
-    let zero_marks : Marks (seen_of o slots task last moment) (seen_of o after new (Some 0) moment) event =
-    subst (λ x. Marks (seen_of o slots (with_offer x) last moment) (seen_of o after new (Some 0) moment) event) here
-    (marks o slots after task.row task.stack offer action last moment new event offers performs zero_chosen) in
-    subst (λ n. Marks (seen_of o slots task last moment) (seen_of o after new (Some n) moment) event) (sym first) zero_marks
-
--- between two calls every active task has offered its action
-pub rests : (o : Object) (task : Task) → HasOffered o task.row.mode task.stack.frames task.offer → unsettled_from 0 (kept_of task ∷ []) ≡ None
-rests o task offered = go task.row.mode task.stack.frames task.offer offered
+-- what isn't kept isn't where tasks ended
+pub dropped_none : {X : Type 0} (ended : List ℕ) (xs : List (Option X)) (i : ℕ) → kept_at xs i ≡ None → kept_at (dropped ended xs) i ≡ None
+dropped_none [] xs i e = e
+dropped_none (u ∷ ended) xs i e = dropped_none ended (slice_set xs u None) i (by_place (nat_eq u i) refl)
   where
-    go : (mode : Mode) (stack : List Frame) (offer : Option Action) → HasOffered o mode stack offer → unsettled_from 0 (running_of mode stack offer ∷ []) ≡ None
-    go Dormant stack None h = refl
-    go Dormant stack (Some action) h = absurd h
-    go (Active priority suspended) stack None h = absurd h
-    go (Active priority suspended) stack (Some action) h = refl
+    by_place : (b : Bool) → nat_eq u i ≡ b → kept_at (slice_set xs u None) i ≡ None
+    by_place false differ = kept_elsewhere xs u i None (eqb-false u i differ) ∙ e
+    by_place true is = ap (λ n. kept_at (slice_set xs n None) i) (eqb-true u i is) ∙ kept_gone xs i
+
+fits_active : (active : Bool) (start : List Frame) (x : Option (Running (List Frame))) (offer : Option Action) (p : Option Part) →
+    kept true (starting start) x ≡ shown true start offer p → kept active (starting start) x ≡ shown active start offer p
+fits_active false start x offer p e = refl
+fits_active true start x offer p e = e
+
+-- the row of stacks after a reply
+abbrev pub parts_after : Object → List Part → ℕ → Reply → List Part
+parts_after o parts t (Hears answer) = slice_set parts t (heard_part o parts t answer)
+parts_after o parts t Ends = parts
+
+module _ (o : Object) (core : Core) (offers : List (Option Action)) (parts : List Part)
+    (quiet : (t : ℕ) → is_active core t ≡ false → kept_at offers t ≡ None) (each : length parts ≡ length core.tasks)
+    (still : (i : ℕ) → is_going (slice_get parts i) ≡ false) where
+  abbrev before : List (Option (Running (List Frame)))
+  before = running_of o core offers parts
+
+  abbrev frames_at : ℕ → List Frame
+  frames_at t = (stack_in (slice_get parts t)).frames
+
+  -- what is kept after a mark, however the tasks stand then
+  pub rows_after : (after : Core) (ended : List ℕ) (t : ℕ) (reply : Reply) → t < length parts →
+      refreshed (fresh (engine o)) 0 after.tasks (answered (engine o) (dropped ended before) t (frames_at t) reply)
+      ≡ running_of o after (dropped ended (slice_set offers t None)) (parts_after o parts t reply)
+  rows_after after ended t reply there =
+      table_refreshed (fresh (engine o)) 0 after.tasks _ ∙ table_alike (length after.tasks) _ _ (λ i less.
+      ap (λ n. kept (is_active after i) (fresh (engine o) n) (kept_at (answered (engine o) (dropped ended before) t (frames_at t) reply) i)) (zero-add i)
+      ∙ fits_active (is_active after i) (start_of o i) (kept_at (answered (engine o) (dropped ended before) t (frames_at t) reply) i)
+      (kept_at (dropped ended (slice_set offers t None)) i) (slice_get (parts_after o parts t reply) i) (by_place i (nat_eq t i) refl reply))
+    where
+      within : t < length (dropped ended before)
+      within =
+          let a = dropped-length ended before in
+          let b = table-length (length core.tasks) (λ i. shown (is_active core i) (start_of o i) (kept_at offers i) (slice_get parts i)) in
+          omega arith
+
+      none : kept_at (dropped ended (slice_set offers t None)) t ≡ None
+      none = dropped_none ended (slice_set offers t None) t (kept_gone offers t)
+
+      at_task : (reply : Reply) → kept true (starting (start_of o t)) (kept_at (answered (engine o) (dropped ended before) t (frames_at t) reply) t)
+          ≡ shown true (start_of o t) (kept_at (dropped ended (slice_set offers t None)) t) (slice_get (parts_after o parts t reply) t)
+      at_task (Hears answer) =
+          ap (kept true (starting (start_of o t))) (kept_here (dropped ended before) t _ within)
+          ∙ ap₂ (λ x p. shown true (start_of o t) x p) (sym none) (sym (get_here parts t (heard_part o parts t answer) there))
+      at_task Ends =
+          ap (kept true (starting (start_of o t))) (kept_gone (dropped ended before) t)
+          ∙ (fits_now false (start_of o t) None (slice_get parts t) (λ e. refl) (still t)
+          ∙ ap (λ x. shown true (start_of o t) x (slice_get parts t)) (sym none))
+
+      by_place : (i : ℕ) (b : Bool) → nat_eq t i ≡ b → (reply : Reply) →
+          kept true (starting (start_of o i)) (kept_at (answered (engine o) (dropped ended before) t (frames_at t) reply) i)
+          ≡ shown true (start_of o i) (kept_at (dropped ended (slice_set offers t None)) i) (slice_get (parts_after o parts t reply) i)
+      by_place i true is reply =
+          subst (λ n. kept true (starting (start_of o n)) (kept_at (answered (engine o) (dropped ended before) t (frames_at t) reply) n)
+          ≡ shown true (start_of o n) (kept_at (dropped ended (slice_set offers t None)) n) (slice_get (parts_after o parts t reply) n)) (eqb-true t i is)
+          (at_task reply)
+      by_place i false differ reply =
+          other_kept reply ∙ (fits_dropped ended before (slice_set offers t None) i (start_of o i) (slice_get parts i) (still i)
+          (ap (kept true (starting (start_of o i))) (running_at o core offers parts i)
+          ∙ (fits_now (is_active core i) (start_of o i) (kept_at offers i) (slice_get parts i) (λ e. quiet i e) (still i)
+          ∙ ap (λ x. shown true (start_of o i) x (slice_get parts i)) (sym (kept_elsewhere offers t i None other)))) ∙ other_part reply)
+        where
+          other : t ≢ i
+          other = eqb-false t i differ
+
+          other_kept : (reply : Reply) → kept true (starting (start_of o i)) (kept_at (answered (engine o) (dropped ended before) t (frames_at t) reply) i)
+              ≡ kept true (starting (start_of o i)) (kept_at (dropped ended before) i)
+          other_kept (Hears answer) = ap (kept true (starting (start_of o i))) (kept_elsewhere (dropped ended before) t i _ other)
+          other_kept Ends = ap (kept true (starting (start_of o i))) (kept_elsewhere (dropped ended before) t i None other)
+
+          other_part : (reply : Reply) → shown true (start_of o i) (kept_at (dropped ended (slice_set offers t None)) i) (slice_get parts i)
+              ≡ shown true (start_of o i) (kept_at (dropped ended (slice_set offers t None)) i) (slice_get (parts_after o parts t reply) i)
+          other_part (Hears answer) =
+              ap (λ p. shown true (start_of o i) (kept_at (dropped ended (slice_set offers t None)) i) p) (sym (get_elsewhere parts t i _ other))
+          other_part Ends = refl

@@ -1,143 +1,111 @@
--- Steps of a machine of one task.
-use Rattle.std.proofs.Common.{◌≡◌, ℕ, zero, suc, ◌+◌, List, [], ◌∷◌, ◌++◌, Bool, Option, Some, None, slice_set, refl, sym, ap, ◌∙◌, add-zero, add-suc}
+-- Steps of a machine whose first unsettled task goes on.
+use Rattle.std.proofs.Common.{◌≡◌, ◌≢◌, ℕ, zero, suc, ◌+◌, ◌<◌, List, [], ◌∷◌, Option, Some, None, slice_set, refl, sym, ap, subst, ◌∙◌, add-zero, add-suc, zero-add, arith}
+use Rattle.std.proofs.lemmas.Option.{none-some}
 use Rattle.pearl_rules.specs.declared.action.Action.{Action}
-use Rattle.pearl_rules.specs.declared.action.Action.TheVariants as action
-use Rattle.pearl_rules.specs.declared.action.Answer.{Answer}
-use Rattle.pearl_rules.specs.declared.action.Answer.TheVariants.{Nothing, One}
-use Rattle.pearl_rules.specs.declared.event.Event.TheVariants as event
-use Rattle.pearl_rules.specs.declared.entry.Entry.{Entry}
-use Rattle.pearl_rules.specs.declared.row.Mode.{Mode}
-use Rattle.pearl_rules.specs.declared.row.Mode.TheVariants.{Dormant, Active}
-use Rattle.pearl_value.specs.declared.cell.Cell.{Cell}
-use Rattle.pearl_value.specs.declared.trap.Trap.{Trap}
-use Rattle.pearl_rules.specs.Core.{Core, Report, Happened, value_at}
-use Rattle.pearl_rules.specs.Effect.{effect}
-use Rattle.pearl_rules.specs.Runs.{Engine, Running, Machine, Acts, stepped, machine_next, machine_step, machine_mark_by, machine_after}
+use Rattle.pearl_rules.specs.Runs.{Engine, Running, Machine, Coming, stepped, kept_at, unsettled, unsettled_from, unsettled_here, machine_next, machine_mark_by, machine_step, machine_step_by, machine_after}
 use Rattle.pearl_stack.specs.Frames.{Frame}
 use Rattle.pearl_instructions.specs.declared.object.Object.{Object}
-use Rattle.pearl_instructions.specs.Rows.{row, after as after_answer}
-use Rattle.pearl_instructions.specs.Steps as steps
+use Rattle.pearl_instructions.specs.Rows.{row}
+use Rattle.pearl_engine.specs.Engines.{engine, stepped_by}
 use Rattle.pearl_solo.specs.Settling.{Silently, Settles}
-use Rattle.pearl_engine.specs.Engines.{stepped_by, engine}
+use Rattle.pearl_machine.proofs.Listed.{set_twice, kept_here, kept_elsewhere, kept_same, kept_there}
 
 -- steps after steps
 pub after-add : {S : Type 0} (e : Engine S) (m : Machine S) (a b : ℕ) → machine_after e (machine_after e m a) b ≡ machine_after e m (a + b)
 after-add e m a zero = rw add-zero refl
 after-add e m a (suc b) = rw add-suc (ap (machine_step e) (after-add e m a b))
 
--- a core of one task
-abbrev pub core_at : ℕ → Mode → List Cell → Option ℕ → List (ℕ × Report) → Core
-core_at moment mode slots last told =
-    record { moment = moment; tasks = record { mode = mode } ∷ []; slots = slots; last = last; told = told }
+-- what the next step is
+pub step_of_task : {S : Type 0} (e : Engine S) (m : Machine S) (t : ℕ) (stack : S) → unsettled m ≡ Some (t, stack) →
+    machine_step e m ≡ record m { running = slice_set m.running t (Some (stepped stack (e.step t stack))) }
+unfolding machine_step
+step_of_task e m t stack first = ap (machine_step_by e m) first
 
--- a machine of one task
-abbrev pub one : Core → Option (Running (List Frame)) → List Entry → Machine (List Frame)
-one core running entries = record { core = core; running = running ∷ []; entries = entries }
+pub step_of_mark : {S : Type 0} (e : Engine S) (m : Machine S) (coming : Option Coming) → unsettled m ≡ None → machine_next m ≡ coming →
+    machine_step e m ≡ machine_mark_by e m coming
+unfolding machine_step
+step_of_mark e m coming settled next = ap (machine_step_by e m) settled ∙ ap (machine_mark_by e m) next
 
--- the task has offered nothing yet, or this
-abbrev pub going : List Frame → Option (Running (List Frame))
-going stack = Some (record { stack = stack; offer = None })
+-- a task is not active, or it has offered an action
+abbrev pub HasOffered : {S : Type 0} → Option (Running S) → Type 0
+HasOffered None = Unit {0}
+HasOffered (Some running) = (action : Action) × (running.offer ≡ Some action)
 
-abbrev pub offering : List Frame → Action → Option (Running (List Frame))
-offering stack action = Some (record { stack = stack; offer = Some action })
+-- such a task is passed over
+passed : {S : Type 0} (t : ℕ) (x : Option (Running S)) (later : Option (ℕ × S)) → HasOffered x → unsettled_here t x later ≡ later
+passed t None later offered = refl
+passed {S} t (Some running) later (action, e) =
+    ap (λ offer. let r : Running S = record { stack = running.stack; offer = offer } in unsettled_here t (Some r) later) e
 
-module _ (o : Object) where
-  silent_step : (core : Core) (entries : List Entry) (stack after : List Frame) → row o stack ≡ steps.Silent after →
-      machine_step (engine o) (one core (going stack) entries) ≡ one core (going after) entries
-  unfolding machine_step
-  silent_step core entries stack after e = ap (λ s. one core (Some (stepped stack (stepped_by s))) entries) e
+pub none_unsettled : {S : Type 0} (b : ℕ) (xs : List (Option (Running S))) → ((u : ℕ) → HasOffered (kept_at xs u)) → unsettled_from b xs ≡ None
+none_unsettled b [] all = refl
+none_unsettled b (x ∷ xs) all = passed b x (unsettled_from (b + 1) xs) (all 0) ∙ none_unsettled (b + 1) xs (λ u. all (suc u))
 
-  offer_step : (core : Core) (entries : List Entry) (stack : List Frame) (action : Action) (go : Answer → List Frame) → row o stack ≡ steps.Offers action go →
-      machine_step (engine o) (one core (going stack) entries) ≡ one core (offering stack action) entries
-  unfolding machine_step
-  offer_step core entries stack action go e = ap (λ s. one core (Some (stepped stack (stepped_by s))) entries) e
+pub first_unsettled : {S : Type 0} (b : ℕ) (xs : List (Option (Running S))) (t : ℕ) (stack : S) →
+    ((u : ℕ) → u < t → HasOffered (kept_at xs u)) → kept_at xs t ≡ Some (record { stack = stack; offer = None }) →
+    unsettled_from b xs ≡ Some (b + t, stack)
+first_unsettled b [] t stack before here = absurd (none-some _ here)
+first_unsettled b (x ∷ xs) zero stack before here =
+    ap (λ y. unsettled_here b y (unsettled_from (b + 1) xs)) here ∙ ap (λ n. Some (n, stack)) (sym (add-zero b))
+first_unsettled b (x ∷ xs) (suc t) stack before here =
+    let e : (b + 1) + t ≡ b + suc t = omega arith in
+    passed b x (unsettled_from (b + 1) xs) (before 0 (omega arith))
+    ∙ (first_unsettled (b + 1) xs t stack (λ u less. before (suc u) (omega arith)) here ∙ ap (λ n. Some (n, stack)) e)
 
-  silent_steps : (core : Core) (entries : List Entry) (stack after : List Frame) (n : ℕ) → Silently o n stack after →
-      machine_after (engine o) (one core (going stack) entries) n ≡ one core (going after) entries
-  silent_steps core entries stack after zero e = ap (λ s. one core (going s) entries) e
-  silent_steps core entries stack after (suc n) s =
-      ap (machine_step (engine o)) (silent_steps core entries stack s.0 n s.1) ∙ silent_step core entries s.0 after s.2
+-- where nothing is unsettled each has offered
+pub all_offered : {S : Type 0} (b : ℕ) (xs : List (Option (Running S))) → unsettled_from b xs ≡ None → (u : ℕ) → HasOffered (kept_at xs u)
+all_offered b [] e u = tt
+all_offered b (x ∷ xs) e u = by_place u (at_first b x (unsettled_from (b + 1) xs) e) (λ later v. all_offered (b + 1) xs later v)
+  where
+    at_first : {S : Type 0} (b : ℕ) (x : Option (Running S)) (later : Option (ℕ × S)) → unsettled_here b x later ≡ None → HasOffered x × (later ≡ None)
+    at_first b None later e = (tt, e)
+    at_first {S} b (Some running) later e = by_offer running.offer refl
+      where
+        by_offer : (offer : Option Action) → running.offer ≡ offer → HasOffered (Some running) × (later ≡ None)
+        by_offer (Some action) is =
+            ((action, is), sym (ap (λ x. let r : Running S = record { stack = running.stack; offer = x } in unsettled_here b (Some r) later) is) ∙ e)
+        by_offer None is =
+            absurd (none-some _ (sym e ∙ ap (λ x. let r : Running S = record { stack = running.stack; offer = x } in unsettled_here b (Some r) later) is))
 
-  -- the task goes on to its next action
-  pub settle_steps : (core : Core) (entries : List Entry) (stack after : List Frame) (action : Action) (s : Settles o stack after action) →
-      machine_after (engine o) (one core (going stack) entries) (suc s.rows) ≡ one core (offering after action) entries
-  settle_steps core entries stack after action s =
-      ap (machine_step (engine o)) (silent_steps core entries stack after s.rows s.silent)
-      ∙ offer_step core entries after action s.go s.offers
+    by_place : (u : ℕ) → HasOffered x × (unsettled_from (b + 1) xs ≡ None) → (unsettled_from (b + 1) xs ≡ None → (v : ℕ) → HasOffered (kept_at xs v)) →
+        HasOffered (kept_at (x ∷ xs) u)
+    by_place zero both others = both.0
+    by_place (suc u) both others = others both.1 u
 
-  -- one mark
-  mark_step : (core : Core) (entries rest : List Entry) (stack : List Frame) (action : Action) →
-      machine_next (one core (offering stack action) entries) ≡ Some (record { mark = Acts 0; rest = rest }) →
-      machine_step (engine o) (one core (offering stack action) entries)
-      ≡ machine_mark_by (engine o) (one core (offering stack action) entries) (Some (record { mark = Acts 0; rest = rest }))
-  unfolding machine_step
-  mark_step core entries rest stack action e = ap (machine_mark_by (engine o) (one core (offering stack action) entries)) e
+module _ (o : Object) (m : Machine (List Frame)) (t : ℕ) (frames : List Frame)
+    (before : (u : ℕ) → u < t → HasOffered (kept_at m.running u)) (here : kept_at m.running t ≡ Some (record { stack = frames; offer = None })) where
+  -- the same machine with the task standing elsewhere
+  abbrev pub standing : List Frame → Option Action → Machine (List Frame)
+  standing stack offer = record m { running = slice_set m.running t (Some (record { stack = stack; offer = offer })) }
 
-  -- what each action does
-  pub read_mark : (moment priority : ℕ) (suspended : Bool) (slots : List Cell) (last : Option ℕ) (told : List (ℕ × Report)) (entries rest : List Entry) (stack : List Frame) (slot : ℕ) →
-      machine_mark_by (engine o) (one (core_at moment (Active priority suspended) slots last told) (offering stack (action.Read slot)) entries) (Some (record { mark = Acts 0; rest = rest }))
-      ≡ one (core_at moment (Active priority suspended) slots (Some 0) told) (going (after_answer (row o stack) (One (value_at slots slot)))) rest
-  unfolding effect
-  read_mark moment priority suspended slots last told entries rest stack slot = refl
+  still_first : (stack : List Frame) → unsettled (standing stack None) ≡ Some (t, stack)
+  still_first stack =
+      first_unsettled 0 (slice_set m.running t (Some (record { stack = stack; offer = None }))) t stack
+      (λ u less. subst (λ x. HasOffered x) (sym (kept_elsewhere m.running t u _ (λ e. let no : ⊥ = omega arith in no))) (before u less))
+      (kept_here m.running t _ (kept_there m.running t _ here))
+      ∙ ap (λ n. Some (n, stack)) (zero-add t)
 
-  pub write_mark : (moment priority : ℕ) (suspended : Bool) (slots : List Cell) (last : Option ℕ) (told : List (ℕ × Report)) (entries rest : List Entry) (stack : List Frame) (slot : ℕ) (value : Cell) →
-      machine_mark_by (engine o) (one (core_at moment (Active priority suspended) slots last told) (offering stack (action.Write slot value)) entries) (Some (record { mark = Acts 0; rest = rest }))
-      ≡ one (core_at moment (Active priority suspended) (slice_set slots slot value) (Some 0) told) (going (after_answer (row o stack) Nothing)) rest
-  unfolding effect
-  write_mark moment priority suspended slots last told entries rest stack slot value = refl
+  one_step : (stack : List Frame) → machine_step (engine o) (standing stack None)
+      ≡ record m { running = slice_set m.running t (Some (stepped stack (stepped_by (row o stack)))) }
+  one_step stack = step_of_task (engine o) (standing stack None) t stack (still_first stack)
+      ∙ ap (λ xs. let n : Machine (List Frame) = record m { running = xs } in n) (set_twice m.running t _ _)
 
-  pub turn_mark : (moment priority : ℕ) (suspended : Bool) (slots : List Cell) (last : Option ℕ) (told : List (ℕ × Report)) (entries rest : List Entry) (stack : List Frame) →
-      machine_mark_by (engine o) (one (core_at moment (Active priority suspended) slots last told) (offering stack action.Turn) entries) (Some (record { mark = Acts 0; rest = rest }))
-      ≡ one (core_at moment (Active priority suspended) slots (Some 0) told) (going (after_answer (row o stack) Nothing)) rest
-  unfolding effect
-  turn_mark moment priority suspended slots last told entries rest stack = refl
+  at_first : standing frames None ≡ m
+  at_first = ap (λ xs. let n : Machine (List Frame) = record m { running = xs } in n) (kept_same m.running t _ here)
 
-  pub enter_mark : (moment priority : ℕ) (suspended : Bool) (slots : List Cell) (last : Option ℕ) (told : List (ℕ × Report)) (entries rest : List Entry) (stack : List Frame) →
-      machine_mark_by (engine o) (one (core_at moment (Active priority suspended) slots last told) (offering stack action.Enter) entries) (Some (record { mark = Acts 0; rest = rest }))
-      ≡ one (core_at moment (Active priority suspended) slots (Some 0) told) (going (after_answer (row o stack) Nothing)) rest
-  unfolding effect
-  enter_mark moment priority suspended slots last told entries rest stack = refl
+  silent_steps : (after : List Frame) (n : ℕ) → Silently o n frames after → machine_after (engine o) m n ≡ standing after None
+  silent_steps after zero e = sym at_first ∙ ap (λ stack. standing stack None) e
+  silent_steps after (suc n) s =
+      ap (machine_step (engine o)) (silent_steps s.0 n s.1) ∙ (one_step s.0
+      ∙ ap (λ x. let n : Machine (List Frame) = record m { running = slice_set m.running t (Some (stepped s.0 (stepped_by x))) } in n) s.2)
 
-  pub put_mark : (moment priority : ℕ) (suspended : Bool) (slots : List Cell) (last : Option ℕ) (told : List (ℕ × Report)) (entries rest : List Entry) (stack : List Frame) (device : ℕ) (text : _) →
-      machine_mark_by (engine o) (one (core_at moment (Active priority suspended) slots last told) (offering stack (action.Put device text)) entries) (Some (record { mark = Acts 0; rest = rest }))
-      ≡ one (core_at moment (Active priority suspended) slots (Some 0) (told ++ (moment, Happened (event.Out device text)) ∷ [])) (going (after_answer (row o stack) Nothing)) rest
-  unfolding effect
-  put_mark moment priority suspended slots last told entries rest stack device text = refl
+  -- one instruction
+  pub first_step : machine_step (engine o) m ≡ record m { running = slice_set m.running t (Some (stepped frames (stepped_by (row o frames)))) }
+  first_step = ap (machine_step (engine o)) (sym at_first) ∙ one_step frames
 
-  end_mark : (moment priority : ℕ) (suspended : Bool) (slots : List Cell) (last : Option ℕ) (told : List (ℕ × Report)) (entries rest : List Entry) (stack : List Frame) →
-      machine_mark_by (engine o) (one (core_at moment (Active priority suspended) slots last told) (offering stack action.End) entries) (Some (record { mark = Acts 0; rest = rest }))
-      ≡ one (core_at moment Dormant slots (Some 0) (told ++ (moment, Happened (event.End 0)) ∷ [])) None rest
-  unfolding effect
-  end_mark moment priority suspended slots last told entries rest stack = refl
-
-  trap_mark : (moment priority : ℕ) (suspended : Bool) (slots : List Cell) (last : Option ℕ) (told : List (ℕ × Report)) (entries rest : List Entry) (stack : List Frame) (trap : Trap) →
-      machine_mark_by (engine o) (one (core_at moment (Active priority suspended) slots last told) (offering stack (action.Trap trap)) entries) (Some (record { mark = Acts 0; rest = rest }))
-      ≡ one (core_at moment Dormant slots (Some 0) (told ++ (moment, Happened (event.Trap 0 trap)) ∷ [])) None rest
-  unfolding effect
-  trap_mark moment priority suspended slots last told entries rest stack trap = refl
-
-  -- an action that the task hears an answer to, and on to the next action
-  pub heard_steps : (from to : Core) (entries rest : List Entry) (stack after : List Frame) (action next : Action) (answer : Answer) →
-      machine_next (one from (offering stack action) entries) ≡ Some (record { mark = Acts 0; rest = rest }) →
-      machine_mark_by (engine o) (one from (offering stack action) entries) (Some (record { mark = Acts 0; rest = rest })) ≡ one to (going (after_answer (row o stack) answer)) rest →
-      (s : Settles o (after_answer (row o stack) answer) after next) →
-      machine_after (engine o) (one from (offering stack action) entries) (1 + suc s.rows) ≡ one to (offering after next) rest
-  heard_steps from to entries rest stack after action next answer e mark s =
-      sym (after-add (engine o) (one from (offering stack action) entries) 1 (suc s.rows))
-      ∙ (ap (λ m. machine_after (engine o) m (suc s.rows)) (mark_step from entries rest stack action e ∙ mark)
-      ∙ settle_steps to rest (after_answer (row o stack) answer) after next s)
-
-  -- the end, and a trap
-  pub end_steps : (moment priority : ℕ) (suspended : Bool) (slots : List Cell) (last : Option ℕ) (told : List (ℕ × Report)) (entries rest : List Entry) (stack : List Frame) →
-      machine_next (one (core_at moment (Active priority suspended) slots last told) (offering stack action.End) entries) ≡ Some (record { mark = Acts 0; rest = rest }) →
-      machine_after (engine o) (one (core_at moment (Active priority suspended) slots last told) (offering stack action.End) entries) 1
-      ≡ one (core_at moment Dormant slots (Some 0) (told ++ (moment, Happened (event.End 0)) ∷ [])) None rest
-  end_steps moment priority suspended slots last told entries rest stack e =
-      mark_step _ entries rest stack action.End e ∙ end_mark moment priority suspended slots last told entries rest stack
-
-  pub trap_steps : (moment priority : ℕ) (suspended : Bool) (slots : List Cell) (last : Option ℕ) (told : List (ℕ × Report)) (entries rest : List Entry) (stack : List Frame) (trap : Trap) →
-      machine_next (one (core_at moment (Active priority suspended) slots last told) (offering stack (action.Trap trap)) entries) ≡ Some (record { mark = Acts 0; rest = rest }) →
-      machine_after (engine o) (one (core_at moment (Active priority suspended) slots last told) (offering stack (action.Trap trap)) entries) 1
-      ≡ one (core_at moment Dormant slots (Some 0) (told ++ (moment, Happened (event.Trap 0 trap)) ∷ [])) None rest
-  trap_steps moment priority suspended slots last told entries rest stack trap e =
-      mark_step _ entries rest stack (action.Trap trap) e ∙ trap_mark moment priority suspended slots last told entries rest stack trap
+  -- all instructions up to the next action
+  pub settle_steps : (after : List Frame) (action : Action) (s : Settles o frames after action) →
+      machine_after (engine o) m (suc s.rows) ≡ standing after (Some action)
+  settle_steps after action s =
+      ap (machine_step (engine o)) (silent_steps after s.rows s.silent) ∙ (one_step after
+      ∙ ap (λ x. let n : Machine (List Frame) = record m { running = slice_set m.running t (Some (stepped after (stepped_by x))) } in n) s.offers)

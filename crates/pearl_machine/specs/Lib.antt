@@ -1,8 +1,10 @@
--- what contracts see of a machine, and when it stands at a state of a run
+-- what contracts see of a machine, and where a run goes on from there
 pub mod Seen
--- what holds of a task's stack wherever its code stands
-pub mod Stacks
--- what a run keeps of the object's one task, and what actions do to it
-pub mod Task
+-- the row of the tasks' stacks
+pub mod Parts
+-- what is known of every valid object
+pub mod Known
 -- what a sink has taken of the lines that a run tells
 pub mod Told
+-- what holds of a machine between its calls
+pub mod Ready

@@ -1,64 +1,101 @@
--- What contracts see of a machine, when it stands at a state of a run, and where a run goes on from there.
-use Rattle.std.specs.Prelude.{◌≡◌, ℕ, List, [], ◌∷◌, ◌++◌, Option, Some, None}
-use Rattle.pearl_value.specs.declared.cell.Cell.{Cell}
+-- What contracts see of a machine, and where a run goes on from there.
+use Rattle.std.specs.Prelude.{◌≡◌, ℕ, ◌<◌, List, [], ◌∷◌, ◌++◌, Bool, true, false, Option, Some, None, length, slice_set}
+use Rattle.pearl_rules.specs.declared.action.Action.{Action}
 use Rattle.pearl_rules.specs.declared.entry.Entry.{Entry}
-use Rattle.pearl_rules.specs.declared.event.Event.{Event}
-use Rattle.pearl_rules.specs.declared.row.TaskRow.{TaskRow}
-use Rattle.pearl_rules.specs.Core.{Report, Happened}
+use Rattle.pearl_rules.specs.declared.entry.Entry.TheVariants.{Turn}
+use Rattle.pearl_rules.specs.declared.setup.Setup.{Setup}
+use Rattle.pearl_rules.specs.Core.{Report}
 use Rattle.pearl_rules.specs.Pick.{pick}
-use Rattle.pearl_rules.specs.Runs.{Running, Machine, Acts, machine_offers, machine_next, machine_after, next_mark, unsettled}
+use Rattle.pearl_rules.specs.Runs.{Running, Machine, Mark, Acts, kept_at, machine_offers, machine_mark, machine_after, next_mark, unsettled}
 use Rattle.pearl_stack.specs.Frames.{Frame}
 use Rattle.pearl_instructions.specs.declared.object.Object.{Object}
 use Rattle.pearl_engine.specs.Engines.{engine}
+use Rattle.pearl_solo.specs.Settling.{Settles}
+use Rattle.pearl_script.specs.Lines.{report_line}
+use Rattle.pearl_engine.specs.Setups.{setup_of}
 
--- what is executed, the time in milliseconds since the start, how each task stands, what the slots hold, who acted last, and
--- for each active task its stack and the action that it has offered
+-- what is executed, and a state of its run that has told only what isn't written yet, with no entry left
 pub record Seen : Type 0 where
   pub object : Object
-  pub moment : ℕ
-  pub tasks : List TaskRow
-  pub slots : List Cell
-  pub last : Option ℕ
-  pub running : List (Option (Running (List Frame)))
+  pub state : Machine (List Frame)
 
--- The machine that is seen stands at this state of a run. What was told before and which entries of the journal remain is
--- not part of it.
-pub record IsAt (seen : Seen) (m : Machine (List Frame)) : Type 0 where
-  pub moment : m.core.moment ≡ seen.moment
-  pub tasks : m.core.tasks ≡ seen.tasks
-  pub slots : m.core.slots ≡ seen.slots
-  pub last : m.core.last ≡ seen.last
-  pub running : m.running ≡ seen.running
+-- the state of a run at which the machine stands, with what was told and what remains of the journal
+abbrev pub at : Seen → List (ℕ × Report) → List Entry → Machine (List Frame)
+at seen told entries = record { core = record seen.state.core { told = told }; running = seen.state.running; entries = entries }
 
--- from m the same mark comes next as if just these entries remained
-abbrev pub Leads : Machine (List Frame) → List Entry → Type 0
-Leads m entries = machine_next m ≡ next_mark (pick m.core (machine_offers m)) entries
+-- the same, with this told and not written
+abbrev pub retold : Seen → List (ℕ × Report) → Seen
+retold seen told = record { object = seen.object; state = at seen told seen.state.entries }
 
--- From m the run goes, in some number of steps, to where the machine that is seen stands, with these entries left and every
--- active task's action offered, and tells this on the way.
-pub record Goes (m : Machine (List Frame)) (rest : List Entry) (seen : Seen) (told : List (ℕ × Report)) : Type 0 where
+-- the task that acts next
+abbrev pub picked : Seen → Option ℕ
+picked seen = pick seen.state.core (machine_offers seen.state)
+
+-- From where the machine stands the same mark comes next of these entries as of those. Where a task's action isn't offered yet, it
+-- isn't known who acts next, and the same mark comes whoever it is.
+abbrev pub SameNext : Seen → List Entry → List Entry → Type 0
+SameNext seen entries others =
+    (p : Option ℕ) → (unsettled seen.state ≡ None → p ≡ picked seen) → next_mark p entries ≡ next_mark p others
+
+-- The run goes, in some number of steps, from where the old machine stands, with this told before, to where the new one stands, and
+-- tells this on the way. The same mark comes next of what is left as of the rest.
+pub record Goes (old : Seen) (before : List (ℕ × Report)) (entries rest : List Entry) (new : Seen) (told : List (ℕ × Report)) : Type 0 where
   pub steps : ℕ
-  pub stands : IsAt seen (machine_after (engine seen.object) m steps)
-  pub leads : Leads (machine_after (engine seen.object) m steps) rest
-  pub says : (machine_after (engine seen.object) m steps).core.told ≡ m.core.told ++ told
-  pub settled : unsettled (machine_after (engine seen.object) m steps) ≡ None
+  pub left : List Entry
+  pub is : machine_after (engine old.object) (at old before entries) steps ≡ at new (before ++ told) left
+  pub same : SameNext new left rest
 
--- from every state where the one machine stands and this entry comes next the run goes to where the other one stands, with
--- these entries left of it, and tells this on the way
-abbrev pub Handles : Seen → Entry → List Entry → Seen → List (ℕ × Report) → Type 0
-Handles old entry left new told = (m : Machine (List Frame)) (rest : List Entry) → IsAt old m → Leads m (entry ∷ rest) → Goes m (left ++ rest) new told
+-- Whatever was told before, and whatever comes behind: where these entries come next, the run goes from where the old machine stands
+-- to where the new one stands, with those left of them, and tells this on the way.
+abbrev pub Handles : Seen → List Entry → List Entry → Seen → List (ℕ × Report) → Type 0
+Handles old from left new told = (before : List (ℕ × Report)) (entries rest : List Entry) → SameNext old entries (from ++ rest) →
+    Goes old before entries (left ++ rest) new told
 
--- the task that acts next from where the machine stands
-abbrev pub Picks : Seen → Option ℕ → Type 0
-Picks seen task = (m : Machine (List Frame)) → IsAt seen m → pick m.core (machine_offers m) ≡ task
+-- the task that an entry names is there
+abbrev pub IsEntryOf : Setup → Entry → Type 0
+IsEntryOf setup (Turn t) = t < length setup.tasks
+IsEntryOf setup entry = Unit {0}
 
--- what a mark tells at this moment: an event, or nothing
-abbrev pub told_by : ℕ → Option Event → List (ℕ × Report)
-told_by moment None = []
-told_by moment (Some event) = (moment, Happened event) ∷ []
+-- ONE PART OF AN ENTRY
 
--- one mark leads from where the one machine stands to where the other one does, and tells this event, or nothing
-pub record Marks (old new : Seen) (event : Option Event) : Type 0 where
-  pub picks : Picks old (Some 0)
-  pub goes : (m : Machine (List Frame)) (rest : List Entry) → IsAt old m → machine_next m ≡ Some (record { mark = Acts 0; rest = rest }) →
-      Goes m rest new (told_by old.moment event)
+-- a task is the first of those that have offered nothing, and stands so
+pub record IsUnsettled (running : List (Option (Running (List Frame)))) (task : ℕ) (frames : List Frame) : Type 0 where
+  pub before : (u : ℕ) → u < task → (r : Running (List Frame)) → kept_at running u ≡ Some r → (action : Action) × (r.offer ≡ Some action)
+  pub here : kept_at running task ≡ Some (record { stack = frames; offer = None })
+
+-- the first task that had offered nothing went on to its next action
+pub record SettlesFirst (old new : Seen) : Type 0 where
+  pub task : ℕ
+  pub frames : List Frame
+  pub after : List Frame
+  pub action : Action
+  pub first : IsUnsettled old.state.running task frames
+  pub settles : Settles old.object frames after action
+  pub same : new ≡ record old {
+      state = record old.state { running = slice_set old.state.running task (Some (record { stack = after; offer = Some action })) };
+    }
+
+abbrev pub SettledBy : Seen → Seen → Bool → Type 0
+SettledBy old new true = SettlesFirst old new
+SettledBy old new false = (unsettled old.state ≡ None) × (new ≡ old)
+
+-- such a mark leads from where the old machine stands to where the new one does, and tells what the new one hasn't written
+abbrev pub Makes : Seen → Mark → Seen → Type 0
+Makes old mark new = (before : List (ℕ × Report)) (entries rest : List Entry) →
+    machine_mark (engine old.object) (at old before entries) mark rest ≡ at new (before ++ new.state.core.told) rest
+
+-- the task that acts next did its action
+pub record ActsFirst (old new : Seen) : Type 0 where
+  pub task : ℕ
+  pub picks : picked old ≡ Some task
+  pub makes : Makes old (Acts task) new
+
+abbrev pub ActedBy : Seen → Seen → Bool → Type 0
+ActedBy old new true = ActsFirst old new
+ActedBy old new false = (picked old ≡ None) × (new ≡ old)
+
+-- this is the line of what is told next, and what is told later is left; or nothing is left
+abbrev pub TakesNext : Seen → Seen → List ℕ → Bool → Type 0
+TakesNext old new line true =
+    (report : ℕ × Report) × (old.state.core.told ≡ report ∷ new.state.core.told) × (line ≡ report_line (setup_of old.object) report)
+TakesNext old new line false = (old.state.core.told ≡ []) × (new ≡ old)

@@ -1,261 +1,302 @@
 //! The machine, from the start of a run to its end.
 
-ghost use Rattle.std.specs.Prelude.{◌≡◌, ℕ, ◌≤◌, ◌⊎◌, List, [], ◌∷◌, ◌++◌, Option, Some, None, IfOk, IfSome, MatchOption, OnOk, OnErr, length};
-ghost use Rattle.pearl_rules.specs.Core.{Report, Happened, first_events};
-ghost use Rattle.pearl_rules.specs.Pick.{states, shown_of};
+ghost use Rattle.std.specs.Prelude.{◌≡◌, ◌≢◌, ℕ, ◌≤◌, List, [], ◌∷◌, ◌++◌, None, IfOk, OnOk, OnErr, is_some, length};
+ghost use Rattle.pearl_rules.specs.Core.{Report};
+ghost use Rattle.pearl_rules.specs.Pick.{states};
 ghost use Rattle.pearl_rules.specs.declared.entry.Entry.{Entry};
 ghost use Rattle.pearl_rules.specs.declared.entry.Entry.TheVariants.{Run};
-ghost use Rattle.pearl_rules.specs.Runs.{Machine as RunOf, machine_start, machine_offers};
-ghost use Rattle.pearl_stack.specs.Frames.{Frame};
-ghost use Rattle.pearl_engine.specs.Setups.{setup_of};
-ghost use Rattle.pearl_engine.specs.Engines.{engine};
-ghost use Rattle.pearl_io.specs.Outside.{Takes, TakesFront, WriteFailed};
-ghost use Rattle.pearl_script.specs.Lines.{IsEventOf, event_line as line_of_event, close_line as line_of_close, lines_of};
-ghost use Rattle.pearl_script.specs.Words.{task_name};
+ghost use Rattle.pearl_rules.specs.Runs.{machine_start, machine_step, machine_offers, unsettled, Tells, Turns};
 ghost use Rattle.pearl_engine.specs.Built.{OnlyBuilt};
-ghost use Rattle.pearl_machine.specs.Seen.{Seen, IsAt, Goes, Handles, Picks, Marks, told_by};
+ghost use Rattle.pearl_engine.specs.Engines.{engine};
+ghost use Rattle.pearl_engine.specs.Setups.{setup_of};
+ghost use Rattle.pearl_io.specs.Outside.{Takes, TakesFront, WriteFailed};
+ghost use Rattle.pearl_script.specs.Lines.{close_line as line_of_close, lines_of};
+ghost use Rattle.pearl_machine.specs.Seen.{Seen, Handles, IsEntryOf, SettledBy, ActedBy, Makes, TakesNext, retold};
 ghost use Rattle.pearl_machine.specs.Told.{IsCutOff};
 
-use crate::perform::perform;
-use crate::scheduler::{is_task, pick, shown_as};
+use crate::lines::state_of;
+use crate::known::laws_hold;
+use crate::part::{Part, answer_part, new_parts, settle_part, step_part};
 use crate::tables::tables;
-use crate::task::{Task, memory, start};
 use arrayvec::ArrayVec;
 use pearl_instructions::valid::Valid;
 use pearl_io::{Sink, WriteFault, put_all};
+use pearl_kernel::{Acted, Kernel};
 use pearl_rules::entry::Entry;
-use pearl_rules::event::{Event, Shown};
 use pearl_rules::setup::Setup;
-use pearl_script::transcript::{close_line, event_line, state_line};
-use pearl_value::cell::{Cell, copy_of};
+use pearl_script::transcript::{close_line, event_line};
 use std::alloc::{AllocError, Global};
 use std::marker::Model;
 
-// What a mark tells, if it tells something.
-#[derive(Drop)]
-struct Mark {
-    event: Option<Event>,
-}
-
-/// Executes a valid object of one task whose instructions are all built. Contracts see the object and the state of its run.
+/// Executes a valid object whose instructions are all built. Contracts see the object, and a state of its run that has told
+/// only what isn't written yet.
 #[derive(Drop)]
 pub struct Machine {
     code: Valid,
     setup: Setup,
-    slots: Vec<Cell>,
-    task: Task,
-    last: Option<u32>,
-    moment: u64,
+    kernel: Kernel,
+    parts: Vec<Part>,
+    // The task of which a state line comes next; where none is due, how many tasks there are.
+    due: u32,
 }
 
 impl Model for Machine {
-    ghost use Rattle.std.specs.Prelude.{[], ◌∷◌};
     ghost use Rattle.pearl_machine.specs.Seen.{Seen};
-    ghost use Rattle.pearl_machine.specs.Task.{kept_of, IsRunnable};
+    ghost use Rattle.pearl_machine.specs.Ready.{IsReady, seen_of};
 
     ghost Value = { Seen };
 
-    ghost view = { λ m. record {
-      object = m.code;
-      moment = m.moment;
-      tasks = m.task.row ∷ [];
-      slots = m.slots.items;
-      last = m.last;
-      running = kept_of m.task ∷ [];
-    } };
+    ghost view = { λ m. seen_of m.code m.kernel m.parts.items m.due };
 
-    ghost invariant = { λ m. IsRunnable m.code m.setup m.slots.items m.task };
+    ghost invariant = { λ m. IsReady m.code m.setup m.kernel m.parts.items m.due };
 }
 
 impl Machine {
     /// The machine at the start of a run. It takes all the memory that the run needs.
     pub fn load(alloc: Global, code: Valid) -> Result<Machine, AllocError>
-        requires single { length code.tasks ≡ 1 }
         requires built { OnlyBuilt code }
         ensures object { IfOk result (λ machine. machine.object ≡ code) }
-        ensures start { IfOk result (λ machine. (entries : List Entry) →
-            Goes (machine_start (engine code) (setup_of code) entries) entries machine []) }
+        ensures start { IfOk result (λ machine. machine.state ≡ machine_start (engine code) (setup_of code) []) }
     {
+        laws_hold(&code);
         let setup = tables(alloc, code.object())?;
-        let slots = first_values(alloc, &setup)?;
-        let stack = memory(alloc, &code)?;
-        let task = start(&code, &setup, stack);
+        let kernel = Kernel::new(alloc, &setup)?;
+        let parts = new_parts(alloc, &code)?;
+        let due = kernel.tasks();
         Ok(Machine {
             code,
             setup,
-            slots,
-            task,
-            last: None,
-            moment: 0,
+            kernel,
+            parts,
+            due,
         })
     }
 
     /// The tables of the object.
     pub fn setup(&self) -> &Setup
-        ensures { result.now ≡ setup_of self.now.object }
+        ensures value { result.now ≡ setup_of self.now.object }
+        ensures few { length result.now.tasks ≤ 200 }
     {
         &self.setup
     }
 
-    /// Hands the sink the lines that open a run: for each task that is active at the start, that it started.
-    ///
-    /// After [`WriteFault`] a front of these bytes was taken, and not all.
-    pub fn begin<K: Sink>(&self, sink: &mut K) -> Result<(), WriteFault>
-        ensures ok { let setup = setup_of self.now.object in
-            OnOk result (Takes (K.taken sink.old) (K.taken sink.new) (lines_of setup (first_events 0 setup.tasks))) }
-        ensures err { let setup = setup_of self.now.object in
-            OnErr result (TakesFront (K.taken sink.old) (K.taken sink.new) (lines_of setup (first_events 0 setup.tasks))) }
-        ensures cause { OnErr result (WriteFailed (K.faults sink.old) (K.faults sink.new) (K.full sink.new)) }
-        ensures later { K.faults sink.old ≤ K.faults sink.new }
+    /// The moment, in milliseconds since the start.
+    pub fn now(&self) -> u64
+        ensures { result ≡ self.now.state.core.moment }
     {
-        let _ = &self.code;
-        let Some(task) = self.setup().tasks.as_slice().first() else {
-            return Ok(());
-        };
-        if !task.main {
-            return Ok(());
-        }
-        let event = Event::Start {
-            task: 0,
-            priority: task.priority,
-        };
-        self.tell(0, &event, sink)
+        self.kernel.now()
     }
 
-    /// Makes all marks of one entry, and hands the sink the line of each event as one piece.
-    ///
-    /// After [`WriteFault`] the machine stands after the mark whose line was not taken whole.
-    pub fn entry<K: Sink>(&mut self, entry: &Entry, sink: &mut K) -> Result<(), WriteFault>
-        ensures object { self.new.object ≡ self.old.object }
-        ensures ok { OnOk result ((told : List (ℕ × Report)) × Handles self.old entry.now [] self.new told
-            × Takes (K.taken sink.old) (K.taken sink.new) (lines_of (setup_of self.old.object) told)) }
-        ensures err { OnErr result ((told : List (ℕ × Report)) × (left : List Entry) × Handles self.old entry.now left self.new told
-            × IsCutOff (setup_of self.old.object) (K.taken sink.old) (K.taken sink.new) told) }
+    /// Whether the run's next step is an instruction.
+    pub fn unsettled(&self) -> bool
+        ensures { result ≡ is_some (unsettled self.now.state) }
+    {
+        self.kernel.unsettled().is_some()
+    }
+
+    /// One instruction of the first task that has offered nothing.
+    pub fn instruction(&mut self)
+        requires { unsettled self.old.state ≢ None }
+        ensures { self.new ≡ record self.old { state = machine_step (engine self.old.object) self.old.state } }
+    {
+        let task = self.kernel.unsettled().unwrap();
+        if let Some(action) = step_part(&self.code, &mut self.parts, task) {
+            self.kernel.offered(task, action);
+        }
+    }
+
+    /// Hands the sink the lines that open a run: for each task that is active at the start, that it started.
+    pub fn begin<K: Sink>(&mut self, sink: &mut K) -> Result<(), WriteFault>
+        ensures same { self.new ≡ retold self.old self.new.state.core.told }
+        ensures ok { OnOk result (Takes (K.taken sink.old) (K.taken sink.new) (lines_of (setup_of self.old.object) self.old.state.core.told)) }
+        ensures all { OnOk result (self.new.state.core.told ≡ []) }
+        ensures err { OnErr result (IsCutOff (setup_of self.old.object) (K.taken sink.old) (K.taken sink.new)
+            self.old.state.core.told self.new.state.core.told) }
         ensures cause { OnErr result (WriteFailed (K.faults sink.old) (K.faults sink.new) (K.full sink.new)) }
         ensures later { K.faults sink.old ≤ K.faults sink.new }
     {
+        self.tell(sink)
+    }
+
+    /// Makes all marks of one entry, and hands the sink the line of all that they tell, each line as one piece.
+    ///
+    /// After [`WriteFault`] the machine stands after the mark whose lines were not taken whole.
+    pub fn entry<K: Sink>(&mut self, entry: &Entry, sink: &mut K) -> Result<(), WriteFault>
+        requires taken { self.old.state.core.told ≡ [] }
+        requires named { IsEntryOf (setup_of self.old.object) entry.now }
+        ensures object { self.new.object ≡ self.old.object }
+        ensures ok { OnOk result ((told : List (ℕ × Report)) × Handles self.old (entry.now ∷ []) [] self.new told
+            × Takes (K.taken sink.old) (K.taken sink.new) (lines_of (setup_of self.old.object) told)) }
+        ensures settled { OnOk result (unsettled self.new.state ≡ None) }
+        ensures all { OnOk result (self.new.state.core.told ≡ []) }
+        ensures err { OnErr result ((told : List (ℕ × Report)) × (left : List Entry) × Handles self.old (entry.now ∷ []) left self.new told
+            × IsCutOff (setup_of self.old.object) (K.taken sink.old) (K.taken sink.new) told self.new.state.core.told) }
+        ensures cause { OnErr result (WriteFailed (K.faults sink.old) (K.faults sink.new) (K.full sink.new)) }
+        ensures later { K.faults sink.old ≤ K.faults sink.new }
+    {
+        self.settle();
         match entry {
             Entry::Run(count) => self.run(*count, sink),
-            // The others aren't built yet: no mark comes of them.
-            _ => {
-                let _ = &self.setup;
+            Entry::Turn(task) => {
+                self.turn(*task);
                 Ok(())
             }
+            Entry::State => {
+                self.show();
+                self.tell(sink)
+            }
+            // The others aren't built yet: no mark comes of them.
+            _ => Ok(()),
         }
     }
 
-    /// Hands the sink the last lines: how the task stands, and that the run is closed, each as one piece.
+    /// Hands the sink the last lines: how each task stands, and that the run is closed, each as one piece.
     ///
     /// After [`WriteFault`] a front of these bytes was taken, and not all.
-    pub fn close<K: Sink>(&self, sink: &mut K) -> Result<(), WriteFault>
-        ensures ok { (m : RunOf (List Frame)) → IsAt self.now m → OnOk result (Takes (K.taken sink.old) (K.taken sink.new)
-            (lines_of (setup_of self.now.object) (states m.core (machine_offers m)) ++ line_of_close m.core.moment)) }
-        ensures err { (m : RunOf (List Frame)) → IsAt self.now m → OnErr result (TakesFront (K.taken sink.old) (K.taken sink.new)
-            (lines_of (setup_of self.now.object) (states m.core (machine_offers m)) ++ line_of_close m.core.moment)) }
+    pub fn close<K: Sink>(&mut self, sink: &mut K) -> Result<(), WriteFault>
+        requires taken { self.old.state.core.told ≡ [] }
+        ensures object { self.new.object ≡ self.old.object }
+        ensures settled { unsettled self.new.state ≡ None }
+        ensures handles { (from : List Entry) → Handles self.old from from self.new [] }
+        ensures ok { OnOk result (Takes (K.taken sink.old) (K.taken sink.new) (lines_of (setup_of self.old.object)
+            (states self.new.state.core (machine_offers self.new.state)) ++ line_of_close self.new.state.core.moment)) }
+        ensures err { OnErr result (TakesFront (K.taken sink.old) (K.taken sink.new) (lines_of (setup_of self.old.object)
+            (states self.new.state.core (machine_offers self.new.state)) ++ line_of_close self.new.state.core.moment)) }
         ensures cause { OnErr result (WriteFailed (K.faults sink.old) (K.faults sink.new) (K.full sink.new)) }
         ensures later { K.faults sink.old ≤ K.faults sink.new }
     {
+        self.settle();
+        self.show();
+        self.tell(sink)?;
         let mut line = ArrayVec::new();
-        let shown = self.shown();
-        state_line(self.moment, name_of_task(self.setup()), &shown, &mut line);
-        put_all(sink, line.as_slice())?;
-        close_line(self.moment, &mut line);
+        close_line(self.now(), &mut line);
         put_all(sink, line.as_slice())
     }
 
-    // One mark; nothing where no task can act.
-    fn mark(&mut self) -> Option<Mark>
-        ensures object { self.new.object ≡ self.old.object }
-        ensures moment { self.new.moment ≡ self.old.moment }
-        ensures mark { MatchOption result (Picks self.old None × (self.new ≡ self.old)) (λ mark. Marks self.old self.new mark.event) }
-        ensures event { IfSome result (λ mark. IfSome mark.event (IsEventOf (setup_of self.new.object))) }
+    // The first task that has offered nothing goes on to its next action, if there is one.
+    fn settle_first(&mut self) -> bool
+        ensures { SettledBy self.old self.new result }
     {
-        let task = pick(&[self.task.row], &[self.task.offer.is_some()], self.last)?;
-        let action = self.task.offer.take()?;
-        self.last = Some(task);
-        let slots = self.slots.as_mut_slice();
-        let event = perform(&self.code, slots, &mut self.task, action);
-        Some(Mark { event })
+        let Some(task) = self.kernel.unsettled() else {
+            return false;
+        };
+        let action = settle_part(&self.code, &mut self.parts, task);
+        self.kernel.offered(task, action);
+        true
     }
 
-    // Up to so many marks, with the line of each that tells something.
-    fn run<K: Sink>(&mut self, count: u64, sink: &mut K) -> Result<(), WriteFault>
+    // Every active task goes on to its next action.
+    fn settle(&mut self)
         ensures object { self.new.object ≡ self.old.object }
-        ensures ok { OnOk result ((told : List (ℕ × Report)) × Handles self.old (Run count) [] self.new told
+        ensures told { self.new.state.core.told ≡ self.old.state.core.told }
+        ensures settled { unsettled self.new.state ≡ None }
+        ensures handles { (from : List Entry) → Handles self.old from from self.new [] }
+    {
+        while self.settle_first() {}
+    }
+
+    // The task that acts next does its action, if there is one.
+    fn act(&mut self) -> bool
+        requires settled { unsettled self.old.state ≡ None }
+        requires taken { self.old.state.core.told ≡ [] }
+        ensures object { self.new.object ≡ self.old.object }
+        ensures acted { ActedBy self.old self.new result }
+    {
+        laws_hold(&self.code);
+        match self.kernel.act() {
+            Acted::Idle => false,
+            Acted::Went(task, answer) => {
+                answer_part(&self.code, &mut self.parts, task, answer);
+                true
+            }
+            Acted::Ended(_) => true,
+        }
+    }
+
+    // Up to so many marks, with the lines of each.
+    fn run<K: Sink>(&mut self, count: u64, sink: &mut K) -> Result<(), WriteFault>
+        requires settled { unsettled self.old.state ≡ None }
+        requires taken { self.old.state.core.told ≡ [] }
+        ensures object { self.new.object ≡ self.old.object }
+        ensures ok { OnOk result ((told : List (ℕ × Report)) × Handles self.old (Run count ∷ []) [] self.new told
             × Takes (K.taken sink.old) (K.taken sink.new) (lines_of (setup_of self.old.object) told)) }
-        ensures err { OnErr result ((told : List (ℕ × Report)) × (left : List Entry) × Handles self.old (Run count) left self.new told
-            × IsCutOff (setup_of self.old.object) (K.taken sink.old) (K.taken sink.new) told) }
+        ensures settled { OnOk result (unsettled self.new.state ≡ None) }
+        ensures all { OnOk result (self.new.state.core.told ≡ []) }
+        ensures err { OnErr result ((told : List (ℕ × Report)) × (left : List Entry) × Handles self.old (Run count ∷ []) left self.new told
+            × IsCutOff (setup_of self.old.object) (K.taken sink.old) (K.taken sink.new) told self.new.state.core.told) }
         ensures cause { OnErr result (WriteFailed (K.faults sink.old) (K.faults sink.new) (K.full sink.new)) }
         ensures later { K.faults sink.old ≤ K.faults sink.new }
     {
-        let moment = self.moment;
         let mut left = count;
         while left > 0 {
-            let Some(mark) = self.mark() else {
+            if !self.act() {
                 return Ok(());
-            };
+            }
             left -= 1;
-            self.tell_mark(moment, &mark, sink)?;
+            self.tell(sink)?;
+            self.settle();
         }
         Ok(())
     }
 
-    // How the task stands.
-    fn shown(&self) -> Shown
-        ensures { (m : RunOf (List Frame)) → IsAt self.now m → result ≡ shown_of m.core (machine_offers m) 0 }
+    // It becomes a task's turn, where it can.
+    fn turn(&mut self, task: u32)
+        requires settled { unsettled self.old.state ≡ None }
+        requires taken { self.old.state.core.told ≡ [] }
+        ensures object { self.new.object ≡ self.old.object }
+        ensures settled { unsettled self.new.state ≡ None }
+        ensures taken { self.new.state.core.told ≡ [] }
+        ensures turns { Makes self.old (Turns task) self.new }
     {
-        let possible = self.task.offer.is_some();
-        let picked = pick(&[self.task.row], &[possible], self.last);
-        shown_as(self.task.row.mode, possible, is_task(picked, 0))
+        self.kernel.turn(task);
     }
 
-    // Hands the sink the line of what a mark tells, if it tells something.
-    fn tell_mark<K: Sink>(&self, moment: u64, mark: &Mark, sink: &mut K) -> Result<(), WriteFault>
-        requires { IfSome mark.now.event (IsEventOf (setup_of self.now.object)) }
-        ensures ok { OnOk result (Takes (K.taken sink.old) (K.taken sink.new) (lines_of (setup_of self.now.object) (told_by moment mark.now.event))) }
-        ensures err { OnErr result (TakesFront (K.taken sink.old) (K.taken sink.new) (lines_of (setup_of self.now.object) (told_by moment mark.now.event))) }
-        ensures cause { OnErr result (WriteFailed (K.faults sink.old) (K.faults sink.new) (K.full sink.new)) }
-        ensures later { K.faults sink.old ≤ K.faults sink.new }
+    // How each task stands is told.
+    fn show(&mut self)
+        requires settled { unsettled self.old.state ≡ None }
+        requires taken { self.old.state.core.told ≡ [] }
+        ensures same { self.new ≡ retold self.old (states self.old.state.core (machine_offers self.old.state)) }
+        ensures tells { Makes self.old Tells self.new }
     {
-        match &mark.event {
-            None => Ok(()),
-            Some(event) => self.tell(moment, event, sink),
+        self.due = 0;
+    }
+
+    // Makes `into` the line of what is told next, if something is left to tell.
+    fn next_line(&mut self, into: &mut ArrayVec<u8, 2304>) -> bool
+        ensures same { self.new ≡ retold self.old self.new.state.core.told }
+        ensures next { TakesNext self.old self.new into.new.items result }
+    {
+        let moment = self.kernel.now();
+        match self.kernel.next_event() {
+            Some(event) => {
+                event_line(moment, &event, &self.setup, into);
+                true
+            }
+            None => {
+                if self.due >= self.kernel.tasks() {
+                    return false;
+                }
+                state_of(&self.kernel, &self.setup, self.due, into);
+                self.due += 1;
+                true
+            }
         }
     }
 
-    // Hands the sink the line of an event.
-    fn tell<K: Sink>(&self, moment: u64, event: &Event, sink: &mut K) -> Result<(), WriteFault>
-        requires { IsEventOf (setup_of self.now.object) event.now }
-        ensures ok { OnOk result (Takes (K.taken sink.old) (K.taken sink.new) (line_of_event moment event.now (setup_of self.now.object))) }
-        ensures err { OnErr result (TakesFront (K.taken sink.old) (K.taken sink.new) (line_of_event moment event.now (setup_of self.now.object))) }
+    // Hands the sink the line of all that is told and not written.
+    fn tell<K: Sink>(&mut self, sink: &mut K) -> Result<(), WriteFault>
+        ensures same { self.new ≡ retold self.old self.new.state.core.told }
+        ensures ok { OnOk result (Takes (K.taken sink.old) (K.taken sink.new) (lines_of (setup_of self.old.object) self.old.state.core.told)) }
+        ensures all { OnOk result (self.new.state.core.told ≡ []) }
+        ensures err { OnErr result (IsCutOff (setup_of self.old.object) (K.taken sink.old) (K.taken sink.new)
+            self.old.state.core.told self.new.state.core.told) }
         ensures cause { OnErr result (WriteFailed (K.faults sink.old) (K.faults sink.new) (K.full sink.new)) }
         ensures later { K.faults sink.old ≤ K.faults sink.new }
     {
         let mut line = ArrayVec::new();
-        event_line(moment, event, self.setup(), &mut line);
-        put_all(sink, line.as_slice())
-    }
-}
-
-// Memory for the slots, each with its first value.
-fn first_values(alloc: Global, setup: &Setup) -> Result<Vec<Cell>, AllocError>
-    ensures { IfOk result (λ slots. slots.items ≡ setup.now.slots) }
-{
-    let first = setup.slots.as_slice();
-    let mut slots = Vec::with_capacity(alloc, first.len())?;
-    for value in first {
-        slots.push(copy_of(value))?;
-    }
-    Ok(slots)
-}
-
-// The name of the first task.
-fn name_of_task(setup: &Setup) -> &[u8]
-    ensures name { result.now ≡ task_name setup.now 0 }
-    ensures fits { length result.now ≤ 63 }
-{
-    match setup.tasks.as_slice().first() {
-        Some(task) => task.name.as_slice(),
-        None => &[],
+        while self.next_line(&mut line) {
+            put_all(sink, line.as_slice())?;
+        }
+        Ok(())
     }
 }

@@ -1,61 +1,72 @@
-use Rattle.std.proofs.Common.{◌≡◌, ◌-◌, [], ◌∷◌, ◌++◌, None, rules, sym, ap, ◌∙◌, subst, arith}
+use Rattle.std.proofs.Common.{◌≡◌, ◌-◌, [], ◌∷◌, ◌++◌, None, refl, ap, sym, ◌∙◌, subst, arith}
 use Rattle.std.proofs.lemmas.Result.{err_from_is_err_and}
 use Rattle.pearl_rules.specs.declared.entry.Entry.TheVariants.{Run}
-use Rattle.pearl_io.specs.Outside.{Takes, TakesFront}
-use Rattle.pearl_script.specs.Lines.{lines_of}
-use Rattle.pearl_instructions.specs.declared.object.Object.{Object}
-use Rattle.pearl_machine.specs.Seen.{Seen, told_by}
-use Rattle.pearl_rules.specs.Runs.{unsettled_from}
+use Rattle.pearl_rules.specs.Runs.{unsettled}
 use Rattle.pearl_engine.specs.Setups.{setup_of}
-use Rattle.pearl_machine.proofs.Marking.{rests}
-use Rattle.pearl_machine.proofs.Runs.{run_none_yet, run_more, takes_nothing, takes_mark, cuts_mark}
+use Rattle.pearl_io.specs.Outside.{Takes}
+use Rattle.pearl_script.specs.Lines.{lines_of}
+use Rattle.pearl_machine.specs.Told.{IsCutOff}
+use Rattle.pearl_machine.proofs.Going.{handles_none, handles_on, handles_idle, handles_done}
+use Rattle.pearl_machine.proofs.Taken.{takes_nothing, takes_lines, cut_behind}
+use Rattle.pearl_machine.proofs.Entering.{one_more, told_object}
 use Rattle.pearl_machine.proofs.machine.Machine.run.Goals as goal
 
 pub loop-left-init : goal.loop-left-init
 loop-left-init g c = record {
-  object = search rules;
-  moment = ap (λ (s : Seen). s.moment) c.self.view_is;
-  goes = ([], run_none_yet c.args.self.now c.args.count (subst (λ (s : Seen). unsettled_from 0 s.running ≡ None) c.self.view_is (rests c.self.inside.code c.self.inside.task c.self.invariant.offered)), takes_nothing _);
+  object = refl;
+  settled = c.requires.settled;
+  taken = c.requires.taken;
+  goes = ([], handles_none c.args.self.now (Run c.args.count ∷ []), takes_nothing (g.K.Sink.taken c.args.sink.now));
   later = omega arith;
 }
+
+pub returns-then-not-act-clause-ok : goal.returns-then-not-act-clause-ok
+returns-then-not-act-clause-ok g c =
+    let i = c.loop-left.invariant in
+    let idle = c.if-not-act.ensures.acted in
+    rw idle.1 (i.goes.0, handles_idle c.args.self.now c.loop-left.self (Run c.args.count ∷ []) c.loop-left.left i.goes.0 i.settled idle.0 i.goes.1, i.goes.2)
+
+pub returns-clause-ok : goal.returns-clause-ok
+returns-clause-ok g c =
+    let i = c.loop-left.invariant in
+    (i.goes.0, handles_done c.args.self.now c.loop-left.self (Run c.args.count ∷ []) c.loop-left.left i.goes.0 (omega arith) i.goes.1, i.goes.2)
+
+pub returns-in_err-tell-clause-err : goal.returns-in_err-tell-clause-err
+returns-in_err-tell-clause-err g c =
+    let i = c.loop-left.invariant in
+    let p = err_from_is_err_and c.from_residual.result c.from_residual.ensures.1 in
+    let object = c.if-not-act.ensures.object ∙ i.object in
+    rw p.1 (
+      i.goes.0 ++ c.act.new.self.state.core.told,
+      Run (c.loop-left.left - 1) ∷ [],
+      one_more c.args.self.now c.loop-left.self c.act.new.self c.tell.new.self c.args.count c.loop-left.left i.goes.0 i.object i.settled (omega arith) i.goes.1
+      c.if-not-act.ensures.acted c.in_err-tell.ensures.same,
+      cut_behind (setup_of c.args.self.now.object) (g.K.Sink.taken c.args.sink.now) (g.K.Sink.taken c.loop-left.sink) (g.K.Sink.taken c.tell.new.sink) i.goes.0
+      c.act.new.self.state.core.told c.tell.new.self.state.core.told i.goes.2
+      (subst (λ o. IsCutOff (setup_of o) (g.K.Sink.taken c.loop-left.sink) (g.K.Sink.taken c.tell.new.sink) c.act.new.self.state.core.told c.tell.new.self.state.core.told)
+      object c.in_err-tell.ensures.err),
+    )
 
 pub loop-left-preserved : goal.loop-left-preserved
 loop-left-preserved g c =
     let i = c.loop-left.invariant in
-    let marks = c.in-Some.ensures.mark in
-    let same : c.mark.new.self.object ≡ c.loop-left.self.object = c.in-Some.ensures.object in
-    let line : Takes (g.K.Sink.taken c.loop-left.sink) (g.K.Sink.taken c.tell_mark.new.sink)
-    (lines_of (setup_of c.args.self.now.object) (told_by c.loop-left.self.moment c.in-Some.mark.event)) =
-    subst (λ n. Takes (g.K.Sink.taken c.loop-left.sink) (g.K.Sink.taken c.tell_mark.new.sink)
-    (lines_of (setup_of c.args.self.now.object) (told_by n c.in-Some.mark.event))) i.moment
-    (subst (λ (o : Object). Takes (g.K.Sink.taken c.loop-left.sink) (g.K.Sink.taken c.tell_mark.new.sink)
-    (lines_of (setup_of o) (told_by c.self.inside.moment c.in-Some.mark.event))) (same ∙ i.object) c.in_ok-tell_mark.ensures.ok) in
+    let told = i.goes.0 ++ c.act.new.self.state.core.told in
+    let acted = c.if-not-act.ensures.object ∙ i.object in
+    let object = told_object c.act.new.self c.tell.new.self c.in_ok-tell.ensures.same ∙ acted in
     record {
-      object = same ∙ i.object;
-      moment = i.moment ∙ sym c.in-Some.ensures.moment;
+      object = c.settle.ensures.object ∙ object;
+      settled = c.settle.ensures.settled;
+      taken = c.settle.ensures.told ∙ c.in_ok-tell.ensures.all;
       goes = (
-        i.goes.0 ++ told_by c.loop-left.self.moment c.in-Some.mark.event,
-        run_more c.args.self.now c.loop-left.self c.mark.new.self c.args.count c.loop-left.left i.goes.0 c.in-Some.mark.event (omega arith) same i.goes.1 marks,
-        takes_mark _ _ (g.K.Sink.taken c.loop-left.sink) _ i.goes.0 _ i.goes.2 line,
+        told,
+        handles_on c.args.self.now c.tell.new.self c.settle.new.self (Run c.args.count ∷ []) (Run (c.loop-left.left - 1) ∷ []) (Run (c.loop-left.left - 1) ∷ []) told object
+            (one_more c.args.self.now c.loop-left.self c.act.new.self c.tell.new.self c.args.count c.loop-left.left i.goes.0 i.object i.settled (omega arith) i.goes.1
+            c.if-not-act.ensures.acted c.in_ok-tell.ensures.same)
+            (c.settle.ensures.handles (Run (c.loop-left.left - 1) ∷ [])),
+        takes_lines (setup_of c.args.self.now.object) (g.K.Sink.taken c.args.sink.now) (g.K.Sink.taken c.loop-left.sink) (g.K.Sink.taken c.tell.new.sink) i.goes.0
+            c.act.new.self.state.core.told i.goes.2
+            (subst (λ o. Takes (g.K.Sink.taken c.loop-left.sink) (g.K.Sink.taken c.tell.new.sink) (lines_of (setup_of o) c.act.new.self.state.core.told)) acted
+            c.in_ok-tell.ensures.ok),
       );
-      later = omega (arith, i.later, c.in_ok-tell_mark.ensures.later);
+      later = omega (arith, i.later, c.in_ok-tell.ensures.later);
     }
-
-pub returns-in_err-tell_mark-clause-err : goal.returns-in_err-tell_mark-clause-err
-returns-in_err-tell_mark-clause-err g c =
-    let i = c.loop-left.invariant in
-    let marks = c.in-Some.ensures.mark in
-    let same : c.mark.new.self.object ≡ c.loop-left.self.object = c.in-Some.ensures.object in
-    let line : TakesFront (g.K.Sink.taken c.loop-left.sink) (g.K.Sink.taken c.tell_mark.new.sink)
-    (lines_of (setup_of c.args.self.now.object) (told_by c.loop-left.self.moment c.in-Some.mark.event)) =
-    subst (λ n. TakesFront (g.K.Sink.taken c.loop-left.sink) (g.K.Sink.taken c.tell_mark.new.sink)
-    (lines_of (setup_of c.args.self.now.object) (told_by n c.in-Some.mark.event))) i.moment
-    (subst (λ (o : Object). TakesFront (g.K.Sink.taken c.loop-left.sink) (g.K.Sink.taken c.tell_mark.new.sink)
-    (lines_of (setup_of o) (told_by c.self.inside.moment c.in-Some.mark.event))) (same ∙ i.object) c.in_err-tell_mark.ensures.err) in
-    let p = err_from_is_err_and c.from_residual.result c.from_residual.ensures.1 in
-    rw p.1 (
-      i.goes.0 ++ told_by c.loop-left.self.moment c.in-Some.mark.event,
-      Run (c.loop-left.left - 1) ∷ [],
-      run_more c.args.self.now c.loop-left.self c.mark.new.self c.args.count c.loop-left.left i.goes.0 c.in-Some.mark.event (omega arith) same i.goes.1 marks,
-      cuts_mark _ _ (g.K.Sink.taken c.loop-left.sink) _ i.goes.0 _ c.in-Some.mark.event i.goes.2 line,
-    )

@@ -1,0 +1,195 @@
+//! The row of the tasks' stacks.
+
+ghost use Rattle.std.specs.Prelude.{◌≡◌, ℕ, ◌+◌, ◌≤◌, ◌<◌, ◌^◌, Bool, true, false, Some, None, IfSome, IfOk, length, map, slice_get, slice_set};
+ghost use Rattle.std.specs.List.{AllByRecursion};
+ghost use Rattle.pearl_rules.specs.Slots.{Fits};
+ghost use Rattle.pearl_instructions.specs.Rows.{row};
+ghost use Rattle.pearl_instructions.specs.Stacks.{room as room_of};
+ghost use Rattle.pearl_engine.specs.Built.{OnlyBuilt};
+ghost use Rattle.pearl_engine.specs.Engines.{engine};
+ghost use Rattle.pearl_engine.specs.Owners.{IsStackOf};
+ghost use Rattle.pearl_engine.specs.Setups.{setup_of};
+ghost use Rattle.pearl_solo.specs.Answered.{CanHear};
+ghost use Rattle.pearl_solo.specs.Settling.{Settles};
+ghost use Rattle.pearl_machine.specs.declared.part.Part as Parting;
+ghost use Rattle.pearl_machine.specs.Parts.{HasMemories, HasStack, IsShallow, Does, StepsPart, SettlesPart, is_none_offered, is_going, going_frames, stack_in, start_of, first_part as first_part_of, heard_part};
+
+use crate::known::laws_hold;
+use pearl_instructions::object::Task;
+use pearl_instructions::valid::Valid;
+use pearl_rules::action::{Action, Answer};
+use pearl_solo::answers::answer;
+use pearl_solo::frames::begin;
+use pearl_solo::settle::settle;
+use pearl_solo::step::step;
+use pearl_solo::stepped::Stepped;
+use pearl_stack::stack::{Loaded, Parked};
+use std::alloc::{AllocError as NoMemory, Global};
+
+/// A task's stack, which is away only while the task executes, and whether the task is under way to its next action.
+#[derive(Drop)]
+pub struct Part {
+    pub stack: Option<Parked>,
+    pub going: bool,
+}
+
+// Takes a task's stack out of the row.
+fn take(parts: &mut Vec<Part>, task: u32) -> Loaded
+    requires there { task < length parts.old.items }
+    requires has { (part : Parting.Part) → slice_get parts.old.items task ≡ Some part → HasStack part }
+    ensures stack { result ≡ stack_in (slice_get parts.old.items task) }
+    ensures rest { (going : Bool) × (parts.new.items ≡ slice_set parts.old.items task (record { stack = None; going = going })) }
+{
+    let parked = parts[task as usize].stack.take().unwrap();
+    parked.load()
+}
+
+// Takes the stack of a task that has offered nothing. One that isn't under way to its action begins afresh.
+fn take_going(code: &Valid, parts: &mut Vec<Part>, task: u32) -> Loaded
+    requires there { task < length code.now.tasks }
+    requires same { length parts.old.items ≡ length code.now.tasks }
+    requires memory { HasMemories code.now parts.old.items }
+    ensures frames { result.frames ≡ going_frames (start_of code.now task) (slice_get parts.old.items task) }
+    ensures room { room_of code.now (start_of code.now task) ≤ result.room }
+    ensures most { length code.now.procedures + 1 ≤ result.most }
+    ensures rest { (going : Bool) × (parts.new.items ≡ slice_set parts.old.items task (record { stack = None; going = going })) }
+{
+    let going = parts[task as usize].going;
+    let mut stack = take(parts, task);
+    if !going {
+        begin(code, task, &mut stack);
+    }
+    stack
+}
+
+// Puts a task's stack back.
+fn put(parts: &mut Vec<Part>, task: u32, stack: Loaded, going: bool)
+    requires there { task < length parts.old.items }
+    ensures { parts.new.items ≡ slice_set parts.old.items task (record { stack = Some stack; going = going }) }
+{
+    parts[task as usize] = Part {
+        stack: Some(stack.park()),
+        going,
+    };
+}
+
+fn is_none(action: &Option<Action>) -> bool
+    ensures { result ≡ is_none_offered action.now }
+{
+    match action {
+        None => true,
+        Some(_) => false,
+    }
+}
+
+// One instruction on a task's stack.
+fn step_stack(code: &Valid, task: u32, stack: &mut Loaded) -> Option<Action>
+    requires built { OnlyBuilt code.now }
+    requires own { IsStackOf code.now task stack.old.frames }
+    requires room { room_of code.now (start_of code.now task) ≤ stack.old.room }
+    ensures does { Does code.now task stack.old.frames stack.new.frames result }
+    ensures own { IsStackOf code.now task stack.new.frames }
+    ensures memory { (stack.new.room ≡ stack.old.room) × (stack.new.most ≡ stack.old.most) }
+    ensures fits { IfSome result (Fits (setup_of code.now)) }
+{
+    laws_hold(code);
+    match step(code, stack) {
+        Stepped::Silent => None,
+        Stepped::Offers(action) => Some(action),
+    }
+}
+
+// All instructions on a task's stack up to its next action.
+fn settle_stack(code: &Valid, task: u32, stack: &mut Loaded) -> Action
+    requires built { OnlyBuilt code.now }
+    requires own { IsStackOf code.now task stack.old.frames }
+    requires room { room_of code.now (start_of code.now task) ≤ stack.old.room }
+    ensures settles { Settles code.now stack.old.frames stack.new.frames result }
+    ensures own { IsStackOf code.now task stack.new.frames }
+    ensures memory { (stack.new.room ≡ stack.old.room) × (stack.new.most ≡ stack.old.most) }
+    ensures fits { Fits (setup_of code.now) result }
+{
+    laws_hold(code);
+    settle(code, stack)
+}
+
+/// One instruction of a task that has offered nothing.
+pub fn step_part(code: &Valid, parts: &mut Vec<Part>, task: u32) -> Option<Action>
+    requires built { OnlyBuilt code.now }
+    requires there { task < length code.now.tasks }
+    requires same { length parts.old.items ≡ length code.now.tasks }
+    requires memory { HasMemories code.now parts.old.items }
+    requires own { IsStackOf code.now task (going_frames (start_of code.now task) (slice_get parts.old.items task)) }
+    ensures steps { StepsPart code.now parts.old.items task parts.new.items result }
+    ensures memory { HasMemories code.now parts.new.items }
+    ensures fits { IfSome result (Fits (setup_of code.now)) }
+{
+    let mut stack = take_going(code, parts, task);
+    let action = step_stack(code, task, &mut stack);
+    let going = is_none(&action);
+    put(parts, task, stack, going);
+    action
+}
+
+/// A task that has offered nothing goes on to its next action.
+pub fn settle_part(code: &Valid, parts: &mut Vec<Part>, task: u32) -> Action
+    requires built { OnlyBuilt code.now }
+    requires there { task < length code.now.tasks }
+    requires same { length parts.old.items ≡ length code.now.tasks }
+    requires memory { HasMemories code.now parts.old.items }
+    requires own { IsStackOf code.now task (going_frames (start_of code.now task) (slice_get parts.old.items task)) }
+    ensures settles { SettlesPart code.now parts.old.items task parts.new.items result }
+    ensures memory { HasMemories code.now parts.new.items }
+    ensures fits { Fits (setup_of code.now) result }
+{
+    let mut stack = take_going(code, parts, task);
+    let action = settle_stack(code, task, &mut stack);
+    put(parts, task, stack, false);
+    action
+}
+
+/// A task hears the answer to the action that it has offered.
+pub fn answer_part(code: &Valid, parts: &mut Vec<Part>, task: u32, heard: Answer)
+    requires there { task < length code.now.tasks }
+    requires same { length parts.old.items ≡ length code.now.tasks }
+    requires memory { HasMemories code.now parts.old.items }
+    requires own { IsStackOf code.now task (stack_in (slice_get parts.old.items task)).frames }
+    requires suits { CanHear code.now task (row code.now (stack_in (slice_get parts.old.items task)).frames) heard }
+    ensures heard { parts.new.items ≡ slice_set parts.old.items task (heard_part code.now parts.old.items task heard) }
+    ensures own { IsStackOf code.now task ((engine code.now).answer task (stack_in (slice_get parts.old.items task)).frames heard) }
+    ensures memory { HasMemories code.now parts.new.items }
+{
+    let mut stack = take(parts, task);
+    answer(code, &mut stack, heard);
+    put(parts, task, stack, true);
+}
+
+// Memory for the stacks of these tasks.
+fn first_parts(alloc: Global, tasks: &[Task], frames: usize) -> Result<Vec<Part>, NoMemory>
+    requires shallow { AllByRecursion IsShallow tasks.now }
+    requires few { frames < 2 ^ 32 }
+    ensures { IfOk result (λ parts. parts.items ≡ map (first_part_of frames) tasks.now) }
+{
+    let mut parts = Vec::with_capacity(alloc, tasks.len())?;
+    for task in tasks {
+        let stack = Parked::new(alloc, task.code.depth as usize, frames)?;
+        parts.push(Part {
+            stack: Some(stack),
+            going: false,
+        })?;
+    }
+    Ok(parts)
+}
+
+/// Memory for the stacks of the object's tasks, of which none is under way.
+pub fn new_parts(alloc: Global, code: &Valid) -> Result<Vec<Part>, NoMemory>
+    ensures each { IfOk result (λ parts. length parts.items ≡ length code.now.tasks) }
+    ensures memory { IfOk result (λ parts. HasMemories code.now parts.items) }
+    ensures still { IfOk result (λ parts. (t : ℕ) → is_going (slice_get parts.items t) ≡ false) }
+{
+    laws_hold(code);
+    let object = code.object();
+    let frames = object.procedures.as_slice().len() + 1;
+    let parts = first_parts(alloc, object.tasks.as_slice(), frames)?;
+    Ok(parts)
+}
