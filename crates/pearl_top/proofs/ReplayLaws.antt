@@ -13,39 +13,59 @@ use Rattle.pearl_rules.specs.Runs.{Engine, Machine, machine_step, machine_after,
 use Rattle.pearl_instructions.specs.declared.object.Object.{Object}
 use Rattle.pearl_stack.specs.Frames.{Frame}
 use Rattle.pearl_engine.specs.Engines.{engine}
-use Rattle.pearl_machine.specs.Seen.{Seen, IsAt, Leads, Goes}
-use Rattle.pearl_top.specs.Replay.{start_of, Ran, Tells, Advances, Breaks}
+use Rattle.pearl_machine.specs.Seen.{Seen, at, retold, SameNext, Goes, Handles}
+use Rattle.pearl_top.specs.Replay.{started, opening, Ran, Tells, Advances, Breaks}
 
 -- so many steps, and then so many more
 pub after-after : {S : Type 0} (e : Engine S) (m : Machine S) (a b : ℕ) → machine_after e (machine_after e m a) b ≡ machine_after e m (a + b)
 after-after e m a zero = rw (add-zero a) refl
 after-after e m a (suc b) = rw (add-suc a b) (ap (machine_step e) (after-after e m a b))
 
-joined : (o : Object) (seen after : Seen) (told more : List (ℕ × Report)) (m : Machine (List Frame)) (left rest : List Entry) → after.object ≡ o → seen.object ≡ o →
-    Goes m left seen told → ((at : Machine (List Frame)) → IsAt seen at → Leads at left → Goes at rest after more) → Goes m rest after (told ++ more)
-joined o seen after told more m left rest same_after same_seen first goes_on =
-    let same : seen.object ≡ after.object = same_seen ∙ sym same_after in
-    let there = machine_after (engine seen.object) m first.steps in
-    let next : Goes there rest after more = goes_on there first.stands first.leads in
-    let e : machine_after (engine after.object) there next.steps ≡ machine_after (engine after.object) m (first.steps + next.steps) =
-    subst (λ o. machine_after (engine after.object) (machine_after (engine o) m first.steps) next.steps ≡ machine_after (engine after.object) m (first.steps + next.steps))
-    (sym same) (after-after (engine after.object) m first.steps next.steps) in record {
+-- from where it stands, the machine goes on
+joined : (o : Object) (seen after : Seen) (before told more : List (ℕ × Report)) (entries left rest : List Entry) → seen.object ≡ o →
+    Goes (started o) before entries left seen told → ((es : List Entry) → SameNext seen es left → Goes seen (before ++ told) es rest after more) →
+    Goes (started o) before entries rest after (told ++ more)
+joined o seen after before told more entries left rest same first goes_on =
+    let next : Goes seen (before ++ told) first.left rest after more = goes_on first.left first.same in
+    let moved : machine_after (engine o) (at seen (before ++ told) first.left) next.steps ≡ at after ((before ++ told) ++ more) next.left =
+    subst (λ object. machine_after (engine object) (at seen (before ++ told) first.left) next.steps ≡ at after ((before ++ told) ++ more) next.left) same next.is in record {
       steps = first.steps + next.steps;
-      stands = subst (λ at. IsAt after at) e next.stands;
-      leads = subst (λ at. Leads at rest) e next.leads;
-      says = ap (λ at. at.core.told) (sym e) ∙ next.says ∙ ap (λ x. x ++ more) first.says ∙ append_assoc m.core.told told more;
-      settled = subst (λ at. unsettled at ≡ None) e next.settled;
+      left = next.left;
+      is = sym (after-after (engine o) (at (started o) before entries) first.steps next.steps)
+          ∙ ap (λ m. machine_after (engine o) m next.steps) first.is ∙ moved
+          ∙ ap (λ all. at after all next.left) (append_assoc before told more);
+      same = next.same;
     }
 
 -- from where it stands after these entries, the machine goes on over one more
 pub ran-entry : (o : Object) (es : List Entry) (seen after : Seen) (told more : List (ℕ × Report)) (entry : Entry) → Ran o es seen told →
-    after.object ≡ seen.object → ((m : Machine (List Frame)) (rest : List Entry) → IsAt seen m → Leads m (entry ∷ rest) → Goes m rest after more) →
-    Ran o (es ++ entry ∷ []) after (told ++ more)
-ran-entry o es seen after told more entry ran same goes_on = record {
+    after.object ≡ seen.object → Handles seen (entry ∷ []) [] after more → Ran o (es ++ entry ∷ []) after (told ++ more)
+ran-entry o es seen after told more entry ran same handles = record {
   object = same ∙ ran.object;
-  goes = λ rest. subst (λ all. Goes (start_of o all) rest after (told ++ more)) (sym (append_assoc es (entry ∷ []) rest))
-      (joined o seen after told more (start_of o (es ++ entry ∷ rest)) (entry ∷ rest) rest (same ∙ ran.object) ran.object (ran.goes (entry ∷ rest))
-      (λ m. goes_on m rest));
+  goes = λ rest. subst (λ all. Goes (started o) (opening o) all rest after (told ++ more)) (sym (append_assoc es (entry ∷ []) rest))
+      (joined o seen after (opening o) told more (es ++ entry ∷ rest) (entry ∷ rest) rest ran.object (ran.goes (entry ∷ rest))
+      (λ left next. handles (opening o ++ told) left rest next));
+}
+
+-- without an entry, as when it settles
+pub ran-settles : (o : Object) (es : List Entry) (seen after : Seen) (told : List (ℕ × Report)) → Ran o es seen told → after.object ≡ seen.object →
+    ((from : List Entry) → Handles seen from from after []) → Ran o es after told
+ran-settles o es seen after told ran same handles = record {
+  object = same ∙ ran.object;
+  goes = λ rest. subst (λ all. Goes (started o) (opening o) (es ++ rest) rest after all) (append_nil told)
+      (joined o seen after (opening o) told [] (es ++ rest) rest rest ran.object (ran.goes rest) (λ left next. handles [] (opening o ++ told) left rest next));
+}
+
+-- at the start, once what opens the run is written
+pub ran-start : (seen after : Seen) → seen ≡ started seen.object → after ≡ retold seen [] → Ran seen.object [] after []
+ran-start seen after at_start same = record {
+  object = ap (λ s. s.object) same;
+  goes = λ rest. subst (λ s. Goes (started seen.object) (opening seen.object) rest rest s []) (sym same) (record {
+    steps = 0;
+    left = rest;
+    is = ap (λ s. at s (opening seen.object) rest) (sym at_start) ∙ ap (λ told. at seen told rest) (sym (append_nil (opening seen.object)));
+    same = λ p h. refl;
+  });
 }
 
 ran_as : (o : Object) (es fs : List Entry) (seen : Seen) (told said : List (ℕ × Report)) → es ≡ fs → told ≡ said → Ran o es seen told → Ran o fs seen said
@@ -75,31 +95,28 @@ breaks-then seen mid es fs told said first second o before now_told ran =
 
 -- one entry, as the machine goes over it
 pub advances-entry : (seen after : Seen) (entry : Entry) (told : List (ℕ × Report)) → after.object ≡ seen.object →
-    ((m : Machine (List Frame)) (rest : List Entry) → IsAt seen m → Leads m (entry ∷ rest) → Goes m rest after told) → Advances seen after (entry ∷ []) told
-advances-entry seen after entry told same goes_on = record { object = same; ran = λ o before said ran. ran-entry o before seen after said told entry ran same goes_on }
+    Handles seen (entry ∷ []) [] after told → Advances seen after (entry ∷ []) told
+advances-entry seen after entry told same handles = record { object = same; ran = λ o before said ran. ran-entry o before seen after said told entry ran same handles }
 
-tells_of_goes : (o : Object) (es rest : List Entry) (seen : Seen) (told : List (ℕ × Report)) → seen.object ≡ o → Goes (start_of o es) rest seen told → Tells o es told
-tells_of_goes o es rest seen told same goes = record {
-  steps = goes.steps;
-  says = subst (λ object. (machine_after (engine object) (start_of o es) goes.steps).core.told ≡ (start_of o es).core.told ++ told) same goes.says;
-}
+tells_of_goes : (o : Object) (es rest : List Entry) (seen : Seen) (told : List (ℕ × Report)) → Goes (started o) (opening o) es rest seen told → Tells o es told
+tells_of_goes o es rest seen told goes = record { steps = goes.steps; says = ap (λ m. m.core.told) goes.is }
 
 -- one entry that was cut short
-pub breaks-entry : (seen after : Seen) (entry : Entry) (left : List Entry) (told : List (ℕ × Report)) → after.object ≡ seen.object →
-    ((m : Machine (List Frame)) (rest : List Entry) → IsAt seen m → Leads m (entry ∷ rest) → Goes m (left ++ rest) after told) →
+pub breaks-entry : (seen after : Seen) (entry : Entry) (left : List Entry) (told : List (ℕ × Report)) → Handles seen (entry ∷ []) left after told →
     (rest : List Entry) → Breaks seen (entry ∷ rest) told
-breaks-entry seen after entry left told same goes_on rest o before said ran =
-    tells_of_goes o (before ++ entry ∷ rest) (left ++ rest) after (said ++ told) (same ∙ ran.object)
-    (joined o seen after said told (start_of o (before ++ entry ∷ rest)) (entry ∷ rest) (left ++ rest) (same ∙ ran.object) ran.object (ran.goes (entry ∷ rest))
-    (λ m. goes_on m rest))
+breaks-entry seen after entry left told handles rest o before said ran =
+    tells_of_goes o (before ++ entry ∷ rest) (left ++ rest) after (said ++ told)
+    (joined o seen after (opening o) said told (before ++ entry ∷ rest) (entry ∷ rest) (left ++ rest) ran.object (ran.goes (entry ∷ rest))
+    (λ es next. handles (opening o ++ said) es rest next))
 
 -- lines that were cut off are lines of which a front was taken
-pub cut_off_front : (setup : Setup) (old new : Option (List ℕ)) (told : List (ℕ × Report)) → IsCutOff setup old new told → TakesFront old new (lines_of setup told)
-cut_off_front setup old new told cut =
-    let all : lines_of setup told ≡ lines_of setup cut.before ++ report_line setup cut.last =
-    ap (lines_of setup) cut.all ∙ lines_of-append setup cut.before (cut.last ∷ []) ∙ ap (λ x. lines_of setup cut.before ++ x) (append_nil (report_line setup cut.last)) in
+pub cut_off_front : (setup : Setup) (old new : Option (List ℕ)) (told later : List (ℕ × Report)) → IsCutOff setup old new told later → TakesFront old new (lines_of setup told)
+cut_off_front setup old new told later cut =
+    let rest : List ℕ = lines_of setup later in
+    let all : lines_of setup told ≡ lines_of setup cut.before ++ (report_line setup cut.cut ++ rest) =
+    ap (lines_of setup) cut.all ∙ lines_of-append setup cut.before (cut.cut ∷ later) in
     subst (λ bytes. TakesFront old new bytes) (sym all) (
       length (lines_of setup cut.before) + cut.count,
-      omega (arith, cut.short, length-append (lines_of setup cut.before) (report_line setup cut.last)),
-      rw take-append-add cut.taken,
+      omega (arith, cut.short, length-append (lines_of setup cut.before) (report_line setup cut.cut ++ rest), length-append (report_line setup cut.cut) rest),
+      rw (take-append-add, take-append-short (report_line setup cut.cut) rest cut.count cut.short) cut.taken,
     )

@@ -17,7 +17,7 @@ use Rattle.pearl_script.specs.Refusals.{refusal_line}
 use Rattle.pearl_faithful.specs.Faithful.{IsFaithfulTo}
 use Rattle.pearl_top.specs.Replay.{start_of, Tells}
 use Rattle.pearl_top.specs.Transcript.{Close, Closed, Cut, closing, IsTranscript}
-use Rattle.pearl_top.proofs.RunEnds.{EndsAs, ends_as_source, EndsBehind, ends_behind}
+use Rattle.pearl_top.proofs.RunEnds.{EndsAt, IsDone, ends_at_source, EndsAs, ends_as_source, EndsBehind, ends_behind}
 
 -- the lines of two lists, one after the other
 pub lines_of-append : (setup : Setup) (a b : List (ℕ × Report)) → lines_of setup (a ++ b) ≡ lines_of setup a ++ lines_of setup b
@@ -51,11 +51,10 @@ closed_text p o es n faithful settled no_mark =
     }
 
 -- a run that a refusal cuts short
-pub cut_text : (p : PlainProg) (o : Object) (es : List Entry) (n : ℕ) (refusal : Refusal) → IsFaithfulTo p o →
-    unsettled (machine_after (engine o) (start_of o es) n) ≡ None → machine_next (machine_after (engine o) (start_of o es) n) ≡ None →
+pub cut_text : (p : PlainProg) (o : Object) (es : List Entry) (n : ℕ) (refusal : Refusal) → IsFaithfulTo p o → IsDone (machine_after (engine o) (start_of o es) n) →
     IsTranscript p es (Cut refusal) (lines_of (setup_of o) (machine_after (engine o) (start_of o es) n).core.told ++ refusal_line refusal)
-cut_text p o es n refusal faithful settled no_mark =
-    let ends : EndsAs p es (machine_after (engine o) (start_of o es) n) = ends_as_source p o es n faithful settled no_mark in record {
+cut_text p o es n refusal faithful done =
+    let ends : EndsAt p es (machine_after (engine o) (start_of o es) n) = ends_at_source p o es n faithful done in record {
       last = source_run p es ends.marks;
       ends = record { marks = ends.marks; reached = refl; no_mark = ends.no_mark };
       text = cut_same (setup_of o) (tables_of p) _ _ (refusal_line refusal) faithful.tables ends.core;
