@@ -91,7 +91,7 @@ all_below_from counts (first ∷ list) below =
     (all_below_from counts list (λ s inside. below s (there first s list inside)))
 
 -- where one stands at the greatest they can't be raised
-not_all_below : (counts list : List ℕ) (s : ℕ) → Contains list s → 2 ^ 31 - 1 ≤ count_at counts s → all_below_most counts list ≡ false
+pub not_all_below : (counts list : List ℕ) (s : ℕ) → Contains list s → 2 ^ 31 - 1 ≤ count_at counts s → all_below_most counts list ≡ false
 not_all_below counts list s inside most = by_test (all_below_most counts list) refl
   where
     by_test : (b : Bool) → all_below_most counts list ≡ b → all_below_most counts list ≡ false

@@ -66,10 +66,10 @@ lasts core t mode stays u is = by_test (nat_eq u t) refl
 -- WHAT AN EFFECT TELLS
 
 -- an end is no answer
-no_end : (answer : Answer) → Hears answer ≡ Ends → ⊥
+pub no_end : (answer : Answer) → Hears answer ≡ Ends → ⊥
 no_end answer e = cc
 
-ends_unheard : (answer : Answer) → Ends ≡ Hears answer → ⊥
+pub ends_unheard : (answer : Answer) → Ends ≡ Hears answer → ⊥
 ends_unheard answer e = cc
 
 -- where every active task stays so and the one that acted hears an answer

@@ -3,6 +3,7 @@ pub mod PickLaws
 pub mod EffectLaws
 pub mod ToldLaws
 pub mod EndsLaws
+pub mod TaskLaws
 pub mod CountLaws
 pub mod UrgencyLaws
 pub mod KeptLaws

@@ -1,12 +1,16 @@
 -- What the laws say of turns, of effects and of runs.
-use Rattle.std.specs.Prelude.{◌≡◌, ◌≢◌, ℕ, ◌<◌, ◌≤◌, List, ◌++◌, false, Option, Some, None, IsTrue, Contains, slice_get}
+use Rattle.std.specs.Prelude.{◌≡◌, ◌≢◌, ℕ, ◌-◌, ◌^◌, ◌<◌, ◌≤◌, List, [], ◌∷◌, ◌++◌, false, Option, Some, None, IsTrue, Contains, slice_get}
+use Rattle.pearl_rules.specs.declared.action.Action.{Action}
+use Rattle.pearl_rules.specs.declared.action.Action.TheVariants as action
 use Rattle.pearl_rules.specs.declared.action.Answer.{Answer}
+use Rattle.pearl_rules.specs.declared.event.Event.{Event}
+use Rattle.pearl_rules.specs.declared.row.Mode.{Mode}
 use Rattle.pearl_rules.specs.declared.entry.Entry.{Entry}
 use Rattle.pearl_rules.specs.declared.row.TaskRow.{TaskRow}
 use Rattle.pearl_rules.specs.declared.setup.Setup.{Setup}
-use Rattle.pearl_rules.specs.Core.{Core, Report, is_active, is_active_mode, told_before}
+use Rattle.pearl_rules.specs.Core.{Core, Report, Happened, row_of, mode_of, is_active, is_active_mode, told_before}
 use Rattle.pearl_rules.specs.Counts.{count_at}
-use Rattle.pearl_rules.specs.Effect.{Hears, Ends, Effect, answering}
+use Rattle.pearl_rules.specs.Effect.{Reply, Hears, Ends, Effect, answering}
 use Rattle.pearl_rules.specs.Pick.{Offered, is_eligible, priority_of}
 use Rattle.pearl_rules.specs.Runs.{dropped, kept_at, refreshed, Supplier, Source, Engine, Machine, source_run, source_next, source_offers, machine_run, machine_offers, machine_next, marked, unsettled, told_at_end}
 
@@ -29,6 +33,26 @@ pub record TellsEnds (core : Core) (own : ℕ) (done : Effect) : Type 0 where
   pub others : (t : ℕ) → (Contains done.ended t → ⊥) → IsTrue (is_active core t) → IsTrue (is_active done.core t)
   pub hears : (answer : Answer) → done.reply ≡ Hears answer → IsTrue (is_active core own) → IsTrue (is_active done.core own)
   pub ends : done.reply ≡ Ends → is_active done.core own ≡ false
+
+-- these events, each at this moment
+abbrev pub happened_at : ℕ → List Event → List (ℕ × Report)
+happened_at moment [] = []
+happened_at moment (event ∷ events) = (moment, Happened event) ∷ happened_at moment events
+
+-- an effect sets how one task stands, tells these events, and has this reply; no other task changes, and nothing else but who acted last
+pub record ChangesTask (core : Core) (own t : ℕ) (mode : Mode) (events : List Event) (reply : Reply) (done : Effect) : Type 0 where
+  pub stands : mode_of done.core t ≡ mode
+  pub others : (u : ℕ) → u ≢ t → row_of done.core u ≡ row_of core u
+  pub rest : done.core ≡ record core { last = Some own; tasks = done.core.tasks; told = core.told ++ happened_at core.moment events }
+  pub replies : done.reply ≡ reply
+
+-- the action ends the task that acts
+abbrev pub EndsItself : Core → (own : ℕ) → Action → Type 0
+EndsItself core own action.End = Unit {0}
+EndsItself core own (action.Trap trap) = Unit {0}
+EndsItself core own (action.Terminate t) = t ≡ own
+EndsItself core own (action.Release list) = (s : ℕ) × Contains list.items s × (2 ^ 31 - 1 ≤ count_at core.counts s)
+EndsItself core own other = ⊥
 
 -- What is kept of the task of this row after some tasks ended: nothing of a dormant one; an active one that is among those or of
 -- which nothing was kept begins afresh; of any other active one the same is kept as before.

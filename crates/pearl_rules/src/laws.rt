@@ -1,27 +1,32 @@
 // Laws of the rules: what holds of every core, every run and every code. Each function's contract is one theorem; none does anything.
 
-ghost use Rattle.std.specs.Prelude.{◌≡◌, ◌↔◌, ℕ, ◌+◌, ◌-◌, ◌*◌, ◌^◌, ◌<◌, ◌≤◌, ◌++◌, List, [], ◌∷◌, false, Option, Some, None, IsTrue, Contains, map, length, slice_get};
+ghost use Rattle.std.specs.Prelude.{◌≡◌, ◌≢◌, ◌↔◌, ℕ, ◌+◌, ◌-◌, ◌*◌, ◌^◌, ◌<◌, ◌≤◌, ◌++◌, List, [], ◌∷◌, Bool, true, false, Option, Some, None, IsTrue, Contains, map, length, slice_get};
 ghost use Rattle.std.specs.List.{AllByRecursion};
 ghost use Rattle.arrayvec.specs.ArrayVec.{ArrayVec};
 ghost use Rattle.pearl_value.specs.declared.cell.Cell.TheVariants.{Bits};
+ghost use Rattle.pearl_value.specs.declared.trap.Trap as traps;
 ghost use Rattle.pearl_value.specs.declared.trap.Trap.TheVariants.{SemaLimit};
 ghost use Rattle.pearl_value.specs.WellFormed.{IsValue};
 ghost use Rattle.pearl_rules.specs.declared.action.Action.{Action};
-ghost use Rattle.pearl_rules.specs.declared.action.Action.TheVariants.{Request, Release, Try, Trap};
+ghost use Rattle.pearl_rules.specs.declared.action.Action.TheVariants.{Request, Release, Try, Activate, Continue, Suspend, Terminate, End, Trap};
+ghost use Rattle.pearl_rules.specs.declared.action.Start.TheVariants.{Free};
+ghost use Rattle.pearl_rules.specs.declared.action.Repeat.TheVariants.{Once};
 ghost use Rattle.pearl_rules.specs.declared.action.Answer.{Answer};
 ghost use Rattle.pearl_rules.specs.declared.action.Answer.TheVariants.{Nothing, One};
 ghost use Rattle.pearl_rules.specs.declared.entry.Entry.{Entry};
+ghost use Rattle.pearl_rules.specs.declared.event.Event.TheVariants as event;
+ghost use Rattle.pearl_rules.specs.declared.row.Mode.TheVariants.{Dormant, Active};
 ghost use Rattle.pearl_rules.specs.declared.row.TaskRow.{TaskRow};
 ghost use Rattle.pearl_rules.specs.declared.setup.Setup.{Setup};
-ghost use Rattle.pearl_rules.specs.Core.{Core, Report, declared_of, first_events, opening, told_before};
+ghost use Rattle.pearl_rules.specs.Core.{Core, Report, mode_of, declared_of, first_events, opening, told_before};
 ghost use Rattle.pearl_rules.specs.Counts.{count_at};
-ghost use Rattle.pearl_rules.specs.Effect.{Hears, answering, effect};
+ghost use Rattle.pearl_rules.specs.Effect.{Hears, Ends, answering, priority_or_declared, effect};
 ghost use Rattle.pearl_rules.specs.Tables.{IsTaskEntry, IsPreset};
 ghost use Rattle.pearl_rules.specs.Slots.{Suits, Fits, HasKinds, HasCounts, HasUrgencies};
 ghost use Rattle.pearl_rules.specs.Pick.{Offered, guard, is_eligible, pick, IsPicked, can_turn, turned, shown_of, states, showing};
 ghost use Rattle.pearl_rules.specs.Runs.{Supplier, Engine, source_run, source_next, machine_run, marked};
 ghost use Rattle.pearl_rules.specs.Faithful.{IsFaithful, Alone, Soon};
-ghost use Rattle.pearl_rules.specs.Laws.{IsFirstInRank, effect_told_before, TellsEnds, BeginsAfresh, ChangesCounts, HasEnded, EndsAlike, EndsSoon, EndsTelling, Comes, IsBeforeEnd, with_more, machine_with_more};
+ghost use Rattle.pearl_rules.specs.Laws.{IsFirstInRank, effect_told_before, TellsEnds, ChangesTask, EndsItself, BeginsAfresh, ChangesCounts, HasEnded, EndsAlike, EndsSoon, EndsTelling, Comes, IsBeforeEnd, with_more, machine_with_more};
 
 /// The task that acts next is the one that the rule of picking names, and there is none only where no task is eligible.
 pub fn picks_the_most_urgent()
@@ -69,6 +74,50 @@ pub fn ended_tasks_begin_afresh<X>()
     ensures ends { (core : Core) (own : ℕ) (action : Action) → TellsEnds core own (effect core own action) }
     ensures keeps { (fresh : ℕ → X) (rows : List TaskRow) (ended : List ℕ) (before : List (Option X)) (t : ℕ) (row : TaskRow) →
         slice_get rows t ≡ Some row → BeginsAfresh fresh rows ended before t row }
+{}
+
+/// A start makes a dormant task active, with the priority that it names, or else the declared one, and not suspended. A task that
+/// is active stays as it is, and the overrun is told.
+pub fn starts_make_dormant_tasks_active()
+    ensures starts { (core : Core) (own t : ℕ) (priority : Option ℕ) → t < length core.tasks → mode_of core t ≡ Dormant →
+        ChangesTask core own t (Active (priority_or_declared core t priority) false)
+        (event.Start t (priority_or_declared core t priority) ∷ []) (Hears Nothing) (effect core own (Activate t Free Once priority)) }
+    ensures overruns { (core : Core) (own t before : ℕ) (suspended : Bool) (priority : Option ℕ) → mode_of core t ≡ Active before suspended →
+        ChangesTask core own t (Active before suspended) (event.Overrun t ∷ []) (Hears Nothing) (effect core own (Activate t Free Once priority)) }
+{}
+
+/// An active task can be suspended and continued, with the priority that it has; on a dormant one neither does anything. A
+/// suspended task doesn't act.
+pub fn suspended_tasks_wait()
+    ensures suspends { (core : Core) (own t priority : ℕ) (before : Bool) → mode_of core t ≡ Active priority before →
+        ChangesTask core own t (Active priority true) [] (Hears Nothing) (effect core own (Suspend t)) }
+    ensures continues { (core : Core) (own t priority : ℕ) (before : Bool) → mode_of core t ≡ Active priority before →
+        ChangesTask core own t (Active priority false) [] (Hears Nothing) (effect core own (Continue t Free)) }
+    ensures dormant_suspended { (core : Core) (own t : ℕ) → mode_of core t ≡ Dormant →
+        ChangesTask core own t Dormant [] (Hears Nothing) (effect core own (Suspend t)) }
+    ensures dormant_continued { (core : Core) (own t : ℕ) → mode_of core t ≡ Dormant →
+        ChangesTask core own t Dormant [] (Hears Nothing) (effect core own (Continue t Free)) }
+    ensures waits { (core : Core) (offers : Offered) (t priority : ℕ) → mode_of core t ≡ Active priority true → is_eligible core offers t ≡ false }
+{}
+
+/// A task that ends, is broken off or is ended from outside becomes dormant, and that is told.
+pub fn ends_make_tasks_dormant()
+    ensures ends { (core : Core) (own : ℕ) → ChangesTask core own own Dormant (event.End own ∷ []) Ends (effect core own End) }
+    ensures breaks_off { (core : Core) (own : ℕ) (trap : traps.Trap) →
+        ChangesTask core own own Dormant (event.Trap own trap ∷ []) Ends (effect core own (Trap trap)) }
+    ensures stops { (core : Core) (own t priority : ℕ) (suspended : Bool) → mode_of core t ≡ Active priority suspended → t ≢ own →
+        ChangesTask core own t Dormant (event.Stop t ∷ []) (Hears Nothing) (effect core own (Terminate t)) }
+    ensures stops_itself { (core : Core) (own priority : ℕ) (suspended : Bool) → mode_of core own ≡ Active priority suspended →
+        ChangesTask core own own Dormant (event.Stop own ∷ []) Ends (effect core own (Terminate own)) }
+    ensures dormant_stopped { (core : Core) (own t : ℕ) → mode_of core t ≡ Dormant → t ≢ own →
+        ChangesTask core own t Dormant [] (Hears Nothing) (effect core own (Terminate t)) }
+{}
+
+/// Of the actions that fit the tables only these end the task that acts: its end, a trap, that it terminates itself, and a
+/// release where a count stands at 2^31 - 1. Every other one is answered.
+pub fn only_ends_end()
+    ensures { (setup : Setup) (core : Core) (own : ℕ) (action : Action) → Fits setup action →
+        ((effect core own action).reply ≡ Ends) ↔ EndsItself core own action }
 {}
 
 /// A request can be done exactly where all counts that it names are above 0. Then it lowers each of these by 1 and changes

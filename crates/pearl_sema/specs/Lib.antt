@@ -1,4 +1,4 @@
--- what a request and a release make of the counts, and when they can
-pub mod Counts
 -- what the calls see, and which task that waits for a semaphore comes next
 pub mod Waiting
+-- what requests and releases make of the counts, in words
+pub mod Laws

@@ -1,7 +1,7 @@
 // Counts of semaphores, and the tasks that wait for them.
 
 ghost use Rattle.std.specs.Prelude.{◌≡◌, ◌<◌, ◌≤◌, ◌^◌, [], Some, None, true, false, IsTrue, IfOk, MatchOption, length, map, replicate, slice_get, slice_set};
-ghost use Rattle.pearl_sema.specs.Counts.{all_free, all_below_most, lowered, raised};
+ghost use Rattle.pearl_rules.specs.Counts.{all_free, all_below_most, lowered, raised};
 ghost use Rattle.pearl_sema.specs.Waiting.{Sema, AreThere, AreCounts, IsNext, NoneIsNext};
 
 use arrayvec::ArrayVec;

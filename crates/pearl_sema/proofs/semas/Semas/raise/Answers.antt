@@ -1,5 +1,5 @@
 use Rattle.std.proofs.Common.{◌≡◌, List, ℕ, true, sym, subst}
-use Rattle.pearl_sema.specs.Counts.{all_below_most, raised}
+use Rattle.pearl_rules.specs.Counts.{all_below_most, raised}
 use Rattle.pearl_sema.specs.Waiting.{AreCounts}
 use Rattle.pearl_sema.proofs.Counting.{raised_counts}
 use Rattle.pearl_sema.proofs.semas.Semas.raise.Goals as goal
