@@ -22,7 +22,7 @@ use Rattle.pearl_journal.specs.Meaning.{meaning}
 use Rattle.pearl_journal.specs.Readings.{Reading, start, EntryFits}
 use Rattle.pearl_rules.specs.declared.entry.Entry.TheVariants as entries
 use Rattle.pearl_top.specs.Replay.{lines_in, IsLineFailure, IsLinesFailure, with_front, LineDone, LineBroken, LinesDone, LinesBroken, Progress}
-use Rattle.pearl_top.proofs.ReplayLaws.{advances-none, advances-then, advances-entry, breaks-then, breaks-entry, cut_off_front}
+use Rattle.pearl_top.proofs.ReplayLaws.{advances-none, advances-then, breaks-then, breaks-behind, cut_off_front}
 use Rattle.pearl_top.proofs.TakenLaws.{append_nil, takes_none}
 use Rattle.pearl_top.proofs.TranscriptLaws.{lines_of-append}
 
@@ -45,7 +45,7 @@ line_item setup reading text entry seen after old new told e same handles taken 
   es = entry ∷ [];
   told = told;
   adds = λ later. ap (λ means. more_entries means (reading.lines + 1) later) (sym e);
-  advances = advances-entry seen after entry told same handles;
+  advances = record { object = same; handles = handles };
   taken = taken;
 }
 
@@ -57,7 +57,7 @@ line_broken setup reading text entry left seen after old new told later e handle
   es = entry ∷ [];
   told = told;
   adds = λ more. ap (λ means. more_entries means (reading.lines + 1) more) (sym e);
-  breaks = breaks-entry seen after entry left told handles;
+  breaks = record { after = after; left = left; handles = handles };
   taken = cut_off_front setup old new told later cut;
 }
 
@@ -123,7 +123,8 @@ progress_broken setup lines reading text left seen mid old between new so_far br
       ending = later.ending;
       told = so_far.told ++ broken.told;
       read = so_far.read ∙ ap (with_front so_far.es) (broken.adds later);
-      breaks = breaks-then seen mid so_far.es (broken.es ++ later.accepted) so_far.told broken.told so_far.advances (broken.breaks later.accepted);
+      breaks = breaks-then seen mid so_far.es (broken.es ++ later.accepted) so_far.told broken.told so_far.advances
+          (breaks-behind mid broken.es later.accepted broken.told broken.breaks);
       taken = subst (TakesFront old new) (sym (lines_of-append setup so_far.told broken.told))
           (takes_front_more old between new (lines_of setup so_far.told) (lines_of setup broken.told) so_far.taken broken.taken);
     }

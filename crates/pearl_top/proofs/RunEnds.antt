@@ -1,8 +1,8 @@
 -- Where a faithful machine is, the source's run is, or comes to.
-use Rattle.std.proofs.Common.{◌≡◌, ℕ, List, ◌++◌, Option, Some, None, refl, ap, sym, ◌∙◌, subst}
+use Rattle.std.proofs.Common.{◌≡◌, ℕ, List, [], ◌++◌, Option, Some, None, refl, ap, sym, ◌∙◌, subst, append-nil}
 use Rattle.std.proofs.lemmas.Option.{none-some}
 use Rattle.pearl_rules.specs.declared.entry.Entry.{Entry}
-use Rattle.pearl_rules.specs.Core.{Report}
+use Rattle.pearl_rules.specs.Core.{Report, first_events}
 use Rattle.pearl_rules.specs.Pick.{pick, states}
 use Rattle.pearl_rules.specs.Runs.{Source, source_next, source_offers, Machine, machine_after, machine_offers, machine_next, next_mark, unsettled, marked}
 use Rattle.pearl_rules.specs.Runs as runs
@@ -18,7 +18,17 @@ use Rattle.pearl_stack.specs.Frames.{Frame}
 use Rattle.pearl_engine.specs.Engines.{engine}
 use Rattle.pearl_faithful.specs.Faithful.{IsFaithfulTo}
 use Rattle.pearl_engine.specs.Setups.{setup_of}
-use Rattle.pearl_top.specs.Replay.{start_of, Tells}
+use Rattle.pearl_machine.specs.Seen.{Seen, Goes, Handles}
+use Rattle.pearl_top.specs.Replay.{start_of, started, Breaks}
+
+-- what opens a run
+abbrev pub opening : Object → List (ℕ × Report)
+opening o = first_events 0 (setup_of o).tasks
+
+-- where the machine stands in the run over just these entries
+pub stands : (o : Object) (es left : List Entry) (seen : Seen) (told : List (ℕ × Report)) → Handles (started o) es left seen told →
+    Goes (started o) (opening o) es (left ++ []) seen told
+stands o es left seen told handles = handles (opening o) es [] (λ p known. ap (next_mark p) (sym (append-nil es)))
 
 -- the source's last state, beside a core of the machine
 pub record EndsAt (p : PlainProg) (es : List Entry) (m : Machine (List Frame)) : Type 0 where
@@ -97,14 +107,16 @@ pub record EndsBehind (p : PlainProg) (es : List Entry) (told : List (ℕ × Rep
   pub more : List (ℕ × Report)
   pub says : (source_run p es marks).core.told ≡ told ++ more
 
-pub ends_behind : (p : PlainProg) (o : Object) (es : List Entry) (told : List (ℕ × Report)) → IsFaithfulTo p o → Tells o es told →
-    EndsBehind p es ((start_of o es).core.told ++ told)
-ends_behind p o es told faithful tells =
-    let k = marked (engine o) (setup_of o) es tells.steps in
+pub ends_behind : (p : PlainProg) (o : Object) (es : List Entry) (told : List (ℕ × Report)) → IsFaithfulTo p o → Breaks (started o) es told →
+    EndsBehind p es (opening o ++ told)
+ends_behind p o es told faithful breaks =
+    let goes : Goes (started o) (opening o) es (breaks.left ++ []) breaks.after told = stands o es breaks.left breaks.after told breaks.handles in
+    let says : (machine_after (engine o) (start_of o es) goes.steps).core.told ≡ opening o ++ told = ap (λ m. m.core.told) goes.is in
+    let k = marked (engine o) (setup_of o) es goes.steps in
     let ends : EndsTelling (offer p) (setup_of o) es k = last_tells (offer p) (setup_of o) es k in
     let e : runs.source_run (offer p) (setup_of o) es ends.last ≡ source_run p es ends.last = same_tasks p o es ends.last faithful in record {
       marks = ends.last;
       no_mark = subst (λ s. source_next (offer p) s ≡ None) e ends.no_mark;
       more = ends.more;
-      says = ap (λ s. s.core.told) (sym e) ∙ ends.told ∙ ap (λ x. x ++ ends.more) (ap (λ c. c.told) (sym (faithful.runs.same_core es tells.steps)) ∙ tells.says);
+      says = ap (λ s. s.core.told) (sym e) ∙ ends.told ∙ ap (λ x. x ++ ends.more) (ap (λ c. c.told) (sym (faithful.runs.same_core es goes.steps)) ∙ says);
     }

@@ -1,10 +1,10 @@
--- How far a machine has come in a journal, and what a part of a journal that was read brings about.
+-- How a machine goes over a journal, and what a part of a journal that was read brings about.
 use Rattle.std.specs.Prelude.{◌≡◌, ℕ, ◌+◌, List, [], ◌++◌, Option}
 use Rattle.pearl_io.specs.Outside.{Takes, TakesFront}
 use Rattle.pearl_rules.specs.declared.entry.Entry.{Entry}
 use Rattle.pearl_rules.specs.declared.setup.Setup.{Setup}
-use Rattle.pearl_rules.specs.Core.{Report, first_events}
-use Rattle.pearl_rules.specs.Runs.{Machine, machine_start, machine_after}
+use Rattle.pearl_rules.specs.Core.{Report}
+use Rattle.pearl_rules.specs.Runs.{Machine, machine_start}
 use Rattle.pearl_instructions.specs.declared.object.Object.{Object}
 use Rattle.pearl_stack.specs.Frames.{Frame}
 use Rattle.pearl_engine.specs.Engines.{engine}
@@ -20,7 +20,7 @@ use Rattle.pearl_journal.specs.Entries.{Ending, Bad, Entries, after as after_lin
 use Rattle.pearl_journal.specs.Lines.{ended_lines, journal_lines}
 use Rattle.pearl_journal.specs.Meaning.{meaning}
 use Rattle.pearl_journal.specs.Readings.{Reading}
-use Rattle.pearl_machine.specs.Seen.{Seen, Goes}
+use Rattle.pearl_machine.specs.Seen.{Seen, Handles}
 
 -- the state of an object's run before its first step
 abbrev pub start_of : Object → List Entry → Machine (List Frame)
@@ -30,21 +30,6 @@ start_of o es = machine_start (engine o) (setup_of o) es
 abbrev pub started : Object → Seen
 started o = record { object = o; state = start_of o [] }
 
--- what opens a run
-abbrev pub opening : Object → List (ℕ × Report)
-opening o = first_events 0 (setup_of o).tasks
-
--- Over each journal that begins with these entries the run comes to where the machine that is seen stands, with the other entries
--- left, telling this after what opens it.
-pub record Ran (o : Object) (es : List Entry) (seen : Seen) (told : List (ℕ × Report)) : Type 0 where
-  pub object : seen.object ≡ o
-  pub goes : (rest : List Entry) → Goes (started o) (opening o) (es ++ rest) rest seen told
-
--- the run over these entries comes to a state before which this was told
-pub record Tells (o : Object) (es : List Entry) (told : List (ℕ × Report)) : Type 0 where
-  pub steps : ℕ
-  pub says : (machine_after (engine o) (start_of o es) steps).core.told ≡ (start_of o es).core.told ++ told
-
 -- the lines that count
 abbrev pub lines_in : Lines → List ℕ → List (List ℕ)
 lines_in lines.All journal = journal_lines journal
@@ -52,14 +37,16 @@ lines_in lines.Ended journal = ended_lines journal
 
 -- ONE PART AFTER ANOTHER
 
--- wherever a machine that is seen so stands, it goes over these entries to where it is seen as after, telling this
+-- the machine that is seen so goes over these entries, whatever comes behind them, to where it is seen as after, and tells this
 pub record Advances (seen after : Seen) (es : List Entry) (told : List (ℕ × Report)) : Type 0 where
   pub object : after.object ≡ seen.object
-  pub ran : (o : Object) (before : List Entry) (said : List (ℕ × Report)) → Ran o before seen said → Ran o (before ++ es) after (said ++ told)
+  pub handles : Handles seen es [] after told
 
--- wherever it stands, the run over these entries comes to a state before which this was told
-abbrev pub Breaks : Seen → List Entry → List (ℕ × Report) → Type 0
-Breaks seen es told = (o : Object) (before : List Entry) (said : List (ℕ × Report)) → Ran o before seen said → Tells o (before ++ es) (said ++ told)
+-- the machine that is seen so comes to a state on the way over these entries, and tells this up to there
+pub record Breaks (seen : Seen) (es : List Entry) (told : List (ℕ × Report)) : Type 0 where
+  pub after : Seen
+  pub left : List Entry
+  pub handles : Handles seen es left after told
 
 -- these entries before others
 abbrev pub with_front : List Entry → Entries → Entries
@@ -78,7 +65,7 @@ pub record LineBroken (setup : Setup) (reading : Reading) (text : List ℕ) (see
   pub es : List Entry
   pub told : List (ℕ × Report)
   pub adds : (later : Entries) → more_entries (meaning setup reading text) (reading.lines + 1) later ≡ with_front es later
-  pub breaks : (rest : List Entry) → Breaks seen (es ++ rest) told
+  pub breaks : Breaks seen es told
   pub taken : TakesFront old new (lines_of setup told)
 
 -- these lines ended so, the machine went over the entries before, and their lines were taken
