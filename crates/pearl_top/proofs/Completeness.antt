@@ -1,5 +1,5 @@
 -- A call whose files are in order ends with status 0, unless memory, reading or writing failed.
-use Rattle.std.proofs.Common.{◌≡◌, ◌≢◌, ℕ, List, Option, None, Some, refl, ap, sym, ◌∙◌, inl, inr, arith}
+use Rattle.std.proofs.Common.{◌≡◌, ◌≢◌, ℕ, List, Option, None, Some, refl, ap, ap₂, sym, ◌∙◌, inl, inr, arith}
 use Rattle.pearl_unbuilt.specs.Unbuilt.{unbuilt}
 use Rattle.pearl_program.specs.PlainPrograms.{PlainProg}
 use Rattle.pearl_top.specs.declared.status.Status.{Status}
@@ -7,12 +7,14 @@ use Rattle.pearl_top.specs.declared.status.Status.TheVariants.{Done, Usage, Refu
 use Rattle.pearl_top.specs.CheckDue.{IsAccepted, IsUnaccepted}
 use Rattle.pearl_top.specs.Commands.{Command, Run, Check, Print, NoCommand}
 use Rattle.pearl_top.specs.Complete.{AreInOrder, IsInOrder}
-use Rattle.pearl_top.specs.Journal.{Entries, All, Bad, entries}
+use Rattle.pearl_journal.specs.Entries.{Entries, All, Bad, entries}
 use Rattle.pearl_top.specs.JournalDue.{IsBadJournal}
 use Rattle.pearl_top.specs.Outcome.{Due, IsRefused, IsSource, RunDue}
 use Rattle.pearl_top.specs.PrintDue.{IsPrinted, IsUnspelled}
 use Rattle.pearl_top.specs.Taken.{Ends}
+use Rattle.pearl_meaning.specs.ProgramRuns.{setup_of as tables_of}
 use Rattle.pearl_top.proofs.CheckLaws.{never_unaccepted, shown_once}
+use Rattle.pearl_top.proofs.OneProgram.{one_meaning}
 use Rattle.pearl_top.proofs.DueLaws.{handled-whole}
 use Rattle.pearl_top.proofs.PrintLaws.{never_unspelled}
 use Rattle.pearl_top.proofs.SourceLaws.{at_source_completes}
@@ -32,10 +34,11 @@ all_and_bad : (line code : ℕ) → All ≡ Bad line code → ⊥
 all_and_bad line code e = cc
 
 -- a journal of which all lines are accepted is not refused
-not_bad : (p : PlainProg) (source journal bytes : List ℕ) → AreInOrder source journal → IsBadJournal p journal bytes → ⊥
-not_bad p source journal bytes order bad =
+not_bad : (p : PlainProg) (source journal bytes : List ℕ) → IsSource source p → AreInOrder source journal → IsBadJournal p journal bytes → ⊥
+not_bad p source journal bytes is_source order bad =
+    let same : order.p ≡ p = one_meaning source order.p p order.is_source is_source in
     all_and_bad bad.line bad.code
-    (ap (λ (e : Entries). e.ending) (sym order.read ∙ ap entries (sym (handled-whole journal order.within)) ∙ bad.run.read))
+    (ap (λ (e : Entries). e.ending) (sym order.read ∙ ap₂ (λ q lines. entries (tables_of q) lines) same (sym (handled-whole journal order.within)) ∙ bad.run.read))
 
 run_completes : (source journal : List ℕ) (a b : Type 0) (status : Status) (bytes : List ℕ) → AreInOrder source journal → RunDue source journal a b status bytes →
     status ≢ NoMemory → status ≢ ReadFault → status ≡ Done
@@ -51,7 +54,7 @@ run_completes source journal a b WriteFault bytes order (inr (p, is_source, due)
 run_completes source journal a b Refused bytes order (inl due) no_memory no_read = absurd (not_refused source bytes order.p order.is_source due)
 run_completes source journal a b Refused bytes order (inr (p, is_source, due)) no_memory no_read = absurd due
 run_completes source journal a b BadJournal bytes order (inl due) no_memory no_read = absurd due
-run_completes source journal a b BadJournal bytes order (inr (p, is_source, due)) no_memory no_read = absurd (not_bad p source journal bytes order due)
+run_completes source journal a b BadJournal bytes order (inr (p, is_source, due)) no_memory no_read = absurd (not_bad p source journal bytes is_source order due)
 run_completes source journal a b TooLong bytes order (inl due) no_memory no_read = let h = order.is_source.is.is.within in absurd (omega (arith, due.0))
 run_completes source journal a b TooLong bytes order (inr (p, is_source, due)) no_memory no_read = let h = order.within in absurd (omega (arith, due.0))
 

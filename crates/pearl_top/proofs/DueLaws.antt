@@ -7,10 +7,13 @@ use Rattle.pearl_script.specs.declared.refusal.Refusal.TheVariants as refusal
 use Rattle.pearl_top.specs.declared.limits.TheConstants.{JOURNAL_LIMIT}
 use Rattle.pearl_top.specs.declared.status.Status.{Status}
 use Rattle.pearl_top.specs.declared.status.Status.TheVariants.{Done, BadJournal, ReadFault, TooLong}
-use Rattle.pearl_top.specs.Journal.{All, Bad, journal_lines, ended_lines}
+use Rattle.pearl_journal.specs.Entries.{All, Bad}
+use Rattle.pearl_journal.specs.Lines.{journal_lines, ended_lines}
+use Rattle.pearl_journal.specs.Readings.{start}
+use Rattle.pearl_journal.proofs.JournalLaws.{HasMore, journal_lines-front, ended_lines-front, entries-bad}
+use Rattle.pearl_meaning.specs.ProgramRuns.{setup_of as tables_of}
 use Rattle.pearl_top.specs.JournalDue.{handled, handled_if, IsRun, JournalDue}
 use Rattle.pearl_top.specs.Transcript.{Close, Closed, Cut}
-use Rattle.pearl_top.proofs.JournalLaws.{HasMore, journal_lines-front, ended_lines-front, entries-bad}
 
 pub le_true : (a b : ℕ) → a ≤ b → nat_le a b ≡ true
 le_true a b h = grind (arith, nat_tests)
@@ -70,7 +73,7 @@ front-handled journal count h false =
 longer : (p : PlainProg) (lines all : List (List ℕ)) (line code : ℕ) (bytes : List ℕ) → HasMore all lines →
     IsRun p lines (Bad line code) (Cut (refusal.Journal line code)) bytes → IsRun p all (Bad line code) (Cut (refusal.Journal line code)) bytes
 longer p lines all line code bytes more run = subst (λ ls. IsRun p ls (Bad line code) (Cut (refusal.Journal line code)) bytes) (sym more.same)
-    (record { es = run.es; read = entries-bad 0 lines more.more run.es line code run.read ∙ run.read; written = run.written })
+    (record { es = run.es; read = entries-bad (tables_of p) start lines more.more run.es line code run.read ∙ run.read; written = run.written })
 
 -- reading failed after some bytes
 pub covers_fault : (p : PlainProg) (journal : List ℕ) (rose : Type 0) (count : ℕ) → rose → count ≤ JOURNAL_LIMIT →

@@ -1,4 +1,3 @@
-pub mod JournalLaws
 pub mod TakenLaws
 pub mod SourceLaws
 pub mod CheckLaws

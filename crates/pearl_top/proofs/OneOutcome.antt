@@ -10,7 +10,7 @@ use Rattle.pearl_top.specs.declared.status.Status.TheVariants.{Done, Usage, Refu
 use Rattle.pearl_top.specs.declared.limits.TheConstants.{SOURCE_LIMIT, JOURNAL_LIMIT}
 use Rattle.pearl_top.specs.CheckDue.{BreaksNone, IsAccepted, IsUnaccepted}
 use Rattle.pearl_top.specs.Commands.{Run, Check, Print, NoCommand}
-use Rattle.pearl_top.specs.Journal.{Ending, Entries, All, Bad}
+use Rattle.pearl_journal.specs.Entries.{Ending, Entries, All, Bad}
 use Rattle.pearl_top.specs.JournalDue.{IsRun, JournalDue, handled}
 use Rattle.pearl_top.specs.Laws.{HasOneOutcome}
 use Rattle.pearl_top.specs.Outcome.{IsRefused, IsSource, IsUnbuilt, RunDue, SourceDue}

@@ -1,18 +1,17 @@
 -- How a run over a journal ends, from how its lines ended.
-use Rattle.std.proofs.Common.{◌≡◌, ℕ, List, [], ◌++◌, Option, Err, refl, ap, sym, subst, append_assoc}
+use Rattle.std.proofs.Common.{◌≡◌, ℕ, List, [], ◌++◌, Option, None, Err, refl, ap, sym, ◌∙◌, subst, append_assoc}
 use Rattle.pearl_io.specs.Outside.{Takes, TakesFront}
 use Rattle.pearl_io.proofs.Pieces.{takes_more}
 use Rattle.pearl_rules.specs.declared.entry.Entry.{Entry}
 use Rattle.pearl_rules.specs.declared.setup.Setup.{Setup}
 use Rattle.pearl_rules.specs.Core.{Report, first_events}
-use Rattle.pearl_rules.specs.Runs.{Machine, machine_after}
+use Rattle.pearl_rules.specs.Runs.{unsettled}
 use Rattle.pearl_program.specs.PlainPrograms.{PlainProg}
-use Rattle.pearl_stack.specs.Frames.{Frame}
-use Rattle.pearl_engine.specs.Engines.{engine}
+use Rattle.pearl_instructions.specs.declared.object.Object.{Object}
 use Rattle.pearl_faithful.specs.Faithful.{IsFaithfulTo}
 use Rattle.pearl_engine.specs.Setups.{setup_of}
 use Rattle.pearl_meaning.specs.ProgramRuns.{setup_of as tables_of}
-use Rattle.pearl_machine.specs.Seen.{Seen, IsAt}
+use Rattle.pearl_machine.specs.Seen.{Seen, retold, Handles}
 use Rattle.pearl_script.specs.declared.refusal.Refusal.{Refusal}
 use Rattle.pearl_script.specs.declared.refusal.Refusal.TheVariants as refusal
 use Rattle.pearl_script.specs.Lines.{lines_of}
@@ -22,100 +21,133 @@ use Rattle.pearl_top.specs.declared.failure.Failure.TheVariants as failure
 use Rattle.pearl_top.specs.declared.status.Status.{Status}
 use Rattle.pearl_top.specs.declared.status.Status.TheVariants as statuses
 use Rattle.pearl_top.specs.Status.{status_of}
-use Rattle.pearl_top.specs.Journal.{Ending, All, Bad, entries}
+use Rattle.pearl_journal.specs.Entries.{Ending, Entries, All, Bad, entries}
 use Rattle.pearl_top.specs.JournalDue.{opening_lines, IsRun, JournalDue}
 use Rattle.pearl_top.specs.Transcript.{Close, Closed, Cut, IsTranscript}
 use Rattle.pearl_top.specs.Taken.{Finishes, Leaves, Stops}
-use Rattle.pearl_top.specs.Replay.{start_of, Ran, LinesDone, LinesBroken, IsLinesFailure}
+use Rattle.pearl_top.specs.Replay.{started, Advances, Breaks, LinesDone, LinesBroken, IsLinesFailure}
+use Rattle.pearl_top.proofs.ReplayLaws.{advances-opened, advances-then, advances-settles, breaks-then}
 use Rattle.pearl_top.specs.Ready.{IsReadyFor}
 use Rattle.pearl_top.proofs.DueLaws.{Covers}
 use Rattle.pearl_top.proofs.TranscriptLaws.{machine_closing}
-use Rattle.pearl_top.proofs.Endings.{AtEnd, at_end, closes, cuts, Follows, breaks_off}
+use Rattle.pearl_top.proofs.Endings.{closes, cuts, Follows, breaks_off}
 use Rattle.pearl_top.proofs.TakenLaws.{append_nil, stops_in, stops_short}
 
 -- the opening lines by the object's tables are those by the program's
-pub opening_as : (p : PlainProg) (setup : Setup) → setup ≡ (tables_of p) → lines_of setup (first_events 0 setup.tasks) ≡ opening_lines p
+opening_as : (p : PlainProg) (setup : Setup) → setup ≡ tables_of p → lines_of setup (first_events 0 setup.tasks) ≡ opening_lines p
 opening_as p setup same = ap (λ s. lines_of s (first_events 0 s.tasks)) same
 
+-- what opens the run is told at its start
+pub opened_as : (p : PlainProg) (seen : Seen) → IsReadyFor p seen → lines_of (setup_of seen.object) seen.state.core.told ≡ opening_lines p
+opened_as p seen ready =
+    ap (λ s. lines_of (setup_of seen.object) s.state.core.told) ready.starts ∙ opening_as p (setup_of seen.object) ready.faithful.tables
+
+-- a machine of the program at the start of its run, of which the opening lines were taken
+pub record Begun (p : PlainProg) (o : Object) (opened : Seen) (old new : Option (List ℕ)) : Type 0 where
+  pub faithful : IsFaithfulTo p o
+  pub opens : Advances (started o) opened [] []
+  pub taken : Takes old new (opening_lines p)
+
+pub begun : (p : PlainProg) (seen opened : Seen) (old new : Option (List ℕ)) → IsReadyFor p seen → opened ≡ retold seen opened.state.core.told →
+    opened.state.core.told ≡ [] → Takes old new (lines_of (setup_of seen.object) seen.state.core.told) → Begun p seen.object opened old new
+begun p seen opened old new ready same none taken = record {
+  faithful = ready.faithful;
+  opens = subst (λ s. Advances (started seen.object) s [] [])
+      (ap (λ s. retold s []) (sym ready.starts) ∙ ap (retold seen) (sym none) ∙ sym same) (advances-opened (started seen.object));
+  taken = subst (Takes old new) (opened_as p seen ready) taken;
+}
+
 -- a machine of the program has come to the end of these lines, and what was told so far was taken
-pub record Reached (p : PlainProg) (lines : List (List ℕ)) (ending : Ending) (seen : Seen) (old new : Option (List ℕ)) : Type 0 where
+pub record Reached (p : PlainProg) (o : Object) (lines : List (List ℕ)) (ending : Ending) (seen : Seen) (old new : Option (List ℕ)) : Type 0 where
   pub es : List Entry
   pub told : List (ℕ × Report)
-  pub read : entries lines ≡ record { accepted = es; ending = ending }
-  pub faithful : IsFaithfulTo p seen.object
-  pub ran : Ran seen.object es seen told
-  pub taken : Takes old new (opening_lines p ++ lines_of (setup_of seen.object) told)
+  pub read : entries (tables_of p) lines ≡ record { accepted = es; ending = ending }
+  pub faithful : IsFaithfulTo p o
+  pub comes : Advances (started o) seen es told
+  pub taken : Takes old new (opening_lines p ++ lines_of (setup_of o) told)
 
-pub reached : (p : PlainProg) (lines : List (List ℕ)) (ending : Ending) (seen after : Seen) (old mid new : Option (List ℕ)) → IsReadyFor p seen →
-    Takes old mid (opening_lines p) → LinesDone (setup_of seen.object) lines ending seen after mid new → Reached p lines ending after old new
-reached p lines ending seen after old mid new ready opened done =
-    let same : after.object ≡ seen.object = done.advances.object in record {
-      es = done.es;
-      told = done.told;
-      read = done.read;
-      faithful = subst (IsFaithfulTo p) (sym same) ready.faithful;
-      ran = subst (λ o. Ran o done.es after done.told) (sym same) (done.advances.ran seen.object [] [] ready.starts);
-      taken = subst (λ o. Takes old new (opening_lines p ++ lines_of (setup_of o) done.told)) (sym same)
-          (takes_more old mid new (opening_lines p) (lines_of (setup_of seen.object) done.told) opened done.taken);
+-- the lines by the object's tables are those by the program's
+read_as : (p : PlainProg) (setup : Setup) (lines : List (List ℕ)) (found : Entries) → setup ≡ tables_of p → entries setup lines ≡ found → entries (tables_of p) lines ≡ found
+read_as p setup lines found same read = subst (λ tables. entries tables lines ≡ found) same read
+
+pub reached : (p : PlainProg) (o : Object) (lines : List (List ℕ)) (ending : Ending) (opened after : Seen) (old mid new : Option (List ℕ)) → Begun p o opened old mid →
+    LinesDone (setup_of opened.object) lines ending opened after mid new → Reached p o lines ending after old new
+reached p o lines ending opened after old mid new start done =
+    let by_object : LinesDone (setup_of o) lines ending opened after mid new =
+    subst (λ held. LinesDone (setup_of held) lines ending opened after mid new) start.opens.object done in record {
+      es = by_object.es;
+      told = by_object.told;
+      read = read_as p (setup_of o) lines _ start.faithful.tables by_object.read;
+      faithful = start.faithful;
+      comes = advances-then (started o) opened after [] by_object.es [] by_object.told start.opens by_object.advances;
+      taken = takes_more old mid new (opening_lines p) (lines_of (setup_of o) by_object.told) start.taken by_object.taken;
     }
+
+-- and its tasks' next actions are offered
+pub settled_there : (p : PlainProg) (o : Object) (lines : List (List ℕ)) (ending : Ending) (seen after : Seen) (old new : Option (List ℕ)) →
+    Reached p o lines ending seen old new → after.object ≡ seen.object → ((from : List Entry) → Handles seen from from after []) →
+    Reached p o lines ending after old new
+settled_there p o lines ending seen after old new there same handles = record {
+  es = there.es;
+  told = there.told;
+  read = there.read;
+  faithful = there.faithful;
+  comes = advances-settles (started o) seen after there.es there.told there.comes same handles;
+  taken = there.taken;
+}
 
 -- THE LINES WERE CARRIED OUT
 
 -- the line of a refusal ends the transcript
-pub leaves_cut : (p : PlainProg) (lines : List (List ℕ)) (ending : Ending) (seen : Seen) (old new : Option (List ℕ)) (why : Refusal)
-    (due : Status → List ℕ → Type 0) → Reached p lines ending seen old new →
+pub leaves_cut : (p : PlainProg) (o : Object) (lines : List (List ℕ)) (ending : Ending) (seen : Seen) (old new : Option (List ℕ)) (why : Refusal)
+    (due : Status → List ℕ → Type 0) → Reached p o lines ending seen old new →
     ((bytes : List ℕ) → IsRun p lines ending (Cut why) bytes → due (status_of why) bytes) →
     Finishes old new (λ bytes. due (status_of why) (bytes ++ refusal_line why))
-leaves_cut p lines ending seen old new why due at is_due =
-    let told : List ℕ = lines_of (setup_of seen.object) at.told in record {
+leaves_cut p o lines ending seen old new why due there is_due =
+    let told : List ℕ = lines_of (setup_of o) there.told in record {
       bytes = opening_lines p ++ told;
       is_due = is_due ((opening_lines p ++ told) ++ refusal_line why) (record {
-        es = at.es;
-        read = at.read;
-        written = subst (IsTranscript p at.es (Cut why)) (sym (append_assoc (opening_lines p) told (refusal_line why)))
-            (cuts p seen.object at.es seen at.told why at.faithful at.ran);
+        es = there.es;
+        read = there.read;
+        written = subst (IsTranscript p there.es (Cut why)) (sym (append_assoc (opening_lines p) told (refusal_line why)))
+            (cuts p o there.es seen there.told why there.faithful there.comes);
       });
-      taken = at.taken;
+      taken = there.taken;
     }
 
 -- the whole transcript, in two parts
-closed_run : (p : PlainProg) (lines : List (List ℕ)) (seen : Seen) (old new : Option (List ℕ)) → (at : Reached p lines All seen old new) →
-    (end : AtEnd seen.object at.es seen at.told) → IsRun p lines All Closed ((opening_lines p ++ lines_of (setup_of seen.object) at.told)
-    ++ machine_closing (setup_of seen.object) (machine_after (engine seen.object) (start_of seen.object at.es) end.steps))
-closed_run p lines seen old new at end = record {
-  es = at.es;
-  read = at.read;
-  written = subst (IsTranscript p at.es Closed) (sym (append_assoc (opening_lines p) (lines_of (setup_of seen.object) at.told) _))
-      (closes p seen.object at.es seen at.told at.faithful end);
+closed_run : (p : PlainProg) (o : Object) (lines : List (List ℕ)) (seen : Seen) (old new : Option (List ℕ)) (there : Reached p o lines All seen old new) →
+    unsettled seen.state ≡ None →
+    IsRun p lines All Closed ((opening_lines p ++ lines_of (setup_of o) there.told) ++ machine_closing (setup_of o) seen.state)
+closed_run p o lines seen old new there settled = record {
+  es = there.es;
+  read = there.read;
+  written = subst (IsTranscript p there.es Closed) (sym (append_assoc (opening_lines p) (lines_of (setup_of o) there.told) _))
+      (closes p o there.es seen there.told there.faithful there.comes settled);
 }
 
 -- the tasks' states and the closing line were taken
-pub leaves_closed : (p : PlainProg) (lines : List (List ℕ)) (seen : Seen) (old mid new : Option (List ℕ)) (due : Status → List ℕ → Type 0) →
-    Reached p lines All seen old mid → ((m : Machine (List Frame)) → IsAt seen m → Takes mid new (machine_closing (setup_of seen.object) m)) →
+pub leaves_closed : (p : PlainProg) (o : Object) (lines : List (List ℕ)) (seen : Seen) (old mid new : Option (List ℕ)) (due : Status → List ℕ → Type 0) →
+    Reached p o lines All seen old mid → unsettled seen.state ≡ None → Takes mid new (machine_closing (setup_of o) seen.state) →
     ((bytes : List ℕ) → IsRun p lines All Closed bytes → due statuses.Done bytes) → Finishes old new (due statuses.Done)
-leaves_closed p lines seen old mid new due at takes is_due =
-    let end : AtEnd seen.object at.es seen at.told = at_end seen.object at.es seen at.told at.ran in
-    let m : Machine (List Frame) = machine_after (engine seen.object) (start_of seen.object at.es) end.steps in
-    let told : List ℕ = opening_lines p ++ lines_of (setup_of seen.object) at.told in record {
-      bytes = told ++ machine_closing (setup_of seen.object) m;
-      is_due = is_due (told ++ machine_closing (setup_of seen.object) m) (closed_run p lines seen old mid at end);
-      taken = takes_more old mid new told (machine_closing (setup_of seen.object) m) at.taken (takes m end.stands);
+leaves_closed p o lines seen old mid new due there settled takes is_due =
+    let told : List ℕ = opening_lines p ++ lines_of (setup_of o) there.told in
+    let closing : List ℕ = machine_closing (setup_of o) seen.state in record {
+      bytes = told ++ closing;
+      is_due = is_due (told ++ closing) (closed_run p o lines seen old mid there settled);
+      taken = takes_more old mid new told closing there.taken takes;
     }
 
 -- a front of them was taken
-pub leaves_unclosed : (p : PlainProg) (lines : List (List ℕ)) (seen : Seen) (old mid new : Option (List ℕ)) (failed : Type 0) (due : Status → List ℕ → Type 0) →
-    failed → Reached p lines All seen old mid → ((m : Machine (List Frame)) → IsAt seen m → TakesFront mid new (machine_closing (setup_of seen.object) m)) →
-    ((bytes : List ℕ) → IsRun p lines All Closed bytes → due statuses.Done bytes) → Leaves old new failed due (Err failure.WriteFault)
-leaves_unclosed p lines seen old mid new failed due cause at takes is_due =
-    let end : AtEnd seen.object at.es seen at.told = at_end seen.object at.es seen at.told at.ran in
-    let m : Machine (List Frame) = machine_after (engine seen.object) (start_of seen.object at.es) end.steps in
-    let told : List ℕ = opening_lines p ++ lines_of (setup_of seen.object) at.told in
-    let closing : List ℕ = machine_closing (setup_of seen.object) m in (
-      cause,
-      stops_in old mid new due statuses.Done told closing []
-          (subst (λ bytes. due statuses.Done (told ++ bytes)) (sym (append_nil closing)) (is_due (told ++ closing) (closed_run p lines seen old mid at end)))
-          at.taken (takes m end.stands),
-    )
+pub leaves_unclosed : (p : PlainProg) (o : Object) (lines : List (List ℕ)) (seen : Seen) (old mid new : Option (List ℕ)) (due : Status → List ℕ → Type 0) →
+    Reached p o lines All seen old mid → unsettled seen.state ≡ None → TakesFront mid new (machine_closing (setup_of o) seen.state) →
+    ((bytes : List ℕ) → IsRun p lines All Closed bytes → due statuses.Done bytes) → Stops old new due
+leaves_unclosed p o lines seen old mid new due there settled takes is_due =
+    let told : List ℕ = opening_lines p ++ lines_of (setup_of o) there.told in
+    let closing : List ℕ = machine_closing (setup_of o) seen.state in
+    stops_in old mid new due statuses.Done told closing []
+    (subst (λ bytes. due statuses.Done (told ++ bytes)) (sym (append_nil closing)) (is_due (told ++ closing) (closed_run p o lines seen old mid there settled)))
+    there.taken takes
 
 -- THE LINES WERE NOT CARRIED OUT
 
@@ -132,7 +164,7 @@ leaves_unread p journal rose old new opened = record { bytes = opening_lines p; 
 
 -- some status and some bytes behind these belong to the lines
 broken_at : (p : PlainProg) (journal : List ℕ) (rose : Type 0) (lines : List (List ℕ)) (status : Status) (last : Close) (es : List Entry) (ending : Ending)
-    (told : List ℕ) → Covers p journal rose lines status last → entries lines ≡ record { accepted = es; ending = ending } →
+    (told : List ℕ) → Covers p journal rose lines status last → entries (tables_of p) lines ≡ record { accepted = es; ending = ending } →
     ((end : Close) → (rest : List ℕ) × IsTranscript p es end (opening_lines p ++ (told ++ rest))) →
     (s : Status) × (rest : List ℕ) × JournalDue p journal rose s (opening_lines p ++ (told ++ rest))
 broken_at p journal rose lines status last es All told covers read follows =
@@ -143,24 +175,25 @@ broken_at p journal rose lines status last es (Bad line code) told covers read f
     (statuses.BadJournal, whole.0, covers.bad line code (opening_lines p ++ (told ++ whole.0)) (record { es = es; read = read; written = whole.1 }))
 
 -- the output of a line was not taken whole
-leaves_broken : (p : PlainProg) (journal : List ℕ) (rose : Type 0) (lines : List (List ℕ)) (status : Status) (last : Close) (seen : Seen)
-    (old mid new : Option (List ℕ)) → IsReadyFor p seen → Takes old mid (opening_lines p) → Covers p journal rose lines status last →
-    LinesBroken (setup_of seen.object) lines seen mid new → Stops old new (JournalDue p journal rose)
-leaves_broken p journal rose lines status last seen old mid new ready opened covers broken =
-    let told : List ℕ = lines_of (setup_of seen.object) broken.told in
+leaves_broken : (p : PlainProg) (o : Object) (journal : List ℕ) (rose : Type 0) (lines : List (List ℕ)) (status : Status) (last : Close) (opened : Seen)
+    (old mid new : Option (List ℕ)) → Begun p o opened old mid → Covers p journal rose lines status last →
+    LinesBroken (setup_of opened.object) lines opened mid new → Stops old new (JournalDue p journal rose)
+leaves_broken p o journal rose lines status last opened old mid new start covers at_lines =
+    let broken : LinesBroken (setup_of o) lines opened mid new = subst (λ held. LinesBroken (setup_of held) lines opened mid new) start.opens.object at_lines in
+    let breaks : Breaks (started o) broken.es broken.told = breaks-then (started o) opened [] broken.es [] broken.told start.opens broken.breaks in
+    let told : List ℕ = lines_of (setup_of o) broken.told in
     let due : (s : Status) × (rest : List ℕ) × JournalDue p journal rose s (opening_lines p ++ (told ++ rest)) =
-    broken_at p journal rose lines status last broken.es broken.ending told covers broken.read
-    (λ end. let front : Follows p broken.es end told =
-    breaks_off p seen.object broken.es broken.told end ready.faithful (broken.breaks seen.object [] [] ready.starts) in (front.rest, front.whole)) in
-    stops_in old mid new (JournalDue p journal rose) due.0 (opening_lines p) told due.1 due.2 opened broken.taken
+    broken_at p journal rose lines status last broken.es broken.ending told covers (read_as p (setup_of o) lines _ start.faithful.tables broken.read)
+    (λ end. let front : Follows p broken.es end told = breaks_off p o broken.es broken.told end start.faithful breaks in (front.rest, front.whole)) in
+    stops_in old mid new (JournalDue p journal rose) due.0 (opening_lines p) told due.1 due.2 start.taken broken.taken
 
 -- the lines failed
-pub leaves_failed : (p : PlainProg) (journal : List ℕ) (rose failed wider : Type 0) (lines : List (List ℕ)) (status : Status) (last : Close) (seen after : Seen)
-    (old mid new : Option (List ℕ)) (why : Failure) → (failed → wider) → IsReadyFor p seen → Takes old mid (opening_lines p) →
-    Covers p journal rose lines status last → IsLinesFailure why lines seen after mid new failed → Leaves old new wider (JournalDue p journal rose) (Err why)
-leaves_failed p journal rose failed wider lines status last seen after old mid new (failure.Refused why) widen ready opened covers fails =
+pub leaves_failed : (p : PlainProg) (o : Object) (journal : List ℕ) (rose failed wider : Type 0) (lines : List (List ℕ)) (status : Status) (last : Close)
+    (opened after : Seen) (old mid new : Option (List ℕ)) (why : Failure) → (failed → wider) → Begun p o opened old mid →
+    Covers p journal rose lines status last → IsLinesFailure why lines opened after mid new failed → Leaves old new wider (JournalDue p journal rose) (Err why)
+leaves_failed p o journal rose failed wider lines status last opened after old mid new (failure.Refused why) widen start covers fails =
     subst (λ r. Leaves old new wider (JournalDue p journal rose) (Err (failure.Refused r))) (sym fails.2)
-    (leaves_cut p lines (Bad fails.0 fails.1) after old new (refusal.Journal fails.0 fails.1) (JournalDue p journal rose)
-    (reached p lines (Bad fails.0 fails.1) seen after old mid new ready opened fails.3) (covers.bad fails.0 fails.1))
-leaves_failed p journal rose failed wider lines status last seen after old mid new failure.WriteFault widen ready opened covers fails =
-    (widen fails.0, leaves_broken p journal rose lines status last seen old mid new ready opened covers fails.1)
+    (leaves_cut p o lines (Bad fails.0 fails.1) after old new (refusal.Journal fails.0 fails.1) (JournalDue p journal rose)
+    (reached p o lines (Bad fails.0 fails.1) opened after old mid new start fails.3) (covers.bad fails.0 fails.1))
+leaves_failed p o journal rose failed wider lines status last opened after old mid new failure.WriteFault widen start covers fails =
+    (widen fails.0, leaves_broken p o journal rose lines status last opened old mid new start covers fails.1)

@@ -15,9 +15,9 @@ use Rattle.pearl_script.specs.declared.refusal.Refusal.{Refusal}
 use Rattle.pearl_script.specs.Lines.{lines_of, report_line, close_line}
 use Rattle.pearl_script.specs.Refusals.{refusal_line}
 use Rattle.pearl_faithful.specs.Faithful.{IsFaithfulTo}
-use Rattle.pearl_top.specs.Replay.{start_of, Tells}
+use Rattle.pearl_top.specs.Replay.{start_of, started, Breaks}
 use Rattle.pearl_top.specs.Transcript.{Close, Closed, Cut, closing, IsTranscript}
-use Rattle.pearl_top.proofs.RunEnds.{EndsAs, ends_as_source, EndsBehind, ends_behind}
+use Rattle.pearl_top.proofs.RunEnds.{opening, EndsAt, IsDone, ends_at_source, EndsAs, ends_as_source, EndsBehind, ends_behind}
 
 -- the lines of two lists, one after the other
 pub lines_of-append : (setup : Setup) (a b : List (ℕ × Report)) → lines_of setup (a ++ b) ≡ lines_of setup a ++ lines_of setup b
@@ -51,11 +51,10 @@ closed_text p o es n faithful settled no_mark =
     }
 
 -- a run that a refusal cuts short
-pub cut_text : (p : PlainProg) (o : Object) (es : List Entry) (n : ℕ) (refusal : Refusal) → IsFaithfulTo p o →
-    unsettled (machine_after (engine o) (start_of o es) n) ≡ None → machine_next (machine_after (engine o) (start_of o es) n) ≡ None →
+pub cut_text : (p : PlainProg) (o : Object) (es : List Entry) (n : ℕ) (refusal : Refusal) → IsFaithfulTo p o → IsDone (machine_after (engine o) (start_of o es) n) →
     IsTranscript p es (Cut refusal) (lines_of (setup_of o) (machine_after (engine o) (start_of o es) n).core.told ++ refusal_line refusal)
-cut_text p o es n refusal faithful settled no_mark =
-    let ends : EndsAs p es (machine_after (engine o) (start_of o es) n) = ends_as_source p o es n faithful settled no_mark in record {
+cut_text p o es n refusal faithful done =
+    let ends : EndsAt p es (machine_after (engine o) (start_of o es) n) = ends_at_source p o es n faithful done in record {
       last = source_run p es ends.marks;
       ends = record { marks = ends.marks; reached = refl; no_mark = ends.no_mark };
       text = cut_same (setup_of o) (tables_of p) _ _ (refusal_line refusal) faithful.tables ends.core;
@@ -67,15 +66,15 @@ pub record HasRest (p : PlainProg) (es : List Entry) (close : Close) (bytes : Li
   pub whole : IsTranscript p es close (bytes ++ rest)
 
 -- the lines of what was told are a front of the transcript
-pub front_text : (p : PlainProg) (o : Object) (es : List Entry) (told : List (ℕ × Report)) (close : Close) → IsFaithfulTo p o → Tells o es told →
-    HasRest p es close (lines_of (setup_of o) ((start_of o es).core.told ++ told))
-front_text p o es told close faithful tells =
-    let ends : EndsBehind p es ((start_of o es).core.told ++ told) = ends_behind p o es told faithful tells in
+pub front_text : (p : PlainProg) (o : Object) (es : List Entry) (told : List (ℕ × Report)) (close : Close) → IsFaithfulTo p o → Breaks (started o) es told →
+    HasRest p es close (lines_of (setup_of o) (opening o ++ told))
+front_text p o es told close faithful breaks =
+    let ends : EndsBehind p es (opening o ++ told) = ends_behind p o es told faithful breaks in
     let last = source_run p es ends.marks in record {
       rest = lines_of (tables_of p) ends.more ++ closing p last close;
       whole = record {
         last = last;
         ends = record { marks = ends.marks; reached = refl; no_mark = ends.no_mark };
-        text = front_same (setup_of o) (tables_of p) ((start_of o es).core.told ++ told) ends.more last.core.told (closing p last close) faithful.tables ends.says;
+        text = front_same (setup_of o) (tables_of p) (opening o ++ told) ends.more last.core.told (closing p last close) faithful.tables ends.says;
       };
     }

@@ -1,12 +1,11 @@
 -- What is due for the words, from what is due for the files that they name.
-use Rattle.std.proofs.Common.{◌≡◌, ◌≢◌, ◌≤◌, ◌⊎◌, ℕ, List, [], ◌∷◌, Option, Some, refl, ap₂, sym, subst, inl, inr, length, map, arith}
+use Rattle.std.proofs.Common.{◌≡◌, ◌≢◌, ◌≤◌, ◌⊎◌, ℕ, List, [], ◌∷◌, Option, Some, refl, ap, ap₂, sym, subst, ◌∙◌, inl, inr, length, map, arith}
 use Rattle.std.specs.List.{AllZip, Any}
 use Rattle.pearl_io.specs.Outside.{Files, content}
-use Rattle.pearl_rules.specs.declared.entry.Entry.{Entry}
 use Rattle.pearl_program.specs.PlainPrograms.{PlainProg}
 use Rattle.pearl_instructions.specs.declared.object.Object.{Object}
 use Rattle.pearl_faithful.specs.Faithful.{IsFaithfulTo}
-use Rattle.pearl_machine.specs.Seen.{Seen, Goes}
+use Rattle.pearl_machine.specs.Seen.{Seen}
 use Rattle.pearl_script.specs.declared.refusal.Refusal.TheVariants as refusal
 use Rattle.pearl_script.specs.Refusals.{refusal_line}
 use Rattle.pearl_top.specs.declared.failure.Failure.{Failure}
@@ -22,19 +21,22 @@ use Rattle.pearl_top.specs.Outcome.{Due, DueFor, IsOutcome, IsRefused, IsSource,
 use Rattle.pearl_top.specs.PrintDue.{IsPrinted, IsUnspelled, PrintDue}
 use Rattle.pearl_top.specs.Reading.{MayHave, UnreadDue}
 use Rattle.pearl_top.specs.Ready.{IsReadyFor}
-use Rattle.pearl_top.specs.Replay.{start_of}
+use Rattle.pearl_top.specs.Replay.{start_of, started}
 use Rattle.pearl_top.specs.Taken.{Ends, Finishes, OnlyDue}
 use Rattle.pearl_top.proofs.SourceLaws.{at_source_rises, at_source_unread, at_source_unrisen}
 use Rattle.pearl_top.proofs.TakenLaws.{ends_as, finishes_of}
 
 -- AT THE SOURCE
 
+-- a machine that was loaded with an object stands at the start
+pub loaded : (o code : Object) (seen : Seen) → code ≡ o → seen.object ≡ code → seen.state ≡ start_of code [] → seen ≡ started o
+loaded o code seen same object state = rw (sym same) (ap₂ (λ held at. record { object = held; state = at }) object state)
+
 -- a machine that was loaded with a faithful object is ready
-pub ready_of : (p : PlainProg) (o : Object) (seen : Seen) → seen.object ≡ o → IsFaithfulTo p o → ((es : List Entry) → Goes (start_of o es) es seen []) → IsReadyFor p seen
-ready_of p o seen same faithful start = record {
-  faithful = subst (IsFaithfulTo p) (sym same) faithful;
-  starts = record { object = refl; goes = λ rest. subst (λ object. Goes (start_of object rest) rest seen []) (sym same) (start rest) };
-}
+pub ready_of : (p : PlainProg) (o : Object) (seen : Seen) → IsFaithfulTo p o → seen ≡ started o → IsReadyFor p seen
+ready_of p o seen faithful at_start =
+    let same : o ≡ seen.object = ap (λ s. s.object) (sym at_start) in
+    record { faithful = subst (IsFaithfulTo p) same faithful; starts = at_start ∙ ap started same }
 
 -- what is due at a source that is refused when it is checked, is due when it is run
 pub refused_alike : (source : List ℕ) (why : Failure) → IsDue (CheckDue source ⊥) why → IsDue (SourceDue source ⊥) why

@@ -5,7 +5,9 @@ use Rattle.pearl_program.specs.PlainPrograms.{PlainProg}
 use Rattle.pearl_top.specs.declared.limits.TheConstants.{JOURNAL_LIMIT}
 use Rattle.pearl_top.specs.Commands.{Command, Run, Check, Print, NoCommand}
 use Rattle.pearl_top.specs.CheckDue.{BreaksNone}
-use Rattle.pearl_top.specs.Journal.{All, entries, journal_lines}
+use Rattle.pearl_journal.specs.Entries.{All, entries}
+use Rattle.pearl_journal.specs.Lines.{journal_lines}
+use Rattle.pearl_meaning.specs.ProgramRuns.{setup_of as tables_of}
 use Rattle.pearl_top.specs.Outcome.{IsSource}
 use Rattle.pearl_top.specs.PrintDue.{IsSpelled}
 
@@ -15,7 +17,7 @@ pub record AreInOrder (source journal : List ℕ) : Type 0 where
   pub is_source : IsSource source p
   pub within : length journal ≤ JOURNAL_LIMIT
   pub es : List Entry
-  pub read : entries (journal_lines journal) ≡ record { accepted = es; ending = All }
+  pub read : entries (tables_of p) (journal_lines journal) ≡ record { accepted = es; ending = All }
 
 -- the words are a command, and the files that they name are in order
 abbrev pub IsInOrder : Command → (List ℕ → List ℕ) → Type 0

@@ -10,17 +10,18 @@ use Rattle.pearl_script.specs.Refusals.{refusal_line}
 use Rattle.pearl_top.specs.declared.limits.TheConstants.{JOURNAL_LIMIT}
 use Rattle.pearl_top.specs.declared.status.Status.{Status}
 use Rattle.pearl_top.specs.declared.status.Status.TheVariants.{Done, BadJournal, ReadFault, NoMemory, TooLong}
-use Rattle.pearl_top.specs.Journal.{Ending, All, Bad, entries, journal_lines, ended_lines}
+use Rattle.pearl_journal.specs.Entries.{Ending, All, Bad, entries}
+use Rattle.pearl_journal.specs.Lines.{journal_lines, ended_lines}
 use Rattle.pearl_top.specs.Transcript.{Close, Closed, Cut, IsTranscript}
 
 -- the lines with which a run opens
 abbrev pub opening_lines : PlainProg → List ℕ
 opening_lines p = lines_of (tables_of p) (first_events 0 (tables_of p).tasks)
 
--- the entries of these lines end so, and what their run writes, with what closes it, are these bytes
+-- the entries of these lines, by the program's tables, end so, and what their run writes, with what closes it, are these bytes
 pub record IsRun (p : PlainProg) (lines : List (List ℕ)) (ending : Ending) (close : Close) (bytes : List ℕ) : Type 0 where
   pub es : List Entry
-  pub read : entries lines ≡ record { accepted = es; ending = ending }
+  pub read : entries (tables_of p) lines ≡ record { accepted = es; ending = ending }
   pub written : IsTranscript p es close bytes
 
 abbrev pub handled_if : Bool → List ℕ → List (List ℕ)

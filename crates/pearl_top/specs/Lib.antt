@@ -1,7 +1,5 @@
 -- the exit status of each way in which a call ends
 pub mod Status
--- what the bytes of a journal mean
-pub mod Journal
 -- which words are a command
 pub mod Commands
 -- what is told of a fault of the calls below, and what is due where a command fails at once

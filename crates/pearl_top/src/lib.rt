@@ -5,7 +5,6 @@ mod check;
 mod command;
 mod compile;
 mod failure;
-mod journal;
 pub mod laws;
 mod limits;
 mod print;

@@ -5,6 +5,3 @@ pub const SOURCE_LIMIT: u64 = 1_048_576;
 
 /// The most bytes that a journal may have.
 pub const JOURNAL_LIMIT: u64 = 67_108_864;
-
-/// The most bytes that a line of a journal may have, its end not counted.
-pub const LINE_LIMIT: usize = 1024;

@@ -1,10 +1,11 @@
 // A machine's run over a journal.
 
-ghost use Rattle.std.specs.Prelude.{◌≡◌, ◌+◌, ◌^◌, ◌<◌, ◌≤◌, ℕ, List, length, IfErr, OnOk};
+ghost use Rattle.std.specs.Prelude.{◌≡◌, ◌+◌, ◌^◌, ◌<◌, ◌≤◌, ℕ, List, [], length, IfErr, OnOk};
 ghost use Rattle.pearl_io.specs.Outside.{CountRose, WriteFailed};
 ghost use Rattle.pearl_program.specs.PlainPrograms.{PlainProg};
 ghost use Rattle.pearl_engine.specs.Setups.{setup_of};
-ghost use Rattle.pearl_top.specs.Journal.{All};
+ghost use Rattle.pearl_journal.specs.Entries.{All, after as after_line};
+ghost use Rattle.pearl_journal.specs.Meaning.{meaning};
 ghost use Rattle.pearl_top.specs.JournalDue.{JournalDue};
 ghost use Rattle.pearl_top.specs.Reading.{MayHave};
 ghost use Rattle.pearl_top.specs.Ready.{IsReadyFor};
@@ -12,9 +13,10 @@ ghost use Rattle.pearl_top.specs.Replay.{IsLineFailure, IsLinesFailure, LineDone
 ghost use Rattle.pearl_top.specs.Taken.{Leaves};
 
 use crate::failure::Failure;
-use crate::journal::{Line, meaning_of, next_line};
 use crate::limits::JOURNAL_LIMIT;
 use pearl_io::{Fetched, Shelf, Sink, fetch_all};
+use pearl_journal::lines::next_line;
+use pearl_journal::reading::{Line, Reading};
 use pearl_machine::Machine;
 use pearl_script::refusal::Refusal;
 use std::alloc::Global;
@@ -70,49 +72,57 @@ fn carry_out<K: Sink>(
     lines: Lines,
     sink: &mut K,
 ) -> Result<(), Failure>
-    requires { length journal.now < 2 ^ 40 }
+    requires small { length journal.now < 2 ^ 40 }
+    requires taken { machine.old.state.core.told ≡ [] }
     ensures ok { OnOk result (LinesDone (setup_of machine.old.object) (lines_in lines journal.now) All machine.old machine.new
         (K.taken sink.old) (K.taken sink.new)) }
     ensures err { let failed = WriteFailed (K.faults sink.old) (K.faults sink.new) (K.full sink.new) in
         IfErr result (λ failure. IsLinesFailure failure (lines_in lines journal.now) machine.old machine.new
         (K.taken sink.old) (K.taken sink.new) failed) }
     ensures object { machine.new.object ≡ machine.old.object }
+    ensures all { OnOk result (machine.new.state.core.told ≡ []) }
     ensures later { K.faults sink.old ≤ K.faults sink.new }
 {
     let mut left = journal;
-    let mut count = 0u64;
+    let mut reading = Reading::new();
     'lines: while let Some((text, after)) = next_line(left) {
-        carry_out_line(machine, text, count + 1, sink)?;
+        carry_out_line(machine, text, &mut reading, sink)?;
         left = after;
-        count += 1;
     }
     match lines {
-        Lines::All => carry_out_line(machine, left, count + 1, sink),
+        Lines::All => carry_out_line(machine, left, &mut reading, sink),
         Lines::Ended => Ok(()),
     }
 }
 
-// Carries out one line, which has this number.
+// Carries out the line that comes next.
 fn carry_out_line<K: Sink>(
     machine: &mut Machine,
     text: &[u8],
-    line: u64,
+    reading: &mut Reading,
     sink: &mut K,
 ) -> Result<(), Failure>
-    ensures ok { OnOk result (LineDone (setup_of machine.old.object) line text.now machine.old machine.new
+    requires counted { reading.old.lines + 1 < 2 ^ 64 }
+    requires taken { machine.old.state.core.told ≡ [] }
+    ensures read { reading.new ≡ after_line reading.old (meaning (setup_of machine.old.object) reading.old text.now) }
+    ensures ok { OnOk result (LineDone (setup_of machine.old.object) reading.old text.now machine.old machine.new
         (K.taken sink.old) (K.taken sink.new)) }
     ensures err { let failed = WriteFailed (K.faults sink.old) (K.faults sink.new) (K.full sink.new) in
-        IfErr result (λ failure. IsLineFailure failure line text.now machine.old machine.new
+        IfErr result (λ failure. IsLineFailure failure reading.old text.now machine.old machine.new
         (K.taken sink.old) (K.taken sink.new) failed) }
     ensures object { machine.new.object ≡ machine.old.object }
+    ensures all { OnOk result (machine.new.state.core.told ≡ []) }
     ensures later { K.faults sink.old ≤ K.faults sink.new }
 {
-    match meaning_of(text) {
+    match reading.read(machine.setup(), text) {
         Line::Blank => Ok(()),
         Line::Item(entry) => {
             machine.entry(&entry, sink)?;
             Ok(())
         }
-        Line::Wrong(code) => Err(Failure::Refused(Refusal::Journal { line, code })),
+        Line::Wrong(code) => {
+            let line = reading.lines();
+            Err(Failure::Refused(Refusal::Journal { line, code }))
+        }
     }
 }

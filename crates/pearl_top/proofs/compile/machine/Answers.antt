@@ -1,14 +1,10 @@
-use Rattle.std.proofs.Common.{◌≡◌, [], length, sym, ◌∙◌, subst}
+use Rattle.std.proofs.Common.{sym, subst}
 use Rattle.pearl_program.specs.PlainPrograms.{plain_prog}
 use Rattle.pearl_program.specs.Sound.{IsSound}
 use Rattle.pearl_instructions.specs.Lawful.{IsObject}
 use Rattle.pearl_instructions.specs.Valid.{IsValid}
 use Rattle.pearl_engine.specs.Built.{OnlyBuilt}
-use Rattle.pearl_rules.specs.Runs.{machine_start}
-use Rattle.pearl_engine.specs.Engines.{engine}
-use Rattle.pearl_engine.specs.Setups.{setup_of}
-use Rattle.pearl_machine.specs.Seen.{Goes}
-use Rattle.pearl_top.proofs.WordLaws.{ready_of}
+use Rattle.pearl_top.proofs.WordLaws.{loaded, ready_of}
 use Rattle.pearl_top.proofs.compile.machine.Goals as goal
 
 pub new-requires-clause-object : goal.new-requires-clause-object
@@ -24,12 +20,7 @@ new-requires-clause-valid c =
 pub load-requires-clause-built : goal.load-requires-clause-built
 load-requires-clause-built c =
     let built = c.built_programs_have_built_code.ensures (plain_prog c.args.program.now) c.in_ok-object.object c.in_ok-object.ensures.generated c.requires in
-    subst OnlyBuilt (sym c.in_ok-code.ensures) built.0
-
-pub load-requires-clause-single : goal.load-requires-clause-single
-load-requires-clause-single c =
-    let built = c.built_programs_have_built_code.ensures (plain_prog c.args.program.now) c.in_ok-object.object c.in_ok-object.ensures.generated c.requires in
-    subst (λ o. length o.tasks ≡ 1) (sym c.in_ok-code.ensures) built.1
+    subst OnlyBuilt (sym c.in_ok-code.ensures) built
 
 pub returns : goal.returns
 returns c =
@@ -38,6 +29,5 @@ returns c =
     let sound = subst (λ parts. IsSound (plain_prog parts)) c.parts-sound.ensures.value c.parts-sound.ensures.sound in
     let valid = c.generated_is_valid.ensures p o sound c.in_ok-object.ensures.generated c.in_ok-object.ensures.few_formats in
     let built = c.built_programs_have_built_code.ensures p o c.in_ok-object.ensures.generated c.requires in
-    ready_of p o c.in_ok-machine.machine (c.in_ok-machine.ensures.object ∙ c.in_ok-code.ensures)
-    (c.faithful_programs.ensures p o sound c.in_ok-object.ensures.generated valid.0 valid.1 built.0)
-    (λ es. subst (λ code. Goes (machine_start (engine code) (setup_of code) es) es c.in_ok-machine.machine []) c.in_ok-code.ensures (c.in_ok-machine.ensures.start es))
+    ready_of p o c.in_ok-machine.machine (c.faithful_programs.ensures p o sound c.in_ok-object.ensures.generated valid.0 valid.1 built)
+    (loaded o c.in_ok-code.code c.in_ok-machine.machine c.in_ok-code.ensures c.in_ok-machine.ensures.object c.in_ok-machine.ensures.start)

@@ -17,7 +17,7 @@ lines-init g c = record {
 pub returns-in_err-carry_out_line-clause-err : goal.returns-in_err-carry_out_line-clause-err
 returns-in_err-carry_out_line-clause-err g c =
     let p = err_from_is_err_and c.from_residual.result c.from_residual.ensures.1 in
-    rw (p.1, p.2) (lines_fail _ _ c.lines.count c.in-Some.text.now (lines_in c.args.lines c.in-Some.after.now) c.args.machine.now c.lines.machine
+    rw (p.1, p.2) (lines_fail _ _ c.lines.reading c.in-Some.text.now (lines_in c.args.lines c.in-Some.after.now) c.args.machine.now c.lines.machine
     c.carry_out_line.new.machine _ _ _ c.in_err-carry_out_line.field-0.0 _ _ (failed_since _ _ _ _ c.lines.invariant.later) refl
     (ap (λ o. (setup_of o)) c.lines.invariant.object)
     (progress_next _ c.args.lines c.args.journal.now c.lines.left.now _ _ _ _ _ _ _ c.in-Some.ensures c.lines.invariant.progress)
@@ -25,7 +25,7 @@ returns-in_err-carry_out_line-clause-err g c =
 
 pub lines-preserved : goal.lines-preserved
 lines-preserved g c = record {
-  progress = progress_more_at _ _ c.lines.count c.in-Some.text.now (lines_in c.args.lines c.in-Some.after.now) _ c.lines.machine _ _ _ _ (ap (λ o. (setup_of o)) c.lines.invariant.object)
+  progress = progress_more_at _ _ c.lines.reading c.in-Some.text.now (lines_in c.args.lines c.in-Some.after.now) _ c.lines.machine _ _ _ _ (ap (λ o. (setup_of o)) c.lines.invariant.object)
       (progress_next _ c.args.lines c.args.journal.now c.lines.left.now _ _ _ _ _ _ _ c.in-Some.ensures c.lines.invariant.progress) c.in_ok-carry_out_line.ensures.ok;
   small = omega (arith, c.in-Some.ensures.2);
   object = c.carry_out_line.ensures.object ∙ c.lines.invariant.object;
@@ -34,19 +34,19 @@ lines-preserved g c = record {
 
 pub returns-in-All-clause-ok : goal.returns-in-All-clause-ok
 returns-in-All-clause-ok g c =
-    last_done c.carry_out_line-in-All.result _ _ c.lines.count c.lines.left.now c.args.machine.now c.lines.machine c.carry_out_line-in-All.new.machine _ _ _
+    last_done c.carry_out_line-in-All.result _ _ c.lines.reading c.lines.left.now c.args.machine.now c.lines.machine c.carry_out_line-in-All.new.machine _ _ _
     (ap (λ o. (setup_of o)) c.lines.invariant.object)
     (progress_last _ c.args.lines c.args.journal.now c.lines.left.now _ _ _ _ _ c.in-All.is c.in_default.ensures c.lines.invariant.progress)
     c.carry_out_line-in-All.ensures.ok
 
 pub returns-in-All-clause-err : goal.returns-in-All-clause-err
 returns-in-All-clause-err g c =
-    last_fails c.carry_out_line-in-All.result _ _ c.lines.count c.lines.left.now c.args.machine.now c.lines.machine c.carry_out_line-in-All.new.machine _ _ _ _ _
+    last_fails c.carry_out_line-in-All.result _ _ c.lines.reading c.lines.left.now c.args.machine.now c.lines.machine c.carry_out_line-in-All.new.machine _ _ _ _ _
     (failed_since _ _ _ _ c.lines.invariant.later) refl (ap (λ o. (setup_of o)) c.lines.invariant.object)
     (progress_last _ c.args.lines c.args.journal.now c.lines.left.now _ _ _ _ _ c.in-All.is c.in_default.ensures c.lines.invariant.progress)
     c.carry_out_line-in-All.ensures.err
 
 pub returns-in-Ended-clause-ok : goal.returns-in-Ended-clause-ok
 returns-in-Ended-clause-ok g c =
-    progress_ended _ c.args.lines c.args.journal.now c.lines.left.now c.lines.count c.args.machine.now c.lines.machine _ _ c.in-Ended.is c.in_default.ensures
+    progress_ended _ c.args.lines c.args.journal.now c.lines.left.now c.lines.reading c.args.machine.now c.lines.machine _ _ c.in-Ended.is c.in_default.ensures
     c.lines.invariant.progress

@@ -1,14 +1,17 @@
 use Rattle.std.proofs.lemmas.Result.{err_from_is_err_and}
-use Rattle.pearl_top.proofs.LineLaws.{line_blank, line_item, line_broken}
+use Rattle.pearl_top.proofs.LineLaws.{line_blank, line_item, line_broken, named}
 use Rattle.pearl_top.proofs.replay.carry_out_line.Goals as goal
 
+pub entry-in-Item-requires-clause-named : goal.entry-in-Item-requires-clause-named
+entry-in-Item-requires-clause-named g c = named _ c.args.reading.now.moment c.in-Item.entry c.read.ensures.fits
+
 pub returns-in-Blank-clause-ok : goal.returns-in-Blank-clause-ok
-returns-in-Blank-clause-ok g c = line_blank _ c.args.line c.args.text.now c.args.machine.now _ c.in-Blank.ensures
+returns-in-Blank-clause-ok g c = line_blank _ c.args.reading.now c.args.text.now c.args.machine.now _ c.in-Blank.ensures.meaning
 
 pub returns-in_ok-entry-in-Item-clause-ok : goal.returns-in_ok-entry-in-Item-clause-ok
 returns-in_ok-entry-in-Item-clause-ok g c =
     let done = c.in_ok-entry-in-Item.ensures.ok in
-    line_item _ c.args.line c.args.text.now c.in-Item.entry c.args.machine.now c.entry.new.self _ _ done.0 c.in-Item.ensures c.entry.ensures.object done.1 done.2
+    line_item _ c.args.reading.now c.args.text.now c.in-Item.entry c.args.machine.now c.entry.new.self _ _ done.0 c.in-Item.ensures.meaning c.entry.ensures.object done.1 done.2
 
 pub returns-in_err-entry-in-Item-clause-err : goal.returns-in_err-entry-in-Item-clause-err
 returns-in_err-entry-in-Item-clause-err g c =
@@ -16,5 +19,5 @@ returns-in_err-entry-in-Item-clause-err g c =
     let p = err_from_is_err_and c.from_residual.result c.from_residual.ensures.1 in
     rw (p.1, p.2) (
       c.in_err-entry-in-Item.ensures.cause,
-      line_broken _ c.args.line c.args.text.now c.in-Item.entry cut.1 c.args.machine.now c.entry.new.self _ _ cut.0 c.in-Item.ensures c.entry.ensures.object cut.2 cut.3,
+      line_broken _ c.args.reading.now c.args.text.now c.in-Item.entry cut.1 c.args.machine.now c.entry.new.self _ _ cut.0 _ c.in-Item.ensures.meaning cut.2 cut.3,
     )

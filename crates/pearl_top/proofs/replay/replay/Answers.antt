@@ -4,11 +4,13 @@ use Rattle.pearl_io.specs.Outside.{CountRose, Takes, TakesFront}
 use Rattle.pearl_io.proofs.Counts.{failed_since}
 use Rattle.pearl_script.specs.declared.refusal.Refusal.TheVariants as refusal
 use Rattle.pearl_top.specs.declared.limits.TheConstants.{JOURNAL_LIMIT}
-use Rattle.pearl_top.specs.Journal.{All, ended_lines, journal_lines}
+use Rattle.pearl_journal.specs.Entries.{All}
+use Rattle.pearl_journal.specs.Lines.{ended_lines, journal_lines}
 use Rattle.pearl_top.specs.JournalDue.{JournalDue}
 use Rattle.pearl_top.proofs.DueLaws.{read_whole_covers, read_long_covers, read_front_covers}
 use Rattle.pearl_top.proofs.Explained.{explained, may_have, explains_whole, explains_long, explains_fault}
-use Rattle.pearl_top.proofs.ReplayEnds.{opening_as, reached, leaves_closed, leaves_cut, leaves_failed, leaves_unclosed, leaves_unopened, leaves_unread}
+use Rattle.pearl_top.proofs.ReplayEnds.{begun_as, opened_as, reached, settled_there, leaves_closed, leaves_cut, leaves_failed, leaves_unclosed, leaves_unopened, leaves_unread}
+use Rattle.pearl_top.proofs.ReplayLaws.{cut_off_front}
 use Rattle.pearl_top.proofs.replay.replay.Goals as goal
 
 pub returns-in_err-begin-clause-ends : goal.returns-in_err-begin-clause-ends
@@ -20,7 +22,7 @@ returns-in_err-begin-clause-ends g c p ready =
       explained held name [],
       may_have held name [],
       rw (e.1, e.2) (leaves_unopened p (explained held name []) rose _ _ _ c.in_err-begin.ensures.cause
-          (subst (TakesFront _ _) (opening_as p _ ready.faithful.tables) c.in_err-begin.ensures.err)),
+          (subst (TakesFront _ _) (opened_as p _ ready) (cut_off_front _ _ _ _ _ c.in_err-begin.ensures.err))),
     )
 
 -- THE JOURNAL WAS READ WHOLE
@@ -35,9 +37,9 @@ returns-in_err-carry_out-in-Whole-clause-ends g c p ready =
     let e = err_from_is_err_and c.from_residual-in_err-carry_out-in-Whole.result c.from_residual-in_err-carry_out-in-Whole.ensures.1 in (
       file,
       may_have held name bytes,
-      rw (e.1, e.2) (leaves_failed p file rose _ _ (journal_lines c.as_slice.result.now) _ _ c.args.machine.now c.carry_out.new.machine _ _ _
-          c.in_err-carry_out-in-Whole.field-0.0 (failed_since _ _ _ _ c.begin.ensures.later) ready
-          (subst (Takes _ _) (opening_as p _ ready.faithful.tables) c.in_ok-begin.ensures.ok)
+      rw (e.1, e.2) (leaves_failed p file rose _ _ (journal_lines c.as_slice.result.now) _ _ c.args.machine.now c.begin.new.self c.carry_out.new.machine _ _ _
+          c.in_err-carry_out-in-Whole.field-0.0 (failed_since _ _ _ _ c.begin.ensures.later) ready (begun_as _ _ c.begin.ensures.same c.in_ok-begin.ensures.all)
+          (subst (Takes _ _) (opened_as p _ ready) c.in_ok-begin.ensures.ok)
           (read_whole_covers p file c.as_slice.result.now bytes rose c.as_slice.ensures.value (explains_whole held name bytes c.in-Whole.ensures.read)
           c.in-Whole.ensures.within)
           c.in_err-carry_out-in-Whole.ensures.err),
@@ -55,11 +57,13 @@ returns-in_err-close-in-Whole-clause-ends g c p ready =
     let e = err_from_is_err_and c.from_residual-in_err-close-in-Whole.result c.from_residual-in_err-close-in-Whole.ensures.1 in (
       file,
       may_have held name bytes,
-      rw (e.1, e.2) (leaves_unclosed p (journal_lines c.as_slice.result.now) c.carry_out.new.machine _ _ _ _ (JournalDue p file rose)
+      rw (e.1, e.2) (leaves_unclosed p (journal_lines c.as_slice.result.now) c.close.new.self _ _ _ _ (JournalDue p file rose)
           (failed_since (g.K.Sink.faults c.args.sink.now) (g.K.Sink.faults c.carry_out.new.sink) _ _
           (omega (arith, c.begin.ensures.later, c.carry_out.ensures.later)) c.in_err-close-in-Whole.ensures.cause)
-          (reached p (journal_lines c.as_slice.result.now) All c.args.machine.now c.carry_out.new.machine _ _ _ ready
-          (subst (Takes _ _) (opening_as p _ ready.faithful.tables) c.in_ok-begin.ensures.ok) c.in_ok-carry_out-in-Whole.ensures.ok)
+          (settled_there p (journal_lines c.as_slice.result.now) All c.carry_out.new.machine c.close.new.self _ _
+          (reached p (journal_lines c.as_slice.result.now) All c.args.machine.now c.begin.new.self c.carry_out.new.machine _ _ _ ready (begun_as _ _ c.begin.ensures.same c.in_ok-begin.ensures.all)
+          (subst (Takes _ _) (opened_as p _ ready) c.in_ok-begin.ensures.ok) c.in_ok-carry_out-in-Whole.ensures.ok)
+          c.close.ensures.object c.close.ensures.handles) c.close.ensures.settled
           c.in_err-close-in-Whole.ensures.err covers.all),
     )
 
@@ -74,9 +78,11 @@ returns-in_ok-close-in-Whole-clause-ends g c p ready =
     c.in-Whole.ensures.within in (
       file,
       may_have held name bytes,
-      leaves_closed p (journal_lines c.as_slice.result.now) c.carry_out.new.machine _ _ _ (JournalDue p file rose)
-          (reached p (journal_lines c.as_slice.result.now) All c.args.machine.now c.carry_out.new.machine _ _ _ ready
-          (subst (Takes _ _) (opening_as p _ ready.faithful.tables) c.in_ok-begin.ensures.ok) c.in_ok-carry_out-in-Whole.ensures.ok)
+      leaves_closed p (journal_lines c.as_slice.result.now) c.close.new.self _ _ _ (JournalDue p file rose)
+          (settled_there p (journal_lines c.as_slice.result.now) All c.carry_out.new.machine c.close.new.self _ _
+          (reached p (journal_lines c.as_slice.result.now) All c.args.machine.now c.begin.new.self c.carry_out.new.machine _ _ _ ready (begun_as _ _ c.begin.ensures.same c.in_ok-begin.ensures.all)
+          (subst (Takes _ _) (opened_as p _ ready) c.in_ok-begin.ensures.ok) c.in_ok-carry_out-in-Whole.ensures.ok)
+          c.close.ensures.object c.close.ensures.handles) c.close.ensures.settled
           c.in_ok-close-in-Whole.ensures.ok covers.all,
     )
 
@@ -92,9 +98,9 @@ returns-in_err-carry_out-in-TooLong-clause-ends g c p ready =
     let e = err_from_is_err_and c.from_residual-in_err-carry_out-in-TooLong.result c.from_residual-in_err-carry_out-in-TooLong.ensures.1 in (
       file,
       may_have held name (bytes ++ 0 ∷ []),
-      rw (e.1, e.2) (leaves_failed p file rose _ _ (ended_lines c.as_slice-in-TooLong.result.now) _ _ c.args.machine.now c.carry_out-in-TooLong.new.machine _ _ _
-          c.in_err-carry_out-in-TooLong.field-0.0 (failed_since _ _ _ _ c.begin.ensures.later) ready
-          (subst (Takes _ _) (opening_as p _ ready.faithful.tables) c.in_ok-begin.ensures.ok)
+      rw (e.1, e.2) (leaves_failed p file rose _ _ (ended_lines c.as_slice-in-TooLong.result.now) _ _ c.args.machine.now c.begin.new.self c.carry_out-in-TooLong.new.machine _ _ _
+          c.in_err-carry_out-in-TooLong.field-0.0 (failed_since _ _ _ _ c.begin.ensures.later) ready (begun_as _ _ c.begin.ensures.same c.in_ok-begin.ensures.all)
+          (subst (Takes _ _) (opened_as p _ ready) c.in_ok-begin.ensures.ok)
           (read_long_covers p file c.as_slice-in-TooLong.result.now bytes rose c.as_slice-in-TooLong.ensures.value
           (explains_long held name bytes JOURNAL_LIMIT c.in-TooLong.ensures.within c.in-TooLong.ensures.read))
           c.in_err-carry_out-in-TooLong.ensures.err),
@@ -112,8 +118,8 @@ returns-in_ok-carry_out-in-TooLong-clause-ends g c p ready =
       file,
       may_have held name (bytes ++ 0 ∷ []),
       leaves_cut p (ended_lines c.as_slice-in-TooLong.result.now) All c.carry_out-in-TooLong.new.machine _ _ (refusal.TooLong (JOURNAL_LIMIT + 1)) (JournalDue p file rose)
-          (reached p (ended_lines c.as_slice-in-TooLong.result.now) All c.args.machine.now c.carry_out-in-TooLong.new.machine _ _ _ ready
-          (subst (Takes _ _) (opening_as p _ ready.faithful.tables) c.in_ok-begin.ensures.ok) c.in_ok-carry_out-in-TooLong.ensures.ok)
+          (reached p (ended_lines c.as_slice-in-TooLong.result.now) All c.args.machine.now c.begin.new.self c.carry_out-in-TooLong.new.machine _ _ _ ready (begun_as _ _ c.begin.ensures.same c.in_ok-begin.ensures.all)
+          (subst (Takes _ _) (opened_as p _ ready) c.in_ok-begin.ensures.ok) c.in_ok-carry_out-in-TooLong.ensures.ok)
           covers.all,
     )
 
@@ -127,9 +133,9 @@ returns-in_err-carry_out-in-Fault-clause-ends g c p ready =
     let e = err_from_is_err_and c.from_residual-in_err-carry_out-in-Fault.result c.from_residual-in_err-carry_out-in-Fault.ensures.1 in (
       file,
       may_have held name bytes,
-      rw (e.1, e.2) (leaves_failed p file rose _ _ (ended_lines c.as_slice-in-Fault.result.now) _ _ c.args.machine.now c.carry_out-in-Fault.new.machine _ _ _
-          c.in_err-carry_out-in-Fault.field-0.0 (failed_since _ _ _ _ c.begin.ensures.later) ready
-          (subst (Takes _ _) (opening_as p _ ready.faithful.tables) c.in_ok-begin.ensures.ok)
+      rw (e.1, e.2) (leaves_failed p file rose _ _ (ended_lines c.as_slice-in-Fault.result.now) _ _ c.args.machine.now c.begin.new.self c.carry_out-in-Fault.new.machine _ _ _
+          c.in_err-carry_out-in-Fault.field-0.0 (failed_since _ _ _ _ c.begin.ensures.later) ready (begun_as _ _ c.begin.ensures.same c.in_ok-begin.ensures.all)
+          (subst (Takes _ _) (opened_as p _ ready) c.in_ok-begin.ensures.ok)
           (read_front_covers p file c.as_slice-in-Fault.result.now bytes rose c.in-Fault.ensures.cause c.as_slice-in-Fault.ensures.value
           (explains_fault held name bytes c.in-Fault.ensures.read) c.in-Fault.ensures.within)
           c.in_err-carry_out-in-Fault.ensures.err),
@@ -147,8 +153,8 @@ returns-in_ok-carry_out-in-Fault-clause-ends g c p ready =
       file,
       may_have held name bytes,
       leaves_cut p (ended_lines c.as_slice-in-Fault.result.now) All c.carry_out-in-Fault.new.machine _ _ refusal.Read (JournalDue p file rose)
-          (reached p (ended_lines c.as_slice-in-Fault.result.now) All c.args.machine.now c.carry_out-in-Fault.new.machine _ _ _ ready
-          (subst (Takes _ _) (opening_as p _ ready.faithful.tables) c.in_ok-begin.ensures.ok) c.in_ok-carry_out-in-Fault.ensures.ok)
+          (reached p (ended_lines c.as_slice-in-Fault.result.now) All c.args.machine.now c.begin.new.self c.carry_out-in-Fault.new.machine _ _ _ ready (begun_as _ _ c.begin.ensures.same c.in_ok-begin.ensures.all)
+          (subst (Takes _ _) (opened_as p _ ready) c.in_ok-begin.ensures.ok) c.in_ok-carry_out-in-Fault.ensures.ok)
           covers.all,
     )
 
@@ -159,5 +165,8 @@ returns-in-NoMemory-clause-ends g c p ready =
     let rose : Type 0 = CountRose (g.S.Shelf.faults c.args.shelf.now name) (g.S.Shelf.faults c.fetch_all.new.shelf name) in (
       explained held name [],
       may_have held name [],
-      leaves_unread p (explained held name []) rose _ _ (subst (Takes _ _) (opening_as p _ ready.faithful.tables) c.in_ok-begin.ensures.ok),
+      leaves_unread p (explained held name []) rose _ _ (subst (Takes _ _) (opened_as p _ ready) c.in_ok-begin.ensures.ok),
     )
+
+pub carry_out-in-Whole-requires-clause-taken : goal.carry_out-in-Whole-requires-clause-taken
+carry_out-in-Whole-requires-clause-taken g c = c.in_ok-begin.ensures.all
