@@ -92,7 +92,7 @@ module _ (numbered : Numbered) (view : View) where
         (along_built (walk_from (meant numbered view name)) selectors none (name_walks (meant numbered view name)))
     primary_built (OfGroup inner place) none = expr_built inner none
     primary_built (shown.OfNow place) none = absurd (none-some place (sym none))
-    primary_built (shown.OfTry name place) none = absurd (none-some place (sym none))
+    primary_built (shown.OfTry name place) none = tt
     primary_built (OfLimit dimension side name selectors ref_place place) none =
         let walk = along numbered view (walk_from (meant numbered view name)) selectors in
         limit_built side (slice_get (open_bounds walk) (dimension_of dimension - 1))

@@ -4,6 +4,8 @@ use Rattle.std.proofs.lemmas.Option.{none-some}
 use Rattle.std.specs.Prelude.{if◌then◌else◌, IfSome}
 use Rattle.std.specs.Option.{option_or}
 use Rattle.pearl_tree.specs.declared.name.Name.{Name}
+use Rattle.pearl_tree.specs.declared.statement.TaskWord.TheVariants.{Suspend, Terminate, Prevent}
+use Rattle.pearl_tree.specs.declared.statement.SemaWord.TheVariants.{Request, Release}
 use Rattle.pearl_tree.specs.Names.{names_of}
 use Rattle.pearl_tree.specs.ShownLiterals.{ShownConst}
 use Rattle.pearl_tree.specs.ShownExpressions.{ShownExpr}
@@ -148,11 +150,17 @@ module _ (numbered : Numbered) where
         joined_built (declared_renewals numbered at.next declarations) (resolve_all numbered at.next within statements)
         (declared_built at.next declarations) (all_built at.next within statements none)
     stmt_built scope at (shown.OfReturn value place) none = (value_built numbered (Within scope) value none, tt)
-    stmt_built scope at (shown.OfActivate start task priority place) none = absurd (none-some place (sym none))
-    stmt_built scope at (shown.OfContinue once task place) none = absurd (none-some place (sym none))
+    stmt_built scope at (shown.OfActivate None task priority place) none =
+        (value_built numbered (Within scope) priority none, tt)
+    stmt_built scope at (shown.OfActivate (Some start) task priority place) none = absurd (none-some place (sym none))
+    stmt_built scope at (shown.OfContinue None task place) none = (tt, tt)
+    stmt_built scope at (shown.OfContinue (Some once) task place) none = absurd (none-some place (sym none))
     stmt_built scope at (shown.OfResume once place) none = absurd (none-some place (sym none))
-    stmt_built scope at (shown.OfOnTask word task place) none = absurd (none-some place (sym none))
-    stmt_built scope at (shown.OfOnSemas word names place) none = absurd (none-some place (sym none))
+    stmt_built scope at (shown.OfOnTask Suspend task place) none = (tt, tt)
+    stmt_built scope at (shown.OfOnTask Terminate task place) none = (tt, tt)
+    stmt_built scope at (shown.OfOnTask Prevent task place) none = absurd (none-some place (sym none))
+    stmt_built scope at (shown.OfOnSemas Request names place) none = (tt, tt)
+    stmt_built scope at (shown.OfOnSemas Release names place) none = (tt, tt)
     stmt_built scope at (shown.OfOnInterrupt word name place) none = absurd (none-some place (sym none))
     stmt_built scope at (shown.OfPut values dation formats place) none =
         (exprs_built numbered (Within scope) (listed values) (listed_none values none), tt)

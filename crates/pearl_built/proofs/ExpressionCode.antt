@@ -95,7 +95,7 @@ module _ (p : PlainProg) (code : List Instr) where
         (arguments_built from (params_of at.0) arguments at.2 at.3 built)
         at.4 at.5 refl
     expr_built from OfNow to at built = absurd built
-    expr_built from (OfTry semaphore) to at built = absurd built
+    expr_built from (OfTry semaphore) to at built = alone code from (instr.Try semaphore) to at.0 at.1 refl
 
     pub all_built : (from : ℕ) (es : PlainExprs) (to : ℕ) → AllAt p code from es to → AreBuiltExprs es →
         BuiltIn code from to

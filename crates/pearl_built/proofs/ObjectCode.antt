@@ -1,5 +1,5 @@
--- The object that a built program becomes has one task, and only built instructions.
-use Rattle.std.specs.Prelude.{◌≡◌, ℕ, zero, suc, ◌+◌, ◌≤◌, ◌<◌, true, List, [], ◌∷◌, length, map, Option, Some, None, slice_get}
+-- The object that a built program becomes has only built instructions.
+use Rattle.std.specs.Prelude.{◌≡◌, ℕ, zero, suc, ◌+◌, ◌-◌, ◌≤◌, ◌<◌, true, List, [], ◌∷◌, length, map, Option, Some, None, slice_get}
 use Rattle.std.specs.List.{AllByRecursion}
 use Rattle.std.proofs.Common.{◌⊎◌, inl, inr, refl, sym, subst, ap, ◌∙◌, arith}
 use Rattle.std.proofs.lemmas.Bool.{cases_lt}
@@ -18,7 +18,7 @@ use Rattle.pearl_meaning.specs.ProgramRuns.{entry_of}
 use Rattle.pearl_gen_expr.specs.Tables.{code_head, head_of, code_entry}
 use Rattle.pearl_gen_expr.specs.ExprCode.{instructions_or_none, code_of}
 use Rattle.pearl_gen_stmt.specs.Generated.{within_program, last_of, IsCode, IsGenerated}
-use Rattle.pearl_built.specs.Built.{AreBuiltStmts, IsBuiltProcedure, IsBuilt}
+use Rattle.pearl_built.specs.Built.{AreBuiltStmts, IsBuiltTask, IsBuiltProcedure, IsBuilt}
 use Rattle.pearl_engine.specs.Built.{is_built, HasOnlyBuilt}
 use Rattle.pearl_built.specs.Laws.{BuiltProgramsHaveBuiltCode}
 use Rattle.pearl_built.proofs.Stretches.{BuiltIn, behind}
@@ -73,8 +73,8 @@ module _ (p : PlainProg) (o : Object) where
     procedures_long : length o.procedures ≡ length p.procedures
     procedures_long = same_length code_head head_of o.procedures p.procedures generated.tables.procedures
 
-    one_task : length o.tasks ≡ 1
-    one_task = same_length code_entry entry_of o.tasks p.tasks generated.tables.tasks ∙ ap length built.alone
+    tasks_long : length o.tasks ≡ length p.tasks
+    tasks_long = same_length code_entry entry_of o.tasks p.tasks generated.tables.tasks
 
     code_built : (number : ℕ) (code : Code) → slice_get (routines o) number ≡ Some code →
         (number < length o.procedures) ⊎ (length o.procedures ≤ number) → HasOnlyBuilt code
@@ -89,14 +89,14 @@ module _ (p : PlainProg) (o : Object) where
         let joined = length-append codes (map (λ (t : Task). t.code) o.tasks) in
         let first = length-map o.procedures (λ (p : Procedure). p.code) in
         let second = length-map o.tasks (λ (t : Task). t.code) in
-        let here : length o.procedures + 0 ≡ number = omega (arith, more, within, joined, first, second, one_task) in
-        let is = subst (λ n. IsCode p o n None built.task.routine End) here
-        (generated.tasks 0 built.task (ap (λ tasks. slice_get tasks 0) built.alone)) in
-        routine_built number None built.task.routine End is built.statements refl code found
+        let t = number - length o.procedures in
+        let one = there p.tasks t (omega (arith, more, within, joined, first, second, tasks_long)) in
+        let here : length o.procedures + t ≡ number = omega (arith, more) in
+        let is = subst (λ n. IsCode p o n None one.0.routine End) here (generated.tasks t one.0 one.1) in
+        routine_built number None one.0.routine End is (each_of_all IsBuiltTask p.tasks t one.0 built.tasks one.1) refl
+        code found
 
 pub object_built : BuiltProgramsHaveBuiltCode
-object_built p o generated built = (
-  all_of_each HasOnlyBuilt (routines o)
-      (λ number code found. code_built p o generated built number code found (cases_lt number (length o.procedures))),
-  one_task p o generated built,
-)
+object_built p o generated built =
+    all_of_each HasOnlyBuilt (routines o)
+    (λ number code found. code_built p o generated built number code found (cases_lt number (length o.procedures)))

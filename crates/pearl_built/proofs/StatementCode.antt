@@ -1,6 +1,6 @@
 -- The code of built statements has only built instructions.
-use Rattle.std.specs.Prelude.{ℕ, zero, suc, ◌+◌, ◌-◌, pos, List, [], ◌∷◌, length, Option, Some, None, IfSome, slice_get}
-use Rattle.std.proofs.Common.{refl, arith}
+use Rattle.std.specs.Prelude.{◌≡◌, ℕ, zero, suc, ◌+◌, ◌-◌, pos, Bool, true, List, [], ◌∷◌, length, Option, Some, None, IfSome, slice_get}
+use Rattle.std.proofs.Common.{Box, Global, refl, ap, ◌∙◌, arith}
 use Rattle.pearl_value.specs.declared.kind.Kind.{Kind}
 use Rattle.pearl_value.specs.declared.cell.Cell.{Cell}
 use Rattle.pearl_value.specs.declared.cell.Cell.TheVariants.{Fixed}
@@ -8,14 +8,37 @@ use Rattle.pearl_value.specs.declared.trap.Trap.TheVariants.{Overflow}
 use Rattle.pearl_program.specs.PlainExpressions.{PlainExpr, PlainVariable, PlainExprs, PlainArguments}
 use Rattle.pearl_program.specs.PlainStatements.{PlainValues, PlainCounter, PlainStmt, OfRenew, OfAssign, OfCallOf, OfIf, OfCase, OfRepeat, OfExit, OfReturn, OfActivate, OfContinue, OfResume, OfSuspend, OfTerminate, OfPrevent, OfRequest, OfRelease, OfEnable, OfDisable, OfTrigger, OfPut, OfGet, OfSend, OfTake, PlainStmts, NoStmts, MoreStmts, PlainBranches, NoBranches, MoreBranches}
 use Rattle.pearl_program.specs.PlainPrograms.{PlainProcedure}
+use Rattle.pearl_instructions.specs.declared.schedule.OnceForm.{OnceForm}
+use Rattle.pearl_instructions.specs.declared.schedule.StartForm.{StartForm}
+use Rattle.pearl_instructions.specs.declared.schedule.StartForm.TheVariants as start
+use Rattle.pearl_instructions.specs.declared.schedule.RepeatForm.{RepeatForm}
+use Rattle.pearl_instructions.specs.declared.schedule.RepeatForm.TheVariants as again
+use Rattle.pearl_instructions.specs.declared.instr.Activation.{Activation}
+use Rattle.pearl_instructions.specs.declared.instr.Continuation.{Continuation}
 use Rattle.pearl_instructions.specs.declared.instr.Instr.{Instr}
 use Rattle.pearl_instructions.specs.declared.instr.Instr.TheVariants as instr
 use Rattle.pearl_meaning.specs.Setting.{Setting, variable_kind, cell_kind}
 use Rattle.pearl_gen_expr.specs.ExprCode.{writing_to}
-use Rattle.pearl_gen_stmt.specs.StmtCode.{StoresAt, RepeatsAt, RenewAt, ConvertedAt, AssignAt, DroppedAt, CallOfAt, CountedAt, LimitAt, BeginsAt, WithinAt, CountsAt, WhileAt, PassedAt, AdvanceAt, ReturnAt, PutAt, StmtAt, StmtsAt, ElseAt, BranchesAt}
+use Rattle.pearl_gen_stmt.specs.StmtCode.{StoresAt, RepeatsAt, RenewAt, ConvertedAt, AssignAt, DroppedAt, CallOfAt, CountedAt, LimitAt, BeginsAt, WithinAt, CountsAt, WhileAt, PassedAt, AdvanceAt, PriorityAt, ActivateAt, ContinueAt, ReturnAt, PutAt, StmtAt, StmtsAt, ElseAt, BranchesAt}
 use Rattle.pearl_built.specs.Built.{IsBuiltExpr, IsBuiltVariable, AreBuiltExprs, AreBuiltArguments, IsBuiltCounter, IsBuiltStmt, AreBuiltStmts, AreBuiltBranches}
+use Rattle.pearl_engine.specs.Built.{is_built}
 use Rattle.pearl_built.proofs.Stretches.{BuiltIn, nothing, both, alone, behind}
 use Rattle.pearl_built.proofs.ExpressionCode.{written_built, const_built, expr_built, all_built, variable_built, call_built}
+
+-- at once, and once
+activation_built : (activation : Box Activation Global) (task : ℕ) (form : StartForm) (how : RepeatForm) (given : Bool) →
+    activation.value ≡ record { task = task; start = form; repeat = how; priority = given } → form ≡ start.Free →
+    how ≡ again.Once → is_built (instr.Activate activation) ≡ true
+activation_built activation task form how given is free once =
+    ap (λ value. is_built (instr.Activate (record activation { value = value })))
+    (is ∙ (λ i. record { task = task; start = free i; repeat = once i; priority = given }))
+
+continuation_built : (continuation : Box Continuation Global) (task : ℕ) (form : Option OnceForm) →
+    continuation.value ≡ record { task = task; once = form } → form ≡ None →
+    is_built (instr.Continue continuation) ≡ true
+continuation_built continuation task form is free =
+    ap (λ value. is_built (instr.Continue (record continuation { value = value })))
+    (is ∙ (λ i. record { task = task; once = free i }))
 
 module _ (setting : Setting) (code : List Instr) where
   -- FIRST VALUES
@@ -139,6 +162,26 @@ module _ (setting : Setting) (code : List Instr) where
   advance_built from top None past at = alone code from (instr.Jump top) past at.0 at.1 refl
   advance_built from top (Some counter) past at = passed_built from top counter counter.end past at
 
+  -- TASKS
+
+  priority_built : (from : ℕ) (priority : Option PlainExpr) (given : Bool) (to : ℕ) →
+      PriorityAt setting code from priority given to → IfSome priority IsBuiltExpr → BuiltIn code from to
+  priority_built from None given to at built = nothing code from to at.1
+  priority_built from (Some e) given to at built = expr_built setting.program code from e to at.1 built
+
+  activate_built : (from task : ℕ) (priority : Option PlainExpr) (to : ℕ) →
+      ActivateAt setting code from task None None priority to → IfSome priority IsBuiltExpr → BuiltIn code from to
+  activate_built from task priority to at built =
+      let none = nothing code from at.4 (at.7.1 ∙ at.6.1) in
+      behind code from at.5 (instr.Activate at.9) to
+      (both code from at.4 at.5 none (priority_built at.4 priority at.2 at.5 at.8 built)) at.11 at.12
+      (activation_built at.9 task at.0 at.1 at.2 at.10 at.6.0 at.7.0)
+
+  continue_built : (from task to : ℕ) → ContinueAt setting code from task None to → BuiltIn code from to
+  continue_built from task to at =
+      behind code from at.1 (instr.Continue at.3) to (nothing code from at.1 at.2.1) at.5 at.6
+      (continuation_built at.3 task at.0 at.4 at.2.0)
+
   -- STATEMENTS
 
   return_built : (from : ℕ) (value : Option PlainExpr) (to : ℕ) → ReturnAt setting code from value to →
@@ -183,14 +226,23 @@ module _ (setting : Setting) (code : List Instr) where
         both code from at.3 to done (advance_built at.3 at.0 counter to at.9)
     stmt_built leave from OfExit to at built = alone code from (instr.Jump at.0) to at.2.0 at.2.1 refl
     stmt_built leave from (OfReturn value) to at built = return_built from value to at built
-    stmt_built leave from (OfActivate task start period priority) to at built = absurd built
-    stmt_built leave from (OfContinue task once) to at built = absurd built
+    stmt_built leave from (OfActivate task None None priority) to at built =
+        activate_built from task priority to at built
+    stmt_built leave from (OfActivate task None (Some period) priority) to at built = absurd built
+    stmt_built leave from (OfActivate task (Some start) period priority) to at built = absurd built
+    stmt_built leave from (OfContinue task None) to at built = continue_built from task to at
+    stmt_built leave from (OfContinue task (Some once)) to at built = absurd built
     stmt_built leave from (OfResume once) to at built = absurd built
-    stmt_built leave from (OfSuspend task) to at built = absurd built
-    stmt_built leave from (OfTerminate task) to at built = absurd built
+    stmt_built leave from (OfSuspend None) to at built = alone code from instr.SuspendOwn to at.0 at.1 refl
+    stmt_built leave from (OfSuspend (Some task)) to at built = alone code from (instr.Suspend task) to at.0 at.1 refl
+    stmt_built leave from (OfTerminate None) to at built = alone code from instr.TerminateOwn to at.0 at.1 refl
+    stmt_built leave from (OfTerminate (Some task)) to at built =
+        alone code from (instr.Terminate task) to at.0 at.1 refl
     stmt_built leave from (OfPrevent task) to at built = absurd built
-    stmt_built leave from (OfRequest semaphores) to at built = absurd built
-    stmt_built leave from (OfRelease semaphores) to at built = absurd built
+    stmt_built leave from (OfRequest semaphores) to at built =
+        alone code from (instr.Request at.0) to at.2.0 at.2.1 refl
+    stmt_built leave from (OfRelease semaphores) to at built =
+        alone code from (instr.Release at.0) to at.2.0 at.2.1 refl
     stmt_built leave from (OfEnable interrupt) to at built = absurd built
     stmt_built leave from (OfDisable interrupt) to at built = absurd built
     stmt_built leave from (OfTrigger interrupt) to at built = absurd built

@@ -1,12 +1,11 @@
--- Which programs are carried out: those of one task that begins with the run, with no statement, and no operand, whose
--- action isn't built yet.
-use Rattle.std.specs.Prelude.{◌≡◌, true, [], ◌∷◌, IfSome}
+-- Which programs are carried out: those with no statement, and no operand, whose action isn't built yet.
+use Rattle.std.specs.Prelude.{None, IfSome}
 use Rattle.std.specs.List.{AllByRecursion}
-use Rattle.pearl_program.specs.PlainExpressions.{PlainExpr, OfLiteral, OfRead, OfMonadic, OfDyadic, OfCall, PlainVariable, OfVariable, PlainExprs, NoExprs, MoreExprs, PlainArgument, OfValue, OfIdent, PlainArguments, NoArguments, MoreArguments}
-use Rattle.pearl_program.specs.PlainStatements.{PlainCounter, PlainStmt, OfRenew, OfAssign, OfCallOf, OfIf, OfCase, OfRepeat, OfExit, OfReturn, OfPut, PlainStmts, NoStmts, MoreStmts, PlainBranches, NoBranches, MoreBranches}
+use Rattle.pearl_program.specs.PlainExpressions.{PlainExpr, OfLiteral, OfRead, OfMonadic, OfDyadic, OfCall, OfTry, PlainVariable, OfVariable, PlainExprs, NoExprs, MoreExprs, PlainArgument, OfValue, OfIdent, PlainArguments, NoArguments, MoreArguments}
+use Rattle.pearl_program.specs.PlainStatements.{PlainCounter, PlainStmt, OfRenew, OfAssign, OfCallOf, OfIf, OfCase, OfRepeat, OfExit, OfReturn, OfActivate, OfContinue, OfSuspend, OfTerminate, OfRequest, OfRelease, OfPut, PlainStmts, NoStmts, MoreStmts, PlainBranches, NoBranches, MoreBranches}
 use Rattle.pearl_program.specs.PlainPrograms.{PlainProcedure, PlainTask, PlainProg}
 
--- the time of day and TRY aren't built
+-- the time of day isn't built
 abbrev mutual
   pub IsBuiltExpr : PlainExpr → Type 0
   IsBuiltExpr (OfLiteral value) = Unit {0}
@@ -14,6 +13,7 @@ abbrev mutual
   IsBuiltExpr (OfMonadic op operand) = IsBuiltExpr operand
   IsBuiltExpr (OfDyadic op left right) = IsBuiltExpr left × IsBuiltExpr right
   IsBuiltExpr (OfCall procedure arguments) = AreBuiltArguments arguments
+  IsBuiltExpr (OfTry semaphore) = Unit {0}
   IsBuiltExpr e = ⊥
 
   pub IsBuiltVariable : PlainVariable → Type 0
@@ -36,7 +36,8 @@ pub record IsBuiltCounter (counter : PlainCounter) : Type 0 where
   pub step : IfSome counter.step IsBuiltExpr
   pub end : IfSome counter.end IsBuiltExpr
 
--- statements on tasks, semaphores and interrupts aren't built, nor are GET, SEND and TAKE
+-- ACTIVATE and CONTINUE are built without a schedule; RESUME, PREVENT, the statements on interrupts, GET, SEND and TAKE
+-- aren't built
 abbrev mutual
   pub IsBuiltStmt : PlainStmt → Type 0
   IsBuiltStmt (OfRenew cell values) = Unit {0}
@@ -50,6 +51,12 @@ abbrev mutual
       IfSome counter IsBuiltCounter × IfSome condition IsBuiltExpr × AreBuiltStmts statements
   IsBuiltStmt OfExit = Unit {0}
   IsBuiltStmt (OfReturn value) = IfSome value IsBuiltExpr
+  IsBuiltStmt (OfActivate task None None priority) = IfSome priority IsBuiltExpr
+  IsBuiltStmt (OfContinue task None) = Unit {0}
+  IsBuiltStmt (OfSuspend task) = Unit {0}
+  IsBuiltStmt (OfTerminate task) = Unit {0}
+  IsBuiltStmt (OfRequest semaphores) = Unit {0}
+  IsBuiltStmt (OfRelease semaphores) = Unit {0}
   IsBuiltStmt (OfPut values device format) = AreBuiltExprs values
   IsBuiltStmt statement = ⊥
 
@@ -64,9 +71,9 @@ abbrev mutual
 abbrev pub IsBuiltProcedure : PlainProcedure → Type 0
 IsBuiltProcedure procedure = AreBuiltStmts procedure.routine.body
 
+abbrev pub IsBuiltTask : PlainTask → Type 0
+IsBuiltTask task = AreBuiltStmts task.routine.body
+
 pub record IsBuilt (p : PlainProg) : Type 0 where
-  pub task : PlainTask
-  pub alone : p.tasks ≡ task ∷ []
-  pub main : task.main ≡ true
-  pub statements : AreBuiltStmts task.routine.body
+  pub tasks : AllByRecursion IsBuiltTask p.tasks
   pub procedures : AllByRecursion IsBuiltProcedure p.procedures

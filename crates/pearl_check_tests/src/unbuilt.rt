@@ -14,56 +14,79 @@ const HEAD: &str = "MODULE;SYSTEM;o:TERMINAL(1);e:INTERRUPT(1);i:INPUT(1);w:OUTP
 
 fn declarations() -> &'static [&'static str] {
     &[
-        "^",
-        "p:PROC;END;^",
-        "t:TASK;END;^",
+        "",
+        "p:PROC;END;",
+        "t:TASK;END;",
         "t:TASK MAIN;END;",
         "t:TASK PRIO 5 MAIN;DCL a FIXED INIT(1);a:=-a;END;",
-        "t:TASK MAIN PRIO 5;END;^u:TASK;END;",
-        "t:TASK;END;p:PROC;END;^u:TASK MAIN;END;v:TASK;END;",
-        "LENGTH FIXED(15);DCL a FIXED;^DCL b FIXED,s SEMA,c FIXED;t:TASK MAIN;END;",
-        "TYPE y STRUCT [n FIXED,u(2) BIT];DCL z(3) y;t:TASK MAIN;END;^DCL s SEMA PRESET(1);",
-        "t:TASK MAIN;END;^u:TASK;SUSPEND;END;DCL s SEMA;",
-        "t:TASK;^SUSPEND;END;",
+        "t:TASK MAIN PRIO 5;END;u:TASK;END;",
+        "t:TASK;END;p:PROC;END;u:TASK MAIN;END;v:TASK PRIO 3;END;w0:TASK PRIO 3 MAIN;END;",
+        "LENGTH FIXED(15);DCL a FIXED;DCL b FIXED,s SEMA,c FIXED;t:TASK MAIN;END;",
+        "TYPE y STRUCT [n FIXED,u(2) BIT];DCL z(3) y;t:TASK MAIN;END;DCL s SEMA PRESET(1);",
+        "DCL (r,s) SEMA PRESET(1,2),a FIXED;",
+        "t:TASK MAIN;END;u:TASK;^PREVENT;END;DCL s SEMA;",
+        "t:TASK;END;p:PROC;^TRIGGER e;END;u:TASK MAIN;DISABLE e;END;",
+        "t:TASK;^ENABLE e;END;",
     ]
 }
 
-fn statements() -> &'static [&'static str] {
+fn task_statements() -> &'static [&'static str] {
     &[
-        "t:TASK MAIN;^ACTIVATE t;END;",
+        "t:TASK MAIN;ACTIVATE t;END;",
+        "t:TASK MAIN;ACTIVATE u PRIO 3;END;u:TASK;END;",
+        "DCL n FIXED INIT(3);t:TASK MAIN;ACTIVATE u PRIO n*2;CONTINUE u;END;u:TASK;SUSPEND;END;",
+        "t:TASK MAIN;SUSPEND t;CONTINUE t;TERMINATE t;SUSPEND;TERMINATE;END;",
         "t:TASK MAIN;^AFTER 1 SEC ALL 1 SEC DURING 9 SEC ACTIVATE t PRIO 3;END;",
+        "t:TASK MAIN;ACTIVATE t PRIO 3;^AFTER 1 SEC ACTIVATE t;END;",
+        "t:TASK MAIN;ACTIVATE t;^AT 8:0:0 ACTIVATE t PRIO 3;END;",
         "t:TASK MAIN;^ALL 1 SEC ACTIVATE t;END;",
-        "t:TASK MAIN;;^CONTINUE t;END;",
+        "t:TASK MAIN;^ALL 1 SEC UNTIL 9:0:0 ACTIVATE t;END;",
+        "t:TASK MAIN;^WHEN e ACTIVATE t;END;",
+        "t:TASK MAIN;^WHEN e AFTER 1 SEC ALL 2 SEC ACTIVATE t;END;",
+        "t:TASK MAIN;;CONTINUE t;^AFTER 1 SEC CONTINUE t;END;",
+        "t:TASK MAIN;^AT NOW CONTINUE t;END;",
         "t:TASK MAIN;^WHEN e CONTINUE t;END;",
         "t:TASK MAIN;^AT NOW RESUME;END;",
-        "t:TASK MAIN;^SUSPEND t;END;",
-        "t:TASK MAIN;^TERMINATE;END;",
-        "t:TASK MAIN;^PREVENT t;END;",
-        "t:TASK MAIN;^REQUEST s;END;DCL s SEMA;",
-        "t:TASK MAIN;^RELEASE s;END;DCL s SEMA;",
-        "t:TASK MAIN;^ENABLE e;END;",
-        "t:TASK MAIN;^DISABLE e;END;",
+        "t:TASK MAIN;SUSPEND;^AFTER 1 SEC RESUME;END;",
+        "t:TASK MAIN;SUSPEND t;^WHEN e RESUME;END;",
+        "t:TASK MAIN;TERMINATE t;^PREVENT t;END;",
+        "t:TASK MAIN;^PREVENT;END;",
+    ]
+}
+
+fn other_statements() -> &'static [&'static str] {
+    &[
+        "t:TASK MAIN;REQUEST s;RELEASE s;END;DCL s SEMA;",
+        "t:TASK MAIN;REQUEST s,r;RELEASE r,s;END;DCL (r,s) SEMA PRESET(1,0);",
+        "t:TASK MAIN;REQUEST s;^ENABLE e;RELEASE s;END;DCL s SEMA;",
+        "t:TASK MAIN;RELEASE s;^DISABLE e;END;DCL s SEMA;",
         "t:TASK MAIN;^TRIGGER e;END;",
         "t:TASK MAIN;DCL a FIXED;PUT a TO o BY F(5);^GET a FROM o BY F(5);END;",
         "t:TASK MAIN;DCL a FIXED;PUT TO o BY SKIP;^TAKE a FROM i;END;",
         "f:PROC(c CLOCK) RETURNS(FIXED);RETURN(1);END;t:TASK MAIN;^SEND f(NOW) TO w;END;",
-        "p:PROC;IF '1'B1 THEN ^DISABLE e;FIN;SUSPEND;END;t:TASK MAIN;SUSPEND;END;",
-        "t:TASK MAIN;IF '0'B1 THEN ELSE BEGIN REPEAT EXIT;^SUSPEND;END;END;FIN;TERMINATE;END;",
-        "t:TASK MAIN;CASE 1 ALT ALT BEGIN END;ALT FOR k TO 3 REPEAT ^SUSPEND;END;OUT TERMINATE;FIN;END;",
-        "t:TASK MAIN;CASE 1 ALT OUT ^TERMINATE;FIN;SUSPEND;END;",
+        "p:PROC;IF '1'B1 THEN SUSPEND;ELSE ^DISABLE e;FIN;PREVENT;END;t:TASK MAIN;PREVENT;END;",
+        "t:TASK MAIN;IF '0'B1 THEN ELSE BEGIN REPEAT EXIT;^PREVENT;END;END;FIN;PREVENT t;END;",
+        "t:TASK MAIN;CASE 1 ALT ALT BEGIN END;ALT FOR k TO 3 REPEAT ^PREVENT;END;OUT TRIGGER e;FIN;END;",
+        "t:TASK MAIN;CASE 1 ALT TERMINATE;OUT ^PREVENT;FIN;TRIGGER e;END;",
+        "p:PROC;REPEAT REQUEST s;IF TRY s THEN EXIT;ELSE CONTINUE t;FIN;END;END;DCL s SEMA;\
+            t:TASK MAIN;CASE 1 ALT BEGIN SUSPEND;END;OUT ACTIVATE t;FIN;CALL p;END;",
     ]
 }
 
 fn operands() -> &'static [&'static str] {
     &[
-        "DCL c CLOCK;t:TASK MAIN;c:=(^NOW+1 SEC);SUSPEND;END;",
-        "t:TASK MAIN;IF NOT ^TRY s THEN TERMINATE;FIN;END;DCL s SEMA;",
-        "t:TASK MAIN;WHILE 1:0:0 LT ^NOW AND TRY s REPEAT SUSPEND;END;END;DCL s SEMA;",
+        "DCL c CLOCK;t:TASK MAIN;c:=(^NOW+1 SEC);PREVENT;END;",
+        "t:TASK MAIN;IF NOT TRY s THEN TERMINATE;FIN;END;DCL s SEMA;",
+        "t:TASK MAIN;IF NOT TRY s THEN ^PREVENT;FIN;END;DCL s SEMA;",
+        "t:TASK MAIN;PUT TRY s,TRY r TO o BY B,B;WHILE TRY s REPEAT SUSPEND;END;END;DCL (r,s) SEMA;",
+        "t:TASK MAIN;WHILE TRY s AND 1:0:0 LT ^NOW REPEAT PREVENT;END;END;DCL s SEMA;",
         "t:TASK MAIN;WHILE '1'B1 REPEAT IF 1 SEC LT ^NOW-NOW THEN FIN;END;END;",
         "p:PROC RETURNS(CLOCK);RETURN(^NOW);END;t:TASK MAIN;END;",
         "p:PROC(c CLOCK);END;t:TASK MAIN;CALL p(1:0:0);CALL p(^NOW);END;",
         "t:TASK MAIN;PUT 1,^NOW TO o BY F(3),T(8);END;",
-        "f:PROC(c CLOCK) RETURNS(FIXED);RETURN(1);END;t:TASK MAIN;CASE f(^NOW) ALT SUSPEND;FIN;END;",
+        "f:PROC(c CLOCK) RETURNS(FIXED);RETURN(1);END;t:TASK MAIN;CASE f(^NOW) ALT PREVENT;FIN;END;",
+        "f:PROC(c CLOCK) RETURNS(FIXED);RETURN(1);END;t:TASK MAIN;\
+            ACTIVATE t PRIO f(1:0:0);ACTIVATE t PRIO f(^NOW);END;",
         "f:PROC(c CLOCK) RETURNS(FIXED);RETURN(1);END;t:TASK MAIN;\
             DCL a(9) FIXED;a(f(1:0:0)):=1;a(f(^NOW)):=f(NOW);END;",
         "f:PROC(c CLOCK) RETURNS(FIXED);RETURN(1);END;t:TASK MAIN;\
@@ -101,7 +124,12 @@ fn difference(alloc: Global, case: &str) -> Result<String, AllocError> {
 
 #[test]
 fn the_first_unbuilt_form_is_told(rt: HostRuntime) -> Result<(), Fail> {
-    for cases in [declarations(), statements(), operands()] {
+    for cases in [
+        declarations(),
+        task_statements(),
+        other_statements(),
+        operands(),
+    ] {
         for &case in cases {
             let found = difference(rt.alloc(), case)?;
             assert_eq!(rt; found.as_str(), "", "{case}");

@@ -1,6 +1,6 @@
 -- A built instruction offers a built action, or none.
 use Rattle.std.proofs.Common.{◌≡◌, ℕ, zero, suc, ◌+◌, ℤ, pos, negsuc, ◌+ℤ◌, Bool, true, false, List, [], ◌∷◌, Option, Some, None, slice_get, refl, sym, subst}
-use Rattle.std.specs.Prelude.{◌==◌, if◌then◌else◌, nat_lt, nat_le, length, Result, Ok, Err, option_and_then}
+use Rattle.std.specs.Prelude.{◌==◌, if◌then◌else◌, ◌&&◌, int_le, nat_lt, nat_le, length, Result, Ok, Err, option_and_then}
 use Rattle.std.specs.List.{AllByRecursion}
 use Rattle.std.specs.Ordering.{int_eq}
 use Rattle.std.proofs.lemmas.Option.{same_Some}
@@ -13,20 +13,28 @@ use Rattle.pearl_value.specs.declared.trap.Trap.TheVariants.{Index as IndexTrap}
 use Rattle.pearl_value.specs.Conversions.{fits_fixed}
 use Rattle.pearl_stack.specs.Frames.{Frame, cell_at, with_cell}
 use Rattle.pearl_instructions.specs.declared.instr.Instr.{Instr}
-use Rattle.pearl_instructions.specs.declared.instr.Instr.TheVariants.{Const, Load, Store, Fill, Drop, Conv, Index, LoadAt, StoreAt, Read, Write, ReadAt, WriteAt, RefSlot, RefSlotAt, RefCell, RefCellAt, ReadRef, WriteRef, Jump, JumpZero, Case, Turn, Call, Return, End, Trap as TrapOf, Within, Advance, NonZero, Monadic, Dyadic, Put}
+use Rattle.pearl_instructions.specs.declared.instr.Instr.TheVariants.{Const, Load, Store, Fill, Drop, Conv, Index, LoadAt, StoreAt, Read, Write, ReadAt, WriteAt, RefSlot, RefSlotAt, RefCell, RefCellAt, ReadRef, WriteRef, Jump, JumpZero, Case, Turn, Call, Return, End, Trap as TrapOf, Within, Advance, NonZero, Monadic, Dyadic, Request, Release, Try, Activate, Continue, Suspend, Terminate, SuspendOwn, TerminateOwn, Put}
 use Rattle.pearl_instructions.specs.declared.object.Code.{Code}
 use Rattle.pearl_instructions.specs.declared.object.Object.{Object}
 use Rattle.pearl_instructions.specs.Objects.{routines, result_of, items_at}
-use Rattle.pearl_instructions.specs.Steps.{value_kind, Step, Silent, Offers, Missing, given, needed, popped, taken, next, leaves, traps, makes, within}
+use Rattle.pearl_rules.specs.declared.action.Action.TheVariants as action
+use Rattle.pearl_rules.specs.declared.action.Start.TheVariants as start
+use Rattle.pearl_rules.specs.declared.action.Repeat.TheVariants as repeat
+use Rattle.pearl_instructions.specs.Steps.{value_kind, Step, Silent, Offers, Missing, given, needed, popped, taken, next, leaves, traps, acts, makes, within}
 use Rattle.pearl_value.specs.Rows.{row1, row2}
 use Rattle.pearl_format.specs.Items.{data_count}
 use Rattle.pearl_format.specs.Texts.{text_of}
 use Rattle.pearl_instructions.specs.Operators.{suits_kind, numbers_of, number_of, offset_of, index_of}
 use Rattle.pearl_instructions.specs.Cells.{read_reference, write_reference}
 use Rattle.pearl_instructions.specs.Flow.{jump_zero, goes_or_on, target_of, branch, loop_cells, returned, returns}
-use Rattle.pearl_instructions.specs.Offers.{put_text, value_kinds, items_suit}
+use Rattle.pearl_instructions.specs.declared.schedule.OnceForm.{OnceForm}
+use Rattle.pearl_instructions.specs.declared.schedule.StartForm.{StartForm}
+use Rattle.pearl_instructions.specs.declared.schedule.StartForm.TheVariants as form
+use Rattle.pearl_instructions.specs.declared.schedule.RepeatForm.{RepeatForm}
+use Rattle.pearl_instructions.specs.declared.schedule.RepeatForm.TheVariants as again
+use Rattle.pearl_instructions.specs.Offers.{put_text, value_kinds, items_suit, started, repeated, with_priority, start_or_free, start_kinds, repeat_kinds, activation_count}
 use Rattle.pearl_instructions.specs.Rows.{act, instr_at, row}
-use Rattle.pearl_engine.specs.Built.{IsBuilt, is_built, HasOnlyBuilt}
+use Rattle.pearl_engine.specs.Built.{IsBuilt, is_free, is_once, is_now, is_built, HasOnlyBuilt}
 use Rattle.pearl_engine.specs.Laws.{OffersBuilt}
 
 abbrev Builds : Step → Type 0
@@ -118,6 +126,25 @@ on_put : (device : ℕ) (text : Option (List ℕ)) (f : Frame) (lower : List Fra
 on_put device None f lower left = (record { on = tt })
 on_put device (Some text) f lower left = (record { on = tt })
 
+on_urgent : (task : ℕ) (is_given : Bool) (values left : List Cell) (f : Frame) (lower : List Frame) →
+    On (with_priority is_given values f lower (λ priority. acts (action.Activate task start.Free repeat.Once priority) f lower left))
+on_urgent task false values left f lower = (record { on = tt })
+on_urgent task true (Fixed len value ∷ values) left f lower = on_if (int_le (pos 1) value && int_le value (pos 255)) _ _ (record { on = tt }) (record { on = tt })
+on_urgent task true values left f lower = (record { on = tt })
+
+on_start : (task : ℕ) (when : StartForm) (how : RepeatForm) (is_given : Bool) (values left : List Cell) (f : Frame) (lower : List Frame) →
+    (is_free when && is_once how) ≡ true →
+    On (started when values f lower (λ begin more. repeated how more f lower (λ again rest. with_priority is_given rest f lower
+    (λ priority. acts (action.Activate task begin again priority) f lower left))))
+on_start task form.Free again.Once is_given values left f lower built = on_urgent task is_given values left f lower
+on_start task form.Free how is_given values left f lower built = cc
+on_start task when how is_given values left f lower built = cc
+
+on_continue : (task : ℕ) (once : Option OnceForm) (values left : List Cell) (f : Frame) (lower : List Frame) → is_now once ≡ true →
+    On (started (start_or_free once) values f lower (λ when rest. acts (action.Continue task when) f lower left))
+on_continue task None values left f lower built = (record { on = tt })
+on_continue task (Some when) values left f lower built = cc
+
 on_act : (o : Object) (instr : Instr) (f : Frame) (lower : List Frame) → is_built instr ≡ true → On (act o instr f lower)
 on_act o (Const x) f lower built = (record { on = tt })
 on_act o (Load c) f lower built = on_given (slice_get f.cells c) _ (λ x. (record { on = tt }))
@@ -155,6 +182,15 @@ on_act o NonZero f lower built = on_popped f.operands _ (λ x left. on_given (nu
 on_act o (Monadic op) f lower built = on_popped f.operands _ (λ x left. on_given (option_and_then (row1 op) (value_kind x)) _ (λ kind. on_makes f lower left _))
 on_act o (Dyadic op) f lower built =
     on_popped f.operands _ (λ y more. on_popped more _ (λ x left. on_given (value_kind x) _ (λ a. on_given (value_kind y) _ (λ b. on_given (row2 op a b) _ (λ kind. on_makes f lower left _)))))
+on_act o (Request semaphores) f lower built = (record { on = tt })
+on_act o (Release semaphores) f lower built = (record { on = tt })
+on_act o (Try semaphore) f lower built = (record { on = tt })
+on_act o (Activate a) f lower built = on_taken (activation_count a.value) f.operands _ (λ values left. on_start a.value.task a.value.start a.value.repeat a.value.priority values left f lower built)
+on_act o (Continue c) f lower built = on_taken (length (start_kinds (start_or_free c.value.once))) f.operands _ (λ values left. on_continue c.value.task c.value.once values left f lower built)
+on_act o (Suspend t) f lower built = (record { on = tt })
+on_act o (Terminate t) f lower built = (record { on = tt })
+on_act o SuspendOwn f lower built = (record { on = tt })
+on_act o TerminateOwn f lower built = (record { on = tt })
 on_act o (Put d format) f lower built =
     on_given (items_at o format) _ (λ items. on_taken (data_count items) f.operands _ (λ values left. on_given (value_kinds values) _ (λ kinds. on_needed (items_suit items kinds) _ (on_put d (text_of items values) f lower left))))
 on_act o instr f lower built = cc

@@ -34,7 +34,7 @@ use Rattle.pearl_gen_expr.specs.Carrying.{End, Carries}
 use Rattle.pearl_gen_expr.specs.Tables.{plain_leaf, HasTables}
 use Rattle.pearl_gen_expr.specs.ExprCode.{code_of, Is, writing}
 use Rattle.pearl_gen_expr.specs.Ends.{done, offset_operands}
-use Rattle.pearl_gen_expr.proofs.Moves.{frame_at, RowMeets, offered_from, heard_from, instr_carries, missing_meets, silent_meets, given_meets}
+use Rattle.pearl_gen_expr.proofs.Moves.{frame_at, RowMeets, offered_from, ends_here, heard_meets, instr_carries, missing_meets, silent_meets, given_meets}
 use Rattle.pearl_gen_expr.proofs.Tables.{leaf_is}
 use Rattle.pearl_gen_expr.proofs.Cells.{callers_are, stack_long}
 use Rattle.pearl_gen_expr.proofs.Elements.{FitsLeaf, chosen}
@@ -110,7 +110,9 @@ module _ (o : Object) (c : Context) (place : ℕ) where
       RowMeets o c (done c (place + 1) left) (f ∷ lower) (acts offered f lower left) rest (does (record { task = task; frames = cells ∷ more }) rest)
   acts_meets operands left cells more task offered [] is e = offered_from o offered (λ answer. frame_at c (place + 1) left cells ∷ stack c.callers more)
   acts_meets operands left cells more task offered (answer ∷ rest) is e =
-      λ a on. heard_from o offered (λ answer. frame_at c (place + 1) left cells ∷ stack c.callers more) answer rest a (on (record { of = tt; cells = is; fewer = omega arith }))
+      let lower = stack c.callers more in let store : Store = record { task = task; frames = cells ∷ more } in
+      heard_meets o c (done c (place + 1) left) (frame_at c place operands cells ∷ lower) offered (λ answer. frame_at c (place + 1) left cells ∷ lower) answer rest (Value tt store rest)
+      (ends_here o c (done c (place + 1) left) tt store rest tt is) e
 
   -- what the variable holds to which a reference leads is this
   pub write_ref : (r x : Cell) (operands : List Cell) → Is (code_of o c.routine) place instr.WriteRef →

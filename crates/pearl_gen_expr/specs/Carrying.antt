@@ -1,13 +1,12 @@
 -- When code does what a part of a program means.
-use Rattle.std.specs.Prelude.{◌≤◌, List, length}
-use Rattle.pearl_rules.specs.declared.action.Action.{Action}
+use Rattle.std.specs.Prelude.{◌≡◌, ◌≤◌, List, length}
 use Rattle.pearl_rules.specs.declared.action.Action.TheVariants as action
 use Rattle.pearl_rules.specs.declared.action.Answer.{Answer}
 use Rattle.pearl_stack.specs.Frames.{Frame}
 use Rattle.pearl_instructions.specs.declared.object.Object.{Object}
 use Rattle.pearl_meaning.specs.Frames.{Store}
 use Rattle.pearl_meaning.specs.Evaluation.{Outcome, Value, Needs, Fails, Does}
-use Rattle.pearl_gen_expr.specs.Comes.{Comes}
+use Rattle.pearl_gen_expr.specs.Comes.{Aim, offers, or_lost, Comes}
 use Rattle.pearl_gen_expr.specs.Contexts.{Context, IsStoreOf}
 
 -- Where the code of a part ends: with which stack for each value that the part gives, and for which values at all.
@@ -21,14 +20,25 @@ pub record Arrived (o : Object) (c : Context) {X : Type 0} (end : End X) (rest :
   pub cells : IsStoreOf o c store
   pub fewer : length left ≤ length rest
 
--- To whatever action the code comes from the part's end on, over the answers that are left, to that it comes from here. Where the part
--- needs an answer or fails, it comes to what is needed, or to the trap.
-abbrev pub Meets : (o : Object) (c : Context) {X : Type 0} (end : End X) (from : List Frame) (rest : List Answer) → Outcome X → Type 0
-Meets o c end from rest (Value x store left) =
-    (action : Action) → (Arrived o c end rest x store left → Comes o (end.stack x store) left action) → Comes o from rest action
-Meets o c end from rest (Needs action) = Comes o from rest action
-Meets o c end from rest (Fails trap) = Comes o from rest (action.Trap trap)
+-- this stack, with these answers left: that of the part's end
+pub record IsEnd (o : Object) (c : Context) {X : Type 0} (end : End X) (rest : List Answer) (x : X) (store : Store) (left : List Answer)
+    (frames : List Frame) (others : List Answer) : Type 0 where
+  pub stack : frames ≡ end.stack x store
+  pub answers : others ≡ left
+  pub arrived : Arrived o c end rest x store left
 
--- from this stack on the code does what is meant, whatever the cells hold and whatever is answered
+-- What the code of a part is to come to over these answers: the part's end where the part gives a value, what it needs where it needs an
+-- answer, and else the trap.
+abbrev pub meant : (o : Object) (c : Context) {X : Type 0} (end : End X) (rest : List Answer) → Outcome X → Aim
+meant o c end rest (Value x store left) =
+    record { Reached = λ frames others. IsEnd o c end rest x store left frames others; Offered = λ action. ⊥; Lost = ⊥ }
+meant o c end rest (Needs action) = offers action
+meant o c end rest (Fails trap) = offers (action.Trap trap)
+
+-- it comes there, or to where there is no row
+abbrev pub Meets : (o : Object) (c : Context) {X : Type 0} (end : End X) (from : List Frame) (rest : List Answer) → Outcome X → Type 0
+Meets o c end from rest m = Comes o from rest (or_lost (meant o c end rest m))
+
+-- from this stack on the code does what is meant, or comes to where there is no row, whatever the cells hold and whatever is answered
 pub record Carries (o : Object) (c : Context) {X : Type 0} (end : End X) (from : Store → List Frame) (does : Does X) : Type 0 where
   pub over : (store : Store) (rest : List Answer) → IsStoreOf o c store → Meets o c end (from store) rest (does store rest)

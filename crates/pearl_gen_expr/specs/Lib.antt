@@ -1,4 +1,4 @@
--- to which action code comes over some answers
+-- to what code comes over some answers: to a stack, to an action, or to where there is no row
 pub mod Comes
 -- where a task stands, apart from what its cells hold
 pub mod Contexts

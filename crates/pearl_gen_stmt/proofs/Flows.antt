@@ -25,7 +25,7 @@ use Rattle.pearl_gen_expr.specs.Contexts.{Standing, stack, Context, at, back, lo
 use Rattle.pearl_gen_expr.specs.Carrying.{End, Carries}
 use Rattle.pearl_gen_expr.specs.ExprCode.{code_of, Is}
 use Rattle.pearl_gen_expr.specs.Ends.{IsResult, IsFlow, ways}
-use Rattle.pearl_gen_expr.proofs.Moves.{offered_from, heard_from, stopped, frame_at, RowMeets, gives_carries, instr_carries, missing_meets, silent_meets}
+use Rattle.pearl_gen_expr.proofs.Moves.{stopped_from, frame_at, RowMeets, gives_carries, instr_carries, missing_meets, silent_meets}
 use Rattle.pearl_gen_stmt.proofs.Single.{asked_meets, silent_carries, ask_carries}
 
 -- THE OWN TASK
@@ -81,8 +81,7 @@ module _ (o : Object) (c : Context) where
 
     -- one after which nothing more is heard
     stopped_meets : (frames : List Frame) (offered : Action) (rest : List Answer) → RowMeets o c Ending frames (Offers offered (λ answer. frames)) rest (Needs offered)
-    stopped_meets frames offered [] e = offered_from o offered (λ answer. frames)
-    stopped_meets frames offered (answer ∷ rest) e = heard_from o offered (λ answer. frames) answer rest offered (stopped o frames rest offered e)
+    stopped_meets frames offered rest e = stopped_from o frames rest offered e
 
     pub stop_own_carries : (place : ℕ) → Is (code_of o c.routine) place instr.TerminateOwn →
         Carries o c Ending (at c place []) (bind the_task (λ task. stop (action.Terminate task)))

@@ -57,16 +57,15 @@ use Rattle.pearl_gen_expr.specs.Tables.{HasTables}
 use Rattle.pearl_gen_expr.specs.ExprCode.{code_of, Is}
 use Rattle.pearl_gen_expr.specs.Ends.{on_top, done, offset_on_top, ways}
 use Rattle.pearl_gen_expr.specs.Laws.{CodeCarries}
-use Rattle.pearl_gen_expr.proofs.Moves.{frame_at, RowMeets, bind_carries, gives_carries, instr_carries, same_carries, missing_meets, silent_meets, stops_meets, given_meets, needed_meets}
+use Rattle.pearl_gen_expr.proofs.Moves.{frame_at, RowMeets, bind_carries, gives_carries, instr_carries, same_carries, missing_meets, silent_meets, stops_meets, given_meets, needed_meets, goes_meets, row_within}
 use Rattle.pearl_gen_expr.proofs.Tables.{leaf_is, slots_are}
 use Rattle.pearl_gen_expr.proofs.Expressions.{parted}
 use Rattle.pearl_gen_expr.proofs.Writing.{own_written, acts_meets, write_ref}
 use Rattle.pearl_gen_stmt.specs.StmtCode.{writing_at, FoundAt, KeptAt, FilledAt, WrittenAt}
-use Rattle.pearl_gen_stmt.proofs.Single.{more_cells, goes_meets, asked_meets, const_carries, store_carries, load_carries}
+use Rattle.pearl_gen_stmt.proofs.Single.{more_cells, asked_meets, const_carries, store_carries, load_carries}
 use Rattle.pearl_gen_stmt.proofs.Flows.{normal_carries}
 use Rattle.pearl_gen_stmt.proofs.Renewals.{put_in, put_long, put_none, put_more}
 use Rattle.pearl_gen_stmt.proofs.Counters.{then_gives}
-use Rattle.pearl_gen_stmt.proofs.Turning.{at_row}
 use Rattle.pearl_gen_stmt.proofs.Statements.{GetsCarry}
 
 -- what lies in an element, which an offset finds; a parameter with IDENT does not
@@ -153,7 +152,7 @@ module _ (o : Object) (c : Context) (setting : Setting) where
       (subst (λ cells. Meets o c end (at c to [] (record { task = task; frames = cells ∷ more })) rest m) (put_none cell cells) meets)
   filled_meets end task more rest m (of ∷ kinds) from to cell cells code meets =
       let f = frame_at c from [] cells in let lower = stack c.callers more in
-      at_row o c end from [] cells lower (instr.Fill cell 1 of) rest m code.0
+      row_within o c c end from [] cells lower (instr.Fill cell 1 of) rest m code.0
       (needed_meets o c end (f ∷ lower) (nat_le (cell + 1) (length cells)) (Silent (frame_at c (from + 1) [] (filled cells cell 1 of) ∷ lower)) rest m (λ fits.
       let less : cell + 1 ≤ length cells = leb-true (cell + 1) (length cells) fits in
       let old = slice_get-get_or cells cell (blank_of of) (omega (arith, less)) in
@@ -411,7 +410,7 @@ module _ (o : Object) (c : Context) (setting : Setting) where
         let ending = ways c to leave setting.result in let f = frame_at c end [] all in let lower = stack c.callers more in
         let m = bind (ask (action.Get device format (record { items = kinds }))) (heard_then cell targets) store rest in
         filled_meets ending task more rest m kinds from end cell cells fills
-        (at_row o c ending end [] all lower (instr.Get reading) rest m reads
+        (row_within o c c ending end [] all lower (instr.Get reading) rest m reads
         (subst (λ reading. RowMeets o c ending (f ∷ lower) (get_values o reading f lower) rest m) (sym is)
         (get_meets targets kinds device format cell end to leave formats count writes task cells more rest
         (more_cells all of (put_long cell (map blank_of kinds) cells)))))

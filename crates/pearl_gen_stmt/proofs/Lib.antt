@@ -11,7 +11,9 @@ pub mod Procedures
 pub mod Named
 pub mod Tasks
 pub mod Heard
+pub mod Arriving
 pub mod Offering
+pub mod Parts
 mod Example
 mod Settling
 mod Keeping

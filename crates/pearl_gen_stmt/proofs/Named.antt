@@ -38,7 +38,7 @@ module _ (around : Around) where
   control_there (OfVariable (Param cell) bounds subscripts) kind is = absurd is
 
   mutual
-    expr_there : (e : PlainExpr) (kind : Kind) → HasKind around e kind → There (of_expr calls e)
+    pub expr_there : (e : PlainExpr) (kind : Kind) → HasKind around e kind → There (of_expr calls e)
     expr_there (OfLiteral value) kind has = omega arith
     expr_there (OfRead variable) kind (inl is) = let less = variable_there variable kind is in omega (arith, less)
     expr_there (OfRead variable) kind (inr is) = let less = control_there variable kind is in omega (arith, less)
@@ -50,7 +50,7 @@ module _ (around : Around) where
     expr_there OfNow kind has = omega arith
     expr_there (OfTry semaphore) kind has = omega arith
 
-    variable_there : (variable : PlainVariable) (kind : Kind) → IsVariable around variable kind → There (of_variable calls variable)
+    pub variable_there : (variable : PlainVariable) (kind : Kind) → IsVariable around variable kind → There (of_variable calls variable)
     variable_there (OfVariable (Leaf number) bounds subscripts) kind is = subscripts_there subscripts bounds is.2
     variable_there (OfVariable (Own cell) bounds subscripts) kind is = subscripts_there subscripts bounds is.2
     variable_there (OfVariable (Param cell) bounds subscripts) kind is = param_there (slice_get around.cells cell) bounds subscripts kind is
@@ -67,7 +67,7 @@ module _ (around : Around) where
     argument_there (OfIdent variable) (Plain to) suits = absurd suits
     argument_there (OfIdent variable) (RefTo to) suits = let less = variable_there variable to suits in omega (arith, less)
 
-    arguments_there : (handed : PlainArguments) (params : List CellKind) → Suit around params handed → There (of_arguments calls handed)
+    pub arguments_there : (handed : PlainArguments) (params : List CellKind) → Suit around params handed → There (of_arguments calls handed)
     arguments_there NoArguments params suit = omega arith
     arguments_there (MoreArguments argument rest) [] suit = absurd suit
     arguments_there (MoreArguments argument rest) (param ∷ params) suit =

@@ -39,7 +39,7 @@ use Rattle.pearl_gen_expr.specs.Tables.{HasTables, Head, head_of, code_head}
 use Rattle.pearl_gen_expr.specs.ExprCode.{code_of, Is}
 use Rattle.pearl_gen_expr.specs.Ends.{IsResult, result_on_top, flow_stack, IsFlow, ways}
 use Rattle.pearl_gen_expr.specs.Calls.{CallsCarry}
-use Rattle.pearl_gen_expr.proofs.Moves.{by_row, row_is, frame_at, RowMeets, gives_carries, instr_carries, silent_meets, stops_meets, given_meets, needed_meets}
+use Rattle.pearl_gen_expr.proofs.Moves.{by_row, row_is, frame_at, RowMeets, gives_carries, instr_carries, silent_meets, stops_meets, given_meets, needed_meets, bind_within, row_within}
 use Rattle.pearl_gen_expr.proofs.Index.{taken_is, dropped_is}
 use Rattle.pearl_gen_expr.proofs.Tables.{each}
 use Rattle.pearl_gen_expr.proofs.Whole.{expressions_carry}
@@ -92,36 +92,7 @@ smaller (other ∷ procedures) first zero procedure all is =
 smaller (other ∷ procedures) first (suc n) procedure all is =
     let less = smaller procedures (first + 1) n procedure all.1 is in omega (arith, less)
 
--- what is found in a called routine, and then in its caller
-pub bind_within : (o : Object) (inner outer : Context) {X Y : Type 0} (middle : End X) (end : End Y) (from : List Frame) (rest : List Answer) (m : Outcome X) (go : X → Does Y) →
-    Meets o inner middle from rest m →
-    ((x : X) (store : Store) (left : List Answer) → Arrived o inner middle rest x store left → Meets o outer end (middle.stack x store) left (go x store left)) →
-    Meets o outer end from rest (on_value m go)
-bind_within o inner outer middle end from rest (Value x store left) go first on = by (go x store left) (on x store left)
-  where
-    by : (m : Outcome _) → (Arrived o inner middle rest x store left → Meets o outer end (middle.stack x store) left m) → Meets o outer end from rest m
-    by (Value y after last) on = λ a k. first a (λ here. on here a (λ there.
-        let less = here.fewer in let fewer = there.fewer in k (record { of = there.of; cells = there.cells; fewer = omega (arith, fewer, less) })))
-    by (Needs a) on = first a on
-    by (Fails trap) on = first (action.Trap trap) on
-bind_within o inner outer middle end from rest (Needs a) go first on = first
-bind_within o inner outer middle end from rest (Fails trap) go first on = first
-
--- what the row of an instruction of another routine meets
-row_within : (o : Object) (inner outer : Context) {X : Type 0} (end : End X) (place : ℕ) (operands cells : List Cell) (lower : List Frame) (instr : Instr) (rest : List Answer) (m : Outcome X) →
-    Is (code_of o inner.routine) place instr → RowMeets o outer end (frame_at inner place operands cells ∷ lower) (act o instr (frame_at inner place operands cells) lower) rest m →
-    Meets o outer end (frame_at inner place operands cells ∷ lower) rest m
-row_within o inner outer end place operands cells lower instr rest (Value x store left) is meets =
-    let f = frame_at inner place operands cells in let e : row o (f ∷ lower) ≡ act o instr f lower = row_is o inner place operands cells lower instr is in
-    λ a on. by_row o (f ∷ lower) (act o instr f lower) rest a e (meets e a on)
-row_within o inner outer end place operands cells lower instr rest (Needs a) is meets =
-    let f = frame_at inner place operands cells in let e : row o (f ∷ lower) ≡ act o instr f lower = row_is o inner place operands cells lower instr is in
-    by_row o (f ∷ lower) (act o instr f lower) rest a e (meets e)
-row_within o inner outer end place operands cells lower instr rest (Fails trap) is meets =
-    let f = frame_at inner place operands cells in let e : row o (f ∷ lower) ≡ act o instr f lower = row_is o inner place operands cells lower instr is in
-    by_row o (f ∷ lower) (act o instr f lower) rest (action.Trap trap) e (meets e)
-
-in_list : {X : Type 0} (xs : List X) (n : ℕ) (x : X) → slice_get xs n ≡ Some x → n < length xs
+pub in_list : {X : Type 0} (xs : List X) (n : ℕ) (x : X) → slice_get xs n ≡ Some x → n < length xs
 in_list [] n x is = cc
 in_list (y ∷ xs) zero x is = omega arith
 in_list (y ∷ xs) (suc n) x is = let less = in_list xs n x is in omega (arith, less)
@@ -139,10 +110,10 @@ module _ (p : PlainProg) (o : Object) (sound : IsSound p) (generated : IsGenerat
     heads : code_head found ≡ head_of procedure
     heads = same_head p o generated.tables number procedure found there here
 
-    its_cells : cell_kinds o number ≡ procedure.routine.cells
+    pub its_cells : cell_kinds o number ≡ procedure.routine.cells
     its_cells = ap cells_or_none (procedure_routine o number found here) ∙ ap (λ (head : Head). head.cells) heads
 
-    its_result : result_of o number ≡ procedure.result
+    pub its_result : result_of o number ≡ procedure.result
     its_result = ap (λ found. option_and_then (λ (p : Procedure). p.result) found) here ∙ ap (λ (head : Head). head.result) heads
 
     module _ (c : Context) (place : ℕ) (operands : List Cell) where

@@ -19,9 +19,9 @@ use Rattle.pearl_gen_expr.specs.Contexts.{stack, Context, at, IsStoreOf}
 use Rattle.pearl_gen_expr.specs.Carrying.{Meets, Carries}
 use Rattle.pearl_gen_expr.specs.ExprCode.{code_of, Is}
 use Rattle.pearl_gen_expr.specs.Ends.{on_top, done}
-use Rattle.pearl_gen_expr.proofs.Moves.{frame_at, RowMeets, gives_carries, instr_carries, same_carries, silent_meets, given_meets, needed_meets}
+use Rattle.pearl_gen_expr.proofs.Moves.{frame_at, RowMeets, then_meets, gives_carries, instr_carries, same_carries, silent_meets, given_meets, needed_meets, goes_meets}
 use Rattle.pearl_gen_stmt.specs.StmtCode.{StoresAt, RepeatsAt, RenewAt}
-use Rattle.pearl_gen_stmt.proofs.Single.{given_value, more_cells, goes_meets, load_carries, const_carries}
+use Rattle.pearl_gen_stmt.proofs.Single.{given_value, more_cells, load_carries, const_carries}
 
 -- LISTS
 
@@ -132,7 +132,7 @@ module _ (o : Object) (c : Context) where
       let first : Meets o c (on_top c (from + 1) []) (at c from [] store) rest (Value x store rest) =
       subst (λ found. Meets o c (on_top c (from + 1) []) (at c from [] store) rest (given_value found store rest)) found
       ((load_carries o c from cell [] code.0).over store rest of) in
-      λ action on. first action (λ here. next.over store rest of action on)
+      then_meets o c c (on_top c (from + 1) []) (done c to []) (at c from [] store) rest x store rest (put_cells (cell + 1) (replicate (suc n) x) store rest) first (λ here. next.over store rest of)
 
   -- the values are put into their cells one after the other, and the last one into the cells behind them
   pub stores_carry : (setting : Setting) (from cell : ℕ) (x : Cell) (xs : List Cell) (end n to : ℕ) → StoresAt setting (code_of o c.routine) from cell (x ∷ xs) end →

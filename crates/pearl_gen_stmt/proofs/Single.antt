@@ -25,7 +25,7 @@ use Rattle.pearl_gen_expr.specs.Contexts.{stack, Context, at, IsStoreOf}
 use Rattle.pearl_gen_expr.specs.Carrying.{End, Meets, Carries}
 use Rattle.pearl_gen_expr.specs.ExprCode.{code_of, Is, IsConst}
 use Rattle.pearl_gen_expr.specs.Ends.{on_top, done}
-use Rattle.pearl_gen_expr.proofs.Moves.{silent_from, offered_from, heard_from, frame_at, RowMeets, instr_carries, missing_meets, silent_meets, given_meets, needed_meets, makes_meets}
+use Rattle.pearl_gen_expr.proofs.Moves.{offered_from, frame_at, RowMeets, instr_carries, missing_meets, goes_meets, silent_meets, heard_meets, given_meets, needed_meets, makes_meets}
 
 -- what a cell holds, where it is there
 abbrev pub given_value : Option Cell → Does Cell
@@ -35,21 +35,6 @@ given_value found = eval_given found gives
 pub more_cells : {o : Object} {c : Context} {task : ℕ} {cells : List Cell} (after : List Cell) {more : List (List Cell)} → IsStoreOf o c (record { task = task; frames = cells ∷ more }) →
     length cells ≤ length after → IsStoreOf o c (record { task = task; frames = after ∷ more })
 more_cells after is less = let wide = is.cells.0 in record { cells = (omega (arith, wide, less), is.cells.1); task = is.task }
-
--- a row that goes on silently meets what is met from there
-pub goes_meets : (o : Object) (c : Context) {X : Type 0} (end : End X) (frames from : List Frame) (rest : List Answer) (m : Outcome X) → Meets o c end from rest m →
-    RowMeets o c end frames (Silent from) rest m
-goes_meets o c end frames from rest (Value x store left) meets e = λ a on. silent_from o from rest a (meets a on)
-goes_meets o c end frames from rest (Needs a) meets e = silent_from o from rest a meets
-goes_meets o c end frames from rest (Fails trap) meets e = silent_from o from rest (action.Trap trap) meets
-
--- what is found from behind an action, over one answer less
-pub heard_meets : (o : Object) (c : Context) {X : Type 0} (end : End X) (frames : List Frame) (offered : Action) (go : Answer → List Frame) (answer : Answer) (rest : List Answer) (m : Outcome X) →
-    Meets o c end (go answer) rest m → RowMeets o c end frames (Offers offered go) (answer ∷ rest) m
-heard_meets o c end frames offered go answer rest (Value x store left) meets e = λ a on. heard_from o offered go answer rest a
-    (meets a (λ here. let fewer = here.fewer in on (record { of = here.of; cells = here.cells; fewer = omega (arith, fewer) })))
-heard_meets o c end frames offered go answer rest (Needs a) meets e = heard_from o offered go answer rest a meets
-heard_meets o c end frames offered go answer rest (Fails trap) meets e = heard_from o offered go answer rest (action.Trap trap) meets
 
 -- an action is asked, and what follows it is met
 pub asked_meets : (o : Object) (c : Context) {X : Type 0} (end : End X) (frames : List Frame) (offered : Action) (go : Answer → List Frame) (store : Store) (on : Answer → Does X) (rest : List Answer) →

@@ -39,11 +39,11 @@ use Rattle.pearl_gen_expr.specs.Carrying.{End, Meets, Carries}
 use Rattle.pearl_gen_expr.specs.ExprCode.{code_of, Is, ExprAt}
 use Rattle.pearl_gen_expr.specs.Ends.{on_top, done, IsFlow, flow_stack, ways}
 use Rattle.pearl_gen_expr.specs.Laws.{CodeCarries, ExpressionsCarry}
-use Rattle.pearl_gen_expr.proofs.Moves.{frame_at, RowMeets, bind_carries, gives_carries, instr_carries, missing_meets}
+use Rattle.pearl_gen_expr.proofs.Moves.{frame_at, RowMeets, bind_carries, gives_carries, instr_carries, missing_meets, goes_meets}
 use Rattle.pearl_gen_expr.proofs.Tables.{signature_is}
 use Rattle.pearl_gen_stmt.specs.StmtCode.{on_task, BeginsAt, CountsAt, WhileAt, AdvanceAt, ReturnAt, GetAt, StmtAt, StmtsAt, ElseAt, BranchesAt}
 use Rattle.pearl_gen_stmt.specs.Laws.{IsPlaced, LeadsOut}
-use Rattle.pearl_gen_stmt.proofs.Single.{goes_meets, branch_carries}
+use Rattle.pearl_gen_stmt.proofs.Single.{branch_carries}
 use Rattle.pearl_gen_stmt.proofs.Flows.{jump_carries, normal_carries, acts_carries, acts_own_carries, stop_own_carries, return_carries}
 use Rattle.pearl_gen_stmt.proofs.Renewals.{renew_carries}
 use Rattle.pearl_gen_stmt.proofs.Counters.{then_gives, advance_carries, goes_on_carries, begins_carries}

@@ -25,11 +25,11 @@ use Rattle.pearl_meaning.specs.Setting.{Setting}
 use Rattle.pearl_meaning.specs.Loops.{Flow, Normal, Exit, Return}
 use Rattle.pearl_meaning.specs.Execution.{exec_all}
 use Rattle.pearl_meaning.specs.Programs.{unset, store_at_start, next_action, offer_of, offer}
-use Rattle.pearl_gen_expr.specs.Comes.{Comes}
+use Rattle.pearl_gen_expr.specs.Comes.{offers, or_lost, Comes}
 use Rattle.pearl_gen_expr.specs.Contexts.{stack, Context, at, IsStoreOf}
 use Rattle.pearl_gen_expr.specs.Carrying.{Meets, Carries}
 use Rattle.pearl_gen_expr.specs.Ends.{flow_stack, ways}
-use Rattle.pearl_gen_expr.proofs.Moves.{by_row, missing_from, stopped, frame_at, row_is}
+use Rattle.pearl_gen_expr.proofs.Moves.{by_row, missing_from, stopped, from_end, frame_at, row_is}
 use Rattle.pearl_gen_expr.proofs.Tables.{each}
 use Rattle.pearl_gen_stmt.specs.Laws.{IsPlaced}
 use Rattle.pearl_gen_stmt.specs.Generated.{within_program, IsCode, IsGenerated, TasksCome}
@@ -49,7 +49,7 @@ task_routine o t =
     let long : length o.procedures + t ≡ length codes + t = ap (λ n. n + t) (sym (length-map o.procedures (λ (p : Procedure). p.code))) in
     ap (λ r. slice_get (routines o) r) long ∙ (found_behind codes (map (λ (task : Task). task.code) o.tasks) t ∙ slice_get-map (λ (task : Task). task.code) o.tasks t)
 
-past_end : {X : Type 0} (xs : List X) (n : ℕ) → slice_get xs (length xs + n) ≡ None
+pub past_end : {X : Type 0} (xs : List X) (n : ℕ) → slice_get xs (length xs + n) ≡ None
 past_end [] n = refl
 past_end (x ∷ xs) n = let more : length (x ∷ xs) + n ≡ suc (length xs + n) = omega arith in ap (λ n. slice_get (x ∷ xs) n) more ∙ past_end xs n
 
@@ -76,7 +76,7 @@ module _ (p : PlainProg) (o : Object) (sound : IsSound p) (generated : IsGenerat
   abbrev context : Context
   context = record { routine = number; callers = [] }
 
-  its_cells : cell_kinds o number ≡ task.routine.cells
+  pub its_cells : cell_kinds o number ≡ task.routine.cells
   its_cells = ap cells_or_none (task_routine o t) ∙ cells_found (slice_get o.tasks t) task
       (sym (slice_get-map (λ (task : Task). task.code.cells) o.tasks t) ∙ (ap (λ all. slice_get all t) generated.tables.task_cells ∙
       (slice_get-map (λ (task : PlainTask). task.routine.cells) p.tasks t ∙ ap (option_map (λ (task : PlainTask). task.routine.cells)) there)))
@@ -103,16 +103,17 @@ module _ (p : PlainProg) (o : Object) (sound : IsSound p) (generated : IsGenerat
 
   -- where its statements have ended the task ends
   ends : (flow : Flow) (tasks : ℕ) (frames : List (List Cell)) (rest : List Answer) → IsStoreOf o context (record { task = tasks; frames = frames }) →
-      Comes o (flow_stack context code.end code.end flow (record { task = tasks; frames = frames })) rest action.End
+      Comes o (flow_stack context code.end code.end flow (record { task = tasks; frames = frames })) rest (or_lost (offers action.End))
   ends flow tasks [] rest of = absurd of.cells
   ends Normal tasks (cells ∷ more) rest of =
       stopped o (frame_at context code.end [] cells ∷ stack context.callers more) rest action.End (row_is o context code.end [] cells (stack context.callers more) instr.End code.behind)
   ends Exit tasks (cells ∷ more) rest of =
       stopped o (frame_at context code.end [] cells ∷ stack context.callers more) rest action.End (row_is o context code.end [] cells (stack context.callers more) instr.End code.behind)
-  ends (Return result) tasks (cells ∷ more) rest of = by_row o [] Missing rest action.End refl (missing_from o rest action.End)
+  ends (Return result) tasks (cells ∷ more) rest of = by_row o [] Missing rest (or_lost (offers action.End)) refl (missing_from o rest (offers action.End))
 
-  comes_to : (rest : List Answer) (from : List Frame) (m : Outcome Flow) → Meets o context (ways context code.end code.end None) from rest m → Comes o from rest (next_action m)
-  comes_to rest from (Value flow store left) meets = meets action.End (λ here. ends flow store.task store.frames left here.cells)
+  comes_to : (rest : List Answer) (from : List Frame) (m : Outcome Flow) → Meets o context (ways context code.end code.end None) from rest m → Comes o from rest (or_lost (offers (next_action m)))
+  comes_to rest from (Value flow store left) meets =
+      from_end o context (ways context code.end code.end None) from rest flow store left (offers action.End) meets (λ here. ends flow store.task store.frames left here.cells)
   comes_to rest from (Needs a) meets = meets
   comes_to rest from (Fails trap) meets = meets
 
@@ -125,12 +126,12 @@ module _ (p : PlainProg) (o : Object) (sound : IsSound p) (generated : IsGenerat
   begun_is = ap (λ cells. record { routine = number; place = 0; cells = cells; operands = [] } ∷ [])
       (fresh_are (routine_at o number) ∙ all_fresh (cells_or_none (routine_at o number)) ∙ ap (λ kinds. map unset kinds) its_cells)
 
-  task_comes : (answers : List Answer) → Comes o (begun o number) answers (offer_of p t (Some task) answers)
-  task_comes answers = subst (λ frames. Comes o frames answers (offer_of p t (Some task) answers)) (sym begun_is)
+  task_comes : (answers : List Answer) → Comes o (begun o number) answers (or_lost (offers (offer_of p t (Some task) answers)))
+  task_comes answers = subst (λ frames. Comes o frames answers (or_lost (offers (offer_of p t (Some task) answers)))) (sym begun_is)
       (comes_to answers (at context 0 [] (store_at_start t task)) (exec_all setting task.routine.body (store_at_start t task) answers)
       (body_carries.over (store_at_start t task) answers starts))
 
 pub tasks_come : TasksCome
 unfolding offer
 tasks_come p o sound generated t task there answers =
-    subst (λ found. Comes o (begun o (length o.procedures + t)) answers (offer_of p t found answers)) (sym there) (task_comes p o sound generated t task there answers)
+    subst (λ found. Comes o (begun o (length o.procedures + t)) answers (or_lost (offers (offer_of p t found answers)))) (sym there) (task_comes p o sound generated t task there answers)

@@ -17,23 +17,8 @@ use Rattle.pearl_gen_expr.specs.Contexts.{stack, Context, at, IsStoreOf}
 use Rattle.pearl_gen_expr.specs.Carrying.{End, Meets, Carries}
 use Rattle.pearl_gen_expr.specs.ExprCode.{code_of, Is}
 use Rattle.pearl_gen_expr.specs.Ends.{IsFlow, flow_stack, ways}
-use Rattle.pearl_gen_expr.proofs.Moves.{by_row, offered_from, frame_at, row_is, RowMeets, bind_meets, gives_carries}
-use Rattle.pearl_gen_stmt.proofs.Single.{heard_meets}
+use Rattle.pearl_gen_expr.proofs.Moves.{offered_from, frame_at, bind_meets, gives_carries, row_within, heard_meets}
 use Rattle.pearl_gen_stmt.proofs.Counters.{forked}
-
--- what an instruction's row meets is met at the instruction
-pub at_row : (o : Object) (c : Context) {X : Type 0} (end : End X) (place : ℕ) (operands cells : List Cell) (lower : List Frame) (instr : Instr) (rest : List Answer) (m : Outcome X) →
-    Is (code_of o c.routine) place instr → RowMeets o c end (frame_at c place operands cells ∷ lower) (act o instr (frame_at c place operands cells) lower) rest m →
-    Meets o c end (frame_at c place operands cells ∷ lower) rest m
-at_row o c end place operands cells lower instr rest (Value x store left) is meets =
-    let f = frame_at c place operands cells in let e : row o (f ∷ lower) ≡ act o instr f lower = row_is o c place operands cells lower instr is in
-    λ a on. by_row o (f ∷ lower) (act o instr f lower) rest a e (meets e a on)
-at_row o c end place operands cells lower instr rest (Needs a) is meets =
-    let f = frame_at c place operands cells in let e : row o (f ∷ lower) ≡ act o instr f lower = row_is o c place operands cells lower instr is in
-    by_row o (f ∷ lower) (act o instr f lower) rest a e (meets e)
-at_row o c end place operands cells lower instr rest (Fails trap) is meets =
-    let f = frame_at c place operands cells in let e : row o (f ∷ lower) ≡ act o instr f lower = row_is o c place operands cells lower instr is in
-    by_row o (f ∷ lower) (act o instr f lower) rest (action.Trap trap) e (meets e)
 
 module _ (o : Object) (c : Context) (top begin behind past out : ℕ) (returns : Option Kind) (more : Does Bool) (statements : Does Flow) (advance : Does Bool)
     (is : Is (code_of o c.routine) top instr.Turn) (asks : Carries o c (forked o c begin past) (at c (top + 1) []) more)
@@ -82,12 +67,12 @@ module _ (o : Object) (c : Context) (top begin behind past out : ℕ) (returns :
           Meets o c end (at c top [] (record { task = task; frames = frames })) rest (turn more statements advance again (record { task = task; frames = frames }) rest)
       framed task [] rest less of = absurd of.cells
       framed task (cells ∷ lower) [] less of =
-          at_row o c end top [] cells (stack c.callers lower) instr.Turn [] (Needs action.Turn) is
+          row_within o c c end top [] cells (stack c.callers lower) instr.Turn [] (Needs action.Turn) is
           (λ e. offered_from o action.Turn (λ answer. frame_at c (top + 1) [] cells ∷ stack c.callers lower))
       framed task (cells ∷ lower) (answer ∷ left) less of =
           let store : Store = record { task = task; frames = cells ∷ lower } in
           let m = bind more (λ going. if going then bind statements (λ flow. after_turn flow (bind advance (λ on. if on then again else gives Normal))) else gives Normal) store left in
-          at_row o c end top [] cells (stack c.callers lower) instr.Turn (answer ∷ left) m is
+          row_within o c c end top [] cells (stack c.callers lower) instr.Turn (answer ∷ left) m is
           (heard_meets o c end (frame_at c top [] cells ∷ stack c.callers lower) action.Turn (λ answer. frame_at c (top + 1) [] cells ∷ stack c.callers lower) answer left m
           (turned n again meets store left (omega (arith, less)) of))
 
@@ -98,7 +83,7 @@ module _ (o : Object) (c : Context) (top begin behind past out : ℕ) (returns :
           Meets o c end (at c top [] (record { task = task; frames = frames })) rest (Needs action.Turn)
       framed task [] rest less of = absurd of.cells
       framed task (cells ∷ lower) [] less of =
-          at_row o c end top [] cells (stack c.callers lower) instr.Turn [] (Needs action.Turn) is
+          row_within o c c end top [] cells (stack c.callers lower) instr.Turn [] (Needs action.Turn) is
           (λ e. offered_from o action.Turn (λ answer. frame_at c (top + 1) [] cells ∷ stack c.callers lower))
       framed task (cells ∷ lower) (answer ∷ left) less of = absurd (omega (arith, less))
   turns_meet (suc n) store rest less of = turn_meets n (turns n more statements advance) (turns_meet n) store rest less of

@@ -15,7 +15,7 @@ use Rattle.pearl_instructions.specs.Rows.{begun}
 use Rattle.pearl_meaning.specs.Setting.{Setting}
 use Rattle.pearl_meaning.specs.Programs.{offer}
 use Rattle.pearl_meaning.specs.Laws.{standing}
-use Rattle.pearl_gen_expr.specs.Comes.{Comes}
+use Rattle.pearl_gen_expr.specs.Comes.{offers, or_lost, Comes}
 use Rattle.pearl_gen_expr.specs.Tables.{HasTables}
 use Rattle.pearl_gen_expr.specs.ExprCode.{code_of, Is}
 use Rattle.pearl_gen_expr.specs.Calls.{CallsCarry}
@@ -59,4 +59,4 @@ ProceduresCarry = (p : PlainProg) (o : Object) → IsSound p → IsGenerated p o
 abbrev pub TasksCome : Type 0
 TasksCome = (p : PlainProg) (o : Object) → IsSound p → IsGenerated p o →
     (t : ℕ) (task : PlainTask) → slice_get p.tasks t ≡ Some task → (answers : List Answer) →
-    Comes o (begun o (length o.procedures + t)) answers (offer p t answers)
+    Comes o (begun o (length o.procedures + t)) answers (or_lost (offers (offer p t answers)))

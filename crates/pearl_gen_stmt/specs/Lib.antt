@@ -6,5 +6,7 @@ pub mod Laws
 pub mod Generated
 -- which action code offers over some answers
 pub mod Offering
+-- where the code of expressions and statements of a program arrives, in a valid object
+pub mod Arriving
 -- what is emitted, until jumps to places that come later have got theirs
 pub mod Emission

@@ -4,6 +4,7 @@
 ghost use Rattle.pearl_gen_stmt.specs.Laws.{StatementsCarry};
 ghost use Rattle.pearl_gen_stmt.specs.Generated.{ProceduresCarry, TasksCome};
 ghost use Rattle.pearl_gen_stmt.specs.Offering.{TasksOffer};
+ghost use Rattle.pearl_gen_stmt.specs.Arriving.{CodeArrives};
 
 use pearl_instructions::laws::{frames_stay, rows_lead_to_stacks, tasks_begin_with_a_stack};
 
@@ -22,6 +23,17 @@ pub fn procedures_carry()
 pub fn tasks_come()
     ensures { TasksCome }
 {}
+
+/// In a valid object the code of an expression arrives behind it with its value on the operands and the store as it leaves
+/// it, over all answers that the expression can have, or offers exactly what it needs, or the trap. So does the code of a
+/// call, with its result or with nothing, of a variable's subscripts, with the offset of its element, and of statements,
+/// where the next one begins, behind the loop that they leave, or behind the call that they end.
+pub fn code_arrives()
+    ensures { CodeArrives }
+{
+    rows_lead_to_stacks();
+    frames_stay();
+}
 
 /// After all answers that a task can have, the code of a valid object offers what the task does next.
 pub fn tasks_offer()

@@ -1,2 +1,2 @@
--- what a sound program becomes is valid, and offers what its tasks do
+-- what a sound program becomes is valid, offers what its tasks do, and arrives where their parts end
 pub mod Laws

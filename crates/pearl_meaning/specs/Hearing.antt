@@ -1,4 +1,4 @@
--- Which answers suit an action, and which answers a task can have since its start.
+-- Which answers suit an action, and which answers a task can have since its start, or a part of a program since it began.
 use Rattle.std.specs.Prelude.{◌≡◌, ◌≢◌, ℕ, ◌-◌, nat_lt, if◌then◌else◌, List, [], ◌∷◌, ◌++◌, Option, Some, None, slice_get}
 use Rattle.std.specs.List.{AllZip}
 use Rattle.pearl_value.specs.declared.kind.Kind.{Kind}
@@ -11,6 +11,8 @@ use Rattle.pearl_rules.specs.declared.action.Answer.TheVariants.{Nothing, One, M
 use Rattle.pearl_program.specs.declared.table.Device.{Device}
 use Rattle.pearl_program.specs.declared.table.Device.TheVariants.{Input}
 use Rattle.pearl_program.specs.PlainPrograms.{PlainLeaf, PlainProg}
+use Rattle.pearl_meaning.specs.Frames.{Store}
+use Rattle.pearl_meaning.specs.Evaluation.{Outcome, Needs, Does}
 use Rattle.pearl_meaning.specs.Programs.{offer}
 
 -- the kind of a slot
@@ -53,3 +55,17 @@ HeardAfter p t before (answer ∷ answers) = Suits p t (offer p t before) answer
 -- each answer suits the action that the answers before it offer
 abbrev pub Heard : PlainProg → ℕ → List Answer → Type 0
 Heard p t answers = HeardAfter p t [] answers
+
+-- an answer suits the action that a part of a program needs; where it needs none, it hears none
+abbrev pub SuitsNeed : PlainProg → (own : ℕ) → {X : Type 0} → Outcome X → Answer → Type 0
+SuitsNeed p own (Needs action) answer = Suits p own action answer
+SuitsNeed p own outcome answer = ⊥
+
+abbrev pub HeardInAfter : PlainProg → {X : Type 0} → Does X → Store → (before answers : List Answer) → Type 0
+HeardInAfter p does store before [] = Unit {0}
+HeardInAfter p does store before (answer ∷ answers) =
+    SuitsNeed p store.task (does store before) answer × HeardInAfter p does store (before ++ answer ∷ []) answers
+
+-- each answer suits the action that the part, begun with this store, needs after the answers before it
+abbrev pub HeardIn : PlainProg → {X : Type 0} → Does X → Store → List Answer → Type 0
+HeardIn p does store answers = HeardInAfter p does store [] answers

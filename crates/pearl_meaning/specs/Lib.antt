@@ -18,7 +18,7 @@ pub mod Transfers
 pub mod Execution
 -- what a call does, and what a task does next after the answers that it had
 pub mod Programs
--- which answers suit an action, and which answers a task can have since its start
+-- which answers suit an action, and which answers a task can have since its start, or a part of a program since it began
 pub mod Hearing
 -- the tables from which a program's run starts, and how it runs over a journal's entries: today right only for programs whose actions are Read, Write, Put, End and Trap, since the core has no rows for others
 pub mod ProgramRuns

@@ -6,10 +6,10 @@ use Rattle.std.proofs.lemmas.Option.{none-some, same_Some}
 use Rattle.pearl_rules.specs.declared.action.Action.{Action}
 use Rattle.pearl_rules.specs.declared.action.Answer.{Answer}
 use Rattle.pearl_rules.specs.declared.entry.Entry.{Entry}
-use Rattle.pearl_rules.specs.declared.entry.Entry.TheVariants.{Run}
+use Rattle.pearl_rules.specs.declared.entry.Entry.TheVariants.{Run, Turn, State}
 use Rattle.pearl_rules.specs.declared.setup.Setup.{Setup}
 use Rattle.pearl_rules.specs.Pick.{pick}
-use Rattle.pearl_rules.specs.Runs.{Mark, Acts, Coming, next_of_run, next_mark, kept_at, Supplier, Source, source_offers, source_next, source_acts, source_mark, source_step, source_start, source_after, source_run, Engine, Running, Machine, machine_offers, machine_next, machine_does, machine_acts, machine_mark, machine_step, machine_run, marks_in_step, marked, unsettled, told_at_end}
+use Rattle.pearl_rules.specs.Runs.{Mark, Acts, Turns, Tells, Coming, next_of_run, next_mark, kept_at, Supplier, Source, source_offers, source_next, source_acts, source_mark, source_step, source_start, source_after, source_run, Engine, Running, Machine, machine_offers, machine_next, machine_does, machine_acts, machine_mark, machine_step, machine_run, marks_in_step, marked, unsettled, told_at_end}
 use Rattle.pearl_rules.specs.Faithful.{IsFaithful}
 use Rattle.pearl_rules.specs.Laws.{HasEnded, EndsAlike, Comes, IsBeforeEnd, with_more, machine_with_more}
 use Rattle.pearl_rules.proofs.Simulation.{step_silent, step_mark, step_source, marks_silent, marks_mark}
@@ -100,6 +100,10 @@ next-more picked (Run n ∷ es) more coming e = by_pick picked n (next_mark pick
     by_pick (Some t) zero later longer go h = go h
     by_pick (Some t) (suc n) later longer go h =
         ap (λ c. Some (record { mark = c.mark; rest = c.rest ++ more })) (same_Some (record { mark = Acts t; rest = Run n ∷ es }) coming h)
+next-more picked (Turn t ∷ es) more coming e =
+    ap (λ c. Some (record { mark = c.mark; rest = c.rest ++ more })) (same_Some (record { mark = Turns t; rest = es }) coming e)
+next-more picked (State ∷ es) more coming e =
+    ap (λ c. Some (record { mark = c.mark; rest = c.rest ++ more })) (same_Some (record { mark = Tells; rest = es }) coming e)
 next-more picked (entry ∷ es) more coming e = next-more picked es more coming e
 
 -- first entries of which no mark comes leave the next mark to those after them
@@ -112,6 +116,8 @@ next-none picked (Run n ∷ es) more e = by_pick picked n (next_mark picked es) 
     by_pick None n later longer go h = go h
     by_pick (Some t) zero later longer go h = go h
     by_pick (Some t) (suc n) later longer go h = absurd (none-some (record { mark = Acts t; rest = Run n ∷ es }) (sym h))
+next-none picked (Turn t ∷ es) more e = absurd (none-some (record { mark = Turns t; rest = es }) (sym e))
+next-none picked (State ∷ es) more e = absurd (none-some (record { mark = Tells; rest = es }) (sym e))
 next-none picked (entry ∷ es) more e = next-none picked es more e
 
 -- a task's action is done alike before more entries
@@ -124,6 +130,8 @@ acts-more offer s more t rest (Some so_far) = refl
 mark-more : (offer : Supplier) (s : Source) (more : List Entry) (mark : Mark) (rest : List Entry) →
     source_mark offer (with_more s more) mark (rest ++ more) ≡ with_more (source_mark offer s mark rest) more
 mark-more offer s more (Acts t) rest = acts-more offer s more t rest (kept_at s.heard t)
+mark-more offer s more (Turns t) rest = refl
+mark-more offer s more Tells rest = refl
 
 -- a mark that comes is made alike before more entries
 step-more : (offer : Supplier) (s : Source) (more : List Entry) → source_next offer s ≢ None →
@@ -162,6 +170,8 @@ machine_acts-more engine m more t rest (Some running) = does-more engine m more 
 machine_mark-more : {S : Type 0} (engine : Engine S) (m : Machine S) (more : List Entry) (mark : Mark) (rest : List Entry) →
     machine_mark engine (machine_with_more m more) mark (rest ++ more) ≡ machine_with_more (machine_mark engine m mark rest) more
 machine_mark-more engine m more (Acts t) rest = machine_acts-more engine m more t rest (kept_at m.running t)
+machine_mark-more engine m more (Turns t) rest = refl
+machine_mark-more engine m more Tells rest = refl
 
 -- a machine's step before its end, with more entries to come: the same step, and the same count of marks
 record StepsAlike {S : Type 0} (engine : Engine S) (m : Machine S) (more : List Entry) : Type 0 where

@@ -1,5 +1,11 @@
+pub mod Places
 pub mod PickLaws
 pub mod EffectLaws
+pub mod ToldLaws
+pub mod EndsLaws
+pub mod TaskLaws
+pub mod CountLaws
+pub mod UrgencyLaws
 pub mod KeptLaws
 pub mod Simulation
 pub mod Settling

@@ -1,11 +1,14 @@
 -- Which task is picked: the rule of `pick`, task by task, is the rule in the subject's words.
-use Rattle.std.proofs.Common.{◌≡◌, ◌≢◌, ℕ, zero, suc, ◌<◌, ◌≤◌, ◌⊎◌, inl, inr, Bool, true, false, ◌&&◌, nat_eq, nat_lt, IsTrue, Option, Some, None, length, slice_get, refl, sym, ap, ap₂, subst, ◌∙◌, eq-eqb, eqb-true, ltb-true, ltb-false, arith}
+use Rattle.std.proofs.Common.{◌≡◌, ◌≢◌, ℕ, zero, suc, ◌<◌, ◌≤◌, ◌⊎◌, inl, inr, Bool, true, false, ◌&&◌, nat_eq, nat_lt, IsTrue, ◌↔◌, Option, Some, None, length, slice_get, refl, sym, ap, ap₂, subst, ◌∙◌, eq-eqb, eqb-true, ltb-true, ltb-false, arith}
 use Rattle.std.proofs.lemmas.Bool.{true≢false, eqb-false, or_cases, or_parts, and_parts, and_cases, cases_lt}
 use Rattle.std.proofs.lemmas.Option.{same_Some, slice_get_within}
 use Rattle.pearl_rules.specs.declared.action.Action.{Action}
+use Rattle.pearl_rules.specs.declared.action.Action.TheVariants.{Request}
 use Rattle.pearl_rules.specs.declared.row.TaskRow.{TaskRow}
 use Rattle.pearl_rules.specs.Core.{Core, row_of}
-use Rattle.pearl_rules.specs.Pick.{Offered, is_possible, is_ready_row, is_eligible, priority_of, priority_of_row, is_last_of, is_last, goes_before, better_if, better, pick_first, pick, IsPicked, shown_of, states_first, states}
+use Rattle.pearl_rules.specs.Counts.{all_free}
+use Rattle.pearl_rules.specs.Pick.{Offered, guard, is_possible, is_ready_row, is_eligible, priority_of, priority_of_row, is_last_of, is_last, goes_before, better_if, better, pick_first, pick, IsPicked, shown_of, states_first, states, last_if, is_as_urgent, can_turn, turned}
+use Rattle.pearl_rules.specs.Laws.{IsFirstInRank}
 
 -- who acted last, as a test
 last_true : (o : Option ℕ) (t : ℕ) → is_last_of o t ≡ true → o ≡ Some t
@@ -246,19 +249,97 @@ states-same core other offers others moment rows last able = go (length core.tas
     go zero = refl
     go (suc n) = cc (go n, moment, shown n)
 
--- whether an offer can be acted on, where the rows and who acted last are the same
-possible-same : (core other : Core) (offer : Option Action) → is_possible core offer ≡ is_possible other offer
-possible-same core other None = refl
-possible-same core other (Some action) = refl
+-- whether an action can be done now, where the counts are the same
+guard-same : (core other : Core) (action : Action) → core.counts ≡ other.counts → guard core action ≡ guard other action
+guard-same core other (Request list) counts = ap (λ cs. all_free cs list.items) counts
+guard-same core other action counts = refl
+
+-- the same of an offer
+pub possible-same : (core other : Core) (offer : Option Action) → core.counts ≡ other.counts → is_possible core offer ≡ is_possible other offer
+possible-same core other None counts = refl
+possible-same core other (Some action) counts = guard-same core other action counts
 
 -- the same offers at each task
-pub pick-offers : (core other : Core) (offers others : Offered) → core.tasks ≡ other.tasks → core.last ≡ other.last → ((t : ℕ) → offers t ≡ others t) →
-    pick core offers ≡ pick other others
-pick-offers core other offers others rows last same =
-    pick-same core other offers others rows last (λ t. possible-same core other (offers t) ∙ ap (λ o. is_possible other o) (same t))
+pub pick-offers : (core other : Core) (offers others : Offered) → core.tasks ≡ other.tasks → core.last ≡ other.last → core.counts ≡ other.counts →
+    ((t : ℕ) → offers t ≡ others t) → pick core offers ≡ pick other others
+pick-offers core other offers others rows last counts same =
+    pick-same core other offers others rows last (λ t. possible-same core other (offers t) counts ∙ ap (λ o. is_possible other o) (same t))
 
 -- the same for how the tasks stand
 pub states-offers : (core other : Core) (offers others : Offered) → core.moment ≡ other.moment → core.tasks ≡ other.tasks → core.last ≡ other.last →
-    ((t : ℕ) → offers t ≡ others t) → states core offers ≡ states other others
-states-offers core other offers others moment rows last same =
-    states-same core other offers others moment rows last (λ t. possible-same core other (offers t) ∙ ap (λ o. is_possible other o) (same t))
+    core.counts ≡ other.counts → ((t : ℕ) → offers t ≡ others t) → states core offers ≡ states other others
+states-offers core other offers others moment rows last counts same =
+    states-same core other offers others moment rows last (λ t. possible-same core other (offers t) counts ∙ ap (λ o. is_possible other o) (same t))
+
+-- TURNS
+
+-- what becomes a task's turn changes nothing but who acted last
+pub turned-is : (core : Core) (offers : Offered) (t : ℕ) → turned core offers t ≡ record core { last = (turned core offers t).last }
+turned-is core offers t = by_test (can_turn core offers t)
+  where
+    by_test : (b : Bool) → last_if b core t ≡ record core { last = (last_if b core t).last }
+    by_test true = refl
+    by_test false = refl
+
+module _ (core : Core) (offers : Offered) (t : ℕ) where
+  -- where it can be a task's turn, no eligible task has a smaller priority number
+  turn_first : can_turn core offers t ≡ true → IsFirstInRank core offers t
+  turn_first able = by_pick (pick core offers) refl
+    where
+      parts : (is_eligible core offers t ≡ true) × (is_as_urgent core (pick core offers) t ≡ true)
+      parts = and_parts (is_eligible core offers t) (is_as_urgent core (pick core offers) t) able
+
+      by_pick : (o : Option ℕ) → pick core offers ≡ o → IsFirstInRank core offers t
+      by_pick None e = absurd (true≢false (sym parts.0 ∙ picked_none core offers e t))
+      by_pick (Some u) e =
+          let same = eqb-true (priority_of core t) (priority_of core u) (sym (ap (λ o. is_as_urgent core o t) e) ∙ parts.1) in
+          record {
+            eligible = parts.0;
+            urgent = λ v is. let above = (picked core offers u e).urgent v is in omega (arith, same, above);
+          }
+
+  -- and where none has, it can be the task's turn
+  first_turn : IsFirstInRank core offers t → can_turn core offers t ≡ true
+  first_turn first = by_pick (pick core offers) refl
+    where
+      both : (b : Bool) → is_as_urgent core (pick core offers) t ≡ b → b ≡ true → can_turn core offers t ≡ true
+      both b e passed = let is = first.eligible in cc
+
+      by_pick : (o : Option ℕ) → pick core offers ≡ o → can_turn core offers t ≡ true
+      by_pick None e = absurd (true≢false (sym first.eligible ∙ picked_none core offers e t))
+      by_pick (Some u) e =
+          let rule = picked core offers u e in
+          let above = first.urgent u rule.eligible in
+          let below = rule.urgent t first.eligible in
+          let same : priority_of core t ≡ priority_of core u = omega (arith, above, below) in
+          both (is_as_urgent core (Some u) t) (ap (λ o. is_as_urgent core o t) e) (eq-eqb (priority_of core t) (priority_of core u) same)
+
+  -- a turn is the named task's exactly there
+  pub turn_exactly : IsTrue (can_turn core offers t) ↔ IsFirstInRank core offers t
+  turn_exactly = (turn_first, first_turn)
+
+  -- there it counts as the one that acted last
+  pub turn_taken : IsFirstInRank core offers t → turned core offers t ≡ record core { last = Some t }
+  turn_taken first = ap (λ b. last_if b core t) (first_turn first)
+
+  -- else nothing changes
+  pub turn_refused : (IsFirstInRank core offers t → ⊥) → turned core offers t ≡ core
+  turn_refused not = by_test (can_turn core offers t) refl
+    where
+      by_test : (b : Bool) → can_turn core offers t ≡ b → last_if b core t ≡ core
+      by_test true e = absurd (not (turn_first e))
+      by_test false e = refl
+
+  -- whether a task is eligible doesn't depend on who acted last
+  last-eligible : (u : ℕ) → is_eligible (record core { last = Some t }) offers u ≡ is_eligible core offers u
+  last-eligible u = ap (λ b. is_ready_row (row_of core u) b) (possible-same (record core { last = Some t }) core (offers u) refl)
+
+  -- after a turn the named task acts next
+  pub turn_next : IsFirstInRank core offers t → pick (turned core offers t) offers ≡ Some t
+  turn_next first =
+      ap (λ c. pick c offers) (turn_taken first)
+      ∙ is_picked (record core { last = Some t }) offers t (record {
+        eligible = last-eligible t ∙ first.eligible;
+        urgent = λ u is. first.urgent u (sym (last-eligible u) ∙ is);
+        first = inl refl;
+      })

@@ -4,42 +4,46 @@ use Rattle.std.proofs.lemmas.Bool.{cases_lt}
 use Rattle.std.proofs.lemmas.Option.{none-some, same_Some}
 use Rattle.pearl_rules.specs.declared.action.Answer.{Answer}
 use Rattle.pearl_rules.specs.declared.entry.Entry.{Entry}
-use Rattle.pearl_rules.specs.declared.entry.Entry.TheVariants.{Run}
+use Rattle.pearl_rules.specs.declared.entry.Entry.TheVariants.{Run, Turn, State}
 use Rattle.pearl_rules.specs.declared.row.Mode.{Mode}
 use Rattle.pearl_rules.specs.declared.row.Mode.TheVariants.{Dormant, Active}
 use Rattle.pearl_rules.specs.declared.row.TaskRow.{TaskRow}
 use Rattle.pearl_rules.specs.declared.setup.Setup.{Setup}
 use Rattle.pearl_rules.specs.Core.{Report, first_events, row_of}
-use Rattle.pearl_rules.specs.Pick.{is_possible, is_ready, is_ready_row, pick}
-use Rattle.pearl_rules.specs.Runs.{Mark, Acts, Coming, next_of_run, next_mark, kept_at, mapped, Supplier, Source, source_offers, source_next, source_acts, source_mark, source_step_by, source_step, source_start, source_after, source_run}
+use Rattle.pearl_rules.specs.Pick.{is_possible, is_ready, is_ready_row, pick, turned, states}
+use Rattle.pearl_rules.specs.Runs.{Mark, Acts, Turns, Tells, Coming, next_of_run, next_mark, kept_at, mapped, Supplier, Source, source_offers, source_next, source_acts, source_mark, source_step_by, source_step, source_start, source_after, source_run}
 use Rattle.pearl_rules.specs.Laws.{EndsTelling}
-use Rattle.pearl_rules.proofs.PickLaws.{picked}
+use Rattle.pearl_rules.proofs.PickLaws.{picked, turned-is}
 use Rattle.pearl_rules.proofs.EffectLaws.{effect-told}
 use Rattle.pearl_rules.proofs.Simulation.{step_source}
 use Rattle.pearl_rules.proofs.EndLaws.{stays_to}
 
 -- EVERY RUN ENDS
 
--- how many picks the entries ask for
-abbrev picks_left : List Entry → ℕ
-picks_left [] = 0
-picks_left (Run n ∷ es) = n + picks_left es
-picks_left (entry ∷ es) = picks_left es
+-- how many marks the entries ask for
+abbrev marks_left : List Entry → ℕ
+marks_left [] = 0
+marks_left (Run n ∷ es) = n + marks_left es
+marks_left (Turn t ∷ es) = suc (marks_left es)
+marks_left (State ∷ es) = suc (marks_left es)
+marks_left (entry ∷ es) = marks_left es
 
--- the mark that comes is the picked task's, and it takes at least one pick of the entries
+-- the mark that comes leaves fewer, and where a task acts it is the picked one
 record Takes (chosen : Option ℕ) (es : List Entry) (coming : Coming) : Type 0 where
-  task : ℕ
-  is_chosen : chosen ≡ Some task
-  is_mark : coming.mark ≡ Acts task
-  fewer : picks_left coming.rest < picks_left es
+  is_chosen : (t : ℕ) → coming.mark ≡ Acts t → chosen ≡ Some t
+  fewer : marks_left coming.rest < marks_left es
 
--- a mark of the later entries takes a pick of those
+-- a mark of the later entries leaves fewer of those
 takes_later : (chosen : Option ℕ) (n : ℕ) (es : List Entry) (coming : Coming) → Takes chosen es coming → Takes chosen (Run n ∷ es) coming
 takes_later chosen n es coming takes =
     let fewer = takes.fewer in
-    record { task = takes.task; is_chosen = takes.is_chosen; is_mark = takes.is_mark; fewer = omega arith }
+    record { is_chosen = takes.is_chosen; fewer = omega arith }
 
--- each mark takes a pick
+-- a task acts by a mark of its own
+same_task : (t u : ℕ) → Acts t ≡ Acts u → t ≡ u
+same_task t u e = cc
+
+-- each mark leaves fewer
 next_takes : (chosen : Option ℕ) (es : List Entry) (coming : Coming) → next_mark chosen es ≡ Some coming → Takes chosen es coming
 next_takes chosen [] coming e = absurd (none-some coming e)
 next_takes chosen (Run n ∷ es) coming e = by_pick chosen n (next_mark chosen es) (λ h. next_takes chosen es coming h) e
@@ -50,10 +54,16 @@ next_takes chosen (Run n ∷ es) coming e = by_pick chosen n (next_mark chosen e
     by_pick (Some t) zero later go h = takes_later (Some t) zero es coming (go h)
     by_pick (Some t) (suc n) later go h =
         subst (λ c. Takes (Some t) (Run (suc n) ∷ es) c) (same_Some (record { mark = Acts t; rest = Run n ∷ es }) coming h)
-        (record { task = t; is_chosen = refl; is_mark = refl; fewer = omega arith })
+        (record { is_chosen = λ u same. ap Some (same_task t u same); fewer = omega arith })
+next_takes chosen (Turn t ∷ es) coming e =
+    subst (λ c. Takes chosen (Turn t ∷ es) c) (same_Some (record { mark = Turns t; rest = es }) coming e)
+    (record { is_chosen = λ u same. let no : ⊥ = cc in absurd no; fewer = omega arith })
+next_takes chosen (State ∷ es) coming e =
+    subst (λ c. Takes chosen (State ∷ es) c) (same_Some (record { mark = Tells; rest = es }) coming e)
+    (record { is_chosen = λ u same. let no : ⊥ = cc in absurd no; fewer = omega arith })
 next_takes chosen (entry ∷ es) coming e =
     let takes = next_takes chosen es coming e in
-    record { task = takes.task; is_chosen = takes.is_chosen; is_mark = takes.is_mark; fewer = takes.fewer }
+    record { is_chosen = takes.is_chosen; fewer = takes.fewer }
 
 -- a task whose action can't be done now isn't ready
 not_ready : (mode : Mode) → IsTrue (is_ready mode false) → ⊥
@@ -72,53 +82,50 @@ acts-entries : (offer : Supplier) (s : Source) (t : ℕ) (rest : List Entry) (he
 acts-entries offer s t rest None ready = absurd (not_ready_row (row_of s.core t) ready)
 acts-entries offer s t rest (Some so_far) ready = refl
 
--- each mark leaves fewer picks
+-- after a mark the entries after it are what remains
 step_fewer : (offer : Supplier) (s : Source) (coming : Coming) → source_next offer s ≡ Some coming →
-    picks_left (source_step offer s).entries < picks_left s.entries
-step_fewer offer s coming e = subst (λ es. picks_left es < picks_left s.entries) (sym same) takes.fewer
+    marks_left (source_step offer s).entries < marks_left s.entries
+step_fewer offer s coming e = subst (λ es. marks_left es < marks_left s.entries) (sym same) takes.fewer
   where
     takes : Takes (pick s.core (source_offers offer s)) s.entries coming
     takes = next_takes (pick s.core (source_offers offer s)) s.entries coming e
 
-    t : ℕ
-    t = takes.task
-
-    ready : IsTrue (is_ready_row (row_of s.core t) (is_possible s.core (source_offers offer s t)))
-    ready = (picked s.core (source_offers offer s) t takes.is_chosen).eligible
+    by_mark : (mark : Mark) → coming.mark ≡ mark → (source_mark offer s mark coming.rest).entries ≡ coming.rest
+    by_mark (Acts t) is =
+        acts-entries offer s t coming.rest (kept_at s.heard t) (picked s.core (source_offers offer s) t (takes.is_chosen t is)).eligible
+    by_mark (Turns t) is = refl
+    by_mark Tells is = refl
 
     same : (source_step offer s).entries ≡ coming.rest
-    same =
-        ap (λ x. x.entries) (step_source offer s (Some coming) e)
-        ∙ ap (λ mark. (source_mark offer s mark coming.rest).entries) takes.is_mark
-        ∙ acts-entries offer s t coming.rest (kept_at s.heard t) ready
+    same = ap (λ x. x.entries) (step_source offer s (Some coming) e) ∙ by_mark coming.mark refl
 
 -- a run that is at an end
 abbrev End : Supplier → Source → Type 0
 End offer s = (m : ℕ) × (source_next offer (source_after offer s m) ≡ None)
 
--- after m marks there was an end, or m picks fewer remain
-ends_or_falls : (offer : Supplier) (s : Source) (m : ℕ) → End offer s ⊎ (picks_left (source_after offer s m).entries + m ≤ picks_left s.entries)
+-- after m marks there was an end, or m marks fewer remain
+ends_or_falls : (offer : Supplier) (s : Source) (m : ℕ) → End offer s ⊎ (marks_left (source_after offer s m).entries + m ≤ marks_left s.entries)
 ends_or_falls offer s zero = inr (omega arith)
 ends_or_falls offer s (suc m) = by_before (ends_or_falls offer s m)
   where
     here : Source
     here = source_after offer s m
 
-    by_next : picks_left here.entries + m ≤ picks_left s.entries → (coming : Option Coming) → source_next offer here ≡ coming →
-        End offer s ⊎ (picks_left (source_step offer here).entries + suc m ≤ picks_left s.entries)
+    by_next : marks_left here.entries + m ≤ marks_left s.entries → (coming : Option Coming) → source_next offer here ≡ coming →
+        End offer s ⊎ (marks_left (source_step offer here).entries + suc m ≤ marks_left s.entries)
     by_next falls None e = inl (m, e)
     by_next falls (Some coming) e = let fewer = step_fewer offer here coming e in inr (omega arith)
 
-    by_before : End offer s ⊎ (picks_left here.entries + m ≤ picks_left s.entries) →
-        End offer s ⊎ (picks_left (source_step offer here).entries + suc m ≤ picks_left s.entries)
+    by_before : End offer s ⊎ (marks_left here.entries + m ≤ marks_left s.entries) →
+        End offer s ⊎ (marks_left (source_step offer here).entries + suc m ≤ marks_left s.entries)
     by_before (inl end) = inl end
     by_before (inr falls) = by_next falls (source_next offer here) refl
 
 -- every run over a journal's entries ends
 pub source_ends : (offer : Supplier) (setup : Setup) (es : List Entry) → (m : ℕ) × (source_next offer (source_run offer setup es m) ≡ None)
-source_ends offer setup es = by_fall (ends_or_falls offer (source_start setup es) (suc (picks_left es)))
+source_ends offer setup es = by_fall (ends_or_falls offer (source_start setup es) (suc (marks_left es)))
   where
-    by_fall : End offer (source_start setup es) ⊎ (picks_left (source_run offer setup es (suc (picks_left es))).entries + suc (picks_left es) ≤ picks_left es) →
+    by_fall : End offer (source_start setup es) ⊎ (marks_left (source_run offer setup es (suc (marks_left es))).entries + suc (marks_left es) ≤ marks_left es) →
         End offer (source_start setup es)
     by_fall (inl end) = end
     by_fall (inr falls) = absurd (omega arith)
@@ -146,6 +153,8 @@ acts_tell offer s t rest (Some so_far) = effect-told s.core t (offer t so_far)
 -- and so does a mark
 mark_tells : (offer : Supplier) (s : Source) (mark : Mark) (rest : List Entry) → TellsOn s (source_mark offer s mark rest)
 mark_tells offer s (Acts t) rest = acts_tell offer s t rest (kept_at s.heard t)
+mark_tells offer s (Turns t) rest = ([], ap (λ core. core.told) (turned-is s.core (source_offers offer s) t) ∙ sym (append-nil s.core.told))
+mark_tells offer s Tells rest = (states s.core (source_offers offer s), refl)
 
 -- and a step, with a mark or without
 step_tells : (offer : Supplier) (s : Source) → TellsOn s (source_step offer s)

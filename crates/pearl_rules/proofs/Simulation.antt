@@ -1,6 +1,6 @@
 -- The machine goes the way of the source: step by step the same core, the same entries, and each task at the same place.
 use Rattle.std.proofs.Common.{◌≡◌, ℕ, zero, suc, ◌+◌, ◌<◌, List, [], ◌∷◌, ◌++◌, Option, Some, None, length, map, slice_set, refl, sym, ap, ap₂, subst, ◌∙◌, length-set, add-zero, add-one, zero-add, arith}
-use Rattle.std.specs.List.{AllByRecursion}
+use Rattle.std.specs.List.{AllByRecursion, AllZip}
 use Rattle.std.proofs.Math.Path.{fun_ext}
 use Rattle.std.proofs.lemmas.Option.{none-some, same_Some}
 use Rattle.std.proofs.lemmas.List.{length-map}
@@ -10,11 +10,12 @@ use Rattle.pearl_rules.specs.declared.action.Answer.{Answer}
 use Rattle.pearl_rules.specs.declared.entry.Entry.{Entry}
 use Rattle.pearl_rules.specs.declared.setup.Setup.{Setup}
 use Rattle.pearl_rules.specs.Core.{Core, first_row}
-use Rattle.pearl_rules.specs.Slots.{HasKinds}
-use Rattle.pearl_rules.specs.Pick.{pick}
+use Rattle.pearl_rules.specs.Slots.{IsLike, HasKinds}
+use Rattle.pearl_rules.specs.Pick.{pick, turned, showing}
 use Rattle.pearl_rules.specs.Effect.{Reply, Hears, Ends, effect}
-use Rattle.pearl_rules.specs.Runs.{Mark, Acts, Coming, next_mark, dropped, kept_at, mapped, Supplier, Source, source_offers, source_next, heard_more, source_settled, source_acts, source_mark, source_step_by, source_step, source_start, source_after, Stepped, Silent, Offers, Engine, Running, Machine, offer_of, machine_offers, machine_next, unsettled_here, unsettled_from, unsettled, stepped, answered, fresh, machine_settled, machine_does, machine_acts, machine_mark, machine_mark_by, machine_step_by, machine_step, machine_start, machine_after, count_if, marks_by, marks_in_step, marked_after}
+use Rattle.pearl_rules.specs.Runs.{Mark, Acts, Turns, Tells, Coming, next_mark, dropped, kept_at, mapped, Supplier, Source, source_offers, source_next, heard_more, source_settled, source_acts, source_mark, source_step_by, source_step, source_start, source_after, Stepped, Silent, Offers, Engine, Running, Machine, offer_of, machine_offers, machine_next, unsettled_here, unsettled_from, unsettled, stepped, answered, fresh, machine_settled, machine_does, machine_acts, machine_mark, machine_mark_by, machine_step_by, machine_step, machine_start, machine_after, count_if, marks_by, marks_in_step, marked_after}
 use Rattle.pearl_rules.specs.Faithful.{Alone}
+use Rattle.pearl_rules.proofs.PickLaws.{turned-is}
 use Rattle.pearl_rules.proofs.EffectLaws.{effect-length, opening-kinds, effect-kinds, effect-answers}
 use Rattle.pearl_rules.proofs.KeptLaws.{refreshed-length, Both, AllAt, at_at, set_at, set_right, dropped_at, refreshed_at}
 
@@ -274,11 +275,35 @@ module _ (setup : Setup) (offer : Supplier) (S : Type 0) (engine : Engine S) (St
       subst (λ o. Sim (machine_does engine m t rest running.stack o) (source_acts offer s t rest (Some so_far))) (sym settled.1)
       (sim_done m s sim t rest so_far running.stack settled.0 b.there b.stands (b.offered settled.0 settled.1))
 
+  -- where a mark changes neither slots nor the number of tasks, both sides have the same core after it, and what they kept
+  sim_settled : (m : Machine S) (s : Source) → Sim m s → (core other : Core) → core ≡ other → core.tasks ≡ m.core.tasks → core.slots ≡ m.core.slots →
+      (rest : List Entry) → Sim (machine_settled engine core m.running rest) (source_settled other s.heard rest)
+  sim_settled m s sim core other same tasks slots rest =
+      let kept : length core.tasks ≡ length setup.tasks = ap length tasks ∙ sim.tasks in
+      let after : Sim (machine_settled engine core m.running rest) (source_settled core s.heard rest) = record {
+        same_core = refl;
+        same_entries = refl;
+        all = refreshed_at (List Answer) (Running S) (Here setup engine Stands) (λ u. []) (fresh engine) 0 core.tasks
+            (λ u less. begun u (omega (arith, less, kept))) s.heard m.running sim.all;
+        kinds = subst (λ now. AllZip IsLike setup.slots now) (sym slots) sim.kinds;
+        tasks = kept;
+        places = refreshed-length (fresh engine) 0 core.tasks m.running ∙ kept;
+      } in
+      subst (λ c. Sim (machine_settled engine core m.running rest) (source_settled c s.heard rest)) same after
+
   -- one mark on both sides
   sim_mark : (m : Machine S) (s : Source) → Sim m s → unsettled m ≡ None → (mark : Mark) (rest : List Entry) →
       Sim (machine_mark engine m mark rest) (source_mark offer s mark rest)
   sim_mark m s sim e (Acts t) rest =
       sim_acts m s sim t rest (kept_at s.heard t) (kept_at m.running t) (at_place s.heard m.running sim.all t) (settled_at 0 m.running e t)
+  sim_mark m s sim e (Turns t) rest =
+      let is = turned-is m.core (machine_offers m) t in
+      sim_settled m s sim (turned m.core (machine_offers m) t) (turned s.core (source_offers offer s) t)
+      (ap₂ (λ core o. turned core o t) sim.same_core (fun_ext (sim_offers m s sim e)))
+      (ap (λ core. core.tasks) is) (ap (λ core. core.slots) is) rest
+  sim_mark m s sim e Tells rest =
+      sim_settled m s sim (showing m.core (machine_offers m)) (showing s.core (source_offers offer s))
+      (ap₂ (λ core o. showing core o) sim.same_core (fun_ext (sim_offers m s sim e))) refl refl rest
 
   -- the next mark on both sides, if one comes
   sim_coming : (m : Machine S) (s : Source) → Sim m s → unsettled m ≡ None → (coming : Option Coming) →

@@ -1,5 +1,5 @@
 -- What the state of a run is, apart from the tasks' own variables: the time, how each task stands, what the module's variables hold,
--- who acted last, what was told.
+-- the semaphores' counts, who acted last, what was told.
 use Rattle.std.specs.Prelude.{ℕ, ◌+◌, pos, List, [], ◌∷◌, ◌++◌, Bool, true, false, Option, Some, None, map, slice_get, slice_set}
 use Rattle.pearl_value.specs.declared.cell.Cell.{Cell}
 use Rattle.pearl_value.specs.declared.cell.Cell.TheVariants.{Fixed}
@@ -22,6 +22,7 @@ pub record Core : Type 0 where
   pub moment : ℕ
   pub tasks : List TaskRow
   pub slots : List Cell
+  pub counts : List ℕ
   pub last : Option ℕ
   pub told : List (ℕ × Report)
 
@@ -37,9 +38,17 @@ value_at slots slot = cell_or_zero (slice_get slots slot)
 abbrev pub note : Core → Event → Core
 note core event = record core { told = core.told ++ (core.moment, Happened event) ∷ [] }
 
+-- the same core with this told before all that it has told
+abbrev pub told_before : List (ℕ × Report) → Core → Core
+told_before before core = record core { told = before ++ core.told }
+
 -- a task's row
 abbrev pub row_of : Core → ℕ → Option TaskRow
 row_of core t = slice_get core.tasks t
+
+-- a row's declared priority
+abbrev pub declared_of : TaskRow → ℕ
+declared_of row = row.declared
 
 -- the core with another row for a task
 abbrev pub with_row : Core → ℕ → TaskRow → Core
@@ -57,13 +66,21 @@ is_active_row (Some row) = is_active_mode row.mode
 abbrev pub is_active : Core → ℕ → Bool
 is_active core t = is_active_row (row_of core t)
 
+-- how a task stands; a number that names none is that of a dormant one
+abbrev pub mode_of_row : Option TaskRow → Mode
+mode_of_row None = Dormant
+mode_of_row (Some row) = row.mode
+
+abbrev pub mode_of : Core → ℕ → Mode
+mode_of core t = mode_of_row (row_of core t)
+
 -- how a task stands at the start: a MAIN task is active with its declared priority
 abbrev pub first_mode : Bool → ℕ → Mode
 first_mode true priority = Active priority false
 first_mode false priority = Dormant
 
 abbrev pub first_row : TaskEntry → TaskRow
-first_row task = record { mode = first_mode task.main task.priority }
+first_row task = record { mode = first_mode task.main task.priority; declared = task.priority }
 
 abbrev pub first_events_if : Bool → ℕ → ℕ → List (ℕ × Report) → List (ℕ × Report)
 first_events_if true t priority rest = (0, Happened (Start t priority)) ∷ rest
@@ -74,12 +91,13 @@ abbrev pub first_events : ℕ → List TaskEntry → List (ℕ × Report)
 first_events t [] = []
 first_events t (task ∷ tasks) = first_events_if task.main t task.priority (first_events (t + 1) tasks)
 
--- the core at the start: each slot has its first value
+-- the core at the start: each slot has its first value, and each semaphore its first count
 abbrev pub opening : Setup → Core
 opening setup = record {
   moment = 0;
   tasks = map first_row setup.tasks;
   slots = setup.slots;
+  counts = setup.semaphores;
   last = None;
   told = first_events 0 setup.tasks;
 }

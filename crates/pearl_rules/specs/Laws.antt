@@ -1,9 +1,77 @@
--- What the laws of runs say.
-use Rattle.std.specs.Prelude.{◌≡◌, ◌≢◌, ℕ, ◌<◌, ◌≤◌, List, ◌++◌, None}
+-- What the laws say of turns, of effects and of runs.
+use Rattle.std.specs.Prelude.{◌≡◌, ◌≢◌, ℕ, ◌-◌, ◌^◌, ◌<◌, ◌≤◌, List, [], ◌∷◌, ◌++◌, false, Option, Some, None, IsTrue, Contains, slice_get}
+use Rattle.pearl_rules.specs.declared.action.Action.{Action}
+use Rattle.pearl_rules.specs.declared.action.Action.TheVariants as action
+use Rattle.pearl_rules.specs.declared.action.Answer.{Answer}
+use Rattle.pearl_rules.specs.declared.event.Event.{Event}
+use Rattle.pearl_rules.specs.declared.row.Mode.{Mode}
 use Rattle.pearl_rules.specs.declared.entry.Entry.{Entry}
+use Rattle.pearl_rules.specs.declared.row.TaskRow.{TaskRow}
 use Rattle.pearl_rules.specs.declared.setup.Setup.{Setup}
-use Rattle.pearl_rules.specs.Core.{Report}
-use Rattle.pearl_rules.specs.Runs.{Supplier, Source, Engine, Machine, source_run, source_next, source_offers, machine_run, machine_offers, machine_next, marked, unsettled, told_at_end}
+use Rattle.pearl_rules.specs.Core.{Core, Report, Happened, row_of, mode_of, is_active, is_active_mode, told_before}
+use Rattle.pearl_rules.specs.Counts.{count_at}
+use Rattle.pearl_rules.specs.Effect.{Reply, Hears, Ends, Effect, answering}
+use Rattle.pearl_rules.specs.Pick.{Offered, is_eligible, priority_of}
+use Rattle.pearl_rules.specs.Runs.{dropped, kept_at, refreshed, Supplier, Source, Engine, Machine, source_run, source_next, source_offers, machine_run, machine_offers, machine_next, marked, unsettled, told_at_end}
+
+-- TURNS AND EFFECTS
+
+-- a task that is eligible, where no eligible task has a smaller priority number
+pub record IsFirstInRank (core : Core) (offers : Offered) (t : ℕ) : Type 0 where
+  pub eligible : IsTrue (is_eligible core offers t)
+  pub urgent : (u : ℕ) → IsTrue (is_eligible core offers u) → priority_of core t ≤ priority_of core u
+
+-- the same effect, with this told before
+abbrev pub effect_told_before : List (ℕ × Report) → Effect → Effect
+effect_told_before before done = record done { core = told_before before done.core }
+
+-- what an effect tells of ends: an active task that becomes dormant is among those that ended, and no task among those stays active;
+-- the task that acted stays active where it hears an answer, and else it is dormant
+pub record TellsEnds (core : Core) (own : ℕ) (done : Effect) : Type 0 where
+  pub ended : (t : ℕ) → IsTrue (is_active core t) → is_active done.core t ≡ false → Contains done.ended t
+  pub dormant : (t : ℕ) → Contains done.ended t → is_active done.core t ≡ false
+  pub others : (t : ℕ) → (Contains done.ended t → ⊥) → IsTrue (is_active core t) → IsTrue (is_active done.core t)
+  pub hears : (answer : Answer) → done.reply ≡ Hears answer → IsTrue (is_active core own) → IsTrue (is_active done.core own)
+  pub ends : done.reply ≡ Ends → is_active done.core own ≡ false
+
+-- these events, each at this moment
+abbrev pub happened_at : ℕ → List Event → List (ℕ × Report)
+happened_at moment [] = []
+happened_at moment (event ∷ events) = (moment, Happened event) ∷ happened_at moment events
+
+-- an effect sets how one task stands, tells these events, and has this reply; no other task changes, and nothing else but who acted last
+pub record ChangesTask (core : Core) (own t : ℕ) (mode : Mode) (events : List Event) (reply : Reply) (done : Effect) : Type 0 where
+  pub stands : mode_of done.core t ≡ mode
+  pub others : (u : ℕ) → u ≢ t → row_of done.core u ≡ row_of core u
+  pub rest : done.core ≡ record core { last = Some own; tasks = done.core.tasks; told = core.told ++ happened_at core.moment events }
+  pub replies : done.reply ≡ reply
+
+-- the action ends the task that acts
+abbrev pub EndsItself : Core → (own : ℕ) → Action → Type 0
+EndsItself core own action.End = Unit {0}
+EndsItself core own (action.Trap trap) = Unit {0}
+EndsItself core own (action.Terminate t) = t ≡ own
+EndsItself core own (action.Release list) = (s : ℕ) × Contains list.items s × (2 ^ 31 - 1 ≤ count_at core.counts s)
+EndsItself core own other = ⊥
+
+-- What is kept of the task of this row after some tasks ended: nothing of a dormant one; an active one that is among those or of
+-- which nothing was kept begins afresh; of any other active one the same is kept as before.
+pub record BeginsAfresh {X : Type 0} (fresh : ℕ → X) (rows : List TaskRow) (ended : List ℕ) (before : List (Option X)) (t : ℕ) (row : TaskRow) : Type 0 where
+  pub dormant : is_active_mode row.mode ≡ false → kept_at (refreshed fresh 0 rows (dropped ended before)) t ≡ None
+  pub again : IsTrue (is_active_mode row.mode) → Contains ended t → kept_at (refreshed fresh 0 rows (dropped ended before)) t ≡ Some (fresh t)
+  pub anew : IsTrue (is_active_mode row.mode) → kept_at before t ≡ None →
+      kept_at (refreshed fresh 0 rows (dropped ended before)) t ≡ Some (fresh t)
+  pub same : IsTrue (is_active_mode row.mode) → (Contains ended t → ⊥) → (x : X) → kept_at before t ≡ Some x →
+      kept_at (refreshed fresh 0 rows (dropped ended before)) t ≡ Some x
+
+-- An effect changes exactly the counts of these semaphores, each as is said of the count before and the count after; nothing else
+-- changes, and the task goes on with this answer.
+pub record ChangesCounts (core : Core) (own : ℕ) (semaphores : List ℕ) (Changes : (before after : ℕ) → Type 0) (answer : Answer) (done : Effect) : Type 0 where
+  pub named : (s : ℕ) → Contains semaphores s → Changes (count_at core.counts s) (count_at done.core.counts s)
+  pub others : (s : ℕ) → (Contains semaphores s → ⊥) → count_at done.core.counts s ≡ count_at core.counts s
+  pub rest : done ≡ answering (record core { last = Some own; counts = done.core.counts }) answer
+
+-- RUNS
 
 -- the machine's run is at its end after n steps: nothing is unsettled and no mark comes
 pub record HasEnded {S : Type 0} (engine : Engine S) (setup : Setup) (es : List Entry) (n : ℕ) : Type 0 where

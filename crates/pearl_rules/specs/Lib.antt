@@ -1,5 +1,7 @@
 -- what the state of a run is, apart from the tasks' own variables
 pub mod Core
+-- the counts of semaphores, and what becomes of them
+pub mod Counts
 -- which task acts next, and how a task stands
 pub mod Pick
 -- what an action does to the core, and what its task hears

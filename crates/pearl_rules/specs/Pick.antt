@@ -1,19 +1,22 @@
 -- Which task acts next, and how a task stands.
 use Rattle.std.specs.Prelude.{◌≡◌, ◌≢◌, ℕ, zero, suc, ◌≤◌, ◌⊎◌, List, [], ◌∷◌, ◌++◌, Bool, true, false, Option, Some, None, length, nat_lt, nat_eq, ◌||◌, ◌&&◌, IsTrue}
 use Rattle.pearl_rules.specs.declared.action.Action.{Action}
+use Rattle.pearl_rules.specs.declared.action.Action.TheVariants.{Request}
 use Rattle.pearl_rules.specs.declared.row.Mode.{Mode}
 use Rattle.pearl_rules.specs.declared.row.Mode.TheVariants.{Dormant, Active}
 use Rattle.pearl_rules.specs.declared.row.TaskRow.{TaskRow}
 use Rattle.pearl_rules.specs.declared.event.Shown.TheVariants as shown
 use Rattle.pearl_rules.specs.declared.event.Shown.{Shown}
 use Rattle.pearl_rules.specs.Core.{Core, Report, Shows, row_of}
+use Rattle.pearl_rules.specs.Counts.{all_free}
 
 -- what each task offers to do next: none where it isn't active or hasn't offered yet
 abbrev pub Offered : Type 0
 Offered = ℕ → Option Action
 
--- whether an action can be done now
+-- whether an action can be done now: a request waits until all that it names are above 0
 abbrev pub guard : Core → Action → Bool
+guard core (Request semaphores) = all_free core.counts semaphores.items
 guard core action = true
 
 abbrev pub is_possible : Core → Option Action → Bool
@@ -83,6 +86,22 @@ pub record IsPicked (core : Core) (offers : Offered) (t : ℕ) : Type 0 where
   pub urgent : (u : ℕ) → IsTrue (is_eligible core offers u) → priority_of core t ≤ priority_of core u
   pub first : (core.last ≡ Some t) ⊎ ((u : ℕ) → IsTrue (is_eligible core offers u) → priority_of core u ≡ priority_of core t → (core.last ≢ Some u) × (t ≤ u))
 
+abbrev pub is_as_urgent : Core → Option ℕ → ℕ → Bool
+is_as_urgent core None t = false
+is_as_urgent core (Some u) t = nat_eq (priority_of core t) (priority_of core u)
+
+-- whether it can be this task's turn: it is eligible, and as urgent as the one that acts next
+abbrev pub can_turn : Core → Offered → ℕ → Bool
+can_turn core offers t = is_eligible core offers t && is_as_urgent core (pick core offers) t
+
+abbrev pub last_if : Bool → Core → ℕ → Core
+last_if true core t = record core { last = Some t }
+last_if false core t = core
+
+-- it is this task's turn, where it can be: it counts as the one that acted last
+abbrev pub turned : Core → Offered → ℕ → Core
+turned core offers t = last_if (can_turn core offers t) core t
+
 abbrev pub shown_active : Bool → Bool → Bool → ℕ → Shown
 shown_active true possible picked priority = shown.Suspended priority
 shown_active false false picked priority = shown.Blocked priority
@@ -109,3 +128,7 @@ states_first core offers (suc n) = states_first core offers n ++ (core.moment, S
 -- how all tasks stand
 abbrev pub states : Core → Offered → List (ℕ × Report)
 states core offers = states_first core offers (length core.tasks)
+
+-- the core that has told how all tasks stand
+abbrev pub showing : Core → Offered → Core
+showing core offers = record core { told = core.told ++ states core offers }

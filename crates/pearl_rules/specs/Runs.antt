@@ -3,16 +3,18 @@ use Rattle.std.specs.Prelude.{ℕ, zero, suc, ◌+◌, List, [], ◌∷◌, ◌+
 use Rattle.pearl_rules.specs.declared.action.Action.{Action}
 use Rattle.pearl_rules.specs.declared.action.Answer.{Answer}
 use Rattle.pearl_rules.specs.declared.entry.Entry.{Entry}
-use Rattle.pearl_rules.specs.declared.entry.Entry.TheVariants.{Run}
+use Rattle.pearl_rules.specs.declared.entry.Entry.TheVariants.{Run, Turn, State}
 use Rattle.pearl_rules.specs.declared.row.TaskRow.{TaskRow}
 use Rattle.pearl_rules.specs.declared.setup.Setup.{Setup}
 use Rattle.pearl_rules.specs.Core.{Core, Report, is_active_row, opening}
-use Rattle.pearl_rules.specs.Pick.{Offered, pick, states}
+use Rattle.pearl_rules.specs.Pick.{Offered, pick, turned, showing, states}
 use Rattle.pearl_rules.specs.Effect.{Reply, Hears, Ends, effect}
 
--- one indivisible step of a run: an action of a task
+-- one indivisible step of a run: an action of a task, that it becomes a task's turn, or that the tasks' states are told
 pub data Mark : Type 0 where
   Acts : (task : ℕ) → Mark
+  Turns : (task : ℕ) → Mark
+  Tells : Mark
 
 -- a mark with the entries that remain after it
 pub record Coming : Type 0 where
@@ -29,6 +31,8 @@ next_of_run (Some t) (suc n) rest later = Some (record { mark = Acts t; rest = R
 abbrev pub next_mark : Option ℕ → List Entry → Option Coming
 next_mark picked [] = None
 next_mark picked (Run n ∷ rest) = next_of_run picked n rest (next_mark picked rest)
+next_mark picked (Turn t ∷ rest) = Some (record { mark = Turns t; rest = rest })
+next_mark picked (State ∷ rest) = Some (record { mark = Tells; rest = rest })
 next_mark picked (entry ∷ rest) = next_mark picked rest
 
 -- What is kept of each active task begins afresh where nothing was kept of it, and nothing is kept of a dormant one.
@@ -92,6 +96,8 @@ source_acts offer s t rest (Some so_far) =
 
 abbrev pub source_mark : Supplier → Source → Mark → List Entry → Source
 source_mark offer s (Acts t) rest = source_acts offer s t rest (kept_at s.heard t)
+source_mark offer s (Turns t) rest = source_settled (turned s.core (source_offers offer s) t) s.heard rest
+source_mark offer s Tells rest = source_settled (showing s.core (source_offers offer s)) s.heard rest
 
 abbrev pub source_step_by : Supplier → Source → Option Coming → Source
 source_step_by offer s None = s
@@ -188,6 +194,8 @@ machine_acts engine m t rest (Some running) = machine_does engine m t rest runni
 
 abbrev pub machine_mark : {S : Type 0} → Engine S → Machine S → Mark → List Entry → Machine S
 machine_mark engine m (Acts t) rest = machine_acts engine m t rest (kept_at m.running t)
+machine_mark engine m (Turns t) rest = machine_settled engine (turned m.core (machine_offers m) t) m.running rest
+machine_mark engine m Tells rest = machine_settled engine (showing m.core (machine_offers m)) m.running rest
 
 abbrev pub machine_mark_by : {S : Type 0} → Engine S → Machine S → Option Coming → Machine S
 machine_mark_by engine m None = m

@@ -1,19 +1,32 @@
 // Laws of the rules: what holds of every core, every run and every code. Each function's contract is one theorem; none does anything.
 
-ghost use Rattle.std.specs.Prelude.{◌≡◌, ◌↔◌, ℕ, ◌+◌, ◌*◌, ◌++◌, List, false, Some, None, length};
+ghost use Rattle.std.specs.Prelude.{◌≡◌, ◌≢◌, ◌↔◌, ℕ, ◌+◌, ◌-◌, ◌*◌, ◌^◌, ◌<◌, ◌≤◌, ◌++◌, List, [], ◌∷◌, Bool, true, false, Option, Some, None, IsTrue, Contains, map, length, slice_get};
 ghost use Rattle.std.specs.List.{AllByRecursion};
+ghost use Rattle.arrayvec.specs.ArrayVec.{ArrayVec};
+ghost use Rattle.pearl_value.specs.declared.cell.Cell.TheVariants.{Bits};
+ghost use Rattle.pearl_value.specs.declared.trap.Trap as traps;
+ghost use Rattle.pearl_value.specs.declared.trap.Trap.TheVariants.{SemaLimit};
 ghost use Rattle.pearl_value.specs.WellFormed.{IsValue};
 ghost use Rattle.pearl_rules.specs.declared.action.Action.{Action};
+ghost use Rattle.pearl_rules.specs.declared.action.Action.TheVariants.{Request, Release, Try, Activate, Continue, Suspend, Terminate, End, Trap};
+ghost use Rattle.pearl_rules.specs.declared.action.Start.TheVariants.{Free};
+ghost use Rattle.pearl_rules.specs.declared.action.Repeat.TheVariants.{Once};
 ghost use Rattle.pearl_rules.specs.declared.action.Answer.{Answer};
+ghost use Rattle.pearl_rules.specs.declared.action.Answer.TheVariants.{Nothing, One};
 ghost use Rattle.pearl_rules.specs.declared.entry.Entry.{Entry};
+ghost use Rattle.pearl_rules.specs.declared.event.Event.TheVariants as event;
+ghost use Rattle.pearl_rules.specs.declared.row.Mode.TheVariants.{Dormant, Active};
+ghost use Rattle.pearl_rules.specs.declared.row.TaskRow.{TaskRow};
 ghost use Rattle.pearl_rules.specs.declared.setup.Setup.{Setup};
-ghost use Rattle.pearl_rules.specs.Core.{Core, Report, first_events};
-ghost use Rattle.pearl_rules.specs.Effect.{Hears, effect};
-ghost use Rattle.pearl_rules.specs.Slots.{Suits, Fits, HasKinds};
-ghost use Rattle.pearl_rules.specs.Pick.{Offered, is_eligible, pick, IsPicked, states};
+ghost use Rattle.pearl_rules.specs.Core.{Core, Report, mode_of, declared_of, first_events, opening, told_before};
+ghost use Rattle.pearl_rules.specs.Counts.{count_at};
+ghost use Rattle.pearl_rules.specs.Effect.{Hears, Ends, answering, priority_or_declared, effect};
+ghost use Rattle.pearl_rules.specs.Tables.{IsTaskEntry, IsPreset};
+ghost use Rattle.pearl_rules.specs.Slots.{Suits, Fits, HasKinds, HasCounts, HasUrgencies};
+ghost use Rattle.pearl_rules.specs.Pick.{Offered, guard, is_eligible, pick, IsPicked, can_turn, turned, shown_of, states, showing};
 ghost use Rattle.pearl_rules.specs.Runs.{Supplier, Engine, source_run, source_next, machine_run, marked};
 ghost use Rattle.pearl_rules.specs.Faithful.{IsFaithful, Alone, Soon};
-ghost use Rattle.pearl_rules.specs.Laws.{HasEnded, EndsAlike, EndsSoon, EndsTelling, Comes, IsBeforeEnd, with_more, machine_with_more};
+ghost use Rattle.pearl_rules.specs.Laws.{IsFirstInRank, effect_told_before, TellsEnds, ChangesTask, EndsItself, BeginsAfresh, ChangesCounts, HasEnded, EndsAlike, EndsSoon, EndsTelling, Comes, IsBeforeEnd, with_more, machine_with_more};
 
 /// The task that acts next is the one that the rule of picking names, and there is none only where no task is eligible.
 pub fn picks_the_most_urgent()
@@ -21,13 +34,136 @@ pub fn picks_the_most_urgent()
     ensures none { (core : Core) (offers : Offered) → pick core offers ≡ None → (t : ℕ) → is_eligible core offers t ≡ false }
 {}
 
-/// Who acts next, and how the tasks stand, depends only on the tasks' rows, on who acted last and on what each task offers;
-/// the moment is shown beside it.
+/// Who acts next, and how the tasks stand, depends only on the tasks' rows, on the counts, on who acted last and on what each
+/// task offers; the moment is shown beside it.
 pub fn picks_alike()
     ensures pick { (core other : Core) (offers others : Offered) → core.tasks ≡ other.tasks → core.last ≡ other.last →
-        ((t : ℕ) → offers t ≡ others t) → pick core offers ≡ pick other others }
+        core.counts ≡ other.counts → ((t : ℕ) → offers t ≡ others t) → pick core offers ≡ pick other others }
     ensures states { (core other : Core) (offers others : Offered) → core.moment ≡ other.moment → core.tasks ≡ other.tasks →
-        core.last ≡ other.last → ((t : ℕ) → offers t ≡ others t) → states core offers ≡ states other others }
+        core.last ≡ other.last → core.counts ≡ other.counts → ((t : ℕ) → offers t ≡ others t) →
+        states core offers ≡ states other others }
+{}
+
+/// It can be a task's turn exactly where it is eligible and no eligible task has a smaller priority number. Then it counts as the
+/// one that acted last, so that it acts next; else nothing changes.
+pub fn turns_to_the_named()
+    ensures exactly { (core : Core) (offers : Offered) (t : ℕ) → IsTrue (can_turn core offers t) ↔ IsFirstInRank core offers t }
+    ensures turns { (core : Core) (offers : Offered) (t : ℕ) → IsFirstInRank core offers t → turned core offers t ≡ record core { last = Some t } }
+    ensures next { (core : Core) (offers : Offered) (t : ℕ) → IsFirstInRank core offers t → pick (turned core offers t) offers ≡ Some t }
+    ensures stays { (core : Core) (offers : Offered) (t : ℕ) → (IsFirstInRank core offers t → ⊥) → turned core offers t ≡ core }
+{}
+
+/// What was told before changes nothing: an action has the same effect, turns and states are the same, and what is told comes
+/// after what was told before.
+pub fn tells_after()
+    ensures acts { (before : List (ℕ × Report)) (core : Core) (own : ℕ) (action : Action) →
+        effect (told_before before core) own action ≡ effect_told_before before (effect core own action) }
+    ensures turns { (before : List (ℕ × Report)) (core : Core) (offers : Offered) (t : ℕ) →
+        turned (told_before before core) offers t ≡ told_before before (turned core offers t) }
+    ensures shows { (before : List (ℕ × Report)) (core : Core) (offers : Offered) →
+        showing (told_before before core) offers ≡ told_before before (showing core offers) }
+    ensures picks { (before : List (ℕ × Report)) (core : Core) (offers : Offered) → pick (told_before before core) offers ≡ pick core offers }
+    ensures states { (before : List (ℕ × Report)) (core : Core) (offers : Offered) → states (told_before before core) offers ≡ states core offers }
+    ensures shown { (before : List (ℕ × Report)) (core : Core) (offers : Offered) (t : ℕ) →
+        shown_of (told_before before core) offers t ≡ shown_of core offers t }
+{}
+
+/// Each task that an action makes dormant is among those that it ends, and what is kept of those begins afresh; of all other
+/// active tasks the same is kept as before. A task that hears an answer stays active.
+pub fn ended_tasks_begin_afresh<X>()
+    ensures ends { (core : Core) (own : ℕ) (action : Action) → TellsEnds core own (effect core own action) }
+    ensures keeps { (fresh : ℕ → X) (rows : List TaskRow) (ended : List ℕ) (before : List (Option X)) (t : ℕ) (row : TaskRow) →
+        slice_get rows t ≡ Some row → BeginsAfresh fresh rows ended before t row }
+{}
+
+/// A start makes a dormant task active, with the priority that it names, or else the declared one, and not suspended. A task that
+/// is active stays as it is, and the overrun is told.
+pub fn starts_make_dormant_tasks_active()
+    ensures starts { (core : Core) (own t : ℕ) (priority : Option ℕ) → t < length core.tasks → mode_of core t ≡ Dormant →
+        ChangesTask core own t (Active (priority_or_declared core t priority) false)
+        (event.Start t (priority_or_declared core t priority) ∷ []) (Hears Nothing) (effect core own (Activate t Free Once priority)) }
+    ensures overruns { (core : Core) (own t before : ℕ) (suspended : Bool) (priority : Option ℕ) → mode_of core t ≡ Active before suspended →
+        ChangesTask core own t (Active before suspended) (event.Overrun t ∷ []) (Hears Nothing) (effect core own (Activate t Free Once priority)) }
+{}
+
+/// An active task can be suspended and continued, with the priority that it has; on a dormant one neither does anything. A
+/// suspended task doesn't act.
+pub fn suspended_tasks_wait()
+    ensures suspends { (core : Core) (own t priority : ℕ) (before : Bool) → mode_of core t ≡ Active priority before →
+        ChangesTask core own t (Active priority true) [] (Hears Nothing) (effect core own (Suspend t)) }
+    ensures continues { (core : Core) (own t priority : ℕ) (before : Bool) → mode_of core t ≡ Active priority before →
+        ChangesTask core own t (Active priority false) [] (Hears Nothing) (effect core own (Continue t Free)) }
+    ensures dormant_suspended { (core : Core) (own t : ℕ) → mode_of core t ≡ Dormant →
+        ChangesTask core own t Dormant [] (Hears Nothing) (effect core own (Suspend t)) }
+    ensures dormant_continued { (core : Core) (own t : ℕ) → mode_of core t ≡ Dormant →
+        ChangesTask core own t Dormant [] (Hears Nothing) (effect core own (Continue t Free)) }
+    ensures waits { (core : Core) (offers : Offered) (t priority : ℕ) → mode_of core t ≡ Active priority true → is_eligible core offers t ≡ false }
+{}
+
+/// A task that ends, is broken off or is ended from outside becomes dormant, and that is told.
+pub fn ends_make_tasks_dormant()
+    ensures ends { (core : Core) (own : ℕ) → ChangesTask core own own Dormant (event.End own ∷ []) Ends (effect core own End) }
+    ensures breaks_off { (core : Core) (own : ℕ) (trap : traps.Trap) →
+        ChangesTask core own own Dormant (event.Trap own trap ∷ []) Ends (effect core own (Trap trap)) }
+    ensures stops { (core : Core) (own t priority : ℕ) (suspended : Bool) → mode_of core t ≡ Active priority suspended → t ≢ own →
+        ChangesTask core own t Dormant (event.Stop t ∷ []) (Hears Nothing) (effect core own (Terminate t)) }
+    ensures stops_itself { (core : Core) (own priority : ℕ) (suspended : Bool) → mode_of core own ≡ Active priority suspended →
+        ChangesTask core own own Dormant (event.Stop own ∷ []) Ends (effect core own (Terminate own)) }
+    ensures dormant_stopped { (core : Core) (own t : ℕ) → mode_of core t ≡ Dormant → t ≢ own →
+        ChangesTask core own t Dormant [] (Hears Nothing) (effect core own (Terminate t)) }
+{}
+
+/// Of the actions that fit the tables only these end the task that acts: its end, a trap, that it terminates itself, and a
+/// release where a count stands at 2^31 - 1. Every other one is answered.
+pub fn only_ends_end()
+    ensures { (setup : Setup) (core : Core) (own : ℕ) (action : Action) → Fits setup action →
+        ((effect core own action).reply ≡ Ends) ↔ EndsItself core own action }
+{}
+
+/// A request can be done exactly where all counts that it names are above 0. Then it lowers each of these by 1 and changes
+/// nothing else.
+pub fn requests_lower_all_or_none()
+    ensures possible { (core : Core) (list : ArrayVec ℕ) →
+        IsTrue (guard core (Request list)) ↔ ((s : ℕ) → Contains list.items s → 0 < count_at core.counts s) }
+    ensures lowers { (setup : Setup) (core : Core) (own : ℕ) (list : ArrayVec ℕ) → HasCounts setup core → Fits setup (Request list) →
+        IsTrue (guard core (Request list)) →
+        ChangesCounts core own list.items (λ before after. before ≡ after + 1) Nothing (effect core own (Request list)) }
+{}
+
+/// A release raises all counts that it names by 1 and changes nothing else; where one of them stands at 2^31 - 1 it raises none,
+/// and the task is broken off.
+pub fn releases_raise_all_or_none()
+    ensures raises { (setup : Setup) (core : Core) (own : ℕ) (list : ArrayVec ℕ) → HasCounts setup core → Fits setup (Release list) →
+        ((s : ℕ) → Contains list.items s → count_at core.counts s < 2 ^ 31 - 1) →
+        ChangesCounts core own list.items (λ before after. after ≡ before + 1) Nothing (effect core own (Release list)) }
+    ensures breaks { (core : Core) (own s : ℕ) (list : ArrayVec ℕ) → Contains list.items s → 2 ^ 31 - 1 ≤ count_at core.counts s →
+        effect core own (Release list) ≡ effect core own (Trap SemaLimit) }
+{}
+
+/// A try lowers a count that is above 0 by 1 and answers that it did; else it changes nothing and answers that it didn't.
+pub fn tries_tell_whether_they_lower()
+    ensures lowers { (setup : Setup) (core : Core) (own s : ℕ) → HasCounts setup core → Fits setup (Try s) → 0 < count_at core.counts s →
+        ChangesCounts core own (s ∷ []) (λ before after. before ≡ after + 1) (One (Bits 1 1)) (effect core own (Try s)) }
+    ensures fails { (core : Core) (own s : ℕ) → count_at core.counts s ≡ 0 →
+        effect core own (Try s) ≡ answering (record core { last = Some own }) (One (Bits 1 0)) }
+{}
+
+/// There are always as many counts as semaphores, each below 2^31.
+pub fn counts_stay_counts()
+    ensures opens { (setup : Setup) → AllByRecursion IsPreset setup.semaphores → HasCounts setup (opening setup) }
+    ensures acts { (setup : Setup) (core : Core) (own : ℕ) (action : Action) → HasCounts setup core → Fits setup action →
+        HasCounts setup (effect core own action).core }
+    ensures turns { (setup : Setup) (core : Core) (offers : Offered) (t : ℕ) → HasCounts setup core → HasCounts setup (turned core offers t) }
+{}
+
+/// There are always the declared tasks with their declared priorities, and every active task's priority is from 1 to 255.
+pub fn tasks_keep_their_declared_priority()
+    ensures opens { (setup : Setup) → map declared_of (opening setup).tasks ≡ map (λ task. task.priority) setup.tasks }
+    ensures acts { (core : Core) (own : ℕ) (action : Action) → map declared_of (effect core own action).core.tasks ≡ map declared_of core.tasks }
+    ensures turns { (core : Core) (offers : Offered) (t : ℕ) → (turned core offers t).tasks ≡ core.tasks }
+    ensures urgent_at_start { (setup : Setup) → AllByRecursion IsTaskEntry setup.tasks → HasUrgencies (opening setup) }
+    ensures urgent { (setup : Setup) (core : Core) (own : ℕ) (action : Action) → HasUrgencies core → Fits setup action →
+        HasUrgencies (effect core own action).core }
 {}
 
 /// An action that fits the tables keeps the kinds of the module's variables, and is answered by what suits it: a read by a

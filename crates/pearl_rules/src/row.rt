@@ -11,4 +11,6 @@ pub enum Mode {
 #[derive(Clone, Copy, PartialEq, Eq, Debug)]
 pub struct TaskRow {
     pub mode: Mode,
+    /// The priority that the task is started with where a start names none. It never changes.
+    pub declared: u8,
 }

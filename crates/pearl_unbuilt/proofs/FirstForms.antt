@@ -1,13 +1,14 @@
 -- The first unbuilt form stands where the walk finds it.
-use Rattle.std.proofs.Common.{◌≡◌, ℕ, Bool, true, false, ◌||◌, if◌then◌else◌, List, [], ◌∷◌, ◌++◌, map, Option, Some, None, refl, ◌∙◌}
-use Rattle.std.specs.List.{flat_map, list_any}
+use Rattle.std.proofs.Common.{◌≡◌, ℕ, List, [], ◌∷◌, ◌++◌, map, Option, Some, None, refl, ◌∙◌}
+use Rattle.std.specs.List.{flat_map}
 use Rattle.std.specs.Option.{option_or}
 use Rattle.pearl_tree.specs.declared.expression.Monadic.{Monadic}
+use Rattle.pearl_tree.specs.declared.statement.TaskWord.TheVariants.{Suspend, Terminate, Prevent}
 use Rattle.pearl_tree.specs.ShownExpressions.{ShownExpr, OfOperand, OfDyadic, ShownPrimary, OfLiteral, OfRef, OfGroup, OfNow, OfTry, OfLimit, ShownSelectors, NoSelectors, MoreSelectors, ShownSelector, OfSubscripts, OfComponent, ShownExprs, NoExprs, MoreExprs}
 use Rattle.pearl_tree.specs.ShownStatements.{ShownBodyDecl, ShownStmt, OfEmpty, OfAssign, OfCall, OfIf, OfCase, OfRepeat, OfExit, OfBegin, OfReturn, OfActivate, OfContinue, OfResume, OfOnTask, OfOnSemas, OfOnInterrupt, OfPut, OfGet, OfSend, OfTake, ShownStmts, NoStmts, MoreStmts, ShownBranches, NoBranches, MoreBranches, ShownOtherwise, NoOtherwise, OfOtherwise}
 use Rattle.pearl_tree.specs.ShownModules.{ShownBody, ShownDecl, OfLength, OfType, OfDeclare, OfSpecify, OfTask, OfProc, ShownTree}
-use Rattle.pearl_unbuilt.specs.Unbuilt.{Form, Built, Unbuilt, first_unbuilt, if_there, expr_forms, primary_forms, selectors_forms, selector_forms, exprs_forms, ref_forms, body_decl_forms, stmt_forms, stmts_forms, branches_forms, otherwise_forms, body_forms, form_if, declared_is_unbuilt, decl_forms, is_task, decls_forms, is_main, unbuilt}
-use Rattle.pearl_unbuilt.specs.Walk.{in_first, in_expr, in_primary, in_selectors, in_selector, in_exprs, in_value, in_ref, in_stmt, in_stmts, in_branches, in_otherwise, in_body, in_decl, in_decls, in_tree}
+use Rattle.pearl_unbuilt.specs.Unbuilt.{Form, Built, Unbuilt, first_unbuilt, if_there, expr_forms, primary_forms, selectors_forms, selector_forms, exprs_forms, ref_forms, body_decl_forms, stmt_forms, stmts_forms, branches_forms, otherwise_forms, body_forms, decl_forms, unbuilt}
+use Rattle.pearl_unbuilt.specs.Walk.{in_first, in_expr, in_primary, in_selectors, in_selector, in_exprs, in_value, in_ref, in_stmt, in_stmts, in_branches, in_otherwise, in_body, in_decl, in_tree}
 
 first_append : (one two : List Form) → first_unbuilt (one ++ two) ≡ option_or (first_unbuilt one) (first_unbuilt two)
 first_append [] two = refl
@@ -103,10 +104,14 @@ mutual
   stmt_first (OfBegin declarations statements body_place place) =
       declared_past declarations (stmts_forms statements) (in_stmts statements) (stmts_first statements)
   stmt_first (OfReturn value place) = value_first value
-  stmt_first (OfActivate start task priority place) = refl
-  stmt_first (OfContinue once task place) = refl
+  stmt_first (OfActivate None task priority place) = value_first priority
+  stmt_first (OfActivate (Some start) task priority place) = refl
+  stmt_first (OfContinue None task place) = refl
+  stmt_first (OfContinue (Some once) task place) = refl
   stmt_first (OfResume once place) = refl
-  stmt_first (OfOnTask word task place) = refl
+  stmt_first (OfOnTask Suspend task place) = refl
+  stmt_first (OfOnTask Terminate task place) = refl
+  stmt_first (OfOnTask Prevent task place) = refl
   stmt_first (OfOnSemas word names place) = refl
   stmt_first (OfOnInterrupt word name place) = refl
   stmt_first (OfPut values dation formats place) = each expr_forms in_expr expr_first values
@@ -135,38 +140,13 @@ body_first body =
     declared_past body.declarations (flat_map stmt_forms body.statements) (in_first in_stmt body.statements)
     (each stmt_forms in_stmt stmt_first body.statements)
 
-declaration_first : (is_unbuilt : Bool) (place : ℕ) →
-    first_unbuilt (form_if is_unbuilt place ∷ []) ≡ (if is_unbuilt then Some place else None)
-declaration_first true place = refl
-declaration_first false place = refl
-
-task_first : (behind : Bool) (body : ShownBody) (place : ℕ) →
-    first_unbuilt (form_if behind place ∷ body_forms body) ≡ (if behind then Some place else in_body body)
-task_first true body place = refl
-task_first false body place = body_first body
-
-decl_first : (behind : Bool) (decl : ShownDecl) → first_unbuilt (decl_forms behind decl) ≡ in_decl behind decl
-decl_first behind (OfLength sort number place) = refl
-decl_first behind (OfType name part place) = refl
-decl_first behind (OfDeclare declared place) = declaration_first (list_any declared_is_unbuilt declared) place
-decl_first behind (OfSpecify specs place) = refl
-decl_first behind (OfTask name head body place) = task_first behind body place
-decl_first behind (OfProc name params returns body place) = body_first body
-
-decls_first : (behind : Bool) (decls : List ShownDecl) → first_unbuilt (decls_forms behind decls) ≡ in_decls behind decls
-decls_first behind [] = refl
-decls_first behind (decl ∷ rest) =
-    joined (decl_forms behind decl) (decls_forms (behind || is_task decl) rest) (in_decl behind decl)
-    (in_decls (behind || is_task decl) rest) (decl_first behind decl) (decls_first (behind || is_task decl) rest)
-
-modend_first : (main : Bool) (place : ℕ) →
-    first_unbuilt (if main then [] else Unbuilt place ∷ []) ≡ (if main then None else Some place)
-modend_first true place = refl
-modend_first false place = refl
+decl_first : (decl : ShownDecl) → first_unbuilt (decl_forms decl) ≡ in_decl decl
+decl_first (OfLength sort number place) = refl
+decl_first (OfType name part place) = refl
+decl_first (OfDeclare declared place) = refl
+decl_first (OfSpecify specs place) = refl
+decl_first (OfTask name head body place) = body_first body
+decl_first (OfProc name params returns body place) = body_first body
 
 pub tree_first : (tree : ShownTree) → unbuilt tree ≡ in_tree tree
-tree_first tree =
-    let main = list_any is_main tree.declarations in
-    joined (decls_forms false tree.declarations) (if main then [] else Unbuilt tree.modend ∷ [])
-    (in_decls false tree.declarations) (if main then None else Some tree.modend)
-    (decls_first false tree.declarations) (modend_first main tree.modend)
+tree_first tree = each decl_forms in_decl decl_first tree.declarations

@@ -1,15 +1,13 @@
 -- The forms of a module in the order of the text, each with its place, and the first of them that isn't carried out yet.
 -- A form that gets built changes its own line alone.
-use Rattle.std.specs.Prelude.{ℕ, Bool, true, false, ◌||◌, if◌then◌else◌, List, [], ◌∷◌, ◌++◌, map, Option, Some, None}
-use Rattle.std.specs.List.{flat_map, list_any}
+use Rattle.std.specs.Prelude.{ℕ, List, [], ◌∷◌, ◌++◌, map, Option, Some, None}
+use Rattle.std.specs.List.{flat_map}
 use Rattle.pearl_tree.specs.declared.expression.Monadic.{Monadic}
 use Rattle.pearl_tree.specs.declared.literal.Duration.{Duration}
 use Rattle.pearl_tree.specs.declared.literal.Duration.TheVariants.{Hours, Minutes, Seconds}
-use Rattle.pearl_tree.specs.declared.tree.TaskHead.{TaskHead}
-use Rattle.pearl_tree.specs.declared.tree.TaskHead.TheVariants.{PrioFirst, MainFirst}
+use Rattle.pearl_tree.specs.declared.statement.TaskWord.TheVariants.{Suspend, Terminate, Prevent}
 use Rattle.pearl_tree.specs.ShownLiterals.{ShownLiteral, OfNumber, OfBits, OfText, OfClock, OfDuration}
 use Rattle.pearl_tree.specs.ShownExpressions.{ShownExpr, OfOperand, OfDyadic, ShownPrimary, OfLiteral, OfRef, OfGroup, OfNow, OfTry, OfLimit, ShownSelectors, NoSelectors, MoreSelectors, ShownSelector, OfSubscripts, OfComponent, ShownExprs, NoExprs, MoreExprs, ShownRef}
-use Rattle.pearl_tree.specs.ShownDeclarations.{ShownDeclared, OfItem, OfSema}
 use Rattle.pearl_tree.specs.ShownStatements.{ShownPeriodEnd, OfUntil, OfDuring, ShownPeriod, ShownStart, OfAt, OfAfter, OfWhen, OfAll, ShownOnce, OnceAt, OnceAfter, OnceWhen, ShownBodyDecl, ShownStmt, OfEmpty, OfAssign, OfCall, OfIf, OfCase, OfRepeat, OfExit, OfBegin, OfReturn, OfActivate, OfContinue, OfResume, OfOnTask, OfOnSemas, OfOnInterrupt, OfPut, OfGet, OfSend, OfTake, ShownStmts, NoStmts, MoreStmts, ShownBranches, NoBranches, MoreBranches, ShownOtherwise, NoOtherwise, OfOtherwise}
 use Rattle.pearl_tree.specs.ShownModules.{ShownBody, ShownDecl, OfLength, OfType, OfDeclare, OfSpecify, OfTask, OfProc, ShownTree}
 
@@ -53,7 +51,7 @@ abbrev mutual
   primary_forms (OfRef name selectors place) = Built place ∷ selectors_forms selectors
   primary_forms (OfGroup inner place) = Built place ∷ expr_forms inner
   primary_forms (OfNow place) = Unbuilt place ∷ []
-  primary_forms (OfTry name place) = Unbuilt place ∷ []
+  primary_forms (OfTry name place) = Built place ∷ []
   primary_forms (OfLimit dimension side name selectors ref_place place) = Built place ∷ selectors_forms selectors
 
   pub selectors_forms : ShownSelectors → List Form
@@ -113,12 +111,16 @@ abbrev mutual
   stmt_forms (OfBegin declarations statements body_place place) =
       Built place ∷ (body_decl_forms declarations ++ stmts_forms statements)
   stmt_forms (OfReturn value place) = Built place ∷ if_there expr_forms value
-  stmt_forms (OfActivate start task priority place) =
-      Unbuilt place ∷ (if_there start_forms start ++ if_there expr_forms priority)
-  stmt_forms (OfContinue once task place) = Unbuilt place ∷ if_there once_forms once
+  stmt_forms (OfActivate None task priority place) = Built place ∷ if_there expr_forms priority
+  stmt_forms (OfActivate (Some start) task priority place) =
+      Unbuilt place ∷ (start_forms start ++ if_there expr_forms priority)
+  stmt_forms (OfContinue None task place) = Built place ∷ []
+  stmt_forms (OfContinue (Some once) task place) = Unbuilt place ∷ once_forms once
   stmt_forms (OfResume once place) = Unbuilt place ∷ once_forms once
-  stmt_forms (OfOnTask word task place) = Unbuilt place ∷ []
-  stmt_forms (OfOnSemas word names place) = Unbuilt place ∷ []
+  stmt_forms (OfOnTask Suspend task place) = Built place ∷ []
+  stmt_forms (OfOnTask Terminate task place) = Built place ∷ []
+  stmt_forms (OfOnTask Prevent task place) = Unbuilt place ∷ []
+  stmt_forms (OfOnSemas word names place) = Built place ∷ []
   stmt_forms (OfOnInterrupt word name place) = Unbuilt place ∷ []
   stmt_forms (OfPut values dation formats place) = Built place ∷ flat_map expr_forms values
   stmt_forms (OfGet targets dation formats place) = Unbuilt place ∷ flat_map ref_forms targets
@@ -142,45 +144,18 @@ abbrev mutual
 abbrev pub body_forms : ShownBody → List Form
 body_forms body = body_decl_forms body.declarations ++ flat_map stmt_forms body.statements
 
-abbrev pub form_if : (is_unbuilt : Bool) → (place : ℕ) → Form
-form_if true place = Unbuilt place
-form_if false place = Built place
+-- All declarations are built. A module may specify any device: what is done with it is asked.
+abbrev pub decl_forms : ShownDecl → List Form
+decl_forms (OfLength sort number place) = Built place ∷ []
+decl_forms (OfType name part place) = Built place ∷ []
+decl_forms (OfDeclare declared place) = Built place ∷ []
+decl_forms (OfSpecify specs place) = Built place ∷ []
+decl_forms (OfTask name head body place) = Built place ∷ body_forms body
+decl_forms (OfProc name params returns body place) = Built place ∷ body_forms body
 
--- a declaration with a semaphore is unbuilt as a whole
-abbrev pub declared_is_unbuilt : ShownDeclared → Bool
-declared_is_unbuilt (OfItem item) = false
-declared_is_unbuilt (OfSema sema) = true
-
-abbrev pub is_task : ShownDecl → Bool
-is_task (OfTask name head body place) = true
-is_task decl = false
-
--- A module may specify any device: what is done with it is asked. One task alone is executed, so each behind another one is unbuilt.
-abbrev pub decl_forms : (behind_task : Bool) → ShownDecl → List Form
-decl_forms behind_task (OfLength sort number place) = Built place ∷ []
-decl_forms behind_task (OfType name part place) = Built place ∷ []
-decl_forms behind_task (OfDeclare declared place) = form_if (list_any declared_is_unbuilt declared) place ∷ []
-decl_forms behind_task (OfSpecify specs place) = Built place ∷ []
-decl_forms behind_task (OfTask name head body place) = form_if behind_task place ∷ body_forms body
-decl_forms behind_task (OfProc name params returns body place) = Built place ∷ body_forms body
-
-abbrev pub decls_forms : (behind_task : Bool) → List ShownDecl → List Form
-decls_forms behind_task [] = []
-decls_forms behind_task (decl ∷ rest) = decl_forms behind_task decl ++ decls_forms (behind_task || is_task decl) rest
-
-abbrev pub has_main : TaskHead → Bool
-has_main (PrioFirst prio main) = main
-has_main (MainFirst prio) = true
-
-abbrev pub is_main : ShownDecl → Bool
-is_main (OfTask name head body place) = has_main head
-is_main decl = false
-
--- The system part is built: a device does nothing by itself, and its specification tells what it is for. Where no task has
--- MAIN, MODEND counts as unbuilt.
+-- The system part is built: a device does nothing by itself, and its specification tells what it is for.
 abbrev pub forms_of : ShownTree → List Form
-forms_of tree =
-    decls_forms false tree.declarations ++ (if list_any is_main tree.declarations then [] else Unbuilt tree.modend ∷ [])
+forms_of tree = flat_map decl_forms tree.declarations
 
 abbrev pub unbuilt : ShownTree → Option ℕ
 unbuilt tree = first_unbuilt (forms_of tree)

@@ -1,11 +1,10 @@
 -- Where the first unbuilt form stands, part by part: what is built leads to its parts, and what isn't to its own place.
-use Rattle.std.specs.Prelude.{ℕ, Bool, false, ◌||◌, if◌then◌else◌, List, [], ◌∷◌, Option, Some, None}
-use Rattle.std.specs.List.{list_any}
+use Rattle.std.specs.Prelude.{ℕ, List, [], ◌∷◌, Option, Some, None}
 use Rattle.std.specs.Option.{option_or}
+use Rattle.pearl_tree.specs.declared.statement.TaskWord.TheVariants.{Suspend, Terminate, Prevent}
 use Rattle.pearl_tree.specs.ShownExpressions.{ShownExpr, OfOperand, OfDyadic, ShownPrimary, OfLiteral, OfRef, OfGroup, OfNow, OfTry, OfLimit, ShownSelectors, NoSelectors, MoreSelectors, ShownSelector, OfSubscripts, OfComponent, ShownExprs, NoExprs, MoreExprs, ShownRef}
 use Rattle.pearl_tree.specs.ShownStatements.{ShownStmt, OfEmpty, OfAssign, OfCall, OfIf, OfCase, OfRepeat, OfExit, OfBegin, OfReturn, OfActivate, OfContinue, OfResume, OfOnTask, OfOnSemas, OfOnInterrupt, OfPut, OfGet, OfSend, OfTake, ShownStmts, NoStmts, MoreStmts, ShownBranches, NoBranches, MoreBranches, ShownOtherwise, NoOtherwise, OfOtherwise}
 use Rattle.pearl_tree.specs.ShownModules.{ShownBody, ShownDecl, OfLength, OfType, OfDeclare, OfSpecify, OfTask, OfProc, ShownTree}
-pub use Rattle.pearl_unbuilt.specs.Unbuilt.{declared_is_unbuilt, is_task, has_main, is_main}
 
 -- in the first of these parts that has an unbuilt form
 abbrev pub in_first : {X : Type 0} → (X → Option ℕ) → List X → Option ℕ
@@ -23,7 +22,7 @@ abbrev mutual
   in_primary (OfRef name selectors place) = in_selectors selectors
   in_primary (OfGroup inner place) = in_expr inner
   in_primary (OfNow place) = Some place
-  in_primary (OfTry name place) = Some place
+  in_primary (OfTry name place) = None
   in_primary (OfLimit dimension side name selectors ref_place place) = in_selectors selectors
 
   pub in_selectors : ShownSelectors → Option ℕ
@@ -60,11 +59,15 @@ abbrev mutual
   in_stmt (OfExit place) = None
   in_stmt (OfBegin declarations statements body_place place) = in_stmts statements
   in_stmt (OfReturn value place) = in_value value
-  in_stmt (OfActivate start task priority place) = Some place
-  in_stmt (OfContinue once task place) = Some place
+  in_stmt (OfActivate None task priority place) = in_value priority
+  in_stmt (OfActivate (Some start) task priority place) = Some place
+  in_stmt (OfContinue None task place) = None
+  in_stmt (OfContinue (Some once) task place) = Some place
   in_stmt (OfResume once place) = Some place
-  in_stmt (OfOnTask word task place) = Some place
-  in_stmt (OfOnSemas word names place) = Some place
+  in_stmt (OfOnTask Suspend task place) = None
+  in_stmt (OfOnTask Terminate task place) = None
+  in_stmt (OfOnTask Prevent task place) = Some place
+  in_stmt (OfOnSemas word names place) = None
   in_stmt (OfOnInterrupt word name place) = Some place
   in_stmt (OfPut values dation formats place) = in_first in_expr values
   in_stmt (OfGet targets dation formats place) = Some place
@@ -87,22 +90,13 @@ abbrev mutual
 abbrev pub in_body : ShownBody → Option ℕ
 in_body body = in_first in_stmt body.statements
 
--- whether one of the parts isn't built; a declaration is unbuilt as a whole, from its first word on
-abbrev pub if_any : {X : Type 0} → (X → Bool) → List X → (place : ℕ) → Option ℕ
-if_any is_unbuilt parts place = if list_any is_unbuilt parts then Some place else None
-
-abbrev pub in_decl : (behind_task : Bool) → ShownDecl → Option ℕ
-in_decl behind_task (OfLength sort number place) = None
-in_decl behind_task (OfType name part place) = None
-in_decl behind_task (OfDeclare declared place) = if_any declared_is_unbuilt declared place
-in_decl behind_task (OfSpecify specs place) = None
-in_decl behind_task (OfTask name head body place) = if behind_task then Some place else in_body body
-in_decl behind_task (OfProc name params returns body place) = in_body body
-
-abbrev pub in_decls : (behind_task : Bool) → List ShownDecl → Option ℕ
-in_decls behind_task [] = None
-in_decls behind_task (decl ∷ rest) = option_or (in_decl behind_task decl) (in_decls (behind_task || is_task decl) rest)
+abbrev pub in_decl : ShownDecl → Option ℕ
+in_decl (OfLength sort number place) = None
+in_decl (OfType name part place) = None
+in_decl (OfDeclare declared place) = None
+in_decl (OfSpecify specs place) = None
+in_decl (OfTask name head body place) = in_body body
+in_decl (OfProc name params returns body place) = in_body body
 
 abbrev pub in_tree : ShownTree → Option ℕ
-in_tree tree =
-    option_or (in_decls false tree.declarations) (if list_any is_main tree.declarations then None else Some tree.modend)
+in_tree tree = in_first in_decl tree.declarations

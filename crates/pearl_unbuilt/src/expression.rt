@@ -29,7 +29,7 @@ fn check_primary(primary: &Primary) -> Result<(), u32>
         Primary::Ref(reference) => check_ref(reference),
         Primary::Group { inner, .. } => check_expr(inner),
         Primary::Now { place } => Err(*place),
-        Primary::Try { place, .. } => Err(*place),
+        Primary::Try { .. } => Ok(()),
         Primary::Limit { array, .. } => check_ref(array),
     }
 }

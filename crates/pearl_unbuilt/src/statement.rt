@@ -1,16 +1,19 @@
 // Statements: each call is `Ok` where all is built, else the place of the first form that isn't.
 
-ghost use Rattle.std.specs.Prelude.{◌≡◌};
+ghost use Rattle.std.specs.Prelude.{◌≡◌, option_map};
 ghost use Rattle.std.specs.Option.{option_or};
 ghost use Rattle.std.specs.Result.{result_err};
 ghost use Rattle.pearl_tree.specs.ShownExpressions.{shown_expr, shown_ref};
-ghost use Rattle.pearl_tree.specs.ShownStatements.{shown_stmt};
+ghost use Rattle.pearl_tree.specs.ShownStatements.{shown_start, shown_once, shown_stmt};
+ghost use Rattle.pearl_tree.specs.ShownStatements as shown;
 ghost use Rattle.pearl_unbuilt.specs.Lists.{in_branch, in_branch_if, in_case, in_if, in_list, in_repeat};
 ghost use Rattle.pearl_unbuilt.specs.Walk as spec;
 
 use crate::expression::{check_expr, check_exprs, check_ref, check_value};
 use pearl_tree::parts::Parts;
-use pearl_tree::statement::{Assign, Branch, Case, If, Repeat, Stmt};
+use pearl_tree::statement::{
+    Activate, Assign, Branch, Case, Continue, If, OnTask, Repeat, Stmt, TaskWord,
+};
 
 fn check_assign(part: &Assign) -> Result<(), u32>
     ensures { result_err result ≡
@@ -18,6 +21,38 @@ fn check_assign(part: &Assign) -> Result<(), u32>
 {
     check_ref(&part.target)?;
     check_expr(&part.value)
+}
+
+/// With a schedule it isn't carried out.
+fn check_activate(part: &Activate) -> Result<(), u32>
+    ensures { result_err result ≡ spec.in_stmt (shown.OfActivate (option_map shown_start part.now.start) part.now.task
+        (option_map shown_expr part.now.priority) part.now.place) }
+{
+    match part.start {
+        Some(_) => Err(part.place),
+        None => check_value(&part.priority),
+    }
+}
+
+/// With a schedule it isn't carried out.
+fn check_continue(part: &Continue) -> Result<(), u32>
+    ensures { result_err result ≡
+        spec.in_stmt (shown.OfContinue (option_map shown_once part.now.once) part.now.task part.now.place) }
+{
+    match part.once {
+        Some(_) => Err(part.place),
+        None => Ok(()),
+    }
+}
+
+fn check_on_task(part: &OnTask) -> Result<(), u32>
+    ensures { result_err result ≡ spec.in_stmt (shown.OfOnTask part.now.word part.now.task part.now.place) }
+{
+    match part.word {
+        TaskWord::Suspend => Ok(()),
+        TaskWord::Terminate => Ok(()),
+        TaskWord::Prevent => Err(part.place),
+    }
 }
 
 #[cycle(statement)]
@@ -34,11 +69,11 @@ fn check_stmt(stmt: &Stmt) -> Result<(), u32>
         Stmt::Exit { .. } => Ok(()),
         Stmt::Begin(part) => check_stmts(&part.body.statements),
         Stmt::Return(part) => check_value(&part.value),
-        Stmt::Activate(part) => Err(part.place),
-        Stmt::Continue(part) => Err(part.place),
+        Stmt::Activate(part) => check_activate(part),
+        Stmt::Continue(part) => check_continue(part),
         Stmt::Resume(part) => Err(part.place),
-        Stmt::OnTask(part) => Err(part.place),
-        Stmt::OnSemas(part) => Err(part.place),
+        Stmt::OnTask(part) => check_on_task(part),
+        Stmt::OnSemas(_) => Ok(()),
         Stmt::OnInterrupt(part) => Err(part.place),
         Stmt::Put(part) => check_exprs(part.values.as_slice()),
         Stmt::Get(part) => Err(part.place),

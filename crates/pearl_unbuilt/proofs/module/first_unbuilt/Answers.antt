@@ -11,14 +11,8 @@ returns-in-Err c =
     first_of (search rules, grind (arith, common_steps)) in
     walked ∙ sym (tree_first (shown_tree c.args.tree.now))
 
-pub returns-in-Ok : goal.returns-in-Ok
-returns-in-Ok c =
+pub returns : goal.returns
+returns c =
     let walked : ◌≡◌ {A = Option ℕ} None (in_tree (shown_tree c.args.tree.now)) =
-    first_of (search rules, grind (arith, common_steps)) in
-    walked ∙ sym (tree_first (shown_tree c.args.tree.now))
-
-pub returns-in-Ok-2 : goal.returns-in-Ok-2
-returns-in-Ok-2 c =
-    let walked : Some c.args.tree.now.modend ≡ in_tree (shown_tree c.args.tree.now) =
     first_of (search rules, grind (arith, common_steps)) in
     walked ∙ sym (tree_first (shown_tree c.args.tree.now))

@@ -1,0 +1,21 @@
+use Rattle.std.proofs.Common.{rules, subst, sym}
+use Rattle.pearl_journal.specs.Meaning.{meaning}
+use Rattle.pearl_journal.specs.Readings.{EntryFits}
+use Rattle.pearl_journal.specs.Entries.{IfItem}
+use Rattle.pearl_journal.proofs.FitLaws.{meaning-fits}
+use Rattle.pearl_journal.proofs.reading.Reading.meaning_of.Goals as goal
+
+pub returns-then-line-gt-LINE_LIMIT-clause-meaning : goal.returns-then-line-gt-LINE_LIMIT-clause-meaning
+unfolding meaning
+returns-then-line-gt-LINE_LIMIT-clause-meaning c = search rules
+
+means : goal.returns-clause-meaning
+unfolding meaning
+means c = search rules
+
+pub returns-clause-meaning : goal.returns-clause-meaning
+returns-clause-meaning c = means c
+
+pub returns-clause-fits : goal.returns-clause-fits
+returns-clause-fits c =
+    subst (λ line. IfItem line (EntryFits c.args.setup.now c.args.self.now.moment)) (sym (means c)) (meaning-fits c.args.setup.now c.args.self.now c.args.line.now)

@@ -1,0 +1,10 @@
+-- which lines the bytes of a journal have
+pub mod Lines
+-- which words a line has, and which of them are numbers and names
+pub mod Words
+-- how far a journal was read, and which entries can come there
+pub mod Readings
+-- what one line of a journal means
+pub mod Meaning
+-- which entries a journal has, read from left to right
+pub mod Entries

@@ -1,0 +1,16 @@
+// How long a line and a name may be, how late a moment, and the codes of refusals.
+
+/// The most bytes that a line may have, its end not counted.
+pub const LINE_LIMIT: usize = 1024;
+
+/// The most bytes that a name may have.
+pub const NAME_LIMIT: usize = 63;
+
+/// The last moment, in milliseconds after the start: 2^40.
+pub const LAST_MOMENT: u64 = 1_099_511_627_776;
+
+/// A line is not in the grammar.
+pub const NO_FORM: u8 = 1;
+
+/// What a line names is not declared.
+pub const NOT_DECLARED: u8 = 2;

@@ -1,0 +1,270 @@
+-- How an action changes one task, and which actions end the task that acts.
+use Rattle.std.proofs.Common.{◌≡◌, ◌≢◌, ◌↔◌, ℕ, ◌-◌, ◌^◌, ◌<◌, ◌≤◌, List, [], ◌∷◌, ◌++◌, Bool, true, false, ◌&&◌, nat_eq, nat_lt, Option, Some, None, length, refl, sym, ap, subst, ◌∙◌, append-nil, eq-eqb, eqb-true, ltb-false}
+use Rattle.std.specs.List.{Contains}
+use Rattle.std.proofs.lemmas.Bool.{true≢false, eqb-false, ne_eqb}
+use Rattle.pearl_value.specs.declared.trap.Trap as traps
+use Rattle.pearl_value.specs.declared.trap.Trap.TheVariants.{SemaLimit}
+use Rattle.pearl_rules.specs.declared.action.Action.{Action}
+use Rattle.pearl_rules.specs.declared.action.Action.TheVariants as action
+use Rattle.pearl_rules.specs.declared.action.Start.TheVariants.{Free}
+use Rattle.pearl_rules.specs.declared.action.Repeat.TheVariants.{Once}
+use Rattle.pearl_rules.specs.declared.action.Answer.{Answer}
+use Rattle.pearl_rules.specs.declared.action.Answer.TheVariants.{Nothing}
+use Rattle.pearl_rules.specs.declared.event.Event.{Event}
+use Rattle.pearl_rules.specs.declared.event.Event.TheVariants as event
+use Rattle.pearl_rules.specs.declared.row.Mode.{Mode}
+use Rattle.pearl_rules.specs.declared.row.Mode.TheVariants.{Dormant, Active}
+use Rattle.pearl_rules.specs.declared.row.TaskRow.{TaskRow}
+use Rattle.pearl_rules.specs.declared.setup.Setup.{Setup}
+use Rattle.pearl_rules.specs.Core.{Core, note, row_of, with_row, mode_of_row, mode_of}
+use Rattle.pearl_rules.specs.Counts.{count_at, all_below_most}
+use Rattle.pearl_rules.specs.Effect.{Reply, Hears, Ends, Effect, effect, on_row, with_mode, answering, priority_or_declared, started_by, marked_mode, with_mark, stopped_by, stopped_tasks, reply_if_other, releasing, trying}
+use Rattle.pearl_rules.specs.Pick.{Offered, is_possible, is_ready, is_ready_row, is_eligible}
+use Rattle.pearl_rules.specs.Slots.{Fits}
+use Rattle.pearl_rules.specs.Laws.{ChangesTask, EndsItself}
+use Rattle.pearl_rules.proofs.Places.{set-same, there_at, here, there}
+use Rattle.pearl_rules.proofs.EndsLaws.{row-other, no_end, ends_unheard}
+use Rattle.pearl_rules.proofs.CountLaws.{not_all_below}
+
+-- ONE TASK
+
+-- a task that is there gets the mode
+mode_there : (core : Core) (t : ℕ) (mode : Mode) (row : TaskRow) → row_of core t ≡ Some row → mode_of (with_mode core t mode) t ≡ mode
+mode_there core t mode row at =
+    ap (λ r. mode_of (on_row r core (λ x. with_row core t (record x { mode = mode }))) t) at
+    ∙ ap mode_of_row (set-same core.tasks t row (record row { mode = mode }) at)
+
+-- one that isn't is dormant
+mode_dormant : (core : Core) (t : ℕ) → mode_of (with_mode core t Dormant) t ≡ Dormant
+mode_dormant core t = by_row (row_of core t) refl
+  where
+    by_row : (row : Option TaskRow) → row_of core t ≡ row → mode_of (with_mode core t Dormant) t ≡ Dormant
+    by_row None at = ap (λ r. mode_of (on_row r core (λ x. with_row core t (record x { mode = Dormant }))) t) at ∙ ap mode_of_row at
+    by_row (Some row) at = mode_there core t Dormant row at
+
+-- an active task is there
+mode_active : (core : Core) (t before : ℕ) (suspended : Bool) (mode : Mode) → mode_of core t ≡ Active before suspended →
+    mode_of (with_mode core t mode) t ≡ mode
+mode_active core t before suspended mode active = by_row (row_of core t) refl
+  where
+    by_row : (row : Option TaskRow) → row_of core t ≡ row → mode_of (with_mode core t mode) t ≡ mode
+    by_row None at = let no : Dormant ≡ Active before suspended = sym (ap mode_of_row at) ∙ active in let never : ⊥ = cc in absurd never
+    by_row (Some row) at = mode_there core t mode row at
+
+-- a task's mode is all that changes
+mode_alone : (core : Core) (t : ℕ) (mode : Mode) → with_mode core t mode ≡ record core { tasks = (with_mode core t mode).tasks }
+mode_alone core t mode = by_row (row_of core t)
+  where
+    by_row : (row : Option TaskRow) → on_row row core (λ r. with_row core t (record r { mode = mode }))
+        ≡ record core { tasks = (on_row row core (λ r. with_row core t (record r { mode = mode }))).tasks }
+    by_row None = refl
+    by_row (Some row) = refl
+
+module _ (core : Core) (own : ℕ) where
+  -- the core in which this task acted last
+  abbrev acted : Core
+  acted = record core { last = Some own }
+
+  -- an effect with this core
+  abbrev leading : Core → Reply → List ℕ → Effect
+  leading after reply ended = record { core = after; reply = reply; ended = ended }
+
+  -- another mode, and an event
+  told_change : (t : ℕ) (mode : Mode) (e : Event) (reply : Reply) (ended : List ℕ) → mode_of (with_mode acted t mode) t ≡ mode →
+      ChangesTask core own t mode (e ∷ []) reply (leading (note (with_mode acted t mode) e) reply ended)
+  told_change t mode e reply ended is = record {
+    stands = is;
+    others = λ u differ. row-other acted t u mode differ;
+    rest = ap (λ c. note c e) (mode_alone acted t mode);
+    replies = refl;
+  }
+
+  -- another mode without an event
+  silent_change : (t : ℕ) (mode : Mode) (reply : Reply) (ended : List ℕ) → mode_of (with_mode acted t mode) t ≡ mode →
+      ChangesTask core own t mode [] reply (leading (with_mode acted t mode) reply ended)
+  silent_change t mode reply ended is = record {
+    stands = is;
+    others = λ u differ. row-other acted t u mode differ;
+    rest = mode_alone acted t mode
+        ∙ ap (λ told. let c : Core = record acted { tasks = (with_mode acted t mode).tasks; told = told } in c) (sym (append-nil core.told));
+    replies = refl;
+  }
+
+  -- an event alone
+  told_alone : (t : ℕ) (mode : Mode) (e : Event) (reply : Reply) (ended : List ℕ) → mode_of core t ≡ mode →
+      ChangesTask core own t mode (e ∷ []) reply (leading (note acted e) reply ended)
+  told_alone t mode e reply ended is = record { stands = is; others = λ u differ. refl; rest = refl; replies = refl }
+
+  -- nothing
+  no_change : (t : ℕ) (mode : Mode) (reply : Reply) (ended : List ℕ) → mode_of core t ≡ mode →
+      ChangesTask core own t mode [] reply (leading acted reply ended)
+  no_change t mode reply ended is = record {
+    stands = is;
+    others = λ u differ. refl;
+    rest = ap (λ told. let c : Core = record acted { told = told } in c) (sym (append-nil core.told));
+    replies = refl;
+  }
+
+  -- STARTS
+
+  pub start_starts : (t : ℕ) (priority : Option ℕ) → t < length core.tasks → mode_of core t ≡ Dormant →
+      ChangesTask core own t (Active (priority_or_declared core t priority) false)
+      (event.Start t (priority_or_declared core t priority) ∷ []) (Hears Nothing) (effect core own (action.Activate t Free Once priority))
+  unfolding effect
+  start_starts t priority less dormant =
+      let at = there_at core.tasks t less in
+      let chosen = priority_or_declared core t priority in
+      subst (λ mode. ChangesTask core own t (Active chosen false) (event.Start t chosen ∷ []) (Hears Nothing) (answering (started_by mode acted t chosen) Nothing))
+      (sym dormant) (told_change t (Active chosen false) (event.Start t chosen) (Hears Nothing) [] (mode_there acted t (Active chosen false) at.0 at.1))
+
+  pub start_overruns : (t before : ℕ) (suspended : Bool) (priority : Option ℕ) → mode_of core t ≡ Active before suspended →
+      ChangesTask core own t (Active before suspended) (event.Overrun t ∷ []) (Hears Nothing) (effect core own (action.Activate t Free Once priority))
+  unfolding effect
+  start_overruns t before suspended priority active =
+      let chosen = priority_or_declared core t priority in
+      subst (λ mode. ChangesTask core own t (Active before suspended) (event.Overrun t ∷ []) (Hears Nothing) (answering (started_by mode acted t chosen) Nothing))
+      (sym active) (told_alone t (Active before suspended) (event.Overrun t) (Hears Nothing) [] active)
+
+  -- MARKS OF SUSPENSION
+
+  -- an active task's mark
+  marks : (t priority : ℕ) (before suspended : Bool) → mode_of core t ≡ Active priority before →
+      ChangesTask core own t (Active priority suspended) [] (Hears Nothing) (answering (with_mark acted t suspended) Nothing)
+  marks t priority before suspended active =
+      subst (λ mode. ChangesTask core own t (Active priority suspended) [] (Hears Nothing) (answering (with_mode acted t (marked_mode suspended mode)) Nothing))
+      (sym active) (silent_change t (Active priority suspended) (Hears Nothing) [] (mode_active acted t priority before (Active priority suspended) active))
+
+  -- a dormant task has none
+  marks_none : (t : ℕ) (suspended : Bool) → mode_of core t ≡ Dormant →
+      ChangesTask core own t Dormant [] (Hears Nothing) (answering (with_mark acted t suspended) Nothing)
+  marks_none t suspended dormant =
+      subst (λ mode. ChangesTask core own t Dormant [] (Hears Nothing) (answering (with_mode acted t (marked_mode suspended mode)) Nothing))
+      (sym dormant) (silent_change t Dormant (Hears Nothing) [] (mode_dormant acted t))
+
+  pub suspend_suspends : (t priority : ℕ) (before : Bool) → mode_of core t ≡ Active priority before →
+      ChangesTask core own t (Active priority true) [] (Hears Nothing) (effect core own (action.Suspend t))
+  unfolding effect
+  suspend_suspends t priority before active = marks t priority before true active
+
+  pub continue_continues : (t priority : ℕ) (before : Bool) → mode_of core t ≡ Active priority before →
+      ChangesTask core own t (Active priority false) [] (Hears Nothing) (effect core own (action.Continue t Free))
+  unfolding effect
+  continue_continues t priority before active = marks t priority before false active
+
+  pub dormant_suspended : (t : ℕ) → mode_of core t ≡ Dormant → ChangesTask core own t Dormant [] (Hears Nothing) (effect core own (action.Suspend t))
+  unfolding effect
+  dormant_suspended t dormant = marks_none t true dormant
+
+  pub dormant_continued : (t : ℕ) → mode_of core t ≡ Dormant → ChangesTask core own t Dormant [] (Hears Nothing) (effect core own (action.Continue t Free))
+  unfolding effect
+  dormant_continued t dormant = marks_none t false dormant
+
+  -- ENDS
+
+  pub end_ends : ChangesTask core own own Dormant (event.End own ∷ []) Ends (effect core own action.End)
+  unfolding effect
+  end_ends = told_change own Dormant (event.End own) Ends (own ∷ []) (mode_dormant acted own)
+
+  pub trap_breaks_off : (trap : traps.Trap) → ChangesTask core own own Dormant (event.Trap own trap ∷ []) Ends (effect core own (action.Trap trap))
+  unfolding effect
+  trap_breaks_off trap = told_change own Dormant (event.Trap own trap) Ends (own ∷ []) (mode_dormant acted own)
+
+  -- an active task that is ended from outside
+  stops : (t : ℕ) (reply : Reply) (priority : ℕ) (suspended : Bool) → mode_of core t ≡ Active priority suspended →
+      ChangesTask core own t Dormant (event.Stop t ∷ []) reply (leading (stopped_by (mode_of core t) acted t) reply (stopped_tasks (mode_of core t) t))
+  stops t reply priority suspended active =
+      subst (λ mode. ChangesTask core own t Dormant (event.Stop t ∷ []) reply (leading (stopped_by mode acted t) reply (stopped_tasks mode t)))
+      (sym active) (told_change t Dormant (event.Stop t) reply (t ∷ []) (mode_dormant acted t))
+
+  pub terminate_stops : (t priority : ℕ) (suspended : Bool) → mode_of core t ≡ Active priority suspended → t ≢ own →
+      ChangesTask core own t Dormant (event.Stop t ∷ []) (Hears Nothing) (effect core own (action.Terminate t))
+  unfolding effect
+  terminate_stops t priority suspended active other =
+      subst (λ b. ChangesTask core own t Dormant (event.Stop t ∷ []) (Hears Nothing)
+      (leading (stopped_by (mode_of core t) acted t) (reply_if_other b) (stopped_tasks (mode_of core t) t)))
+      (sym (ne_eqb t own other)) (stops t (Hears Nothing) priority suspended active)
+
+  pub terminate_stops_itself : (priority : ℕ) (suspended : Bool) → mode_of core own ≡ Active priority suspended →
+      ChangesTask core own own Dormant (event.Stop own ∷ []) Ends (effect core own (action.Terminate own))
+  unfolding effect
+  terminate_stops_itself priority suspended active =
+      subst (λ b. ChangesTask core own own Dormant (event.Stop own ∷ []) Ends
+      (leading (stopped_by (mode_of core own) acted own) (reply_if_other b) (stopped_tasks (mode_of core own) own)))
+      (sym (eq-eqb own own refl)) (stops own Ends priority suspended active)
+
+  pub dormant_stopped : (t : ℕ) → mode_of core t ≡ Dormant → t ≢ own →
+      ChangesTask core own t Dormant [] (Hears Nothing) (effect core own (action.Terminate t))
+  unfolding effect
+  dormant_stopped t dormant other =
+      subst (λ b. ChangesTask core own t Dormant [] (Hears Nothing)
+      (leading (stopped_by (mode_of core t) acted t) (reply_if_other b) (stopped_tasks (mode_of core t) t)))
+      (sym (ne_eqb t own other))
+      (subst (λ mode. ChangesTask core own t Dormant [] (Hears Nothing) (leading (stopped_by mode acted t) (Hears Nothing) (stopped_tasks mode t)))
+      (sym dormant) (no_change t Dormant (Hears Nothing) [] dormant))
+
+-- a suspended task isn't eligible
+pub suspended_waits : (core : Core) (offers : Offered) (t priority : ℕ) → mode_of core t ≡ Active priority true → is_eligible core offers t ≡ false
+suspended_waits core offers t priority suspended = by_row (row_of core t) suspended
+  where
+    by_row : (row : Option TaskRow) → mode_of_row row ≡ Active priority true → is_ready_row row (is_possible core (offers t)) ≡ false
+    by_row None is = refl
+    by_row (Some row) is = ap (λ mode. is_ready mode (is_possible core (offers t))) is
+
+-- WHICH ACTIONS END THE TASK THAT ACTS
+
+-- an answer is no end
+heard : (answer : Answer) → (Hears answer ≡ Ends) ↔ ⊥
+heard answer = (no_end answer, λ never. absurd never)
+
+-- one of the counts stands at the greatest, where not all are below it
+one_at_most : (counts list : List ℕ) → all_below_most counts list ≡ false → (s : ℕ) × Contains list s × (2 ^ 31 - 1 ≤ count_at counts s)
+one_at_most counts [] e = absurd (true≢false e)
+one_at_most counts (first ∷ list) e = by_test (nat_lt (count_at counts first) (2 ^ 31 - 1)) refl (λ h. one_at_most counts list h)
+  where
+    by_test : (b : Bool) → nat_lt (count_at counts first) (2 ^ 31 - 1) ≡ b →
+        (all_below_most counts list ≡ false → (s : ℕ) × Contains list s × (2 ^ 31 - 1 ≤ count_at counts s)) →
+        (s : ℕ) × Contains (first ∷ list) s × (2 ^ 31 - 1 ≤ count_at counts s)
+    by_test false not later = (first, here first list, ltb-false (count_at counts first) (2 ^ 31 - 1) not)
+    by_test true below later =
+        let found = later (sym (ap (λ b. b && all_below_most counts list) below) ∙ e) in
+        (found.0, there first found.0 list found.1, found.2)
+
+-- a release
+release_ends : (core : Core) (own : ℕ) (list : List ℕ) (can_raise : Bool) → all_below_most core.counts list ≡ can_raise →
+    ((releasing (record core { last = Some own }) own list can_raise).reply ≡ Ends) ↔ ((s : ℕ) × Contains list s × (2 ^ 31 - 1 ≤ count_at core.counts s))
+release_ends core own list true below =
+    (λ e. absurd (no_end Nothing e), λ found. absurd (true≢false (sym below ∙ not_all_below core.counts list found.0 found.1 found.2)))
+release_ends core own list false not = (λ e. one_at_most core.counts list not, λ found. refl)
+
+-- a try is answered
+try_heard : (core : Core) (s : ℕ) (is_free : Bool) → ((trying core s is_free).reply ≡ Ends) ↔ ⊥
+try_heard core s true = heard _
+try_heard core s false = heard _
+
+-- a task that terminates itself
+terminate_ends : (t own : ℕ) → (reply_if_other (nat_eq t own) ≡ Ends) ↔ (t ≡ own)
+terminate_ends t own = by_test (nat_eq t own) refl
+  where
+    by_test : (b : Bool) → nat_eq t own ≡ b → (reply_if_other b ≡ Ends) ↔ (t ≡ own)
+    by_test true same = (λ e. eqb-true t own same, λ e. refl)
+    by_test false differ = (λ e. absurd (no_end Nothing e), λ e. absurd (eqb-false t own differ e))
+
+-- every action that fits
+pub effect-ends_itself : (setup : Setup) (core : Core) (own : ℕ) (action : Action) → Fits setup action →
+    ((effect core own action).reply ≡ Ends) ↔ EndsItself core own action
+unfolding effect
+effect-ends_itself setup core own (action.Read slot) fits = heard _
+effect-ends_itself setup core own (action.Write slot value) fits = heard Nothing
+effect-ends_itself setup core own action.Turn fits = heard Nothing
+effect-ends_itself setup core own action.Enter fits = heard Nothing
+effect-ends_itself setup core own (action.Request list) fits = heard Nothing
+effect-ends_itself setup core own (action.Release list) fits = release_ends core own list.items (all_below_most core.counts list.items) refl
+effect-ends_itself setup core own (action.Try s) fits = try_heard (record core { last = Some own }) s (nat_lt 0 (count_at core.counts s))
+effect-ends_itself setup core own (action.Activate t Free Once priority) fits = heard Nothing
+effect-ends_itself setup core own (action.Continue t Free) fits = heard Nothing
+effect-ends_itself setup core own (action.Suspend t) fits = heard Nothing
+effect-ends_itself setup core own (action.Terminate t) fits = terminate_ends t own
+effect-ends_itself setup core own (action.Put device text) fits = heard Nothing
+effect-ends_itself setup core own action.End fits = (λ e. tt, λ e. refl)
+effect-ends_itself setup core own (action.Trap trap) fits = (λ e. tt, λ e. refl)
+effect-ends_itself setup core own other fits = absurd fits

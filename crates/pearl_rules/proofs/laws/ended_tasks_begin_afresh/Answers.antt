@@ -1,0 +1,9 @@
+use Rattle.pearl_rules.proofs.EndsLaws.{effect-ends}
+use Rattle.pearl_rules.proofs.KeptLaws.{begins_afresh}
+use Rattle.pearl_rules.proofs.laws.ended_tasks_begin_afresh.Goals as goal
+
+pub returns-clause-ends : goal.returns-clause-ends
+returns-clause-ends g c = effect-ends
+
+pub returns-clause-keeps : goal.returns-clause-keeps
+returns-clause-keeps g c = λ fresh rows ended before t row at. begins_afresh fresh rows ended before t row at

@@ -1,0 +1,8 @@
+use Rattle.pearl_rules.proofs.TaskLaws.{start_starts, start_overruns}
+use Rattle.pearl_rules.proofs.laws.starts_make_dormant_tasks_active.Goals as goal
+
+pub returns-clause-starts : goal.returns-clause-starts
+returns-clause-starts c = start_starts
+
+pub returns-clause-overruns : goal.returns-clause-overruns
+returns-clause-overruns c = start_overruns
