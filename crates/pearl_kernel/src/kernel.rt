@@ -80,7 +80,8 @@ impl Kernel {
         requires unsettled { is_unsettled_in self.old task ≡ true }
         requires fits { (setup : Tables.Setup) × IsLawful setup self.old × Fits setup action }
         ensures offers { self.new ≡ record self.old { offers = slice_set self.old.offers task (Some action) } }
-        ensures lawful { (setup : Tables.Setup) → IsLawful setup self.old → Fits setup action → IsLawful setup self.new }
+        ensures lawful { (setup : Tables.Setup) → IsLawful setup self.old → Fits setup action →
+            IsLawful setup self.new }
     {
         self.state.set_offer(task, Some(action));
         refresh(&self.state, &mut self.ready, task);

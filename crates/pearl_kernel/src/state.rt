@@ -211,7 +211,8 @@ impl State {
         requires { AreThere self.old.core.counts list.now.items }
         ensures answer { result ≡ all_below_most self.old.core.counts list.now.items }
         ensures raised { let core = self.old.core in
-            result ≡ true → self.new ≡ record self.old { core = record core { counts = raised core.counts list.now.items } } }
+            result ≡ true →
+            self.new ≡ record self.old { core = record core { counts = raised core.counts list.now.items } } }
         ensures full { result ≡ false → self.new ≡ self.old }
     {
         self.semas.raise(list)
