@@ -3,7 +3,7 @@
 ghost use Rattle.std.specs.Prelude.{◌≡◌, ◌<◌, [], ◌∷◌, Some, None, true};
 ghost use Rattle.std.specs.Prelude.{IfOk, IfSome, MatchOption, length, slice_set};
 ghost use Rattle.pearl_rules.specs.declared.setup.Setup as Tables;
-ghost use Rattle.pearl_rules.specs.Core.{Happened, is_active as is_active_in};
+ghost use Rattle.pearl_rules.specs.Core.{Happened};
 ghost use Rattle.pearl_rules.specs.Pick.{pick, turned, can_turn as can_turn_in, shown_of};
 ghost use Rattle.pearl_rules.specs.Slots.{Fits};
 ghost use Rattle.pearl_rules.specs.Tables.{IsSetup};
@@ -175,13 +175,6 @@ impl Kernel {
         ensures { result ≡ self.now.core.moment }
     {
         self.state.now()
-    }
-
-    /// Whether a task is active.
-    pub fn is_active(&self, task: u32) -> bool
-        ensures { result ≡ is_active_in self.now.core task }
-    {
-        self.state.is_active(task)
     }
 
     /// How many tasks there are.
