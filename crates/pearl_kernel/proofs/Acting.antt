@@ -1,5 +1,7 @@
 -- The picked task acts.
-use Rattle.std.proofs.Common.{◌≡◌, ◌≢◌, ℕ, ◌<◌, ◌≤◌, ◌⊎◌, inl, inr, suc, ◌+◌, List, [], ◌∷◌, ◌++◌, Bool, true, false, Option, Some, None, length, slice_get, slice_set, refl, sym, ap, subst, ◌∙◌, length-set, arith}
+use Rattle.std.proofs.Common.{◌≡◌, ◌≢◌, ℕ, ◌<◌, ◌≤◌, ◌⊎◌, inl, inr, suc, ◌+◌, List, [], ◌∷◌, ◌++◌, Bool, true, false}
+use Rattle.std.proofs.Common.{Option, Some, None, length, slice_get, slice_set, refl, sym, ap, subst, ◌∙◌, length-set}
+use Rattle.std.proofs.Common.{arith}
 use Rattle.std.specs.List.{AllByRecursion, AllZip, IsDistinct}
 use Rattle.std.proofs.lemmas.Bool.{true≢false}
 use Rattle.std.proofs.lemmas.Option.{none-some, same_Some}
@@ -24,11 +26,11 @@ use Rattle.pearl_kernel.specs.Kept.{Kept, offered, done, IsLawful}
 use Rattle.pearl_kernel.specs.Names.{Names, NamesAll}
 use Rattle.pearl_kernel.specs.Whole.{IsWhole}
 use Rattle.pearl_kernel.specs.Eligible.{entry}
-use Rattle.pearl_kernel.specs.declared.kernel.Touched.{Touched}
-use Rattle.pearl_kernel.specs.declared.kernel.Touched.TheVariants.{Own, Other, All}
+use Rattle.pearl_kernel.specs.declared.standing.Touched.{Touched}
+use Rattle.pearl_kernel.specs.declared.standing.Touched.TheVariants.{Own, Other, All}
 use Rattle.pearl_kernel.specs.Touched.{IsUntouched, Leaves, IsThere, IsRenewed}
 use Rattle.pearl_kernel.proofs.Places.{some-before, some-dropped, dropped-length, by_task, get-same, get-other}
-use Rattle.pearl_kernel.proofs.Standing.{entry-same}
+use Rattle.pearl_kernel.proofs.Entries.{entry-same}
 
 -- WHAT IS PICKED CAN BE DONE
 
@@ -52,35 +54,46 @@ able_row None possible e = absurd (true≢false (sym e))
 able_row (Some row) possible e = able_mode row.mode possible e
 
 able : (k : Kept) (t : ℕ) → pick k.core (offered k) ≡ Some t → Able k.core (offered k t)
-able k t e = able_offer k.core (offered k t) (able_row (row_of k.core t) (is_possible k.core (offered k t)) ((picked k.core (offered k) t e).eligible))
+able k t e = able_offer k.core (offered k t)
+    (able_row (row_of k.core t) (is_possible k.core (offered k t)) ((picked k.core (offered k) t e).eligible))
 
 pub picked-offers : (k : Kept) (t : ℕ) → pick k.core (offered k) ≡ Some t → offered k t ≡ None → ⊥
 picked-offers k t e none = let a = able k t e in none-some a.action (sym none ∙ a.is)
 
-pub picked-able : (k : Kept) (t : ℕ) (a : Action) → pick k.core (offered k) ≡ Some t → offered k t ≡ Some a → guard k.core a ≡ true
+pub picked-able : (k : Kept) (t : ℕ) (a : Action) → pick k.core (offered k) ≡ Some t → offered k t ≡ Some a →
+    guard k.core a ≡ true
 picked-able k t a e is = let b = able k t e in ap (guard k.core) (same_Some a b.action (sym is ∙ b.is)) ∙ b.able
 
 -- WHAT IS NAMED IS THERE
 
 are_there : (counts others list : List ℕ) → length others ≡ length counts → AreThere counts list → AreThere others list
 are_there counts others list same there =
-    record { there = subst (λ n. AllByRecursion (λ semaphore. semaphore < n) list) (sym same) there.there; distinct = there.distinct }
+    record {
+      there = subst (λ n. AllByRecursion (λ semaphore. semaphore < n) list)
+          (sym same) there.there;
+      distinct = there.distinct;
+    }
 
 -- a list of one
-pub one-there : (counts empty list : List ℕ) (semaphore : ℕ) → semaphore < length counts → empty ≡ [] → list ≡ empty ++ semaphore ∷ [] → AreThere counts list
+pub one-there : (counts empty list : List ℕ) (semaphore : ℕ) → semaphore < length counts → empty ≡ [] →
+    list ≡ empty ++ semaphore ∷ [] → AreThere counts list
 unfolding IsDistinct
 one-there counts empty list semaphore there none is =
-    subst (λ xs. AreThere counts xs) (sym (is ∙ ap (λ xs. xs ++ semaphore ∷ []) none)) (record { there = (there, tt); distinct = (tt, tt) })
+    subst (λ xs. AreThere counts xs) (sym (is ∙ ap (λ xs. xs ++ semaphore ∷ []) none))
+    (record { there = (there, tt); distinct = (tt, tt) })
 
 -- as long as there is as much
-pub names-same : (core after : Core) (a : Action) → length after.tasks ≡ length core.tasks → length after.slots ≡ length core.slots →
+pub names-same : (core after : Core) (a : Action) → length after.tasks ≡ length core.tasks →
+    length after.slots ≡ length core.slots →
     length after.counts ≡ length core.counts → Names core a → Names after a
 names-same core after (action.Read slot) tasks slots counts h = subst (λ n. slot < n) (sym slots) h
 names-same core after (action.Write slot value) tasks slots counts h = subst (λ n. slot < n) (sym slots) h
 names-same core after action.Turn tasks slots counts h = h
 names-same core after action.Enter tasks slots counts h = h
-names-same core after (action.Request list) tasks slots counts h = are_there core.counts after.counts list.items counts h
-names-same core after (action.Release list) tasks slots counts h = are_there core.counts after.counts list.items counts h
+names-same core after (action.Request list) tasks slots counts h =
+    are_there core.counts after.counts list.items counts h
+names-same core after (action.Release list) tasks slots counts h =
+    are_there core.counts after.counts list.items counts h
 names-same core after (action.Try semaphore) tasks slots counts h = subst (λ n. semaphore < n) (sym counts) h
 names-same core after (action.Activate u Free Once priority) tasks slots counts h = subst (λ n. u < n) (sym tasks) h
 names-same core after (action.Continue u Free) tasks slots counts h = subst (λ n. u < n) (sym tasks) h
@@ -106,8 +119,10 @@ fits-names setup k (action.Read slot) lawful h = subst (λ n. slot < n) (sym (sl
 fits-names setup k (action.Write slot value) lawful h = subst (λ n. slot < n) (sym (slots_length setup k lawful)) h.0
 fits-names setup k action.Turn lawful h = tt
 fits-names setup k action.Enter lawful h = tt
-fits-names setup k (action.Request list) lawful h = are_there setup.semaphores k.core.counts list.items lawful.counts (record { there = h.there; distinct = h.distinct })
-fits-names setup k (action.Release list) lawful h = are_there setup.semaphores k.core.counts list.items lawful.counts (record { there = h.there; distinct = h.distinct })
+fits-names setup k (action.Request list) lawful h = are_there setup.semaphores k.core.counts list.items lawful.counts
+    (record { there = h.there; distinct = h.distinct })
+fits-names setup k (action.Release list) lawful h = are_there setup.semaphores k.core.counts list.items lawful.counts
+    (record { there = h.there; distinct = h.distinct })
 fits-names setup k (action.Try semaphore) lawful h = subst (λ n. semaphore < n) (sym lawful.counts) h
 fits-names setup k (action.Activate u Free Once priority) lawful h = subst (λ n. u < n) (sym lawful.tasks) h.0
 fits-names setup k (action.Continue u Free) lawful h = subst (λ n. u < n) (sym lawful.tasks) h
@@ -124,20 +139,24 @@ pub names-after : (k : Kept) (own : ℕ) (a : Action) → NamesAll k → NamesAl
 names-after k own a names t b e =
     let after = leaves k.core own a in
     names-same k.core (effect k.core own a).core b (effect-length k.core own a) after.slots after.counts
-    (names t b (some-before k.offers own t b (some-dropped (effect k.core own a).ended (slice_set k.offers own None) t b e)))
+    (names t b (some-before k.offers own t b
+    (some-dropped (effect k.core own a).ended (slice_set k.offers own None) t b e)))
 
-pub there-after : (k : Kept) (own : ℕ) (a : Action) (touched : Touched) → IsThere k.core touched → IsThere (done k own a).core touched
+pub there-after : (k : Kept) (own : ℕ) (a : Action) (touched : Touched) → IsThere k.core touched →
+    IsThere (done k own a).core touched
 there-after k own a Own there = tt
 there-after k own a (Other u) there = subst (λ n. u < n) (sym (effect-length k.core own a)) there
 there-after k own a All there = tt
 
-pub kept-after : (k : Kept) (set after : List (Option ℕ)) (own : ℕ) (a : Action) (touched : Touched) → IsWhole k set → Leaves a touched →
+pub kept-after : (k : Kept) (set after : List (Option ℕ)) (own : ℕ) (a : Action) (touched : Touched) → IsWhole k set →
+    Leaves a touched →
     IsRenewed (done k own a) own touched set after → IsWhole (done k own a) after
 kept-after k set after own a touched kept leaving renewed =
     let size = effect-length k.core own a in
     record {
       few = subst (λ n. n ≤ 200) (sym size) kept.few;
-      same = dropped-length (effect k.core own a).ended (slice_set k.offers own None) ∙ length-set k.offers own None ∙ kept.same ∙ sym size;
+      same = dropped-length (effect k.core own a).ended (slice_set k.offers own None) ∙ length-set k.offers own None
+          ∙ kept.same ∙ sym size;
       names = names-after k own a kept.names;
       ready = record {
         size = renewed.size ∙ kept.ready.size ∙ sym size;
@@ -146,14 +165,18 @@ kept-after k set after own a touched kept leaving renewed =
     }
   where
     by_each : (t : ℕ) → t < length k.core.tasks →
-        (slice_get after t ≡ Some (entry (done k own a) t)) ⊎ ((t ≢ own) × IsUntouched touched t × (slice_get after t ≡ slice_get set t)) →
+        (slice_get after t ≡ Some (entry (done k own a) t)) ⊎
+        ((t ≢ own) × IsUntouched touched t × (slice_get after t ≡ slice_get set t)) →
         slice_get after t ≡ Some (entry (done k own a) t)
     by_each t there (inl e) = e
-    by_each t there (inr same) = same.2 ∙ kept.ready.each t there ∙ ap (λ e. Some e) (sym (leaving k own t same.0 same.1))
+    by_each t there (inr same) = same.2 ∙ kept.ready.each t there
+        ∙ ap (λ e. Some e) (sym (leaving k own t same.0 same.1))
 
 -- what became of the offers and then of the core
-pub done-is : (k mid new : Kept) (own : ℕ) (a : Action) → mid ≡ record { core = k.core; offers = slice_set k.offers own None } →
-    new ≡ record { core = (effect mid.core own a).core; offers = dropped (effect mid.core own a).ended mid.offers } → new ≡ done k own a
+pub done-is : (k mid new : Kept) (own : ℕ) (a : Action) →
+    mid ≡ record { core = k.core; offers = slice_set k.offers own None } →
+    new ≡ record { core = (effect mid.core own a).core; offers = dropped (effect mid.core own a).ended mid.offers } →
+    new ≡ done k own a
 done-is k mid new own a m n = n ∙ ap then m
   where
     then : Kept → Kept
@@ -161,33 +184,46 @@ done-is k mid new own a m n = n ∙ ap then m
 
 -- WHAT CHANGES NO TASK
 
-pub kept-last : (k : Kept) (set : List (Option ℕ)) (last : Option ℕ) → IsWhole k set → IsWhole (record k { core = record k.core { last = last } }) set
+pub kept-last : (k : Kept) (set : List (Option ℕ)) (last : Option ℕ) → IsWhole k set →
+    IsWhole (record k { core = record k.core { last = last } }) set
 kept-last k set last kept =
     let new : Kept = record k { core = record k.core { last = last } } in
     record {
       few = kept.few;
       same = kept.same;
       names = λ t a e. names-same k.core new.core a refl refl refl (kept.names t a e);
-      ready = record { size = kept.ready.size; each = λ t there. kept.ready.each t there ∙ ap (λ e. Some e) (sym (entry-same k new t refl refl refl)) };
+      ready = record {
+        size = kept.ready.size;
+        each = λ t there. kept.ready.each t there
+            ∙ ap (λ e. Some e) (sym (entry-same k new t refl refl refl));
+      };
     }
 
-pub kept-told : (k : Kept) (set : List (Option ℕ)) (told : List (ℕ × Report)) → IsWhole k set → IsWhole (record k { core = record k.core { told = told } }) set
+pub kept-told : (k : Kept) (set : List (Option ℕ)) (told : List (ℕ × Report)) → IsWhole k set →
+    IsWhole (record k { core = record k.core { told = told } }) set
 kept-told k set told kept =
     let new : Kept = record k { core = record k.core { told = told } } in
     record {
       few = kept.few;
       same = kept.same;
       names = λ t a e. names-same k.core new.core a refl refl refl (kept.names t a e);
-      ready = record { size = kept.ready.size; each = λ t there. kept.ready.each t there ∙ ap (λ e. Some e) (sym (entry-same k new t refl refl refl)) };
+      ready = record {
+        size = kept.ready.size;
+        each = λ t there. kept.ready.each t there
+            ∙ ap (λ e. Some e) (sym (entry-same k new t refl refl refl));
+      };
     }
 
 -- THE SET AFTER AN ACTION
 
-refreshed-at : (k : Kept) (set : List (Option ℕ)) (own t : ℕ) → t ≡ own → own < length set → slice_get (slice_set set own (entry k own)) t ≡ Some (entry k t)
+refreshed-at : (k : Kept) (set : List (Option ℕ)) (own t : ℕ) → t ≡ own → own < length set →
+    slice_get (slice_set set own (entry k own)) t ≡ Some (entry k t)
 refreshed-at k set own t e there =
-    subst (λ u. slice_get (slice_set set own (entry k own)) u ≡ Some (entry k u)) (sym e) (get-same set own (entry k own) there)
+    subst (λ u. slice_get (slice_set set own (entry k own)) u ≡ Some (entry k u)) (sym e)
+    (get-same set own (entry k own) there)
 
-pub renewed-own : (k : Kept) (own : ℕ) (set new : List (Option ℕ)) → own < length k.core.tasks → length set ≡ length k.core.tasks →
+pub renewed-own : (k : Kept) (own : ℕ) (set new : List (Option ℕ)) → own < length k.core.tasks →
+    length set ≡ length k.core.tasks →
     new ≡ slice_set set own (entry k own) → IsRenewed k own Own set new
 renewed-own k own set new there size e = subst (λ n. IsRenewed k own Own set n) (sym e) (record {
   size = length-set set own (entry k own);
@@ -196,15 +232,18 @@ renewed-own k own set new there size e = subst (λ n. IsRenewed k own Own set n)
       (λ other. inr (other, tt, get-other set own t (entry k own) other));
 })
 
-pub renewed-other : (k : Kept) (own u : ℕ) (set mid new : List (Option ℕ)) → own < length k.core.tasks → u < length k.core.tasks → length set ≡ length k.core.tasks →
+pub renewed-other : (k : Kept) (own u : ℕ) (set mid new : List (Option ℕ)) → own < length k.core.tasks →
+    u < length k.core.tasks → length set ≡ length k.core.tasks →
     mid ≡ slice_set set u (entry k u) → new ≡ slice_set mid own (entry k own) → IsRenewed k own (Other u) set new
 renewed-other k own u set mid new there named size m e =
     subst (λ n. IsRenewed k own (Other u) set n) (sym (e ∙ ap (λ xs. slice_set xs own (entry k own)) m)) (record {
       size = length-set first own (entry k own) ∙ length-set set u (entry k u);
       each = λ t within. by_task t own _
-          (λ same. inl (refreshed-at k first own t same (subst (λ n. own < n) (sym (length-set set u (entry k u) ∙ size)) there)))
+          (λ same. inl (refreshed-at k first own t same
+          (subst (λ n. own < n) (sym (length-set set u (entry k u) ∙ size)) there)))
           (λ other. by_task t u _
-          (λ same. inl (get-other first own t (entry k own) other ∙ refreshed-at k set u t same (subst (λ n. u < n) (sym size) named)))
+          (λ same. inl (get-other first own t (entry k own) other
+          ∙ refreshed-at k set u t same (subst (λ n. u < n) (sym size) named)))
           (λ far. inr (other, far, get-other first own t (entry k own) other ∙ get-other set u t (entry k u) far)));
     })
   where
@@ -212,7 +251,8 @@ renewed-other k own u set mid new there named size m e =
     first = slice_set set u (entry k u)
 
 -- task by task
-pub renewed-next : (k : Kept) (set new : List (Option ℕ)) (u : ℕ) → u < length k.core.tasks → length set ≡ length k.core.tasks →
+pub renewed-next : (k : Kept) (set new : List (Option ℕ)) (u : ℕ) → u < length k.core.tasks →
+    length set ≡ length k.core.tasks →
     ((t : ℕ) → t < u → slice_get set t ≡ Some (entry k t)) → new ≡ slice_set set u (entry k u) →
     (t : ℕ) → t < u + 1 → slice_get new t ≡ Some (entry k t)
 renewed-next k set new u there size before e t within =

@@ -1,5 +1,6 @@
 -- A kernel at the start of a run.
-use Rattle.std.proofs.Common.{◌≡◌, ℕ, zero, suc, ◌+◌, ◌<◌, ◌≤◌, List, [], ◌∷◌, Bool, true, false, Option, Some, None, length, map, replicate, slice_get, refl, sym, ap, subst, ◌∙◌, arith}
+use Rattle.std.proofs.Common.{◌≡◌, ℕ, zero, suc, ◌+◌, ◌<◌, ◌≤◌, List, [], ◌∷◌, Bool, true, false, Option, Some, None}
+use Rattle.std.proofs.Common.{length, map, replicate, slice_get, refl, sym, ap, subst, ◌∙◌, arith}
 use Rattle.std.specs.List.{AllByRecursion}
 use Rattle.std.proofs.lemmas.List.{length-map, length-replicate}
 use Rattle.std.proofs.lemmas.Option.{none-some}
@@ -42,7 +43,8 @@ cannot-act (Some row) = by_mode row.mode
 
 no-entry : (setup : Setup) (t : ℕ) → entry (at_start setup) t ≡ None
 no-entry setup t =
-    ap (λ o. number_if (is_ready_row (row_of (opening setup) t) (is_possible (opening setup) o)) (priority_of (opening setup) t)) (none-offered (length setup.tasks) t)
+    ap (λ o. number_if (is_ready_row (row_of (opening setup) t) (is_possible (opening setup) o))
+    (priority_of (opening setup) t)) (none-offered (length setup.tasks) t)
     ∙ ap (λ b. number_if b (priority_of (opening setup) t)) (cannot-act (row_of (opening setup) t))
 
 first-urgent : (main : Bool) (priority : ℕ) → IsUrgency priority → IsUrgentMode (first_mode main priority)
@@ -51,10 +53,12 @@ first-urgent false priority is = tt
 
 all-urgent : (tasks : List TaskEntry) → AllByRecursion IsTaskEntry tasks → AllByRecursion IsUrgent (map first_row tasks)
 all-urgent [] all = tt
-all-urgent (task ∷ tasks) all = ((all.0.urgent, first-urgent task.main task.priority all.0.urgent), all-urgent tasks all.1)
+all-urgent (task ∷ tasks) all =
+    ((all.0.urgent, first-urgent task.main task.priority all.0.urgent), all-urgent tasks all.1)
 
 -- the starts that are told name tasks that are there
-first-reports : (setup : Setup) (n : ℕ) (tasks : List TaskEntry) → n + length tasks ≡ length setup.tasks → AllByRecursion (IsReportOf setup) (first_events n tasks)
+first-reports : (setup : Setup) (n : ℕ) (tasks : List TaskEntry) → n + length tasks ≡ length setup.tasks →
+    AllByRecursion (IsReportOf setup) (first_events n tasks)
 first-reports setup n [] e = tt
 first-reports setup n (task ∷ tasks) e = by_main task.main (first-reports setup (n + 1) tasks (omega (arith, e)))
   where
@@ -85,13 +89,16 @@ kept-opening setup is =
       names = λ t a e. absurd (none-some a (sym (none-offered (length setup.tasks) t) ∙ e));
       ready = record {
         size = length-replicate (length setup.tasks) None ∙ sym size;
-        each = λ t within. get-none (length setup.tasks) t (subst (λ n. t < n) size within) ∙ ap (λ e. Some e) (sym (no-entry setup t));
+        each = λ t within. get-none (length setup.tasks) t (subst (λ n. t < n) size within)
+            ∙ ap (λ e. Some e) (sym (no-entry setup t));
       };
     }
 
-pub ready-opening : (setup : Setup) (k : Kept) (ready : List (Option ℕ)) (count : ℕ) → IsSetup setup → k ≡ at_start setup → count ≡ length k.core.tasks →
+pub ready-opening : (setup : Setup) (k : Kept) (ready : List (Option ℕ)) (count : ℕ) → IsSetup setup →
+    k ≡ at_start setup → count ≡ length k.core.tasks →
     ready ≡ replicate count None → IsWhole k ready
 ready-opening setup k ready count is e same empty =
-    let size : count ≡ length setup.tasks = same ∙ ap (λ (x : Kept). length x.core.tasks) e ∙ length-map setup.tasks first_row in
+    let size : count ≡ length setup.tasks = same ∙ ap (λ (x : Kept). length x.core.tasks) e
+    ∙ length-map setup.tasks first_row in
     subst (λ (x : Kept). IsWhole x ready) (sym e)
     (subst (λ xs. IsWhole (at_start setup) xs) (sym (empty ∙ ap (λ n. replicate n None) size)) (kept-opening setup is))

@@ -13,12 +13,14 @@ stamped-length moment (event ∷ events) = ap suc (stamped-length moment events)
 pub stamped-append : (moment : ℕ) (events : List Event) (event : Event) →
     stamped moment (events ++ event ∷ []) ≡ stamped moment events ++ (moment, Happened event) ∷ []
 stamped-append moment [] event = refl
-stamped-append moment (first ∷ events) event = ap (λ told. (moment, Happened first) ∷ told) (stamped-append moment events event)
+stamped-append moment (first ∷ events) event = ap (λ told. (moment, Happened first) ∷ told)
+    (stamped-append moment events event)
 
 -- one more event, where there is room
 pub noted : (moment : ℕ) (events : List Event) (event : Event) (room : ℕ) → length (stamped moment events) < room →
     stamped moment (keep_last room (events ++ event ∷ [])) ≡ stamped moment events ++ (moment, Happened event) ∷ []
 noted moment events event room less =
     let short = stamped-length moment events in
-    let all : keep_last room (events ++ event ∷ []) ≡ events ++ event ∷ [] = grind (arith, length-append events (event ∷ [])) in
+    let all : keep_last room (events ++ event ∷ []) ≡ events ++ event ∷ [] = grind
+    (arith, length-append events (event ∷ [])) in
     ap (stamped moment) all ∙ stamped-append moment events event

@@ -1,6 +1,6 @@
 pub mod Events
 pub mod Places
-pub mod Standing
+pub mod Entries
 pub mod Picking
 pub mod Counted
 pub mod Lawful

@@ -1,5 +1,6 @@
 -- A task offers its next action.
-use Rattle.std.proofs.Common.{◌≡◌, ℕ, ◌<◌, List, Bool, true, false, ◌&&◌, Option, Some, None, length, slice_get, slice_set, refl, sym, ap, subst, ◌∙◌, length-set}
+use Rattle.std.proofs.Common.{◌≡◌, ℕ, ◌<◌, List, Bool, true, false, ◌&&◌, Option, Some, None, length, slice_get}
+use Rattle.std.proofs.Common.{slice_set, refl, sym, ap, subst, ◌∙◌, length-set}
 use Rattle.std.proofs.lemmas.Bool.{true≢false}
 use Rattle.std.proofs.lemmas.Option.{slice_get_within}
 use Rattle.pearl_rules.specs.declared.action.Action.{Action}
@@ -12,13 +13,14 @@ use Rattle.pearl_kernel.specs.Names.{Names, NamesAll}
 use Rattle.pearl_kernel.specs.Whole.{IsWhole}
 use Rattle.pearl_kernel.specs.Eligible.{entry}
 use Rattle.pearl_kernel.proofs.Places.{by_task, kept-other, kept-set, get-same, get-other}
-use Rattle.pearl_kernel.proofs.Standing.{entry-same}
+use Rattle.pearl_kernel.proofs.Entries.{entry-same}
 
 abbrev offering : Kept → ℕ → Action → Kept
 offering k task a = record k { offers = slice_set k.offers task (Some a) }
 
 -- an offer is the new one, or stood before
-offer-is : (k : Kept) (task : ℕ) (a : Action) (P : Action → Type 0) → P a → ((t : ℕ) (b : Action) → offered k t ≡ Some b → P b) →
+offer-is : (k : Kept) (task : ℕ) (a : Action) (P : Action → Type 0) → P a →
+    ((t : ℕ) (b : Action) → offered k t ≡ Some b → P b) →
     (t : ℕ) (b : Action) → offered (offering k task a) t ≡ Some b → P b
 offer-is k task a P new old t b e =
     by_task t task (P b)
@@ -43,7 +45,8 @@ unsettled-there k task e = by_row (row_of k.core task) refl (active k task e)
 pub names-offering : (k : Kept) (task : ℕ) (a : Action) → NamesAll k → Names k.core a → NamesAll (offering k task a)
 names-offering k task a names new t b e = offer-is k task a (Names k.core) new names t b e
 
-pub lawful-offering : (setup : Setup) (k : Kept) (task : ℕ) (a : Action) → is_unsettled k task ≡ true → Fits setup a → IsLawful setup k →
+pub lawful-offering : (setup : Setup) (k : Kept) (task : ℕ) (a : Action) → is_unsettled k task ≡ true → Fits setup a →
+    IsLawful setup k →
     IsLawful setup (offering k task a)
 lawful-offering setup k task a unsettled fits lawful = record {
   tasks = lawful.tasks;
@@ -53,13 +56,15 @@ lawful-offering setup k task a unsettled fits lawful = record {
   urgent = lawful.urgent;
   same = length-set k.offers task (Some a) ∙ lawful.same;
   quiet = λ t e. by_task t task (offered (offering k task a) t ≡ None)
-      (λ same. absurd (true≢false (sym (subst (λ u. is_active k.core u ≡ true) (sym same) (active k task unsettled)) ∙ e)))
+      (λ same. absurd (true≢false (sym (subst (λ u. is_active k.core u ≡ true) (sym same) (active k task unsettled))
+      ∙ e)))
       (λ other. kept-other k.offers task t (Some a) other ∙ lawful.quiet t e);
   fits = λ t b e. offer-is k task a (Fits setup) fits lawful.fits t b e;
   told = lawful.told;
 }
 
-pub kept-offering : (k : Kept) (set : List (Option ℕ)) (task : ℕ) (a : Action) → task < length k.core.tasks → Names k.core a → IsWhole k set →
+pub kept-offering : (k : Kept) (set : List (Option ℕ)) (task : ℕ) (a : Action) → task < length k.core.tasks →
+    Names k.core a → IsWhole k set →
     IsWhole (offering k task a) (slice_set set task (entry (offering k task a) task))
 kept-offering k set task a there names kept =
     let new : Kept = offering k task a in

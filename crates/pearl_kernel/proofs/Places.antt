@@ -1,5 +1,6 @@
 -- Lists by their places: rows of tasks, and what is kept of each task.
-use Rattle.std.proofs.Common.{◌≡◌, ◌≢◌, Bool, true, false, nat_eq, ℕ, zero, suc, ◌<◌, List, [], ◌∷◌, Option, Some, None, length, slice_get, slice_set, refl, ap, ◌∙◌, length-set, eqb-true, arith}
+use Rattle.std.proofs.Common.{◌≡◌, ◌≢◌, Bool, true, false, nat_eq, ℕ, zero, suc, ◌<◌, List, [], ◌∷◌, Option, Some, None}
+use Rattle.std.proofs.Common.{length, slice_get, slice_set, refl, ap, ◌∙◌, length-set, eqb-true, arith}
 use Rattle.std.proofs.lemmas.Bool.{eqb-false}
 use Rattle.std.proofs.lemmas.Option.{none-some}
 use Rattle.pearl_rules.specs.Runs.{dropped, kept_at}
@@ -39,14 +40,16 @@ module _ {X : Type 0} where
   none-less (x ∷ xs) (suc u) (suc t) e = none-less xs u t e
 
   -- what is kept after something is gone was kept before
-  pub some-before : (xs : List (Option X)) (u t : ℕ) (x : X) → kept_at (slice_set xs u None) t ≡ Some x → kept_at xs t ≡ Some x
+  pub some-before : (xs : List (Option X)) (u t : ℕ) (x : X) → kept_at (slice_set xs u None) t ≡ Some x →
+      kept_at xs t ≡ Some x
   some-before [] u t x e = e
   some-before (y ∷ xs) zero zero x e = absurd (none-some x e)
   some-before (y ∷ xs) zero (suc t) x e = e
   some-before (y ∷ xs) (suc u) zero x e = e
   some-before (y ∷ xs) (suc u) (suc t) x e = some-before xs u t x e
 
-  pub some-dropped : (ts : List ℕ) (xs : List (Option X)) (t : ℕ) (x : X) → kept_at (dropped ts xs) t ≡ Some x → kept_at xs t ≡ Some x
+  pub some-dropped : (ts : List ℕ) (xs : List (Option X)) (t : ℕ) (x : X) → kept_at (dropped ts xs) t ≡ Some x →
+      kept_at xs t ≡ Some x
   some-dropped [] xs t x e = e
   some-dropped (u ∷ ts) xs t x e = some-before xs u t x (some-dropped ts (slice_set xs u None) t x e)
 

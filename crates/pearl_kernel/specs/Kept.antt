@@ -1,5 +1,6 @@
 -- What contracts see of a kernel, when it is lawful, and what its calls do.
-use Rattle.std.specs.Prelude.{◌≡◌, ℕ, ◌<◌, List, Bool, true, false, ◌&&◌, Option, Some, None, length, slice_set, map, replicate}
+use Rattle.std.specs.Prelude.{◌≡◌, ℕ, ◌<◌, List, Bool, true, false, ◌&&◌, Option, Some, None, length, slice_set, map}
+use Rattle.std.specs.Prelude.{replicate}
 use Rattle.std.specs.List.{AllByRecursion}
 use Rattle.pearl_rules.specs.declared.action.Action.{Action}
 use Rattle.pearl_rules.specs.declared.event.Event.{Event}
@@ -59,9 +60,9 @@ abbrev pub IsReportOf : Setup → ℕ × Report → Type 0
 IsReportOf setup (moment, Happened event) = NamesWhatIsThere setup event
 IsReportOf setup (moment, Shows task shown) = ⊥
 
--- The kernel is one of these tables: it has their tasks, slots and semaphores. No count is above the greatest one, each slot
--- holds a value of its kind, and priorities are from 1 to 255. A task that isn't active has offered nothing, and what is
--- offered fits the tables. What is still to be told happened, and names what is there.
+-- The kernel is one of these tables: it has their tasks, slots and semaphores. No count is above the greatest one, each
+-- slot holds a value of its kind, and priorities are from 1 to 255. A task that isn't active has offered nothing, and
+-- what is offered fits the tables. What is still to be told happened, and names what is there.
 pub record IsLawful (setup : Setup) (k : Kept) : Type 0 where
   pub tasks : length k.core.tasks ≡ length setup.tasks
   pub counts : length k.core.counts ≡ length setup.semaphores

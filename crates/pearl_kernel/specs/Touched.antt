@@ -2,8 +2,8 @@
 use Rattle.std.specs.Prelude.{◌≡◌, ◌≢◌, ℕ, ◌<◌, ◌⊎◌, List, Option, Some, length, slice_get}
 use Rattle.pearl_rules.specs.declared.action.Action.{Action}
 use Rattle.pearl_rules.specs.Core.{Core}
-use Rattle.pearl_kernel.specs.declared.kernel.Touched.{Touched}
-use Rattle.pearl_kernel.specs.declared.kernel.Touched.TheVariants.{Own, Other, All}
+use Rattle.pearl_kernel.specs.declared.standing.Touched.{Touched}
+use Rattle.pearl_kernel.specs.declared.standing.Touched.TheVariants.{Own, Other, All}
 use Rattle.pearl_kernel.specs.Kept.{Kept, done}
 use Rattle.pearl_kernel.specs.Eligible.{entry}
 

@@ -1,19 +1,16 @@
 // The core's steps, one call for each.
 
-ghost use Rattle.std.specs.Prelude.{◌≡◌, ◌<◌, ◌≤◌, [], ◌∷◌, Some, None, true};
+ghost use Rattle.std.specs.Prelude.{◌≡◌, ◌<◌, [], ◌∷◌, Some, None, true};
 ghost use Rattle.std.specs.Prelude.{IfOk, IfSome, MatchOption, length, slice_set};
 ghost use Rattle.pearl_rules.specs.declared.setup.Setup as Tables;
-ghost use Rattle.pearl_rules.specs.declared.action.Action as Acting;
-ghost use Rattle.pearl_rules.specs.Core.{Core, Happened, is_active as is_active_in};
+ghost use Rattle.pearl_rules.specs.Core.{Happened};
 ghost use Rattle.pearl_rules.specs.Pick.{pick, turned, can_turn as can_turn_in, shown_of};
 ghost use Rattle.pearl_rules.specs.Slots.{Fits};
 ghost use Rattle.pearl_rules.specs.Tables.{IsSetup};
 ghost use Rattle.pearl_kernel.specs.Kept.{at_start, offered as offered_of, IsLawful, Marks, NamesWhatIsThere};
 ghost use Rattle.pearl_kernel.specs.Kept.{is_unsettled as is_unsettled_in, IsFirst, AllSettled};
-ghost use Rattle.pearl_kernel.specs.Names.{Names, NamesAll};
-ghost use Rattle.pearl_kernel.specs.Eligible.{entry};
-ghost use Rattle.pearl_kernel.specs.Touched.{Leaves, IsThere, IsRenewed};
 
+use crate::standing::{refresh, renew, touched_by};
 use crate::state::State;
 use pearl_ready::ready::Ready;
 use pearl_rules::action::{Action, Answer};
@@ -83,13 +80,15 @@ impl Kernel {
         requires unsettled { is_unsettled_in self.old task ≡ true }
         requires fits { (setup : Tables.Setup) × IsLawful setup self.old × Fits setup action }
         ensures offers { self.new ≡ record self.old { offers = slice_set self.old.offers task (Some action) } }
-        ensures lawful { (setup : Tables.Setup) → IsLawful setup self.old → Fits setup action → IsLawful setup self.new }
+        ensures lawful { (setup : Tables.Setup) → IsLawful setup self.old → Fits setup action →
+            IsLawful setup self.new }
     {
         self.state.set_offer(task, Some(action));
         refresh(&self.state, &mut self.ready, task);
     }
 
-    /// The picked task does its action.
+    /// The task that acts next does its action. It is called once every active task has offered one; it doesn't ask for
+    /// that, and goes by those that have.
     pub fn act(&mut self) -> Acted
         requires { self.old.core.told ≡ [] }
         ensures acted { Marks self.old self.new result }
@@ -160,7 +159,7 @@ impl Kernel {
         }
     }
 
-    /// The next event that wasn't taken.
+    /// The next event that wasn't taken yet.
     pub fn next_event(&mut self) -> Option<Event>
         ensures rest { MatchOption result ((self.old.core.told ≡ []) × (self.new ≡ self.old))
             (λ e. self.old.core.told ≡ (self.old.core.moment, Happened e) ∷ self.new.core.told) }
@@ -178,72 +177,10 @@ impl Kernel {
         self.state.now()
     }
 
-    /// Whether a task is active.
-    pub fn is_active(&self, task: u32) -> bool
-        ensures { result ≡ is_active_in self.now.core task }
-    {
-        self.state.is_active(task)
-    }
-
     /// How many tasks there are.
     pub fn tasks(&self) -> u32
         ensures { result ≡ length self.now.core.tasks }
     {
         self.state.tasks() as u32
-    }
-}
-
-// Which tasks besides the one that acts may be able to act, or not any more, after an action.
-enum Touched {
-    Own,
-    Other(u32),
-    All,
-}
-
-fn touched_by(action: &Action) -> Touched
-    ensures leaves { Leaves action.now result }
-    ensures there { (core : Core) → Names core action.now → IsThere core result }
-{
-    match action {
-        Action::Request(_) | Action::Release(_) | Action::Try(_) => Touched::All,
-        Action::Activate { task, .. } | Action::Continue { task, .. } => Touched::Other(*task),
-        Action::Suspend(task) | Action::Terminate(task) => Touched::Other(*task),
-        _ => Touched::Own,
-    }
-}
-
-// The set has a task where it can act, with its priority, and else hasn't.
-fn refresh(state: &State, ready: &mut Ready, task: u32)
-    requires there { task < length ready.old }
-    requires names { NamesAll state.now }
-    ensures { ready.new ≡ slice_set ready.old task (entry state.now task) }
-{
-    match state.entry(task) {
-        None => ready.take(task as usize),
-        Some(priority) => ready.put(task as usize, priority),
-    }
-}
-
-// After the act of the task `own` the set has each task where it can act.
-fn renew(state: &State, ready: &mut Ready, own: u32, touched: Touched)
-    requires few { length state.now.core.tasks ≤ 200 }
-    requires size { length ready.old ≡ length state.now.core.tasks }
-    requires own { own < length state.now.core.tasks }
-    requires there { IsThere state.now.core touched }
-    requires names { NamesAll state.now }
-    ensures { IsRenewed state.now own touched ready.old ready.new }
-{
-    match touched {
-        Touched::Own => refresh(state, ready, own),
-        Touched::Other(task) => {
-            refresh(state, ready, task);
-            refresh(state, ready, own);
-        }
-        Touched::All => {
-            let count = state.tasks() as u32;
-            for task in 0..count {
-                refresh(state, ready, task);
-            }
-        }
     }
 }

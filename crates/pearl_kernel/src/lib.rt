@@ -9,6 +9,7 @@
 mod kernel;
 mod opening;
 mod perform;
+mod standing;
 mod state;
 
 pub use kernel::{Acted, Kernel};

@@ -104,7 +104,8 @@ impl State {
     fn activate(&mut self, task: u32, priority: Option<u8>)
         requires task { task < length self.old.core.tasks }
         requires room { length self.old.core.told < 200 }
-        ensures { self.new ≡ record self.old { core = started self.old.core task (priority_or_declared self.old.core task priority) } }
+        ensures { let core = self.old.core in
+            self.new ≡ record self.old { core = started core task (priority_or_declared core task priority) } }
     {
         let priority = match priority {
             None => self.declared(task),

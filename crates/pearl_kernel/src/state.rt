@@ -1,10 +1,10 @@
 // The core's state with the offered actions, and its small changes.
 
 ghost use Rattle.std.specs.Prelude.{◌≡◌, ◌<◌, ◌≤◌, [], ◌∷◌, Some, None, true, false};
-ghost use Rattle.std.specs.Prelude.{IsTrue, IfOk, MatchOption, length, slice_get, slice_set};
+ghost use Rattle.std.specs.Prelude.{IsTrue, IfOk, MatchOption, length, slice_set};
 ghost use Rattle.std.specs.List.{AllByRecursion};
 ghost use Rattle.pearl_rules.specs.declared.action.Action as Acting;
-ghost use Rattle.pearl_rules.specs.Core.{Happened, note as noted, is_active as is_active_in, mode_of, value_at};
+ghost use Rattle.pearl_rules.specs.Core.{Happened, note as noted, is_active as is_active_in, mode_of, row_of, value_at};
 ghost use Rattle.pearl_rules.specs.Counts.{all_free, all_below_most, lowered, raised};
 ghost use Rattle.pearl_rules.specs.Effect.{with_mode, declared_or_zero};
 ghost use Rattle.pearl_rules.specs.Pick.{is_possible as is_possible_in, guard};
@@ -103,7 +103,7 @@ impl State {
         }
     }
 
-    pub fn is_active(&self, task: u32) -> bool
+    fn is_active(&self, task: u32) -> bool
         ensures { result ≡ is_active_in self.now.core task }
     {
         match self.rows.get(task as usize) {
@@ -131,7 +131,7 @@ impl State {
     /// The priority that a start of a task has where it names none.
     pub fn declared(&self, task: u32) -> u8
         requires { task < length self.now.core.tasks }
-        ensures { Some result ≡ Some (declared_or_zero (slice_get self.now.core.tasks task)) }
+        ensures { result ≡ declared_or_zero (row_of self.now.core task) }
     {
         self.rows[task as usize].declared
     }
@@ -211,7 +211,8 @@ impl State {
         requires { AreThere self.old.core.counts list.now.items }
         ensures answer { result ≡ all_below_most self.old.core.counts list.now.items }
         ensures raised { let core = self.old.core in
-            result ≡ true → self.new ≡ record self.old { core = record core { counts = raised core.counts list.now.items } } }
+            result ≡ true →
+            self.new ≡ record self.old { core = record core { counts = raised core.counts list.now.items } } }
         ensures full { result ≡ false → self.new ≡ self.old }
     {
         self.semas.raise(list)

@@ -3,7 +3,7 @@ use Rattle.std.proofs.Common.{◌≡◌, ◌≢◌, ℕ, zero, suc, ◌<◌, ◌
 use Rattle.std.specs.Prelude.{MatchOption, option_map}
 use Rattle.std.proofs.lemmas.Bool.{true≢false, eqb-false, or_cases, or_parts, and_parts, and_cases, cases_lt}
 use Rattle.std.proofs.lemmas.Option.{none-some, same_Some, slice_get_within}
-use Rattle.pearl_ready.specs.Best.{Set, Has, IsEmpty, IsBest, is_last, goes_before, better, tried, best_first, best_of}
+use Rattle.pearl_ready.specs.Best.{Set, Has, IsEmpty, IsBest, is_last, goes_before, tried, best_first, best_of}
 use Rattle.pearl_ready.specs.Laws.{FindsAll}
 
 -- who acted last, as a test

@@ -99,7 +99,8 @@ impl Semas {
 
     /// The first task that waits for a semaphore among those behind `after`, or among all.
     pub fn waiting(&self, semaphore: u16, after: Option<usize>) -> Option<usize>
-        ensures { MatchOption result (NoneIsNext self.now.waiting semaphore after) (IsNext self.now.waiting semaphore after) }
+        ensures { MatchOption result (NoneIsNext self.now.waiting semaphore after)
+            (IsNext self.now.waiting semaphore after) }
     {
         let first = match after {
             None => 0,

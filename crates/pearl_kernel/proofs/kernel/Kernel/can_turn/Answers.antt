@@ -8,7 +8,10 @@ use Rattle.pearl_kernel.proofs.kernel.Kernel.can_turn.Goals as goal
 pub returns-in_default-entry : goal.returns-in_default-entry
 returns-in_default-entry c =
     let s = c.self.inside.state in
-    let picked = subst (λ (k : Kept). pick k.core (offered k) ≡ Some c.in-Some.best) (sym c.self.view_is) (sym c.in-Some.ensures.picked) in
-    let is = can-turn-is s c.args.task c.in-Some.best c.entry.result c.entry-in_default-entry.result picked c.entry.ensures
+    let picked = subst (λ (k : Kept). pick k.core (offered k) ≡ Some c.in-Some.best) (sym c.self.view_is)
+    (sym c.in-Some.ensures.picked) in
+    let is = can-turn-is s c.args.task c.in-Some.best c.entry.result c.entry-in_default-entry.result picked
+    c.entry.ensures
     c.entry-in_default-entry.ensures c.in_default-entry.not-None in
-    c.eq.ensures ∙ subst (λ (k : Kept). option_eq nat_eq c.entry.result c.entry-in_default-entry.result ≡ can_turn k.core (offered k) c.args.task) c.self.view_is is
+    c.eq.ensures ∙ subst (λ (k : Kept). option_eq nat_eq c.entry.result c.entry-in_default-entry.result ≡
+    can_turn k.core (offered k) c.args.task) c.self.view_is is

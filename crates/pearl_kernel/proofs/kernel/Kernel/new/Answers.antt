@@ -5,8 +5,10 @@ use Rattle.pearl_kernel.proofs.kernel.Kernel.new.Goals as goal
 
 pub invariant_of-result : goal.invariant_of-result
 invariant_of-result c =
-    ready-opening c.args.setup.now c.in_ok-state.state c.in_ok-ready.ready c.tasks.result c.requires c.in_ok-state.ensures c.tasks.ensures c.in_ok-ready.ensures
+    ready-opening c.args.setup.now c.in_ok-state.state c.in_ok-ready.ready c.tasks.result c.requires
+    c.in_ok-state.ensures c.tasks.ensures c.in_ok-ready.ensures
 
 pub returns-clause-lawful : goal.returns-clause-lawful
 returns-clause-lawful c =
-    subst (λ (k : Kept). IsLawful c.args.setup.now k) (sym c.in_ok-state.ensures) (lawful-opening c.args.setup.now c.requires)
+    subst (λ (k : Kept). IsLawful c.args.setup.now k) (sym c.in_ok-state.ensures)
+    (lawful-opening c.args.setup.now c.requires)

@@ -24,11 +24,13 @@ invariant_of-self c =
     let kept = kept-offering s.state s.ready c.args.task c.args.action (unsettled-there s.state c.args.task unsettled)
     (fits-names f.0 s.state c.args.action lawful f.2) c.self.invariant in
     subst (λ xs. IsWhole c.set_offer.new.self xs) (sym c.refresh.ensures)
-    (subst (λ (k : Kept). IsWhole k (slice_set s.ready c.args.task (entry k c.args.task))) (sym c.set_offer.ensures) kept)
+    (subst (λ (k : Kept). IsWhole k (slice_set s.ready c.args.task (entry k c.args.task)))
+    (sym c.set_offer.ensures) kept)
 
 pub returns-clause-lawful : goal.returns-clause-lawful
 returns-clause-lawful c = λ setup lawful fits.
     let s = c.self.inside.state in
     let before = subst (λ (k : Kept). IsLawful setup k) (sym c.self.view_is) lawful in
     let unsettled = subst (λ (k : Kept). is_unsettled k c.args.task ≡ true) (sym c.self.view_is) c.requires.unsettled in
-    subst (λ (k : Kept). IsLawful setup k) (sym c.set_offer.ensures) (lawful-offering setup s c.args.task c.args.action unsettled fits before)
+    subst (λ (k : Kept). IsLawful setup k) (sym c.set_offer.ensures)
+    (lawful-offering setup s c.args.task c.args.action unsettled fits before)

@@ -7,4 +7,5 @@ use Rattle.pearl_kernel.proofs.kernel.Kernel.turn.Goals as goal
 pub invariant_of-self : goal.invariant_of-self
 invariant_of-self c =
     let s = c.self.inside in
-    subst (λ (k : Kept). IsWhole k s.ready) (sym c.set_last.ensures) (kept-last s.state s.ready (Some c.args.task) c.self.invariant)
+    subst (λ (k : Kept). IsWhole k s.ready) (sym c.set_last.ensures)
+    (kept-last s.state s.ready (Some c.args.task) c.self.invariant)

@@ -3,8 +3,10 @@ use Rattle.pearl_kernel.proofs.state.State.attempt.Goals as goal
 
 pub is_free-free-requires : goal.is_free-free-requires
 is_free-free-requires c =
-    one-there c.args.self.now.core.counts c.new-list.result.items c.push.new.self.items c.args.semaphore c.requires c.new-list.ensures c.push.ensures.items
+    one-there c.args.self.now.core.counts c.new-list.result.items c.push.new.self.items c.args.semaphore c.requires
+    c.new-list.ensures c.push.ensures.items
 
 pub lower-requires-clause-list : goal.lower-requires-clause-list
 lower-requires-clause-list c =
-    one-there c.args.self.now.core.counts c.new-list.result.items c.push.new.self.items c.args.semaphore c.requires c.new-list.ensures c.push.ensures.items
+    one-there c.args.self.now.core.counts c.new-list.result.items c.push.new.self.items c.args.semaphore c.requires
+    c.new-list.ensures c.push.ensures.items

@@ -1,7 +1,5 @@
-use Rattle.std.proofs.Common.{◌≡◌, [], set, ap, ◌∙◌}
-use Rattle.std.specs.Prelude.{map}
+use Rattle.std.proofs.Common.{ap}
 use Rattle.std.proofs.lemmas.List.{map-set}
-use Rattle.pearl_sema.specs.Waiting.{Sema}
 use Rattle.pearl_sema.proofs.semas.Semas.forget.Goals as goal
 
 pub returns : goal.returns

@@ -1,6 +1,6 @@
-use Rattle.pearl_kernel.specs.declared.kernel.Touched.TheVariants.{Own, Other}
-use Rattle.pearl_kernel.proofs.Standing.{IsRest, leaves-far, start-far, stop-far, rest-far}
-use Rattle.pearl_kernel.proofs.kernel.touched_by.Goals as goal
+use Rattle.pearl_kernel.specs.declared.standing.Touched.TheVariants.{Own, Other}
+use Rattle.pearl_kernel.proofs.Entries.{IsRest, leaves-far, start-far, stop-far, rest-far}
+use Rattle.pearl_kernel.proofs.standing.touched_by.Goals as goal
 
 pub returns-in_default : goal.returns-in_default
 returns-in_default c =
@@ -13,12 +13,18 @@ returns-in_default c =
       not_suspend = c.in_default.not-Suspend;
       not_terminate = c.in_default.not-Terminate;
     } in
-    record { leaves = leaves-far c.args.action.now Own (λ t far. rest-far c.args.action.now t rest); there = λ core names. tt }
+    record {
+      leaves = leaves-far c.args.action.now Own
+          (λ t far. rest-far c.args.action.now t rest);
+      there = λ core names. tt;
+    }
 
 pub returns-in-Suspend-clause-leaves : goal.returns-in-Suspend-clause-leaves
 returns-in-Suspend-clause-leaves c =
-    leaves-far c.args.action.now (Other c.in-Suspend.task) (λ t far. stop-far c.args.action.now c.in-Suspend.task t c.in-Suspend.is far)
+    leaves-far c.args.action.now (Other c.in-Suspend.task)
+    (λ t far. stop-far c.args.action.now c.in-Suspend.task t c.in-Suspend.is far)
 
 pub returns-in-Activate-clause-leaves : goal.returns-in-Activate-clause-leaves
 returns-in-Activate-clause-leaves c =
-    leaves-far c.args.action.now (Other c.in-Activate.task) (λ t far. start-far c.args.action.now c.in-Activate.task t c.in-Activate.is far)
+    leaves-far c.args.action.now (Other c.in-Activate.task)
+    (λ t far. start-far c.args.action.now c.in-Activate.task t c.in-Activate.is far)

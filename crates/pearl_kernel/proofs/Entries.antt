@@ -1,5 +1,6 @@
 -- Whether a task can act doesn't change by what touches neither its row, its offer nor the counts.
-use Rattle.std.proofs.Common.{◌≡◌, ◌≢◌, ◌⊎◌, inl, inr, ℕ, List, [], ◌∷◌, true, false, Option, Some, None, slice_set, refl, sym, ap, subst, ◌∙◌}
+use Rattle.std.proofs.Common.{◌≡◌, ◌≢◌, ◌⊎◌, inl, inr, ℕ, List, [], ◌∷◌, true, false, Option, Some, None, slice_set}
+use Rattle.std.proofs.Common.{refl, sym, ap, subst, ◌∙◌}
 use Rattle.pearl_rules.specs.declared.action.Action.{Action}
 use Rattle.pearl_rules.specs.declared.action.Action.TheVariants as action
 use Rattle.arrayvec.specs.declared.array_vec.ArrayVec.{ArrayVec}
@@ -14,23 +15,26 @@ use Rattle.pearl_rules.specs.declared.row.Mode.TheVariants.{Dormant, Active}
 use Rattle.pearl_rules.specs.declared.row.TaskRow.{TaskRow}
 use Rattle.pearl_rules.specs.Core.{Core, note, row_of, with_row, mode_of}
 use Rattle.pearl_rules.specs.Counts.{all_free}
-use Rattle.pearl_rules.specs.Effect.{effect, on_row, with_mode, finished, ending, priority_or_declared, started, started_by, marked_mode, with_mark, stopped_by, stopped_tasks}
+use Rattle.pearl_rules.specs.Effect.{effect, on_row, with_mode, finished, ending, priority_or_declared, started}
+use Rattle.pearl_rules.specs.Effect.{started_by, marked_mode, with_mark, stopped_by, stopped_tasks}
 use Rattle.pearl_rules.specs.Pick.{is_ready_row, is_possible, priority_of_row}
 use Rattle.pearl_rules.specs.Runs.{dropped, kept_at}
 use Rattle.pearl_kernel.specs.Kept.{Kept, offered, done}
 use Rattle.pearl_kernel.specs.Eligible.{entry, number_if}
-use Rattle.pearl_kernel.specs.declared.kernel.Touched.{Touched}
+use Rattle.pearl_kernel.specs.declared.standing.Touched.{Touched}
 use Rattle.pearl_kernel.specs.Touched.{IsUntouched, Leaves}
 use Rattle.pearl_kernel.proofs.Places.{kept-other, get-other}
 
 -- whether an offer can be done, where the counts are the same
-possible-same : (core other : Core) (offer : Option Action) → core.counts ≡ other.counts → is_possible core offer ≡ is_possible other offer
+possible-same : (core other : Core) (offer : Option Action) → core.counts ≡ other.counts →
+    is_possible core offer ≡ is_possible other offer
 possible-same core other None counts = refl
 possible-same core other (Some (action.Request list)) counts = ap (λ cs. all_free cs list.items) counts
 possible-same core other (Some action) counts = refl
 
 -- the same row, the same offer and the same counts
-pub entry-same : (k new : Kept) (t : ℕ) → row_of new.core t ≡ row_of k.core t → offered new t ≡ offered k t → new.core.counts ≡ k.core.counts →
+pub entry-same : (k new : Kept) (t : ℕ) → row_of new.core t ≡ row_of k.core t → offered new t ≡ offered k t →
+    new.core.counts ≡ k.core.counts →
     entry new t ≡ entry k t
 entry-same k new t row offer counts =
     let possible = possible-same new.core k.core (offered new t) counts ∙ ap (λ o. is_possible k.core o) offer in
@@ -59,7 +63,8 @@ unmoved_started : (core : Core) (u priority t : ℕ) → t ≢ u → Unmoved cor
 unmoved_started core u priority t other = by_mode (mode_of core u)
   where
     by_mode : (mode : Mode) → Unmoved core (started_by mode core u priority) t
-    by_mode Dormant = unmoved_note core _ (event.Start u priority) t (unmoved_mode core u (Active priority false) t other)
+    by_mode Dormant = unmoved_note core _ (event.Start u priority) t
+        (unmoved_mode core u (Active priority false) t other)
     by_mode (Active own suspended) = unmoved_note core core (event.Overrun u) t (unmoved core t)
 
 unmoved_stopped : (core : Core) (u t : ℕ) → t ≢ u → Unmoved core (stopped_by (mode_of core u) core u) t
@@ -76,7 +81,8 @@ unmoved_ending core own e t other = unmoved_note core (finished core own) e t (u
 other-one : (offers : List (Option Action)) (u t : ℕ) → t ≢ u → kept_at (dropped (u ∷ []) offers) t ≡ kept_at offers t
 other-one offers u t other = kept-other offers u t None other
 
-other_stopped : (mode : Mode) (offers : List (Option Action)) (u t : ℕ) → t ≢ u → kept_at (dropped (stopped_tasks mode u) offers) t ≡ kept_at offers t
+other_stopped : (mode : Mode) (offers : List (Option Action)) (u t : ℕ) → t ≢ u →
+    kept_at (dropped (stopped_tasks mode u) offers) t ≡ kept_at offers t
 other_stopped Dormant offers u t other = refl
 other_stopped (Active priority suspended) offers u t other = other-one offers u t other
 
@@ -102,32 +108,41 @@ module _ (k : Kept) (own t : ℕ) (other : t ≢ own) where
   by_ended : (after : Core) (ended : List ℕ) → Unmoved acted after t → kept_at (dropped ended left) t ≡ kept_at left t →
       entry (record { core = after; offers = dropped ended left }) t ≡ entry k t
   by_ended after ended u offers =
-      entry-same k (record { core = after; offers = dropped ended left }) t u.row (offers ∙ kept-other k.offers own t None other) u.counts
+      entry-same k (record { core = after; offers = dropped ended left }) t u.row
+      (offers ∙ kept-other k.offers own t None other) u.counts
 
   -- no task ended
   by_none : (after : Core) → Unmoved acted after t → entry (record { core = after; offers = left }) t ≡ entry k t
   by_none after u = by_ended after [] u refl
 
   -- the own one did
-  by_own : (e : Event) → entry (record { core = (ending acted own e).core; offers = dropped (own ∷ []) left }) t ≡ entry k t
-  by_own e = by_ended (ending acted own e).core (own ∷ []) (unmoved_ending acted own e t other) (other-one left own t other)
+  by_own : (e : Event) → entry (record { core = (ending acted own e).core; offers = dropped (own ∷ []) left }) t ≡
+      entry k t
+  by_own e = by_ended (ending acted own e).core (own ∷ []) (unmoved_ending acted own e t other)
+      (other-one left own t other)
 
   pub far-same : (a : Action) → IsFar a t → entry (done k own a) t ≡ entry k t
   unfolding effect
   far-same (action.Read slot) far = by_none acted (unmoved acted t)
-  far-same (action.Write slot value) far = by_none (record acted { slots = slice_set k.core.slots slot value }) (record { row = refl; counts = refl })
+  far-same (action.Write slot value) far = by_none (record acted { slots = slice_set k.core.slots slot value })
+      (record { row = refl; counts = refl })
   far-same action.Turn far = by_none acted (unmoved acted t)
   far-same action.Enter far = by_none acted (unmoved acted t)
   far-same (action.Request list) far = absurd far
   far-same (action.Release list) far = absurd far
   far-same (action.Try semaphore) far = absurd far
   far-same (action.Activate u Free Once priority) far =
-      by_none (started acted u (priority_or_declared acted u priority)) (unmoved_started acted u (priority_or_declared acted u priority) t far)
-  far-same (action.Continue u Free) far = by_none (with_mark acted u false) (unmoved_mode acted u (marked_mode false (mode_of acted u)) t far)
-  far-same (action.Suspend u) far = by_none (with_mark acted u true) (unmoved_mode acted u (marked_mode true (mode_of acted u)) t far)
+      by_none (started acted u (priority_or_declared acted u priority))
+      (unmoved_started acted u (priority_or_declared acted u priority) t far)
+  far-same (action.Continue u Free) far = by_none (with_mark acted u false)
+      (unmoved_mode acted u (marked_mode false (mode_of acted u)) t far)
+  far-same (action.Suspend u) far = by_none (with_mark acted u true)
+      (unmoved_mode acted u (marked_mode true (mode_of acted u)) t far)
   far-same (action.Terminate u) far =
-      by_ended (stopped_by (mode_of acted u) acted u) (stopped_tasks (mode_of acted u) u) (unmoved_stopped acted u t far) (other_stopped (mode_of acted u) left u t far)
-  far-same (action.Put device text) far = by_none (note acted (event.Out device text)) (record { row = refl; counts = refl })
+      by_ended (stopped_by (mode_of acted u) acted u) (stopped_tasks (mode_of acted u) u)
+      (unmoved_stopped acted u t far) (other_stopped (mode_of acted u) left u t far)
+  far-same (action.Put device text) far = by_none (note acted (event.Out device text))
+      (record { row = refl; counts = refl })
   far-same action.End far = by_own (event.End own)
   far-same (action.Trap trap) far = by_own (event.Trap own trap)
   far-same action far = by_own (event.End own)
@@ -138,7 +153,8 @@ pub leaves-far : (a : Action) (touched : Touched) → ((t : ℕ) → IsUntouched
 leaves-far a touched far k own t other untouched = far-same k own t other a (far t untouched)
 
 abbrev IsStart : Action → ℕ → Type 0
-IsStart a u = ((start : Start) × (repeat : Repeat) × (priority : Option ℕ) × (a ≡ action.Activate u start repeat priority))
+IsStart a u = ((start : Start) × (repeat : Repeat) × (priority : Option ℕ) ×
+    (a ≡ action.Activate u start repeat priority))
     ⊎ ((start : Start) × (a ≡ action.Continue u start))
 
 pub start-far : (a : Action) (u t : ℕ) → IsStart a u → t ≢ u → IsFar a t
@@ -154,7 +170,8 @@ pub record IsRest (a : Action) : Type 0 where
   pub not_request : (list : ArrayVec ℕ 16 (Unit {0})) → a ≡ action.Request list → ⊥
   pub not_release : (list : ArrayVec ℕ 16 (Unit {0})) → a ≡ action.Release list → ⊥
   pub not_try : (semaphore : ℕ) → a ≡ action.Try semaphore → ⊥
-  pub not_activate : (task : ℕ) (start : Start) (repeat : Repeat) (priority : Option ℕ) → a ≡ action.Activate task start repeat priority → ⊥
+  pub not_activate : (task : ℕ) (start : Start) (repeat : Repeat) (priority : Option ℕ) →
+      a ≡ action.Activate task start repeat priority → ⊥
   pub not_continue : (task : ℕ) (start : Start) → a ≡ action.Continue task start → ⊥
   pub not_suspend : (task : ℕ) → a ≡ action.Suspend task → ⊥
   pub not_terminate : (task : ℕ) → a ≡ action.Terminate task → ⊥

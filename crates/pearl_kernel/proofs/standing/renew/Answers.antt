@@ -1,9 +1,9 @@
 use Rattle.std.proofs.Common.{◌<◌, sym, subst, ap, ◌∙◌, length-set, length}
-use Rattle.pearl_kernel.specs.declared.kernel.Touched.{Touched}
+use Rattle.pearl_kernel.specs.declared.standing.Touched.{Touched}
 use Rattle.pearl_kernel.specs.Eligible.{entry}
 use Rattle.pearl_kernel.specs.Touched.{IsThere, IsRenewed}
 use Rattle.pearl_kernel.proofs.Acting.{renewed-own, renewed-other, renewed-next}
-use Rattle.pearl_kernel.proofs.kernel.renew.Goals as goal
+use Rattle.pearl_kernel.proofs.standing.renew.Goals as goal
 
 pub loop-task-preserved : goal.loop-task-preserved
 loop-task-preserved c =
@@ -11,19 +11,24 @@ loop-task-preserved c =
     let l = c.loop-task in
     record {
       size = ap length c.refresh-in-loop-task.ensures ∙ length-set l.ready l.task (entry k l.task) ∙ l.invariant.size;
-      done = renewed-next k l.ready c.refresh-in-loop-task.new.ready l.task (subst (λ n. l.task < n) c.tasks-count.ensures c.loop-task-test.true)
+      done = renewed-next k l.ready c.refresh-in-loop-task.new.ready l.task
+          (subst (λ n. l.task < n) c.tasks-count.ensures c.loop-task-test.true)
           l.invariant.size l.invariant.done c.refresh-in-loop-task.ensures;
       all = c.tasks-count.ensures;
     }
 
 pub returns-in-Own : goal.returns-in-Own
 returns-in-Own c =
-    subst (λ (x : Touched). IsRenewed c.args.state.now c.args.own x c.args.ready.now c.refresh.new.ready) (sym c.in-Own.is)
-    (renewed-own c.args.state.now c.args.own c.args.ready.now c.refresh.new.ready c.requires.own c.requires.size c.refresh.ensures)
+    subst (λ (x : Touched). IsRenewed c.args.state.now c.args.own x c.args.ready.now c.refresh.new.ready)
+    (sym c.in-Own.is)
+    (renewed-own c.args.state.now c.args.own c.args.ready.now c.refresh.new.ready c.requires.own c.requires.size
+    c.refresh.ensures)
 
 pub returns-in-Other : goal.returns-in-Other
 returns-in-Other c =
     let there = subst (λ (x : Touched). IsThere c.args.state.now.core x) c.in-Other.is c.requires.there in
-    subst (λ (x : Touched). IsRenewed c.args.state.now c.args.own x c.args.ready.now c.refresh-in-Other-2.new.ready) (sym c.in-Other.is)
-    (renewed-other c.args.state.now c.args.own c.in-Other.task c.args.ready.now c.refresh-in-Other.new.ready c.refresh-in-Other-2.new.ready
+    subst (λ (x : Touched). IsRenewed c.args.state.now c.args.own x c.args.ready.now c.refresh-in-Other-2.new.ready)
+    (sym c.in-Other.is)
+    (renewed-other c.args.state.now c.args.own c.in-Other.task c.args.ready.now c.refresh-in-Other.new.ready
+    c.refresh-in-Other-2.new.ready
     c.requires.own there c.requires.size c.refresh-in-Other.ensures c.refresh-in-Other-2.ensures)

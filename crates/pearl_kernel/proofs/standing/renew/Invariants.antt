@@ -1,6 +1,6 @@
 use Rattle.std.proofs.Common.{◌≡◌, ℕ, ◌<◌, Some, length, slice_get}
 use Rattle.pearl_kernel.specs.Eligible.{entry}
-use Rattle.pearl_kernel.proofs.kernel.renew.Given as goal
+use Rattle.pearl_kernel.proofs.standing.renew.Given as goal
 
 abbrev pub invariant-loop-task : goal.invariant-loop-task
 invariant-loop-task l = record {
