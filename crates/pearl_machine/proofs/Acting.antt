@@ -1,19 +1,18 @@
 -- A machine is as it is to be after each mark.
-use Rattle.std.proofs.Common.{◌≡◌, ◌≢◌, ℕ, zero, suc, ◌+◌, ◌<◌, ◌≤◌, ◌⊎◌, inl, inr, List, [], ◌∷◌, ◌++◌, Bool, true, false, ◌&&◌, nat_eq, Option, Some, None, length, slice_get, slice_set, refl, sym, ap, ap₂, subst, ◌∙◌, arith, length-set, eqb-true, zero-add}
+use Rattle.std.proofs.Common.{◌≡◌, ℕ, ◌+◌, ◌<◌, ◌≤◌, ◌⊎◌, inl, inr, List, [], ◌∷◌, Bool, true, false, ◌&&◌, nat_eq, Option, Some, None, length, slice_get, slice_set, refl, sym, ap, ap₂, subst, ◌∙◌, arith, length-set, eqb-true, zero-add}
 use Rattle.std.proofs.lemmas.Bool.{true≢false, eqb-false, cases_lt}
 use Rattle.std.proofs.lemmas.Option.{none-some, same_Some, slice_get_past}
-use Rattle.pearl_rules.specs.declared.action.Action.{Action}
 use Rattle.pearl_rules.specs.declared.action.Answer.{Answer}
 use Rattle.pearl_rules.specs.declared.setup.Setup.{Setup}
 use Rattle.pearl_rules.specs.declared.row.TaskRow.{TaskRow}
-use Rattle.pearl_rules.specs.Core.{Core, Report, is_active, is_active_row}
+use Rattle.pearl_rules.specs.Core.{is_active, is_active_row}
 use Rattle.pearl_rules.specs.Pick.{turned}
 use Rattle.pearl_rules.specs.Effect.{Reply, Hears, Ends, effect}
-use Rattle.pearl_rules.specs.Runs.{Running, Offers, kept, kept_at, refreshed, dropped, answered, fresh}
+use Rattle.pearl_rules.specs.Runs.{Running, kept, kept_at, refreshed, dropped, answered, fresh}
 use Rattle.pearl_rules.proofs.EffectLaws.{effect-length, effect-answers}
 use Rattle.pearl_rules.proofs.EndsLaws.{effect-ends}
 use Rattle.pearl_rules.proofs.PickLaws.{picked, eligible_within, turned-is}
-use Rattle.pearl_stack.specs.Frames.{Frame, Stack}
+use Rattle.pearl_stack.specs.Frames.{Frame}
 use Rattle.pearl_instructions.specs.declared.object.Object.{Object}
 use Rattle.pearl_instructions.specs.Lawful.{IsObject}
 use Rattle.pearl_instructions.specs.Valid.{IsValid}
@@ -25,9 +24,9 @@ use Rattle.pearl_kernel.specs.Kept as kernel
 use Rattle.pearl_kernel.specs.Kept.{Kept, IsLawful, AllSettled, offered, is_silent, is_unsettled}
 use Rattle.pearl_solo.specs.Answered.{CanHear}
 use Rattle.pearl_machine.specs.Known.{Known}
-use Rattle.pearl_machine.specs.Parts.{HasMemories, stack_in, is_going, running_of, heard_part}
+use Rattle.pearl_machine.specs.Parts.{HasMemories, stack_in, is_going, running_of}
 use Rattle.pearl_machine.specs.Ready.{IsReady, IsDue, Stands, AllStand, untold, seen_of}
-use Rattle.pearl_machine.specs.Seen.{Seen, ActsFirst}
+use Rattle.pearl_machine.specs.Seen.{ActsFirst}
 use Rattle.pearl_machine.specs.declared.part.Part.{Part}
 use Rattle.pearl_machine.proofs.Listed.{get_elsewhere, kept_gone, kept_elsewhere}
 use Rattle.pearl_machine.proofs.Rows.{table_refreshed, table_kept}

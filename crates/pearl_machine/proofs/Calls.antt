@@ -1,34 +1,33 @@
 -- What a call does, from what is seen of the machine at the call.
 use Rattle.std.specs.Prelude.{is_some, IsSome, MatchOption}
-use Rattle.std.proofs.Common.{◌≡◌, ℕ, ◌+◌, ◌<◌, ◌≤◌, inl, List, [], ◌∷◌, ◌++◌, Option, Some, None, length, drop, slice_get, refl, sym, ap, subst, ◌∙◌, arith}
+use Rattle.std.proofs.Common.{◌≡◌, ℕ, ◌+◌, ◌<◌, ◌≤◌, List, [], ◌∷◌, ◌++◌, Option, Some, None, length, drop, slice_get, refl, sym, ap, subst, ◌∙◌}
 use Rattle.pearl_rules.specs.declared.action.Action.{Action}
 use Rattle.pearl_rules.specs.declared.event.Event.{Event}
 use Rattle.pearl_rules.specs.declared.setup.Setup.{Setup}
-use Rattle.pearl_rules.specs.Core.{Core, Report, Happened, Shows}
-use Rattle.pearl_rules.specs.Effect.{Reply, effect}
+use Rattle.pearl_rules.specs.Core.{Report, Happened, Shows}
+use Rattle.pearl_rules.specs.Effect.{Reply}
 use Rattle.pearl_rules.specs.Pick.{pick, turned, states, shown_of}
-use Rattle.pearl_rules.specs.Runs.{Mark, Turns, Tells, machine_offers, machine_step, unsettled}
+use Rattle.pearl_rules.specs.Runs.{Turns, Tells, machine_offers, machine_step, unsettled}
 use Rattle.pearl_rules.proofs.PickLaws.{states-offers}
 use Rattle.pearl_instructions.specs.declared.object.Object.{Object}
-use Rattle.pearl_engine.specs.Engines.{engine, stepped_by}
-use Rattle.pearl_engine.specs.Owners.{IsStackOf}
+use Rattle.pearl_engine.specs.Engines.{engine}
 use Rattle.pearl_engine.specs.Setups.{setup_of}
 use Rattle.pearl_script.specs.Lines.{event_line, state_line, report_line}
 use Rattle.pearl_script.specs.Words.{task_name}
 use Rattle.pearl_kernel.specs.Kept as kernel
 use Rattle.pearl_kernel.specs.Kept.{Kept, IsLawful, AllSettled, IsFirst, offered}
-use Rattle.pearl_machine.specs.Parts.{going_frames, start_of, running_of, StepsPart, SettlesPart, HasMemories}
+use Rattle.pearl_machine.specs.Parts.{going_frames, start_of, running_of, StepsPart, SettlesPart}
 use Rattle.pearl_machine.specs.Ready.{IsReady, untold, seen_of}
 use Rattle.pearl_machine.specs.Seen.{Seen, SettlesFirst, ActsFirst, Makes, retold, picked}
 use Rattle.pearl_machine.specs.Known.{Known}
 use Rattle.pearl_machine.specs.declared.part.Part.{Part}
-use Rattle.pearl_machine.proofs.ReadyLaws.{first_seen, first_own, settles_first, ready_offers, with_offer, kernel_settled, taken_events, taken_states}
+use Rattle.pearl_machine.proofs.ReadyLaws.{first_seen, settles_first, with_offer, kernel_settled, taken_events, taken_states}
 use Rattle.pearl_machine.proofs.Places.{none_here, offered_by}
 use Rattle.pearl_machine.proofs.Steps.{first_unsettled}
 use Rattle.pearl_machine.proofs.Taken.{state_next, no_state}
 use Rattle.pearl_machine.proofs.Marking.{parts_after}
 use Rattle.pearl_machine.proofs.Making.{picked_here, tells_here, shows_here, turns_here}
-use Rattle.pearl_machine.proofs.Acting.{ready_due, ready_turned, turned_taken, acts_seen}
+use Rattle.pearl_machine.proofs.Acting.{turned_taken, acts_seen}
 use Rattle.pearl_machine.proofs.Entering.{steps_silent, steps_offers}
 
 -- a task that was found

@@ -1,6 +1,6 @@
 -- Parts of an entry, one after the other.
 use Rattle.std.specs.Prelude.{Result, Ok, Err, OnOk, OnErr}
-use Rattle.std.proofs.Common.{◌≡◌, ℕ, zero, suc, ◌+◌, ◌-◌, ◌<◌, List, [], ◌∷◌, ◌++◌, Bool, true, false, Option, Some, None, slice_set, slice_get, length, refl, sym, ap, ap₂, subst, ◌∙◌, arith}
+use Rattle.std.proofs.Common.{◌≡◌, ℕ, zero, suc, ◌+◌, ◌-◌, ◌<◌, List, [], ◌∷◌, ◌++◌, Option, Some, None, slice_set, slice_get, refl, sym, ap, ap₂, subst, ◌∙◌, arith}
 use Rattle.std.proofs.lemmas.Option.{none-some}
 use Rattle.pearl_rules.specs.declared.action.Action.{Action}
 use Rattle.pearl_rules.specs.declared.entry.Entry.{Entry}
@@ -9,7 +9,7 @@ use Rattle.pearl_rules.specs.declared.setup.Setup.{Setup}
 use Rattle.pearl_rules.specs.Core.{Report}
 use Rattle.pearl_rules.specs.Pick.{states}
 use Rattle.pearl_rules.proofs.PickLaws.{states-offers}
-use Rattle.pearl_rules.specs.Runs.{Turns, Tells, machine_offers, Running, Machine, Silent, Offers, kept_at, stepped, unsettled, machine_step}
+use Rattle.pearl_rules.specs.Runs.{Turns, Tells, machine_offers, Running, kept_at, stepped, unsettled, machine_step}
 use Rattle.pearl_io.specs.Outside.{Takes}
 use Rattle.pearl_stack.specs.Frames.{Frame}
 use Rattle.pearl_instructions.specs.declared.object.Object.{Object}
@@ -17,18 +17,17 @@ use Rattle.pearl_instructions.specs.Rows.{row}
 use Rattle.pearl_engine.specs.Engines.{engine, stepped_by}
 use Rattle.pearl_engine.specs.Setups.{setup_of}
 use Rattle.pearl_script.specs.Lines.{lines_of}
-use Rattle.pearl_kernel.specs.Kept.{Kept, IsLawful, IsFirst, AllSettled, offered}
-use Rattle.pearl_machine.specs.Parts.{start_of, going_frames, running_of, StepsPart, Does, HasMemories}
+use Rattle.pearl_kernel.specs.Kept.{Kept, IsLawful, IsFirst}
+use Rattle.pearl_machine.specs.Parts.{start_of, going_frames, running_of, StepsPart, HasMemories}
 use Rattle.pearl_machine.specs.Ready.{IsReady, untold, seen_of}
-use Rattle.pearl_machine.specs.Seen.{Seen, at, retold, picked, Handles, SettlesFirst, ActsFirst, Makes}
+use Rattle.pearl_machine.specs.Seen.{Seen, retold, Handles, SettlesFirst, ActsFirst, Makes}
 use Rattle.pearl_machine.specs.Told.{IsCutOff}
 use Rattle.pearl_machine.specs.declared.part.Part.{Part}
 use Rattle.pearl_machine.proofs.Going.{IsMarked, handles_then, handles_retold, handles_pick, handles_turn, handles_state, handles_other}
-use Rattle.pearl_machine.proofs.Places.{none_here, offered_by, offers_here, goes_here}
-use Rattle.pearl_machine.proofs.ReadyLaws.{first_seen, first_active, first_silent, none_due, told_past, with_offer, ready_offers, ready_goes, kernel_settled, taken_events, taken_states}
-use Rattle.pearl_machine.proofs.Steps.{HasOffered, first_step}
-use Rattle.pearl_machine.proofs.Taken.{takes_nothing, takes_lines}
-
+use Rattle.pearl_machine.proofs.Places.{offered_by, offers_here, goes_here}
+use Rattle.pearl_machine.proofs.ReadyLaws.{first_seen, first_active, first_silent, none_due, told_past, with_offer, ready_offers, ready_goes}
+use Rattle.pearl_machine.proofs.Steps.{first_step}
+use Rattle.pearl_machine.proofs.Taken.{takes_nothing}
 
 -- ONE INSTRUCTION
 

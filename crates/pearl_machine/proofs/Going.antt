@@ -1,10 +1,10 @@
 -- Where a run goes from where a machine stands.
-use Rattle.std.proofs.Common.{◌≡◌, ℕ, zero, suc, ◌+◌, ◌-◌, ◌<◌, List, [], ◌∷◌, ◌++◌, Option, Some, None, refl, sym, ap, subst, ◌∙◌, append-nil, append_assoc, arith}
+use Rattle.std.proofs.Common.{◌≡◌, ℕ, suc, ◌+◌, ◌-◌, ◌<◌, List, [], ◌∷◌, ◌++◌, Option, Some, None, refl, sym, ap, subst, ◌∙◌, append-nil, append_assoc, arith}
 use Rattle.std.proofs.lemmas.Option.{none-some}
 use Rattle.pearl_rules.specs.declared.entry.Entry.{Entry}
 use Rattle.pearl_rules.specs.declared.entry.Entry.TheVariants.{Run, Turn, State}
 use Rattle.pearl_rules.specs.Core.{Report}
-use Rattle.pearl_rules.specs.Runs.{Running, Machine, Mark, Acts, Turns, Tells, Coming, next_mark, machine_offers, machine_next, machine_step, machine_after, unsettled}
+use Rattle.pearl_rules.specs.Runs.{Mark, Acts, Turns, Tells, Coming, next_mark, machine_offers, machine_next, machine_after, unsettled}
 use Rattle.pearl_rules.proofs.PickLaws.{pick-offers}
 use Rattle.pearl_stack.specs.Frames.{Frame}
 use Rattle.pearl_engine.specs.Engines.{engine}

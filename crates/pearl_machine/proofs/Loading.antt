@@ -1,11 +1,10 @@
 -- A machine at the start of a run.
-use Rattle.std.proofs.Common.{◌≡◌, ℕ, zero, suc, ◌+◌, ◌<◌, ◌≤◌, inr, List, [], ◌∷◌, ◌++◌, Bool, true, false, replicate, map, drop, Option, Some, None, length, slice_get, refl, sym, ap, ap₂, subst, ◌∙◌, arith, zero-add}
+use Rattle.std.proofs.Common.{◌≡◌, ℕ, zero, suc, inr, List, [], Bool, true, false, replicate, Option, Some, None, length, slice_get, refl, sym, ap, ap₂, subst, ◌∙◌, arith, zero-add}
 use Rattle.std.proofs.lemmas.List.{length-map}
 use Rattle.std.proofs.lemmas.Bool.{true≢false}
 use Rattle.std.proofs.lemmas.Option.{none-some}
-use Rattle.pearl_rules.specs.declared.action.Action.{Action}
 use Rattle.pearl_rules.specs.declared.setup.Setup.{Setup}
-use Rattle.pearl_rules.specs.Core.{Core, opening, first_row, is_active}
+use Rattle.pearl_rules.specs.Core.{opening, first_row, is_active}
 use Rattle.pearl_rules.specs.Runs.{Machine, Running, kept, kept_at, refreshed, fresh, machine_start}
 use Rattle.pearl_stack.specs.Frames.{Frame}
 use Rattle.pearl_instructions.specs.declared.object.Object.{Object}
@@ -14,10 +13,10 @@ use Rattle.pearl_instructions.specs.Valid.{IsValid}
 use Rattle.pearl_engine.specs.Built.{OnlyBuilt}
 use Rattle.pearl_engine.specs.Engines.{engine}
 use Rattle.pearl_engine.specs.Setups.{setup_of, entry_of}
-use Rattle.pearl_kernel.specs.Kept.{Kept, IsLawful, offered}
+use Rattle.pearl_kernel.specs.Kept.{Kept, IsLawful}
 use Rattle.pearl_machine.specs.Known.{Known}
 use Rattle.pearl_machine.specs.Parts.{HasMemories, shown, start_of, frames_if, stack_in, is_going, running_of}
-use Rattle.pearl_machine.specs.Ready.{IsReady, AllStand, untold, seen_of}
+use Rattle.pearl_machine.specs.Ready.{IsReady, AllStand, seen_of}
 use Rattle.pearl_machine.specs.declared.part.Part.{Part}
 use Rattle.pearl_machine.proofs.Rows.{table_alike, table_refreshed}
 use Rattle.pearl_machine.proofs.ReadyLaws.{told_past}

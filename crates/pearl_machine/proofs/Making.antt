@@ -1,41 +1,27 @@
 -- What a mark of a machine is, from what its kernel did.
-use Rattle.std.proofs.Common.{◌≡◌, ◌≢◌, ℕ, zero, suc, ◌+◌, ◌<◌, ◌≤◌, ◌⊎◌, inl, inr, List, [], ◌∷◌, ◌++◌, Bool, true, false, ◌&&◌, nat_eq, Option, Some, None, length, slice_get, slice_set, refl, sym, ap, ap₂, subst, ◌∙◌, arith, length-set, eqb-true, append-nil}
+use Rattle.std.proofs.Common.{◌≡◌, ℕ, ◌<◌, ◌≤◌, List, [], ◌++◌, Bool, true, false, Option, Some, None, length, slice_get, slice_set, refl, sym, ap, ap₂, subst, ◌∙◌, append-nil}
 use Rattle.std.proofs.Math.Path.{fun_ext}
-use Rattle.std.proofs.lemmas.Bool.{true≢false, eqb-false}
-use Rattle.std.proofs.lemmas.Option.{none-some, same_Some}
+use Rattle.std.proofs.lemmas.Option.{none-some}
 use Rattle.pearl_rules.specs.declared.action.Action.{Action}
-use Rattle.pearl_rules.specs.declared.action.Answer.{Answer}
-use Rattle.pearl_rules.specs.declared.entry.Entry.{Entry}
-use Rattle.pearl_rules.specs.declared.setup.Setup.{Setup}
-use Rattle.pearl_rules.specs.declared.row.TaskRow.{TaskRow}
-use Rattle.pearl_rules.specs.Core.{Core, Report, is_active, is_active_row, told_before}
-use Rattle.pearl_rules.specs.Pick.{Offered, pick, turned, showing, states}
-use Rattle.pearl_rules.specs.Effect.{Reply, Hears, Ends, Effect, effect}
-use Rattle.pearl_rules.specs.Laws.{effect_told_before}
-use Rattle.pearl_rules.specs.Runs.{Running, Machine, Mark, Acts, Turns, Tells, Offers, kept, kept_at, refreshed, dropped, offer_of, machine_offers, machine_mark, machine_acts, machine_does, machine_settled, answered, fresh, unsettled}
-use Rattle.pearl_rules.proofs.EffectLaws.{effect-length, effect-answers}
-use Rattle.pearl_rules.proofs.PickLaws.{pick-offers, states-offers, picked as picked_in, eligible_within, turned-is}
+use Rattle.pearl_rules.specs.Core.{Core, Report, is_active, told_before}
+use Rattle.pearl_rules.specs.Pick.{pick, turned, states}
+use Rattle.pearl_rules.specs.Effect.{Reply, Effect, effect}
+use Rattle.pearl_rules.specs.Runs.{Running, Machine, Acts, Turns, Tells, kept_at, dropped, offer_of, machine_offers, machine_acts, machine_does, machine_settled, answered}
+use Rattle.pearl_rules.proofs.EffectLaws.{effect-length}
+use Rattle.pearl_rules.proofs.PickLaws.{pick-offers, states-offers, turned-is}
 use Rattle.pearl_rules.proofs.ToldLaws.{effect-told_before, turned-told_before}
-use Rattle.pearl_stack.specs.Frames.{Frame, Stack}
+use Rattle.pearl_stack.specs.Frames.{Frame}
 use Rattle.pearl_instructions.specs.declared.object.Object.{Object}
-use Rattle.pearl_instructions.specs.Rows.{row}
 use Rattle.pearl_engine.specs.Engines.{engine}
-use Rattle.pearl_engine.specs.Owners.{IsStackOf}
-use Rattle.pearl_engine.specs.Setups.{setup_of}
 use Rattle.pearl_kernel.specs.Kept as kernel
 use Rattle.pearl_kernel.specs.Kept.{Kept, IsLawful, AllSettled, offered, is_silent, is_unsettled}
-use Rattle.pearl_solo.specs.Answered.{CanHear}
-use Rattle.pearl_machine.specs.Known.{Known}
-use Rattle.pearl_machine.specs.Parts.{HasMemories, shown, start_of, stack_in, is_going, running_of, heard_part}
-use Rattle.pearl_machine.specs.Ready.{IsReady, IsDue, Stands, AllStand, untold, seen_of}
-use Rattle.pearl_machine.specs.Seen.{Seen, at, retold, picked, Makes, ActsFirst}
+use Rattle.pearl_machine.specs.Parts.{shown, start_of, stack_in, is_going, running_of}
+use Rattle.pearl_machine.specs.Ready.{untold, seen_of}
+use Rattle.pearl_machine.specs.Seen.{Seen, at, retold, Makes, ActsFirst}
 use Rattle.pearl_machine.specs.declared.part.Part.{Part}
-use Rattle.pearl_machine.proofs.Listed.{get_here, get_elsewhere, kept_here, kept_gone, kept_elsewhere}
-use Rattle.pearl_machine.proofs.Rows.{table_refreshed, table_kept}
 use Rattle.pearl_machine.proofs.Places.{running_at, stays_here, offers_at}
-use Rattle.pearl_machine.proofs.Marking.{rows_after, parts_after, dropped_none}
-use Rattle.pearl_machine.proofs.Owned.{own_of, hears_here}
-use Rattle.pearl_machine.proofs.ReadyLaws.{told_past, all_still, tasks_are, stand_set}
+use Rattle.pearl_machine.proofs.Marking.{rows_after, parts_after}
+use Rattle.pearl_machine.proofs.ReadyLaws.{told_past}
 
 -- what is told doesn't tell who acts next, nor how the tasks stand
 module _ (o : Object) (k : Kept) (parts : List Part) (quiet : (t : ℕ) → is_active k.core t ≡ false → offered k t ≡ None) where
@@ -124,9 +110,9 @@ module _ (o : Object) (k : Kept) (parts : List Part) (due : ℕ) (quiet : (t : �
   acts_here before entries rest =
       let m : Machine (List Frame) = at (seen_of o k parts due) before entries in
       let does : (core : Core) → core ≡ told_before before k.core →
-          machine_does (engine o) (record m { core = core }) t rest frames (Some a)
-          ≡ machine_settled (engine o) (told_before before (effect k.core t a).core)
-          (answered (engine o) (dropped (effect k.core t a).ended (running_of o k.core k.offers parts)) t frames (effect k.core t a).reply) rest =
+      machine_does (engine o) (record m { core = core }) t rest frames (Some a)
+      ≡ machine_settled (engine o) (told_before before (effect k.core t a).core)
+      (answered (engine o) (dropped (effect k.core t a).ended (running_of o k.core k.offers parts)) t frames (effect k.core t a).reply) rest =
       λ core same. ap (λ (d : Effect). machine_settled (engine o) d.core (answered (engine o) (dropped d.ended (running_of o k.core k.offers parts)) t frames d.reply) rest)
       (ap (λ c. effect c t a) same ∙ effect-told_before before k.core t a) in
       let told : m.core ≡ told_before before k.core =

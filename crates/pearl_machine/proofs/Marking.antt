@@ -1,16 +1,15 @@
 -- One mark of a machine, from the core's mark and the row of stacks.
-use Rattle.std.proofs.Common.{◌≡◌, ◌≢◌, ℕ, zero, suc, ◌+◌, ◌<◌, ◌≤◌, List, [], ◌∷◌, ◌++◌, Bool, true, false, nat_eq, Option, Some, None, length, slice_get, slice_set, refl, sym, ap, ap₂, subst, ◌∙◌, arith, length-set, eqb-true, zero-add}
-use Rattle.std.proofs.lemmas.Bool.{true≢false, eqb-false}
+use Rattle.std.proofs.Common.{◌≡◌, ◌≢◌, ℕ, ◌<◌, List, [], ◌∷◌, Bool, true, false, nat_eq, Option, Some, None, length, slice_get, slice_set, refl, sym, ap, ap₂, subst, ◌∙◌, arith, length-set, eqb-true, zero-add}
+use Rattle.std.proofs.lemmas.Bool.{eqb-false}
 use Rattle.std.proofs.lemmas.Option.{none-some}
 use Rattle.pearl_rules.specs.declared.action.Action.{Action}
-use Rattle.pearl_rules.specs.declared.action.Answer.{Answer}
 use Rattle.pearl_rules.specs.Core.{Core, is_active}
 use Rattle.pearl_rules.specs.Effect.{Reply, Hears, Ends}
 use Rattle.pearl_rules.specs.Runs.{Running, kept, kept_at, refreshed, dropped, answered, fresh}
-use Rattle.pearl_stack.specs.Frames.{Frame, Stack}
+use Rattle.pearl_stack.specs.Frames.{Frame}
 use Rattle.pearl_instructions.specs.declared.object.Object.{Object}
 use Rattle.pearl_engine.specs.Engines.{engine}
-use Rattle.pearl_machine.specs.Parts.{shown, shown_active, start_of, frames_if, going_frames, stack_in, is_going, running_of, heard_part}
+use Rattle.pearl_machine.specs.Parts.{shown, start_of, frames_if, going_frames, stack_in, is_going, running_of, heard_part}
 use Rattle.pearl_machine.specs.declared.part.Part.{Part}
 use Rattle.pearl_machine.proofs.Listed.{get_here, get_elsewhere, kept_here, kept_gone, kept_elsewhere}
 use Rattle.pearl_machine.proofs.Rows.{table_alike, table-length, table_refreshed}

@@ -9,7 +9,7 @@ use Rattle.pearl_rules.specs.declared.action.Action.TheVariants as action
 use Rattle.pearl_rules.specs.declared.action.Answer.{Answer}
 use Rattle.pearl_rules.specs.Runs.{Offers}
 use Rattle.pearl_rules.specs.Slots.{Fits, Suits}
-use Rattle.pearl_stack.specs.Frames.{Frame, Stack}
+use Rattle.pearl_stack.specs.Frames.{Frame}
 use Rattle.pearl_instructions.specs.declared.object.Code.{Code}
 use Rattle.pearl_instructions.specs.declared.object.Procedure.{Procedure}
 use Rattle.pearl_instructions.specs.declared.object.Task.{Task}
@@ -17,7 +17,7 @@ use Rattle.pearl_instructions.specs.declared.object.Object.{Object}
 use Rattle.pearl_instructions.specs.Lawful.{IsObject}
 use Rattle.pearl_instructions.specs.Objects.{routine_at}
 use Rattle.pearl_instructions.specs.Rows.{row, lowest}
-use Rattle.pearl_instructions.specs.Stacks.{Below, IsStack, routines_of, lowest_depth, depth_or_none, room}
+use Rattle.pearl_instructions.specs.Stacks.{Below, routines_of, lowest_depth, depth_or_none, room}
 use Rattle.pearl_instructions.specs.Steps as steps
 use Rattle.pearl_instructions.specs.Valid.{keep, judged_at, judged_whole, is_closed, unsound_in, IsValid}
 use Rattle.pearl_engine.specs.Built.{IsBuilt, OnlyBuilt}

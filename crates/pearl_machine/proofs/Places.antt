@@ -1,5 +1,5 @@
 -- What is kept of each task, by the core, what the tasks have offered, and the row of stacks.
-use Rattle.std.proofs.Common.{◌≡◌, ◌≢◌, ℕ, zero, suc, ◌+◌, ◌<◌, ◌≤◌, ◌⊎◌, inl, inr, List, [], ◌∷◌, Bool, true, false, ◌&&◌, Option, Some, None, length, slice_get, slice_set, refl, sym, ap, ap₂, subst, ◌∙◌, arith, zero-add}
+use Rattle.std.proofs.Common.{◌≡◌, ℕ, ◌+◌, ◌<◌, ◌≤◌, List, Bool, true, false, ◌&&◌, Option, Some, None, length, slice_get, slice_set, refl, sym, ap, ap₂, subst, ◌∙◌}
 use Rattle.std.proofs.lemmas.Bool.{true≢false}
 use Rattle.std.proofs.lemmas.Option.{none-some, slice_get_past}
 use Rattle.pearl_rules.specs.declared.action.Action.{Action}
@@ -8,12 +8,12 @@ use Rattle.pearl_rules.specs.Runs.{Running, kept, kept_at, refreshed, fresh, off
 use Rattle.pearl_stack.specs.Frames.{Frame, Stack}
 use Rattle.pearl_instructions.specs.declared.object.Object.{Object}
 use Rattle.pearl_engine.specs.Engines.{engine}
-use Rattle.pearl_machine.specs.Parts.{table, shown, shown_active, start_of, going_frames, stack_in, is_going, frames_if, running_of}
+use Rattle.pearl_machine.specs.Parts.{shown, start_of, going_frames, running_of}
 use Rattle.pearl_machine.specs.Seen.{IsUnsettled}
 use Rattle.pearl_machine.specs.declared.part.Part.{Part}
 use Rattle.pearl_machine.proofs.Listed.{get_here, get_elsewhere, kept_here, kept_elsewhere}
 use Rattle.pearl_machine.proofs.Rows.{table_kept, table_written, table_alike, table_refreshed}
-use Rattle.pearl_machine.proofs.Steps.{HasOffered, none_unsettled, first_unsettled}
+use Rattle.pearl_machine.proofs.Steps.{HasOffered, none_unsettled}
 
 pub active_past : (core : Core) (i : ℕ) → length core.tasks ≤ i → is_active core i ≡ false
 active_past core i past = ap is_active_row (slice_get_past core.tasks i past)

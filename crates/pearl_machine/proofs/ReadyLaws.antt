@@ -1,25 +1,25 @@
 -- What holds of a machine is kept, and what its parts do is what the run does.
-use Rattle.std.proofs.Common.{◌≡◌, ◌≢◌, ℕ, zero, suc, ◌+◌, ◌<◌, ◌≤◌, ◌⊎◌, inl, inr, List, [], ◌∷◌, ◌++◌, Bool, true, false, ◌&&◌, nat_eq, Option, Some, None, length, map, drop, slice_get, slice_set, refl, sym, ap, ap₂, subst, ◌∙◌, arith, length-set, eqb-true, append-nil}
+use Rattle.std.proofs.Common.{◌≡◌, ◌≢◌, ℕ, zero, suc, ◌<◌, ◌≤◌, ◌⊎◌, inl, inr, List, [], ◌∷◌, ◌++◌, Bool, true, false, ◌&&◌, nat_eq, Option, Some, None, length, drop, slice_get, slice_set, refl, sym, ap, ap₂, subst, ◌∙◌, arith, length-set, eqb-true, append-nil}
 use Rattle.std.proofs.lemmas.Bool.{true≢false, eqb-false, cases_lt}
 use Rattle.std.proofs.lemmas.List.{length-map}
 use Rattle.std.proofs.lemmas.Option.{none-some, same_Some}
 use Rattle.pearl_rules.specs.declared.action.Action.{Action}
 use Rattle.pearl_rules.specs.declared.setup.Setup.{Setup}
-use Rattle.pearl_rules.specs.Core.{Core, Report, is_active}
-use Rattle.pearl_rules.specs.Pick.{pick, states}
-use Rattle.pearl_rules.specs.Runs.{Running, Machine, Offers, kept_at, offer_of, machine_offers, unsettled, unsettled_from}
+use Rattle.pearl_rules.specs.Core.{is_active}
+use Rattle.pearl_rules.specs.Pick.{states}
+use Rattle.pearl_rules.specs.Runs.{Running, Offers, kept_at, unsettled}
 use Rattle.pearl_stack.specs.Frames.{Frame, Stack}
 use Rattle.pearl_instructions.specs.declared.object.Object.{Object}
-use Rattle.pearl_engine.specs.Engines.{engine, stepped_by}
+use Rattle.pearl_engine.specs.Engines.{engine}
 use Rattle.pearl_engine.specs.Owners.{IsStackOf}
 use Rattle.pearl_engine.specs.Setups.{setup_of, entry_of}
 use Rattle.pearl_kernel.specs.Kept.{Kept, IsLawful, IsFirst, AllSettled, offered, is_silent, is_unsettled}
-use Rattle.pearl_machine.specs.Parts.{HasMemories, shown, start_of, going_frames, stack_in, is_going, is_none_offered, running_of, StepsPart, SettlesPart, Does}
+use Rattle.pearl_machine.specs.Parts.{HasMemories, shown, start_of, going_frames, is_going, running_of, SettlesPart}
 use Rattle.pearl_machine.specs.Ready.{IsReady, IsDue, Stands, AllStand, untold, seen_of}
 use Rattle.pearl_machine.specs.Seen.{Seen, IsUnsettled, SettlesFirst}
 use Rattle.pearl_machine.specs.declared.part.Part.{Part}
-use Rattle.pearl_machine.proofs.Listed.{get_here, get_elsewhere, kept_here, kept_elsewhere, kept_there}
-use Rattle.pearl_machine.proofs.Places.{running_at, first_here, none_here, offers_here, goes_here}
+use Rattle.pearl_machine.proofs.Listed.{get_elsewhere, kept_here, kept_elsewhere, kept_there}
+use Rattle.pearl_machine.proofs.Places.{running_at, first_here, offers_here, goes_here}
 use Rattle.pearl_machine.proofs.Steps.{HasOffered, all_offered}
 use Rattle.pearl_machine.proofs.Taken.{no_state, none_left}
 

@@ -1,5 +1,5 @@
 -- Steps of a machine whose first unsettled task goes on.
-use Rattle.std.proofs.Common.{◌≡◌, ◌≢◌, ℕ, zero, suc, ◌+◌, ◌<◌, List, [], ◌∷◌, Option, Some, None, slice_set, refl, sym, ap, subst, ◌∙◌, add-zero, add-suc, zero-add, arith}
+use Rattle.std.proofs.Common.{◌≡◌, ℕ, zero, suc, ◌+◌, ◌<◌, List, [], ◌∷◌, Option, Some, None, slice_set, refl, sym, ap, subst, ◌∙◌, add-zero, add-suc, zero-add, arith}
 use Rattle.std.proofs.lemmas.Option.{none-some}
 use Rattle.pearl_rules.specs.declared.action.Action.{Action}
 use Rattle.pearl_rules.specs.Runs.{Engine, Running, Machine, Coming, stepped, kept_at, unsettled, unsettled_from, unsettled_here, machine_next, machine_mark_by, machine_step, machine_step_by, machine_after}

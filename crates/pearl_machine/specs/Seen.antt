@@ -72,8 +72,8 @@ pub record SettlesFirst (old new : Seen) : Type 0 where
   pub first : IsUnsettled old.state.running task frames
   pub settles : Settles old.object frames after action
   pub same : new ≡ record old {
-      state = record old.state { running = slice_set old.state.running task (Some (record { stack = after; offer = Some action })) };
-    }
+    state = record old.state { running = slice_set old.state.running task (Some (record { stack = after; offer = Some action })) };
+  }
 
 abbrev pub SettledBy : Seen → Seen → Bool → Type 0
 SettledBy old new true = SettlesFirst old new

@@ -24,7 +24,8 @@ fn name_of(setup: &Setup, task: u32) -> &[u8]
 
 /// Makes `into` the line of how a task stands.
 pub fn state_of(kernel: &Kernel, setup: &Setup, task: u32, into: &mut ArrayVec<u8, 2304>)
-    ensures { into.new.items ≡ line_of_state kernel.now.core.moment (task_name setup.now task) (shown_of kernel.now.core (offered kernel.now) task) }
+    ensures { into.new.items ≡ line_of_state kernel.now.core.moment (task_name setup.now task)
+        (shown_of kernel.now.core (offered kernel.now) task) }
 {
     let shown = kernel.shown(task);
     state_line(kernel.now(), name_of(setup, task), &shown, into);

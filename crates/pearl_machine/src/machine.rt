@@ -14,8 +14,8 @@ ghost use Rattle.pearl_script.specs.Lines.{close_line as line_of_close, lines_of
 ghost use Rattle.pearl_machine.specs.Seen.{Seen, Handles, IsEntryOf, SettledBy, ActedBy, Makes, TakesNext, retold};
 ghost use Rattle.pearl_machine.specs.Told.{IsCutOff};
 
-use crate::lines::state_of;
 use crate::known::laws_hold;
+use crate::lines::state_of;
 use crate::part::{Part, answer_part, new_parts, settle_part, step_part};
 use crate::tables::tables;
 use arrayvec::ArrayVec;
@@ -28,8 +28,8 @@ use pearl_script::transcript::{close_line, event_line};
 use std::alloc::{AllocError, Global};
 use std::marker::Model;
 
-/// Executes a valid object whose instructions are all built. Contracts see the object, and a state of its run that has told
-/// only what isn't written yet.
+/// Executes a valid object whose instructions are all built. Contracts see the object, and a state of its run that has
+/// told only what isn't written yet.
 #[derive(Drop)]
 pub struct Machine {
     code: Valid,
@@ -108,7 +108,8 @@ impl Machine {
     /// Hands the sink the lines that open a run: for each task that is active at the start, that it started.
     pub fn begin<K: Sink>(&mut self, sink: &mut K) -> Result<(), WriteFault>
         ensures same { self.new ≡ retold self.old self.new.state.core.told }
-        ensures ok { OnOk result (Takes (K.taken sink.old) (K.taken sink.new) (lines_of (setup_of self.old.object) self.old.state.core.told)) }
+        ensures ok { OnOk result (Takes (K.taken sink.old) (K.taken sink.new)
+            (lines_of (setup_of self.old.object) self.old.state.core.told)) }
         ensures all { OnOk result (self.new.state.core.told ≡ []) }
         ensures err { OnErr result (IsCutOff (setup_of self.old.object) (K.taken sink.old) (K.taken sink.new)
             self.old.state.core.told self.new.state.core.told) }
@@ -129,7 +130,8 @@ impl Machine {
             × Takes (K.taken sink.old) (K.taken sink.new) (lines_of (setup_of self.old.object) told)) }
         ensures settled { OnOk result (unsettled self.new.state ≡ None) }
         ensures all { OnOk result (self.new.state.core.told ≡ []) }
-        ensures err { OnErr result ((told : List (ℕ × Report)) × (left : List Entry) × Handles self.old (entry.now ∷ []) left self.new told
+        ensures err { OnErr result ((told : List (ℕ × Report)) × (left : List Entry)
+            × Handles self.old (entry.now ∷ []) left self.new told
             × IsCutOff (setup_of self.old.object) (K.taken sink.old) (K.taken sink.new) told self.new.state.core.told) }
         ensures cause { OnErr result (WriteFailed (K.faults sink.old) (K.faults sink.new) (K.full sink.new)) }
         ensures later { K.faults sink.old ≤ K.faults sink.new }
@@ -158,10 +160,12 @@ impl Machine {
         ensures object { self.new.object ≡ self.old.object }
         ensures settled { unsettled self.new.state ≡ None }
         ensures handles { (from : List Entry) → Handles self.old from from self.new [] }
-        ensures ok { OnOk result (Takes (K.taken sink.old) (K.taken sink.new) (lines_of (setup_of self.old.object)
-            (states self.new.state.core (machine_offers self.new.state)) ++ line_of_close self.new.state.core.moment)) }
-        ensures err { OnErr result (TakesFront (K.taken sink.old) (K.taken sink.new) (lines_of (setup_of self.old.object)
-            (states self.new.state.core (machine_offers self.new.state)) ++ line_of_close self.new.state.core.moment)) }
+        ensures ok { OnOk result (Takes (K.taken sink.old) (K.taken sink.new)
+            (lines_of (setup_of self.old.object) (states self.new.state.core (machine_offers self.new.state))
+            ++ line_of_close self.new.state.core.moment)) }
+        ensures err { OnErr result (TakesFront (K.taken sink.old) (K.taken sink.new)
+            (lines_of (setup_of self.old.object) (states self.new.state.core (machine_offers self.new.state))
+            ++ line_of_close self.new.state.core.moment)) }
         ensures cause { OnErr result (WriteFailed (K.faults sink.old) (K.faults sink.new) (K.full sink.new)) }
         ensures later { K.faults sink.old ≤ K.faults sink.new }
     {
@@ -222,7 +226,8 @@ impl Machine {
             × Takes (K.taken sink.old) (K.taken sink.new) (lines_of (setup_of self.old.object) told)) }
         ensures settled { OnOk result (unsettled self.new.state ≡ None) }
         ensures all { OnOk result (self.new.state.core.told ≡ []) }
-        ensures err { OnErr result ((told : List (ℕ × Report)) × (left : List Entry) × Handles self.old (Run count ∷ []) left self.new told
+        ensures err { OnErr result ((told : List (ℕ × Report)) × (left : List Entry)
+            × Handles self.old (Run count ∷ []) left self.new told
             × IsCutOff (setup_of self.old.object) (K.taken sink.old) (K.taken sink.new) told self.new.state.core.told) }
         ensures cause { OnErr result (WriteFailed (K.faults sink.old) (K.faults sink.new) (K.full sink.new)) }
         ensures later { K.faults sink.old ≤ K.faults sink.new }
@@ -286,7 +291,8 @@ impl Machine {
     // Hands the sink the line of all that is told and not written.
     fn tell<K: Sink>(&mut self, sink: &mut K) -> Result<(), WriteFault>
         ensures same { self.new ≡ retold self.old self.new.state.core.told }
-        ensures ok { OnOk result (Takes (K.taken sink.old) (K.taken sink.new) (lines_of (setup_of self.old.object) self.old.state.core.told)) }
+        ensures ok { OnOk result (Takes (K.taken sink.old) (K.taken sink.new)
+            (lines_of (setup_of self.old.object) self.old.state.core.told)) }
         ensures all { OnOk result (self.new.state.core.told ≡ []) }
         ensures err { OnErr result (IsCutOff (setup_of self.old.object) (K.taken sink.old) (K.taken sink.new)
             self.old.state.core.told self.new.state.core.told) }

@@ -38,7 +38,8 @@ fn take(parts: &mut Vec<Part>, task: u32) -> Loaded
     requires there { task < length parts.old.items }
     requires has { (part : Parting.Part) → slice_get parts.old.items task ≡ Some part → HasStack part }
     ensures stack { result ≡ stack_in (slice_get parts.old.items task) }
-    ensures rest { (going : Bool) × (parts.new.items ≡ slice_set parts.old.items task (record { stack = None; going = going })) }
+    ensures rest { (going : Bool)
+        × (parts.new.items ≡ slice_set parts.old.items task (record { stack = None; going = going })) }
 {
     let parked = parts[task as usize].stack.take().unwrap();
     parked.load()
@@ -52,7 +53,8 @@ fn take_going(code: &Valid, parts: &mut Vec<Part>, task: u32) -> Loaded
     ensures frames { result.frames ≡ going_frames (start_of code.now task) (slice_get parts.old.items task) }
     ensures room { room_of code.now (start_of code.now task) ≤ result.room }
     ensures most { length code.now.procedures + 1 ≤ result.most }
-    ensures rest { (going : Bool) × (parts.new.items ≡ slice_set parts.old.items task (record { stack = None; going = going })) }
+    ensures rest { (going : Bool)
+        × (parts.new.items ≡ slice_set parts.old.items task (record { stack = None; going = going })) }
 {
     let going = parts[task as usize].going;
     let mut stack = take(parts, task);
@@ -156,7 +158,8 @@ pub fn answer_part(code: &Valid, parts: &mut Vec<Part>, task: u32, heard: Answer
     requires own { IsStackOf code.now task (stack_in (slice_get parts.old.items task)).frames }
     requires suits { CanHear code.now task (row code.now (stack_in (slice_get parts.old.items task)).frames) heard }
     ensures heard { parts.new.items ≡ slice_set parts.old.items task (heard_part code.now parts.old.items task heard) }
-    ensures own { IsStackOf code.now task ((engine code.now).answer task (stack_in (slice_get parts.old.items task)).frames heard) }
+    ensures own { IsStackOf code.now task
+        ((engine code.now).answer task (stack_in (slice_get parts.old.items task)).frames heard) }
     ensures memory { HasMemories code.now parts.new.items }
 {
     let mut stack = take(parts, task);

@@ -1,4 +1,4 @@
-use Rattle.std.proofs.Common.{◌≡◌, sym, ap, ◌∙◌, subst, refl, arith, slice_get, slice_set, Some, true}
+use Rattle.std.proofs.Common.{sym, ap, ◌∙◌, subst, refl, arith, slice_get, slice_set, Some, true}
 use Rattle.pearl_stack.specs.Frames.{Stack}
 use Rattle.pearl_instructions.specs.Rows.{row, after}
 use Rattle.pearl_machine.specs.Parts.{stack_in, heard_part, HasMemories}

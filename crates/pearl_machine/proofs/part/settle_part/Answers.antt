@@ -1,7 +1,7 @@
-use Rattle.std.proofs.Common.{◌≡◌, subst, sym, refl, arith, List}
+use Rattle.std.proofs.Common.{subst, sym, refl, arith, List}
 use Rattle.pearl_stack.specs.Frames.{Frame}
 use Rattle.pearl_solo.specs.Settling.{Settles}
-use Rattle.pearl_machine.specs.Parts.{SettlesPart, HasMemories}
+use Rattle.pearl_machine.specs.Parts.{HasMemories}
 use Rattle.pearl_machine.proofs.Listed.{set_again}
 use Rattle.pearl_machine.proofs.Owned.{memory_back}
 use Rattle.pearl_machine.proofs.part.settle_part.Goals as goal

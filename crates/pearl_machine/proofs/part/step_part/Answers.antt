@@ -1,6 +1,6 @@
-use Rattle.std.proofs.Common.{◌≡◌, subst, sym, refl, arith, List}
+use Rattle.std.proofs.Common.{subst, sym, refl, arith, List}
 use Rattle.pearl_stack.specs.Frames.{Frame}
-use Rattle.pearl_machine.specs.Parts.{Does, StepsPart, HasMemories}
+use Rattle.pearl_machine.specs.Parts.{Does, HasMemories}
 use Rattle.pearl_machine.proofs.Listed.{set_again}
 use Rattle.pearl_machine.proofs.Owned.{memory_back}
 use Rattle.pearl_machine.proofs.part.step_part.Goals as goal

@@ -1,5 +1,5 @@
-use Rattle.std.proofs.Common.{◌≡◌, Some, true, false, ap, sym, ◌∙◌, arith, length, get_or, slice_get}
-use Rattle.pearl_stack.specs.Frames.{Frame, Stack}
+use Rattle.std.proofs.Common.{ap, sym, ◌∙◌, arith, slice_get}
+use Rattle.pearl_stack.specs.Frames.{Stack}
 use Rattle.pearl_machine.specs.Parts.{frames_if, is_going, stack_in, start_of}
 use Rattle.pearl_machine.proofs.Owned.{has_stack, memory_in, part_is}
 use Rattle.pearl_machine.proofs.part.take_going.Goals as goal

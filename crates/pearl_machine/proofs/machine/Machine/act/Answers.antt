@@ -1,4 +1,4 @@
-use Rattle.std.proofs.Common.{◌≡◌, refl, sym, subst, slice_get, arith}
+use Rattle.std.proofs.Common.{refl, sym, subst, slice_get, arith}
 use Rattle.pearl_rules.specs.declared.action.Answer.{Answer}
 use Rattle.pearl_rules.specs.Effect.{Hears, Ends}
 use Rattle.pearl_engine.specs.Setups.{setup_of}

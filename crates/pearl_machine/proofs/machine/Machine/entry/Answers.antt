@@ -1,4 +1,4 @@
-use Rattle.std.proofs.Common.{◌≡◌, [], ap, ◌∙◌, sym}
+use Rattle.std.proofs.Common.{ap}
 use Rattle.pearl_machine.specs.Seen.{Seen}
 use Rattle.pearl_machine.proofs.Entering.{on_ok, on_err, entered_from, cut_from, entered_turn, entered_state, cut_state, entered_other, not_marked}
 use Rattle.pearl_rules.specs.declared.entry.Entry.TheVariants.{Run, Turn, State}

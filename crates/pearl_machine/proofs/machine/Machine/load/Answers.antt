@@ -1,4 +1,4 @@
-use Rattle.std.proofs.Common.{◌≡◌, length, ap, sym, ◌∙◌}
+use Rattle.std.proofs.Common.{length, ap, ◌∙◌}
 use Rattle.pearl_engine.specs.Setups.{setup_of}
 use Rattle.pearl_kernel.specs.Kept.{Kept}
 use Rattle.pearl_machine.proofs.Loading.{starts, ready}

@@ -1,4 +1,4 @@
-use Rattle.std.proofs.Common.{◌≡◌, ap, ◌∙◌, sym, subst, arith}
+use Rattle.std.proofs.Common.{arith}
 use Rattle.pearl_engine.specs.Setups.{setup_of}
 use Rattle.pearl_machine.proofs.Acting.{ready_due, ready_taken, due_next}
 use Rattle.pearl_machine.proofs.Calls.{event_call, state_call, nothing_call}

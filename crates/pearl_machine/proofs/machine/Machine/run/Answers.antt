@@ -1,7 +1,6 @@
-use Rattle.std.proofs.Common.{◌≡◌, ◌-◌, [], ◌∷◌, ◌++◌, None, refl, ap, sym, ◌∙◌, subst, arith}
+use Rattle.std.proofs.Common.{◌-◌, [], ◌∷◌, ◌++◌, refl, ◌∙◌, subst, arith}
 use Rattle.std.proofs.lemmas.Result.{err_from_is_err_and}
 use Rattle.pearl_rules.specs.declared.entry.Entry.TheVariants.{Run}
-use Rattle.pearl_rules.specs.Runs.{unsettled}
 use Rattle.pearl_engine.specs.Setups.{setup_of}
 use Rattle.pearl_io.specs.Outside.{Takes}
 use Rattle.pearl_script.specs.Lines.{lines_of}
@@ -40,11 +39,11 @@ returns-in_err-tell-clause-err g c =
       i.goes.0 ++ c.act.new.self.state.core.told,
       Run (c.loop-left.left - 1) ∷ [],
       one_more c.args.self.now c.loop-left.self c.act.new.self c.tell.new.self c.args.count c.loop-left.left i.goes.0 i.object i.settled (omega arith) i.goes.1
-      c.if-not-act.ensures.acted c.in_err-tell.ensures.same,
+          c.if-not-act.ensures.acted c.in_err-tell.ensures.same,
       cut_behind (setup_of c.args.self.now.object) (g.K.Sink.taken c.args.sink.now) (g.K.Sink.taken c.loop-left.sink) (g.K.Sink.taken c.tell.new.sink) i.goes.0
-      c.act.new.self.state.core.told c.tell.new.self.state.core.told i.goes.2
-      (subst (λ o. IsCutOff (setup_of o) (g.K.Sink.taken c.loop-left.sink) (g.K.Sink.taken c.tell.new.sink) c.act.new.self.state.core.told c.tell.new.self.state.core.told)
-      object c.in_err-tell.ensures.err),
+          c.act.new.self.state.core.told c.tell.new.self.state.core.told i.goes.2
+          (subst (λ o. IsCutOff (setup_of o) (g.K.Sink.taken c.loop-left.sink) (g.K.Sink.taken c.tell.new.sink) c.act.new.self.state.core.told c.tell.new.self.state.core.told)
+          object c.in_err-tell.ensures.err),
     )
 
 pub loop-left-preserved : goal.loop-left-preserved

@@ -1,4 +1,4 @@
-use Rattle.std.proofs.Common.{◌≡◌, [], refl, ◌∙◌}
+use Rattle.std.proofs.Common.{[], refl, ◌∙◌}
 use Rattle.pearl_machine.proofs.Going.{handles_none, handles_on, handles_settle}
 use Rattle.pearl_machine.proofs.Entering.{owing_less, settled_object, settled_told}
 use Rattle.pearl_machine.proofs.machine.Machine.settle.Goals as goal

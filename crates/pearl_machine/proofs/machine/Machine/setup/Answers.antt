@@ -1,4 +1,4 @@
-use Rattle.std.proofs.Common.{◌≡◌, ◌≤◌, length, ap, sym, ◌∙◌, subst}
+use Rattle.std.proofs.Common.{◌≤◌, length, ap, sym, ◌∙◌, subst}
 use Rattle.std.proofs.lemmas.List.{length-map}
 use Rattle.pearl_rules.specs.declared.setup.Setup.{Setup}
 use Rattle.pearl_engine.specs.Setups.{entry_of}
