@@ -15,4 +15,6 @@ mod print;
 #[cfg(test)]
 mod run;
 #[cfg(test)]
+mod tasks;
+#[cfg(test)]
 mod whole;

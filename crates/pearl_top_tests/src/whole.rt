@@ -7,7 +7,7 @@ use pearl_top::status::Status;
 use std::alloc::{AllocError, Global};
 use std::test::Fail;
 
-const HEAD: &str = "MODULE(m); SYSTEM; tty: TERMINAL(1); irq: INTERRUPT(3);\n\
+pub const HEAD: &str = "MODULE(m); SYSTEM; tty: TERMINAL(1); irq: INTERRUPT(3);\n\
     PROBLEM; SPC tty DATION INOUT ALPHIC, irq INTERRUPT;\n";
 
 // What stands between the head and MODEND with a journal, and the transcript between the start of `main` and the close.
@@ -134,10 +134,8 @@ fn a_task_does_what_it_says(rt: HostRuntime) -> Result<(), Fail> {
 // What stands behind the head, with a mark before what isn't carried out yet; all break no rule.
 fn unbuilt() -> &'static [&'static str] {
     &[
-        "^DCL s SEMA; main: TASK MAIN; END; MODEND;",
-        "main: TASK MAIN; END; ^b: TASK; END; MODEND;",
-        "b: TASK; END; ^MODEND;",
-        "main: TASK MAIN; IF 1 EQ 1 THEN ^SUSPEND main; FIN; END; MODEND;",
+        "main: TASK MAIN; ^AFTER 1 SEC ACTIVATE b; END; b: TASK; END; MODEND;",
+        "DCL s SEMA; main: TASK MAIN; REQUEST s; IF TRY s THEN ^PREVENT main; FIN; END; MODEND;",
         "DCL x FIXED; main: TASK MAIN; PUT x, ^NOW TO tty BY F(3), T(12); END; MODEND;",
         "DCL x FIXED; main: TASK MAIN; ^GET x FROM tty BY F(3); x := 1; ENABLE irq; END; MODEND;",
     ]
