@@ -26,6 +26,16 @@ use Rattle.pearl_top.proofs.ReplayLaws.{advances-none, advances-then, breaks-the
 use Rattle.pearl_top.proofs.TakenLaws.{append_nil, takes_none}
 use Rattle.pearl_top.proofs.TranscriptLaws.{lines_of-append}
 
+-- what a line means by the same tables
+pub meant : (held setup : Setup) (reading : Reading) (text : List ℕ) (line : Line) → held ≡ setup → line ≡ meaning held reading text → line ≡ meaning setup reading text
+meant held setup reading text line same means = subst (λ tables. line ≡ meaning tables reading text) same means
+
+-- one more line was read, whatever it means
+pub lines_after : (reading next : Reading) (line : Line) → next ≡ after_line reading line → next.lines ≡ reading.lines + 1
+lines_after reading next Blank read = ap (λ r. r.lines) read
+lines_after reading next (Item entry) read = ap (λ r. r.lines) read
+lines_after reading next (Wrong code) read = ap (λ r. r.lines) read
+
 -- a line that is skipped
 pub line_blank : (setup : Setup) (reading : Reading) (text : List ℕ) (seen : Seen) (old : Option (List ℕ)) → Blank ≡ meaning setup reading text →
     LineDone setup reading text seen seen old old
@@ -62,15 +72,22 @@ line_broken setup reading text entry left seen after old new told later e handle
 }
 
 -- what an accepted line names is there
-pub named : (setup : Setup) (moment : ℕ) (entry : Entry) → EntryFits setup moment entry → IsEntryOf setup entry
-named setup moment (entries.Turn t) fits = fits
-named setup moment entry fits = tt
+pub named : (held setup : Setup) (moment : ℕ) (entry : Entry) → held ≡ setup → EntryFits held moment entry → IsEntryOf setup entry
+named held setup moment (entries.Turn t) same fits = subst (λ tables. t < length tables.tasks) same fits
+named held setup moment entry same fits = tt
 
 -- ALL LINES
 
 -- at the start no line is done
-pub progress_start : (setup : Setup) (lines : List (List ℕ)) (seen : Seen) (old : Option (List ℕ)) → Progress setup lines start lines seen seen old old
-progress_start setup lines seen old = record { es = []; told = []; read = refl; advances = advances-none seen; taken = takes_none old }
+pub progress_start : (setup : Setup) (lines : List (List ℕ)) (reading : Reading) (seen : Seen) (old : Option (List ℕ)) → reading ≡ start →
+    Progress setup lines reading lines seen seen old old
+progress_start setup lines reading seen old new = record {
+  es = [];
+  told = [];
+  read = ap (λ r. entries_from setup r lines) (sym new);
+  advances = advances-none seen;
+  taken = takes_none old;
+}
 
 front_front : (es fs : List Entry) (later : Entries) → with_front es (with_front fs later) ≡ with_front (es ++ fs) later
 front_front es fs later = ap (λ accepted. record { accepted = accepted; ending = later.ending }) (sym (append_assoc es fs later.accepted))
@@ -145,7 +162,7 @@ progress_next setup lines journal bytes text after reading seen mid old between 
 
 -- a line that fails makes all lines fail
 pub lines_fail : (setup : Setup) (lines : List (List ℕ)) (reading : Reading) (text : List ℕ) (left : List (List ℕ)) (seen mid after : Seen) (old between new : Option (List ℕ))
-    (why : Failure) (failed wider : Type 0) → (failed → wider) → (setup_of seen.object) ≡ setup → (setup_of mid.object) ≡ setup →
+    (why : Failure) (failed wider : Type 0) → (failed → wider) → setup_of seen.object ≡ setup → setup_of mid.object ≡ setup →
     Progress setup lines reading (text ∷ left) seen mid old between → IsLineFailure why reading text mid after between new failed →
     IsLinesFailure why lines seen after old new wider
 lines_fail setup lines reading text left seen mid after old between new (failure.Refused refusal) failed wider widen same_seen same_mid so_far fails = (
@@ -165,13 +182,14 @@ lines_fail setup lines reading text left seen mid after old between new failure.
 )
 
 -- one more line, by the tables of the machine as it stands
-pub progress_more_at : (setup : Setup) (lines : List (List ℕ)) (reading : Reading) (text : List ℕ) (left : List (List ℕ)) (seen mid after : Seen)
-    (old between new : Option (List ℕ)) → (setup_of mid.object) ≡ setup →
+pub progress_more_at : (setup : Setup) (lines : List (List ℕ)) (reading next : Reading) (text : List ℕ) (left : List (List ℕ)) (seen mid after : Seen)
+    (old between new : Option (List ℕ)) → setup_of mid.object ≡ setup → next ≡ after_line reading (meaning (setup_of mid.object) reading text) →
     Progress setup lines reading (text ∷ left) seen mid old between → LineDone (setup_of mid.object) reading text mid after between new →
-    Progress setup lines (after_line reading (meaning setup reading text)) left seen after old new
-progress_more_at setup lines reading text left seen mid after old between new same so_far done =
-    progress_more setup lines reading text left seen mid after old between new so_far
-    (subst (λ s. LineDone s reading text mid after between new) same done)
+    Progress setup lines next left seen after old new
+progress_more_at setup lines reading next text left seen mid after old between new same read so_far done =
+    subst (λ r. Progress setup lines r left seen after old new) (ap (λ s. after_line reading (meaning s reading text)) (sym same) ∙ sym read)
+    (progress_more setup lines reading text left seen mid after old between new so_far
+    (subst (λ s. LineDone s reading text mid after between new) same done))
 
 all_lines : (lines : Lines) (bytes : List ℕ) → lines ≡ kinds.All → journal_lines bytes ≡ bytes ∷ [] → lines_in lines bytes ≡ bytes ∷ []
 all_lines lines bytes e h = subst (λ q. lines_in q bytes ≡ bytes ∷ []) (sym e) h
@@ -197,15 +215,16 @@ progress_ended setup lines journal bytes reading seen mid old between ended none
 
 -- the last line was carried out, where it was
 pub last_done : (r : Result (Unit {0}) Failure) (setup : Setup) (lines : List (List ℕ)) (reading : Reading) (text : List ℕ) (seen mid after : Seen)
-    (old between new : Option (List ℕ)) → (setup_of mid.object) ≡ setup → Progress setup lines reading (text ∷ []) seen mid old between →
+    (old between new : Option (List ℕ)) → setup_of mid.object ≡ setup → Progress setup lines reading (text ∷ []) seen mid old between →
     OnOk r (LineDone (setup_of mid.object) reading text mid after between new) → OnOk r (LinesDone setup lines All seen after old new)
 last_done (Ok is) setup lines reading text seen mid after old between new same so_far done =
-    progress_all setup lines (after_line reading (meaning setup reading text)) seen after old new (progress_more_at setup lines reading text [] seen mid after old between new same so_far done)
+    let next : Reading = after_line reading (meaning (setup_of mid.object) reading text) in
+    progress_all setup lines next seen after old new (progress_more_at setup lines reading next text [] seen mid after old between new same refl so_far done)
 last_done (Err why) setup lines reading text seen mid after old between new same so_far done = tt
 
 -- and failed, where it failed
 pub last_fails : (r : Result (Unit {0}) Failure) (setup : Setup) (lines : List (List ℕ)) (reading : Reading) (text : List ℕ) (seen mid after : Seen)
-    (old between new : Option (List ℕ)) (failed wider : Type 0) → (failed → wider) → (setup_of seen.object) ≡ setup → (setup_of mid.object) ≡ setup →
+    (old between new : Option (List ℕ)) (failed wider : Type 0) → (failed → wider) → setup_of seen.object ≡ setup → setup_of mid.object ≡ setup →
     Progress setup lines reading (text ∷ []) seen mid old between → IfErr r (λ why. IsLineFailure why reading text mid after between new failed) →
     IfErr r (λ why. IsLinesFailure why lines seen after old new wider)
 last_fails (Ok is) setup lines reading text seen mid after old between new failed wider widen same_seen same_mid so_far fails = tt

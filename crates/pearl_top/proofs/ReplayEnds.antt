@@ -12,6 +12,7 @@ use Rattle.pearl_faithful.specs.Faithful.{IsFaithfulTo}
 use Rattle.pearl_engine.specs.Setups.{setup_of}
 use Rattle.pearl_meaning.specs.ProgramRuns.{setup_of as tables_of}
 use Rattle.pearl_machine.specs.Seen.{Seen, retold, Handles}
+use Rattle.pearl_machine.specs.Told.{IsCutOff}
 use Rattle.pearl_script.specs.declared.refusal.Refusal.{Refusal}
 use Rattle.pearl_script.specs.declared.refusal.Refusal.TheVariants as refusal
 use Rattle.pearl_script.specs.Lines.{lines_of}
@@ -26,7 +27,7 @@ use Rattle.pearl_top.specs.JournalDue.{opening_lines, IsRun, JournalDue}
 use Rattle.pearl_top.specs.Transcript.{Close, Closed, Cut, IsTranscript}
 use Rattle.pearl_top.specs.Taken.{Finishes, Leaves, Stops}
 use Rattle.pearl_top.specs.Replay.{started, Advances, Breaks, LinesDone, LinesBroken, IsLinesFailure}
-use Rattle.pearl_top.proofs.ReplayLaws.{advances-opened, advances-then, advances-settles, breaks-then}
+use Rattle.pearl_top.proofs.ReplayLaws.{advances-opened, advances-then, advances-settles, breaks-then, cut_off_front}
 use Rattle.pearl_top.specs.Ready.{IsReadyFor}
 use Rattle.pearl_top.proofs.DueLaws.{Covers}
 use Rattle.pearl_top.proofs.TranscriptLaws.{machine_closing}
@@ -38,7 +39,7 @@ opening_as : (p : PlainProg) (setup : Setup) → setup ≡ tables_of p → lines
 opening_as p setup same = ap (λ s. lines_of s (first_events 0 s.tasks)) same
 
 -- what opens the run is told at its start
-pub opened_as : (p : PlainProg) (seen : Seen) → IsReadyFor p seen → lines_of (setup_of seen.object) seen.state.core.told ≡ opening_lines p
+opened_as : (p : PlainProg) (seen : Seen) → IsReadyFor p seen → lines_of (setup_of seen.object) seen.state.core.told ≡ opening_lines p
 opened_as p seen ready =
     ap (λ s. lines_of (setup_of seen.object) s.state.core.told) ready.starts ∙ opening_as p (setup_of seen.object) ready.faithful.tables
 
@@ -84,7 +85,7 @@ reached p o lines ending opened after old mid new start done =
     }
 
 -- and its tasks' next actions are offered
-pub settled_there : (p : PlainProg) (o : Object) (lines : List (List ℕ)) (ending : Ending) (seen after : Seen) (old new : Option (List ℕ)) →
+settled_there : (p : PlainProg) (o : Object) (lines : List (List ℕ)) (ending : Ending) (seen after : Seen) (old new : Option (List ℕ)) →
     Reached p o lines ending seen old new → after.object ≡ seen.object → ((from : List Entry) → Handles seen from from after []) →
     Reached p o lines ending after old new
 settled_there p o lines ending seen after old new there same handles = record {
@@ -127,40 +128,49 @@ closed_run p o lines seen old new there settled = record {
 }
 
 -- the tasks' states and the closing line were taken
-pub leaves_closed : (p : PlainProg) (o : Object) (lines : List (List ℕ)) (seen : Seen) (old mid new : Option (List ℕ)) (due : Status → List ℕ → Type 0) →
-    Reached p o lines All seen old mid → unsettled seen.state ≡ None → Takes mid new (machine_closing (setup_of o) seen.state) →
+pub leaves_closed : (p : PlainProg) (o : Object) (lines : List (List ℕ)) (before seen : Seen) (old mid new : Option (List ℕ)) (due : Status → List ℕ → Type 0) →
+    Reached p o lines All before old mid → seen.object ≡ before.object → ((from : List Entry) → Handles before from from seen []) →
+    unsettled seen.state ≡ None → Takes mid new (machine_closing (setup_of before.object) seen.state) →
     ((bytes : List ℕ) → IsRun p lines All Closed bytes → due statuses.Done bytes) → Finishes old new (due statuses.Done)
-leaves_closed p o lines seen old mid new due there settled takes is_due =
+leaves_closed p o lines before seen old mid new due came same handles settled takes is_due =
+    let there : Reached p o lines All seen old mid = settled_there p o lines All before seen old mid came same handles in
     let told : List ℕ = opening_lines p ++ lines_of (setup_of o) there.told in
     let closing : List ℕ = machine_closing (setup_of o) seen.state in record {
       bytes = told ++ closing;
       is_due = is_due (told ++ closing) (closed_run p o lines seen old mid there settled);
-      taken = takes_more old mid new told closing there.taken takes;
+      taken = takes_more old mid new told closing there.taken
+          (subst (λ held. Takes mid new (machine_closing (setup_of held) seen.state)) came.comes.object takes);
     }
 
 -- a front of them was taken
-pub leaves_unclosed : (p : PlainProg) (o : Object) (lines : List (List ℕ)) (seen : Seen) (old mid new : Option (List ℕ)) (due : Status → List ℕ → Type 0) →
-    Reached p o lines All seen old mid → unsettled seen.state ≡ None → TakesFront mid new (machine_closing (setup_of o) seen.state) →
+pub leaves_unclosed : (p : PlainProg) (o : Object) (lines : List (List ℕ)) (before seen : Seen) (old mid new : Option (List ℕ)) (due : Status → List ℕ → Type 0) →
+    Reached p o lines All before old mid → seen.object ≡ before.object → ((from : List Entry) → Handles before from from seen []) →
+    unsettled seen.state ≡ None → TakesFront mid new (machine_closing (setup_of before.object) seen.state) →
     ((bytes : List ℕ) → IsRun p lines All Closed bytes → due statuses.Done bytes) → Stops old new due
-leaves_unclosed p o lines seen old mid new due there settled takes is_due =
+leaves_unclosed p o lines before seen old mid new due came same handles settled takes is_due =
+    let there : Reached p o lines All seen old mid = settled_there p o lines All before seen old mid came same handles in
     let told : List ℕ = opening_lines p ++ lines_of (setup_of o) there.told in
     let closing : List ℕ = machine_closing (setup_of o) seen.state in
     stops_in old mid new due statuses.Done told closing []
     (subst (λ bytes. due statuses.Done (told ++ bytes)) (sym (append_nil closing)) (is_due (told ++ closing) (closed_run p o lines seen old mid there settled)))
-    there.taken takes
+    there.taken (subst (λ held. TakesFront mid new (machine_closing (setup_of held) seen.state)) came.comes.object takes)
 
 -- THE LINES WERE NOT CARRIED OUT
 
 -- a front of the opening lines was taken
-pub leaves_unopened : (p : PlainProg) (journal : List ℕ) (rose failed : Type 0) (old new : Option (List ℕ)) → failed → TakesFront old new (opening_lines p) →
-    Leaves old new failed (JournalDue p journal rose) (Err failure.WriteFault)
-leaves_unopened p journal rose failed old new cause front =
+pub leaves_unopened : (p : PlainProg) (journal : List ℕ) (rose failed : Type 0) (seen : Seen) (old new : Option (List ℕ)) (later : List (ℕ × Report)) → failed →
+    IsReadyFor p seen → IsCutOff (setup_of seen.object) old new seen.state.core.told later → Leaves old new failed (JournalDue p journal rose) (Err failure.WriteFault)
+leaves_unopened p journal rose failed seen old new later cause ready cut =
+    let front : TakesFront old new (opening_lines p) =
+    subst (TakesFront old new) (opened_as p seen ready) (cut_off_front (setup_of seen.object) old new seen.state.core.told later cut) in
     (cause, stops_short old new (JournalDue p journal rose) statuses.NoMemory (opening_lines p) (refusal_line refusal.Memory) refl front)
 
 -- there was no memory for the journal
-pub leaves_unread : (p : PlainProg) (journal : List ℕ) (rose : Type 0) (old new : Option (List ℕ)) → Takes old new (opening_lines p) →
+pub leaves_unread : (p : PlainProg) (journal : List ℕ) (rose : Type 0) (seen : Seen) (old new : Option (List ℕ)) → IsReadyFor p seen →
+    Takes old new (lines_of (setup_of seen.object) seen.state.core.told) →
     Finishes old new (λ bytes. JournalDue p journal rose statuses.NoMemory (bytes ++ refusal_line refusal.Memory))
-leaves_unread p journal rose old new opened = record { bytes = opening_lines p; is_due = refl; taken = opened }
+leaves_unread p journal rose seen old new ready taken =
+    record { bytes = opening_lines p; is_due = refl; taken = subst (Takes old new) (opened_as p seen ready) taken }
 
 -- some status and some bytes behind these belong to the lines
 broken_at : (p : PlainProg) (journal : List ℕ) (rose : Type 0) (lines : List (List ℕ)) (status : Status) (last : Close) (es : List Entry) (ending : Ending)

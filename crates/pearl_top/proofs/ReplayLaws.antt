@@ -8,10 +8,10 @@ use Rattle.pearl_rules.specs.declared.setup.Setup.{Setup}
 use Rattle.pearl_rules.specs.Core.{Report}
 use Rattle.pearl_rules.specs.Runs.{next_mark}
 use Rattle.pearl_script.specs.Lines.{lines_of, report_line}
-use Rattle.pearl_machine.specs.Seen.{Seen, retold, SameNext, Goes, Handles}
+use Rattle.pearl_machine.specs.Seen.{Seen, retold, Goes, Handles}
 use Rattle.pearl_machine.specs.Told.{IsCutOff}
 use Rattle.pearl_machine.proofs.Going.{handles_none, handles_then, handles_on, handles_retold}
-use Rattle.pearl_top.specs.Replay.{started, Advances, Breaks}
+use Rattle.pearl_top.specs.Replay.{Advances, Breaks}
 use Rattle.pearl_top.proofs.TranscriptLaws.{lines_of-append}
 
 -- with more entries behind

@@ -16,7 +16,7 @@ use Rattle.pearl_top.specs.declared.failure.Failure.TheVariants.{Refused, WriteF
 use Rattle.pearl_journal.specs.declared.reading.Line.TheVariants.{Wrong}
 use Rattle.pearl_top.specs.declared.replay.Lines.{Lines}
 use Rattle.pearl_top.specs.declared.replay.Lines.TheVariants as lines
-use Rattle.pearl_journal.specs.Entries.{Ending, Bad, Entries, after as after_line, entries, entries_from, more_entries}
+use Rattle.pearl_journal.specs.Entries.{Ending, Bad, Entries, entries, entries_from, more_entries}
 use Rattle.pearl_journal.specs.Lines.{ended_lines, journal_lines}
 use Rattle.pearl_journal.specs.Meaning.{meaning}
 use Rattle.pearl_journal.specs.Readings.{Reading}
