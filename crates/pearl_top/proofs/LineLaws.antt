@@ -10,6 +10,7 @@ use Rattle.pearl_engine.specs.Setups.{setup_of}
 use Rattle.pearl_script.specs.Lines.{lines_of}
 use Rattle.pearl_machine.specs.Seen.{Seen, Handles, IsEntryOf}
 use Rattle.pearl_machine.specs.Told.{IsCutOff}
+use Rattle.pearl_machine.proofs.Taken.{cut_front}
 use Rattle.pearl_journal.specs.declared.reading.Line.{Line}
 use Rattle.pearl_journal.specs.declared.reading.Line.TheVariants.{Blank, Item, Wrong}
 use Rattle.pearl_top.specs.declared.failure.Failure.{Failure}
@@ -22,7 +23,7 @@ use Rattle.pearl_journal.specs.Meaning.{meaning}
 use Rattle.pearl_journal.specs.Readings.{Reading, start, EntryFits}
 use Rattle.pearl_rules.specs.declared.entry.Entry.TheVariants as entries
 use Rattle.pearl_top.specs.Replay.{lines_in, IsLineFailure, IsLinesFailure, with_front, LineDone, LineBroken, LinesDone, LinesBroken, Progress}
-use Rattle.pearl_top.proofs.ReplayLaws.{advances-none, advances-then, breaks-then, breaks-behind, cut_off_front}
+use Rattle.pearl_top.proofs.ReplayLaws.{advances-none, advances-then, breaks-then, breaks-behind}
 use Rattle.pearl_top.proofs.TakenLaws.{append_nil, takes_none}
 use Rattle.pearl_top.proofs.TranscriptLaws.{lines_of-append}
 
@@ -59,7 +60,11 @@ line_item setup reading text entry seen after old new told e same handles taken 
   taken = taken;
 }
 
--- and one whose output was cut off
+-- lines that were cut off are lines of which a front was taken
+pub cut_off : (setup : Setup) (old new : Option (List ℕ)) (told later : List (ℕ × Report)) → IsCutOff setup old new told later → TakesFront old new (lines_of setup told)
+cut_off setup old new told later cut = subst (TakesFront old new) (append_nil (lines_of setup told)) (cut_front setup old new told later [] cut)
+
+-- a line that is an entry whose output was cut off
 pub line_broken : (setup : Setup) (reading : Reading) (text : List ℕ) (entry : Entry) (left : List Entry) (seen after : Seen) (old new : Option (List ℕ))
     (told later : List (ℕ × Report)) → Item entry ≡ meaning setup reading text → Handles seen (entry ∷ []) left after told → IsCutOff setup old new told later →
     LineBroken setup reading text seen old new
@@ -68,7 +73,7 @@ line_broken setup reading text entry left seen after old new told later e handle
   told = told;
   adds = λ more. ap (λ means. more_entries means (reading.lines + 1) more) (sym e);
   breaks = record { after = after; left = left; handles = handles };
-  taken = cut_off_front setup old new told later cut;
+  taken = cut_off setup old new told later cut;
 }
 
 -- what an accepted line names is there

@@ -27,9 +27,10 @@ use Rattle.pearl_top.specs.JournalDue.{opening_lines, IsRun, JournalDue}
 use Rattle.pearl_top.specs.Transcript.{Close, Closed, Cut, IsTranscript}
 use Rattle.pearl_top.specs.Taken.{Finishes, Leaves, Stops}
 use Rattle.pearl_top.specs.Replay.{started, Advances, Breaks, LinesDone, LinesBroken, IsLinesFailure}
-use Rattle.pearl_top.proofs.ReplayLaws.{advances-opened, advances-then, advances-settles, breaks-then, cut_off_front}
+use Rattle.pearl_top.proofs.ReplayLaws.{advances-opened, advances-then, advances-settles, breaks-then}
 use Rattle.pearl_top.specs.Ready.{IsReadyFor}
 use Rattle.pearl_top.proofs.DueLaws.{Covers}
+use Rattle.pearl_top.proofs.LineLaws.{cut_off}
 use Rattle.pearl_top.proofs.TranscriptLaws.{machine_closing}
 use Rattle.pearl_top.proofs.Endings.{closes, cuts, Follows, breaks_off}
 use Rattle.pearl_top.proofs.TakenLaws.{append_nil, stops_in, stops_short}
@@ -162,7 +163,7 @@ pub leaves_unopened : (p : PlainProg) (journal : List ℕ) (rose failed : Type 0
     IsReadyFor p seen → IsCutOff (setup_of seen.object) old new seen.state.core.told later → Leaves old new failed (JournalDue p journal rose) (Err failure.WriteFault)
 leaves_unopened p journal rose failed seen old new later cause ready cut =
     let front : TakesFront old new (opening_lines p) =
-    subst (TakesFront old new) (opened_as p seen ready) (cut_off_front (setup_of seen.object) old new seen.state.core.told later cut) in
+    subst (TakesFront old new) (opened_as p seen ready) (cut_off (setup_of seen.object) old new seen.state.core.told later cut) in
     (cause, stops_short old new (JournalDue p journal rose) statuses.NoMemory (opening_lines p) (refusal_line refusal.Memory) refl front)
 
 -- there was no memory for the journal

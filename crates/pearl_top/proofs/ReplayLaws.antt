@@ -60,15 +60,3 @@ breaks-behind seen es more told breaks = record {
   left = breaks.left ++ more;
   handles = behind seen breaks.after es breaks.left more told breaks.handles;
 }
-
--- lines that were cut off are lines of which a front was taken
-pub cut_off_front : (setup : Setup) (old new : Option (List ℕ)) (told later : List (ℕ × Report)) → IsCutOff setup old new told later → TakesFront old new (lines_of setup told)
-cut_off_front setup old new told later cut =
-    let rest : List ℕ = lines_of setup later in
-    let all : lines_of setup told ≡ lines_of setup cut.before ++ (report_line setup cut.cut ++ rest) =
-    ap (lines_of setup) cut.all ∙ lines_of-append setup cut.before (cut.cut ∷ later) in
-    subst (λ bytes. TakesFront old new bytes) (sym all) (
-      length (lines_of setup cut.before) + cut.count,
-      omega (arith, cut.short, length-append (lines_of setup cut.before) (report_line setup cut.cut ++ rest), length-append (report_line setup cut.cut) rest),
-      rw (take-append-add, take-append-le cut.count (report_line setup cut.cut) rest (omega (arith, cut.short))) cut.taken,
-    )
