@@ -1,6 +1,6 @@
 -- A source means one program, and writes one thing.
-use Rattle.std.proofs.Common.{◌≡◌, ℕ, zero, suc, ◌<◌, List, [], ◌∷◌, ◌++◌, false, Some, None, length, refl, ap, ap₂, sym, ◌∙◌, subst, slice_get, nat_eq, arith, true≢false}
-use Rattle.std.specs.List.{AllByRecursion, IsDistinct}
+use Rattle.std.proofs.Common.{◌≡◌, ℕ, zero, suc, ◌<◌, List, [], ◌∷◌, ◌++◌, false, Some, None, length, refl, ap, ap₂, sym, ◌∙◌, subst, slice_get, nat_eq, true≢false}
+use Rattle.std.specs.List.{IsDistinct}
 use Rattle.std.proofs.lemmas.Bool.{eq-eqb}
 use Rattle.std.proofs.lemmas.List.{ext_get_or}
 use Rattle.std.proofs.lemmas.Option.{get_or_from_slice_get}
@@ -25,7 +25,6 @@ use Rattle.pearl_meaning.specs.Programs.{offer}
 use Rattle.pearl_meaning.specs.ProgramRuns.{source_run, setup_of}
 use Rattle.pearl_script.specs.Lines.{lines_of}
 use Rattle.pearl_top.specs.Laws.{HasOneMeaning, HasOneTranscript}
-use Rattle.pearl_top.specs.Outcome.{IsSource}
 use Rattle.pearl_top.specs.Transcript.{Close, closing, IsLast, IsTranscript}
 use Rattle.pearl_top.proofs.CheckLaws.{shown_once}
 

@@ -1,18 +1,11 @@
 -- A machine goes on from where it has come.
-use Rattle.std.proofs.Common.{◌≡◌, ℕ, ◌+◌, List, [], ◌∷◌, ◌++◌, Option, refl, ap, sym, ◌∙◌, subst, append_assoc, length, arith, length-append}
-use Rattle.std.proofs.Math.Seq.{take-append-add}
-use Rattle.std.proofs.lemmas.List.{take-append-le}
-use Rattle.pearl_io.specs.Outside.{TakesFront}
+use Rattle.std.proofs.Common.{◌≡◌, ℕ, List, [], ◌++◌, refl, ap, sym, ◌∙◌, subst, append_assoc}
 use Rattle.pearl_rules.specs.declared.entry.Entry.{Entry}
-use Rattle.pearl_rules.specs.declared.setup.Setup.{Setup}
 use Rattle.pearl_rules.specs.Core.{Report}
 use Rattle.pearl_rules.specs.Runs.{next_mark}
-use Rattle.pearl_script.specs.Lines.{lines_of, report_line}
 use Rattle.pearl_machine.specs.Seen.{Seen, retold, Goes, Handles}
-use Rattle.pearl_machine.specs.Told.{IsCutOff}
 use Rattle.pearl_machine.proofs.Going.{handles_none, handles_then, handles_on, handles_retold}
 use Rattle.pearl_top.specs.Replay.{Advances, Breaks}
-use Rattle.pearl_top.proofs.TranscriptLaws.{lines_of-append}
 
 -- with more entries behind
 behind : (seen after : Seen) (es left more : List Entry) (told : List (ℕ × Report)) → Handles seen es left after told →

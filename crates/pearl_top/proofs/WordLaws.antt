@@ -1,5 +1,5 @@
 -- What is due for the words, from what is due for the files that they name.
-use Rattle.std.proofs.Common.{◌≡◌, ◌≢◌, ◌≤◌, ◌⊎◌, ℕ, List, [], ◌∷◌, Option, Some, refl, ap, ap₂, sym, subst, ◌∙◌, inl, inr, length, map, arith}
+use Rattle.std.proofs.Common.{◌≡◌, ◌≢◌, ◌⊎◌, ℕ, List, [], ◌∷◌, Option, Some, refl, ap, ap₂, sym, subst, ◌∙◌, inl, inr, map, arith}
 use Rattle.std.specs.List.{AllZip, Any}
 use Rattle.pearl_io.specs.Outside.{Files, content}
 use Rattle.pearl_program.specs.PlainPrograms.{PlainProg}

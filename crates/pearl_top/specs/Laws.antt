@@ -7,7 +7,6 @@ use Rattle.pearl_tree.specs.declared.tree.Tree.{Tree}
 use Rattle.pearl_tree.specs.Modules.{Spells}
 use Rattle.pearl_lex.specs.Lexes.{Lexes}
 use Rattle.pearl_print.specs.Reading.{FitsHours}
-use Rattle.pearl_meaning.specs.ProgramRuns.{setup_of as tables_of}
 use Rattle.pearl_top.specs.declared.limits.TheConstants.{SOURCE_LIMIT}
 use Rattle.pearl_top.specs.declared.status.Status.{Status}
 use Rattle.pearl_top.specs.declared.status.Status.TheVariants.{Done}

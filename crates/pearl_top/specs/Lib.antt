@@ -8,7 +8,7 @@ pub mod Failures
 pub mod Taken
 -- what a program's run over the entries of a journal writes
 pub mod Transcript
--- how far a machine has come in a journal
+-- how a machine goes over a journal
 pub mod Replay
 -- what is due at and after the journal of an accepted source
 pub mod JournalDue

@@ -1,8 +1,6 @@
 use Rattle.std.proofs.Common.{sym, subst}
 use Rattle.pearl_program.specs.PlainPrograms.{plain_prog}
 use Rattle.pearl_program.specs.Sound.{IsSound}
-use Rattle.pearl_instructions.specs.Lawful.{IsObject}
-use Rattle.pearl_instructions.specs.Valid.{IsValid}
 use Rattle.pearl_engine.specs.Built.{OnlyBuilt}
 use Rattle.pearl_top.proofs.WordLaws.{loaded, ready_of}
 use Rattle.pearl_top.proofs.compile.machine.Goals as goal

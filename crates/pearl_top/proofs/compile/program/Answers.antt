@@ -1,15 +1,14 @@
-use Rattle.std.proofs.Common.{◌≡◌, refl, sym, ◌∙◌, subst, inr}
+use Rattle.std.proofs.Common.{refl, sym, ◌∙◌, subst, inr}
 use Rattle.std.proofs.lemmas.Result.{err_from_is_err_and}
 use Rattle.pearl_lex.specs.Lexes.{Lexes}
 use Rattle.pearl_tree.specs.Modules.{Spells}
 use Rattle.pearl_tree.specs.Tokens.{AreLawful}
 use Rattle.pearl_tree.specs.ShownModules.{shown_tree}
 use Rattle.pearl_names.specs.Tables.{table_of}
-use Rattle.pearl_program.specs.PlainPrograms.{plain_prog}
 use Rattle.pearl_built.specs.Built.{IsBuilt}
 use Rattle.pearl_top.specs.declared.failure.Failure.TheVariants as failure
 use Rattle.pearl_top.specs.Failures.{check_refusal, parse_refusal}
-use Rattle.pearl_top.proofs.CheckEnds.{check_stuck, check_stopped, check_broken}
+use Rattle.pearl_top.proofs.CheckEnds.{check_stopped, check_broken}
 use Rattle.pearl_top.proofs.WordLaws.{refused_alike}
 use Rattle.pearl_top.proofs.compile.program.Goals as goal
 
