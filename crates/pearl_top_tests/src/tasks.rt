@@ -4,6 +4,7 @@ use crate::run::{Outside, RUN, carry_out, carry_out_in};
 use crate::whole::HEAD;
 use pearl_top::status::Status;
 use std::alloc::{AllocError, Global};
+use std::process::Abort;
 use std::test::Fail;
 
 // What stands between the head and MODEND, a journal, and the whole transcript.
@@ -167,8 +168,12 @@ fn refused() -> &'static [Case] {
     ]
 }
 
-fn all_end_so(rt: HostRuntime, cases: &[Case], wanted: Status) -> Result<(), Fail> {
-    let alloc = rt.alloc();
+fn all_end_so(
+    rt: &impl Abort,
+    alloc: Global,
+    cases: &[Case],
+    wanted: Status,
+) -> Result<(), Fail> {
     for &(body, journal, text) in cases {
         let source = format!(in alloc; "{HEAD}{body}\nMODEND;\n")?;
         let (status, written) = carry_out(alloc, RUN, source.as_bytes(), journal.as_bytes(), 4096)?;
@@ -180,12 +185,14 @@ fn all_end_so(rt: HostRuntime, cases: &[Case], wanted: Status) -> Result<(), Fai
 
 #[test]
 fn tasks_act_by_the_rules(rt: HostRuntime) -> Result<(), Fail> {
-    all_end_so(rt, plants(), Status::Done)
+    let alloc = rt.alloc();
+    all_end_so(&rt, alloc, plants(), Status::Done)
 }
 
 #[test]
 fn only_a_declared_task_has_its_turn(rt: HostRuntime) -> Result<(), Fail> {
-    all_end_so(rt, refused(), Status::BadJournal)
+    let alloc = rt.alloc();
+    all_end_so(&rt, alloc, refused(), Status::BadJournal)
 }
 
 // So many tasks, a later one more urgent, each of which writes its number.

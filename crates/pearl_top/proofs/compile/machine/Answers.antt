@@ -17,10 +17,10 @@ new-requires-clause-valid c =
     let sound = subst (λ parts. IsSound (plain_prog parts)) c.parts-sound.ensures.value c.parts-sound.ensures.sound in
     (c.generated_is_valid.ensures (plain_prog c.args.program.now) c.in_ok-object.object sound c.in_ok-object.ensures.generated c.in_ok-object.ensures.few_formats).1
 
-pub load-requires-clause-built : goal.load-requires-clause-built
-load-requires-clause-built c =
+pub load-requires : goal.load-requires
+load-requires c =
     let built = c.built_programs_have_built_code.ensures (plain_prog c.args.program.now) c.in_ok-object.object c.in_ok-object.ensures.generated c.requires in
-    subst OnlyBuilt (sym c.in_ok-code.ensures) built
+    record { built = subst OnlyBuilt (sym c.in_ok-code.ensures) built }
 
 pub returns : goal.returns
 returns c =

@@ -1,6 +1,6 @@
 use Rattle.std.proofs.Common.{◌∷◌, ◌++◌, [], ◌+◌, arith}
 use Rattle.std.proofs.lemmas.Result.{err_from_is_err_and}
-use Rattle.pearl_io.specs.Outside.{CountRose}
+use Rattle.pearl_io.specs.Outside.{CountRose, WriteFailed}
 use Rattle.pearl_io.proofs.Counts.{failed_since}
 use Rattle.pearl_script.specs.declared.refusal.Refusal.TheVariants as refusal
 use Rattle.pearl_top.specs.declared.limits.TheConstants.{JOURNAL_LIMIT}
@@ -20,7 +20,7 @@ returns-in_err-begin-clause-ends g c p ready =
     let e = err_from_is_err_and c.from_residual.result c.from_residual.ensures.1 in (
       explained held name [],
       may_have held name [],
-      rw (e.1, e.2) (leaves_unopened p (explained held name []) rose _ c.args.machine.now _ _ _ c.in_err-begin.ensures.cause ready c.in_err-begin.ensures.err),
+      rw (e.1, e.2) (leaves_unopened p (explained held name []) rose (WriteFailed (g.K.Sink.faults c.args.sink.now) (g.K.Sink.faults c.begin.new.sink) (g.K.Sink.full c.begin.new.sink)) c.args.machine.now _ _ _ c.in_err-begin.ensures.cause ready c.in_err-begin.ensures.err),
     )
 
 -- THE JOURNAL WAS READ WHOLE
