@@ -1,5 +1,5 @@
 -- What stands around the declarations of a module, and the module: what completes them behind their first parts.
-use Rattle.std.proofs.Common.{◌≡◌, ℕ, ◌+◌, ◌<◌, ◌≤◌, ◌^◌, inl, max, true, false, List, length, Option, Some, None, refl, sym, ap, subst, ◌∙◌, arith}
+use Rattle.std.proofs.Common.{◌≡◌, ℕ, ◌+◌, ◌<◌, ◌≤◌, ◌^◌, inl, max, true, false, List, length, Option, Some, None, refl, sym, subst, ◌∙◌, arith}
 use Rattle.pearl_tree.specs.declared.declaration.Device.{Device}
 use Rattle.pearl_tree.specs.declared.name.Name.{Name}
 use Rattle.pearl_tree.specs.declared.parts.Parts.{Parts}
@@ -24,10 +24,10 @@ use Rattle.pearl_parse.proofs.Steps.{Rest, Ends, Then}
 use Rattle.pearl_parse.proofs.LocalModules.{module_name_keeps, system_keeps, decl_keeps}
 use Rattle.pearl_parse.proofs.Comes.{Fills, BehindWord, BehindSymbol, Maybe, Makes, ends_fill, fills_as, fills_word, fills_symbol, fills_name, fills_maybe}
 use Rattle.pearl_parse.proofs.ModulesMade.{module_made}
-use Rattle.pearl_parse.proofs.Tails.{fills_each, problem, module_end}
+use Rattle.pearl_parse.proofs.Tails.{fills_each}
 use Rattle.pearl_parse.proofs.StatementLeast.{told_from}
 use Rattle.pearl_parse.proofs.UnitLeast.{as_rest}
-use Rattle.pearl_parse.proofs.States.{State, first, raised, past_word, past_symbol, past_name, past_part, past_first, halt_token, halt_part, halt_first}
+use Rattle.pearl_parse.proofs.States.{State, first, past_word, past_symbol, past_name, past_part, past_first, halt_token, halt_part, halt_first}
 
 -- ---- "(" id ")"
 

@@ -1,9 +1,9 @@
 -- Parts that stand one after the other: how far some of them go on, behind those that were read.
-use Rattle.std.proofs.Common.{◌≡◌, ℕ, ◌+◌, ◌<◌, ◌≤◌, ◌⊎◌, inl, inr, max, List, [], length, refl, subst, arith}
+use Rattle.std.proofs.Common.{◌≡◌, ℕ, ◌<◌, ◌≤◌, ◌⊎◌, inl, inr, max, List, refl, arith}
 use Rattle.pearl_tree.specs.declared.token.Token.{Token}
 use Rattle.pearl_tree.specs.Standing.{Spelling, SpellsEach}
 use Rattle.pearl_parse_expr.specs.declared.reading.Halt.{Halt}
-use Rattle.pearl_parse_expr.specs.declared.reading.Halt.TheVariants.{Refused, NoMemory}
+use Rattle.pearl_parse_expr.specs.declared.reading.Halt.TheVariants.{Refused}
 use Rattle.pearl_parse_expr.specs.Least.{ReachesIn, GoesIn, HaltsIn}
 use Rattle.pearl_parse_expr.proofs.Reaching.{order, reached_halt}
 use Rattle.pearl_parse_decl.proofs.LocalLists.{Kept}

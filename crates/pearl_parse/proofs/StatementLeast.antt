@@ -1,5 +1,5 @@
 -- Statements with others in them: what completes them behind their first parts.
-use Rattle.std.proofs.Common.{◌≡◌, ℕ, ◌+◌, ◌-◌, ◌<◌, ◌≤◌, ◌^◌, ◌⊎◌, inl, inr, max, List, [], ◌∷◌, length, Option, refl, sym, subst, ◌∙◌, arith}
+use Rattle.std.proofs.Common.{◌≡◌, ℕ, ◌+◌, ◌-◌, ◌<◌, ◌≤◌, ◌^◌, inl, max, List, [], ◌∷◌, length, Option, refl, sym, subst, ◌∙◌, arith}
 use Rattle.pearl_tree.specs.declared.expression.Expr.{Expr}
 use Rattle.pearl_tree.specs.declared.statement.Body.{Body}
 use Rattle.pearl_tree.specs.declared.statement.BodyDecl.{BodyDecl}
@@ -8,7 +8,7 @@ use Rattle.pearl_tree.specs.declared.statement.Stmt.{Stmt}
 use Rattle.pearl_tree.specs.declared.token.Token.{Token}
 use Rattle.pearl_tree.specs.declared.token.What.TheVariants as what
 use Rattle.pearl_tree.specs.Tokens.{IsLawfulWhat}
-use Rattle.pearl_tree.specs.Standing.{Spelling, what_at, HasWord, HasSymbol, SpellsEach, SpellsSome}
+use Rattle.pearl_tree.specs.Standing.{Spelling, HasWord, HasSymbol, SpellsEach, SpellsSome}
 use Rattle.pearl_tree.specs.Statements.{SpellsBranch, SpellsBody, SpellsBodyDecl, SpellsStmt}
 use Rattle.pearl_tree.specs.declared.symbol.TheConstants as s
 use Rattle.pearl_tree.specs.declared.word_code.TheConstants as w
@@ -21,7 +21,7 @@ use Rattle.pearl_parse_expr.proofs.Reaching.{IsLocal, placed}
 use Rattle.pearl_parse_expr.proofs.Trees.{parts_of}
 use Rattle.pearl_parse_decl.proofs.LocalLists.{Kept, local_of, maybe_keeps, each_keeps, some_keeps}
 use Rattle.pearl_parse.specs.declared.loops.Heads.{Heads}
-use Rattle.pearl_parse.specs.Bodies.{SpellsStatements, SpellsCondition, SpellsClosing, SpellsHeads, is_one, loop_words, SpellsInner}
+use Rattle.pearl_parse.specs.Bodies.{SpellsStatements, SpellsCondition, SpellsClosing, SpellsHeads, SpellsInner}
 use Rattle.pearl_parse.specs.Reached.{GoesBehind, HaltsBehind}
 use Rattle.pearl_parse.proofs.Steps.{Rest, Ends, Then}
 use Rattle.pearl_parse.proofs.LeafRests.{Spelled}

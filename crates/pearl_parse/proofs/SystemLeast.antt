@@ -1,5 +1,5 @@
 -- The system part of a module, and what opens its problem part: what completes them behind their first parts.
-use Rattle.std.proofs.Common.{◌≡◌, ℕ, ◌+◌, ◌<◌, ◌≤◌, ◌^◌, max, List, length, Option, Some, None, refl, subst, arith}
+use Rattle.std.proofs.Common.{◌≡◌, ℕ, ◌+◌, ◌<◌, ◌≤◌, ◌^◌, max, List, length, Option, Some, None, subst, arith}
 use Rattle.pearl_tree.specs.declared.declaration.Device.{Device}
 use Rattle.pearl_tree.specs.declared.parts.Parts.{Parts}
 use Rattle.pearl_tree.specs.declared.token.Token.{Token}
@@ -20,7 +20,7 @@ use Rattle.pearl_parse.specs.Modules.{SpellsOptionalSystem, SpellsOpened}
 use Rattle.pearl_parse.specs.Reached.{HaltsBehind}
 use Rattle.pearl_parse.proofs.Steps.{Rest, Ends, Then}
 use Rattle.pearl_parse.proofs.LocalModules.{system_keeps}
-use Rattle.pearl_parse.proofs.Comes.{Fills, BehindWord, BehindSymbol, Maybe, Makes, ends_fill, fills_word, fills_symbol, fills_maybe}
+use Rattle.pearl_parse.proofs.Comes.{Fills, BehindWord, BehindSymbol, Maybe, Makes, ends_fill, fills_word, fills_symbol}
 use Rattle.pearl_parse.proofs.Tails.{fills_each}
 use Rattle.pearl_parse.proofs.States.{State, first, past_word, past_symbol, past_first, halt_token, halt_first, done, goes_in_told}
 

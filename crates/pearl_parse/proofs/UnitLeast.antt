@@ -10,7 +10,7 @@ use Rattle.pearl_tree.specs.declared.typing.Basic.{Basic}
 use Rattle.pearl_tree.specs.declared.typing.Typing.TheVariants as typing
 use Rattle.pearl_tree.specs.declared.token.Token.{Token}
 use Rattle.pearl_tree.specs.declared.limit.TheConstants as limit
-use Rattle.pearl_tree.specs.Standing.{Spelling, HasWord, HasSymbol, IsName, SpellsName, SpellsMaybe, SpellsList, SpellsMaybeBracketed}
+use Rattle.pearl_tree.specs.Standing.{Spelling, HasWord, HasSymbol, IsName, SpellsName, SpellsList, SpellsMaybeBracketed}
 use Rattle.pearl_tree.specs.Declarations.{SpellsItem, SpellsParam}
 use Rattle.pearl_tree.specs.Statements.{SpellsBodyDecl, SpellsWholeBody}
 use Rattle.pearl_tree.specs.Modules.{SpellsTaskHead, SpellsReturns, SpellsBlock, SpellsDecl}

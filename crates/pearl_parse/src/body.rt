@@ -4,9 +4,9 @@ ghost use Rattle.std.specs.Prelude.{◌≡◌, ◌+◌, ◌<◌, ◌≤◌, leng
 ghost use Rattle.std.proofs.Common.{ap};
 ghost use Rattle.pearl_tree.specs.Statements.{SpellsBodyDecl, SpellsWholeBody};
 ghost use Rattle.pearl_tree.specs.declared.word_code.TheConstants as w;
-ghost use Rattle.pearl_parse_expr.specs.Stops.{IsLongest, IsOnly, IsAhead, IsHalted, is_word};
+ghost use Rattle.pearl_parse_expr.specs.Stops.{IsLongest, IsHalted, is_word};
 ghost use Rattle.pearl_parse.specs.Stops.{StopsWithin};
-ghost use Rattle.pearl_parse_expr.specs.Least.{IsLeastIn};
+ghost use Rattle.pearl_parse_expr.specs.Reads.{ReadsOnly};
 ghost use Rattle.pearl_parse.specs.Bodies.{extends_body, SpellsInner};
 ghost use Rattle.pearl_parse.specs.Reached.{IsLeastBehind};
 ghost use Rattle.pearl_tree.specs.declared.limit.TheConstants as limit;
@@ -28,11 +28,7 @@ use std::alloc::Global;
 /// `DCL item { "," item } ";"`
 fn body_declaration(alloc: Global, tokens: &[Token], from: usize) -> Result<Reading<BodyDecl>, Halt>
     requires { from ≤ length tokens.now }
-    ensures spells { IfOk result (λ reading. SpellsBodyDecl tokens.now from reading.part reading.end) }
-    ensures only { IfOk result (λ reading. IsOnly SpellsBodyDecl tokens.now from reading.end reading.stop) }
-    ensures ahead { IfOk result (λ reading. IsAhead tokens.now from reading.end reading.stop) }
-    ensures refused { IfErr result (λ halt. IsHalted SpellsBodyDecl tokens.now from halt) }
-    ensures least { IsLeastIn 24 SpellsBodyDecl tokens.now from result }
+    ensures { ReadsOnly 24 SpellsBodyDecl tokens.now from result }
 {
     word(tokens, from, from, DCL)?;
     let items = list(alloc, tokens, from + 1)?;

@@ -5,11 +5,12 @@ ghost use Rattle.pearl_tree.specs.Standing.{what_at, HasWord, HasSymbol, SpellsM
 ghost use Rattle.pearl_tree.specs.Statements.{SpellsValue, HasBecomes};
 ghost use Rattle.pearl_tree.specs.declared.word_code.TheConstants as w;
 ghost use Rattle.pearl_tree.specs.declared.symbol.TheConstants as s;
-ghost use Rattle.pearl_parse_expr.specs.Stops.{IsOnly, IsAhead, IsHalted, is_name, is_symbol};
+ghost use Rattle.pearl_parse_expr.specs.Stops.{IsOnly, IsHalted, is_name, is_symbol};
 ghost use Rattle.pearl_parse.specs.Stops as spec;
 ghost use Rattle.pearl_parse.specs.Calls as calls;
 ghost use Rattle.pearl_parse.specs.Reached.{IsLeastBehind};
 ghost use Rattle.pearl_parse_expr.specs.Least.{IsLeastIn};
+ghost use Rattle.pearl_parse_expr.specs.Reads.{ReadsOnly};
 ghost use Rattle.pearl_parse.specs.Reads.{ReadsStatement};
 
 use crate::step::{expr, name, symbol};
@@ -28,11 +29,7 @@ use std::alloc::Global;
 fn value(alloc: Global, tokens: &[Token], from: usize) -> Result<Reading<Expr>, Halt>
     requires within { from < length tokens.now }
     requires bracket { HasSymbol tokens.now from s.LEFT_ROUND }
-    ensures spells { IfOk result (λ reading. SpellsValue tokens.now from reading.part reading.end) }
-    ensures only { IfOk result (λ reading. IsOnly SpellsValue tokens.now from reading.end reading.stop) }
-    ensures ahead { IfOk result (λ reading. IsAhead tokens.now from reading.end reading.stop) }
-    ensures refused { IfErr result (λ halt. IsHalted SpellsValue tokens.now from halt) }
-    ensures least { IsLeastIn 16 SpellsValue tokens.now from result }
+    ensures { ReadsOnly 16 SpellsValue tokens.now from result }
 {
     let value = expr(alloc, tokens, from + 1, from)?;
     symbol(tokens, value.end, value.stop, RIGHT_ROUND)?;

@@ -5,8 +5,9 @@ ghost use Rattle.pearl_tree.specs.declared.token.Token.{Token};
 ghost use Rattle.pearl_tree.specs.declared.token.What.{What};
 ghost use Rattle.pearl_tree.specs.Standing.{Spelling, SpellsEach, what_at};
 ghost use Rattle.pearl_parse_expr.specs.declared.reading.Halt.{Halt};
-ghost use Rattle.pearl_parse_expr.specs.Stops.{IsLongest, IsOnly, IsAhead, IsHalted};
+ghost use Rattle.pearl_parse_expr.specs.Stops.{IsLongest};
 ghost use Rattle.pearl_parse_expr.specs.Least.{IsLeastIn};
+ghost use Rattle.pearl_parse_expr.specs.Reads.{ReadsOnly};
 ghost use Rattle.pearl_parse_decl.specs.Readings.{IsSelfContained};
 ghost use Rattle.pearl_parse.specs.Stops as spec;
 
@@ -25,11 +26,7 @@ pub trait Repeated: Drop {
     /// The part that begins here.
     fn read(alloc: Global, tokens: &[Token], from: usize) -> Result<Reading<Self>, Halt>
         requires { from ≤ length tokens.now }
-        ensures spells { IfOk result (λ reading. spelling tokens.now from reading.part reading.end) }
-        ensures only { IfOk result (λ reading. IsOnly spelling tokens.now from reading.end reading.stop) }
-        ensures ahead { IfOk result (λ reading. IsAhead tokens.now from reading.end reading.stop) }
-        ensures refused { IfErr result (λ halt. IsHalted spelling tokens.now from halt) }
-        ensures least { IsLeastIn 24 spelling tokens.now from result }
+        ensures reads { ReadsOnly 24 spelling tokens.now from result }
         ensures contained { IsSelfContained spelling };
 
     // Every part begins with such a token.

@@ -4,9 +4,10 @@ ghost use Rattle.std.specs.Prelude.{◌≡◌, ◌≢◌, ◌+◌, ◌<◌, ◌�
 ghost use Rattle.pearl_tree.specs.Standing.{SpellsMaybe};
 ghost use Rattle.pearl_tree.specs.Statements.{SpellsFor};
 ghost use Rattle.pearl_parse_expr.specs.declared.reading.Halt.{Halt};
-ghost use Rattle.pearl_parse_expr.specs.Stops.{IsOnly, IsAhead, IsHalted};
+ghost use Rattle.pearl_parse_expr.specs.Stops.{IsOnly, IsHalted};
 ghost use Rattle.pearl_parse.specs.Stops as spec;
 ghost use Rattle.pearl_parse_expr.specs.Least.{IsLeastIn};
+ghost use Rattle.pearl_parse_expr.specs.Reads.{ReadsOnly};
 ghost use Rattle.pearl_parse.specs.Bodies as bodies;
 
 use crate::step::{maybe_after, name, word};
@@ -56,11 +57,7 @@ fn control(tokens: &[Token], from: usize) -> Result<Reading<Option<Name>>, Halt>
 /// `[ FOR id ] [ FROM expr ] [ BY expr ] [ TO expr ] [ WHILE expr ] REPEAT`
 pub fn loop_heads(alloc: Global, tokens: &[Token], from: usize) -> Result<Reading<Heads>, Halt>
     requires { from ≤ length tokens.now }
-    ensures spells { IfOk result (λ reading. bodies.SpellsHeads tokens.now from reading.part reading.end) }
-    ensures only { IfOk result (λ reading. IsOnly bodies.SpellsHeads tokens.now from reading.end reading.stop) }
-    ensures ahead { IfOk result (λ reading. IsAhead tokens.now from reading.end reading.stop) }
-    ensures refused { IfErr result (λ halt. IsHalted bodies.SpellsHeads tokens.now from halt) }
-    ensures least { IsLeastIn 16 bodies.SpellsHeads tokens.now from result }
+    ensures { ReadsOnly 16 bodies.SpellsHeads tokens.now from result }
 {
     let control = control(tokens, from)?;
     let begin = maybe_after(alloc, tokens, control.end, control.stop, FROM)?;

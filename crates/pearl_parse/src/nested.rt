@@ -1,15 +1,14 @@
 // What stands before and behind the statements that a statement holds.
 
-ghost use Rattle.std.specs.Prelude.{◌≡◌, ◌≢◌, ◌+◌, ◌<◌, ◌≤◌, length, IfOk, IfErr, OnOk};
+ghost use Rattle.std.specs.Prelude.{◌≡◌, ◌≢◌, ◌+◌, ◌<◌, ◌≤◌, length, IfErr, OnOk};
 ghost use Rattle.pearl_tree.specs.Standing.{HasWord, HasSymbol};
 ghost use Rattle.pearl_tree.specs.declared.word_code.TheConstants as w;
 ghost use Rattle.pearl_tree.specs.declared.symbol.TheConstants as s;
 ghost use Rattle.pearl_parse_expr.specs.declared.reading.Halt.{Halt};
-ghost use Rattle.pearl_parse_expr.specs.Stops.{IsOnly, IsAhead, IsHalted};
 ghost use Rattle.pearl_parse.specs.Stops as spec;
 ghost use Rattle.pearl_tree.specs.declared.token.What.TheVariants as what;
 ghost use Rattle.pearl_tree.specs.Tokens.{IsLawfulWhat};
-ghost use Rattle.pearl_parse_expr.specs.Least.{IsLeastIn};
+ghost use Rattle.pearl_parse_expr.specs.Reads.{ReadsOnly};
 ghost use Rattle.pearl_parse.specs.Bodies as bodies;
 ghost use Rattle.pearl_parse.specs.Reached.{HaltsBehind};
 
@@ -25,11 +24,7 @@ use std::alloc::Global;
 pub fn condition(alloc: Global, tokens: &[Token], from: usize) -> Result<Reading<Expr>, Halt>
     requires within { from < length tokens.now }
     requires word { HasWord tokens.now from w.IF }
-    ensures spells { IfOk result (λ reading. bodies.SpellsCondition tokens.now from reading.part reading.end) }
-    ensures only { IfOk result (λ reading. IsOnly bodies.SpellsCondition tokens.now from reading.end reading.stop) }
-    ensures ahead { IfOk result (λ reading. IsAhead tokens.now from reading.end reading.stop) }
-    ensures refused { IfErr result (λ halt. IsHalted bodies.SpellsCondition tokens.now from halt) }
-    ensures least { IsLeastIn 16 bodies.SpellsCondition tokens.now from result }
+    ensures { ReadsOnly 16 bodies.SpellsCondition tokens.now from result }
 {
     let condition = after(alloc, tokens, from, from, IF)?;
     word_here(tokens, condition.end, condition.stop, THEN)?;

@@ -2,14 +2,14 @@
 
 ghost use Rattle.std.specs.Prelude.{◌≡◌, ℕ, ◌+◌, ◌<◌, ◌≤◌, length, IfOk, IfErr, true};
 ghost use Rattle.pearl_tree.specs.Standing.{what_at, HasWord, SpellsMaybe, SpellsSome};
-ghost use Rattle.pearl_tree.specs.Statements.{SpellsStmt, SpellsBranch, SpellsBody};
+ghost use Rattle.pearl_tree.specs.Statements.{SpellsBranch, SpellsBody};
 ghost use Rattle.pearl_tree.specs.declared.word_code.TheConstants as w;
 ghost use Rattle.pearl_parse_expr.specs.declared.reading.Halt.{Halt};
-ghost use Rattle.pearl_parse_expr.specs.Stops.{IsLongest, IsOnly, IsAhead, IsHalted};
+ghost use Rattle.pearl_parse_expr.specs.Stops.{IsLongest};
 ghost use Rattle.pearl_parse.specs.Stops as spec;
-ghost use Rattle.pearl_parse_expr.specs.Least.{IsLeastIn};
 ghost use Rattle.pearl_parse.specs.Bodies as bodies;
 ghost use Rattle.pearl_parse.specs.Reached.{IsLeastBehind};
+ghost use Rattle.pearl_parse.specs.Reads.{ReadsNested};
 
 use crate::each::each;
 use crate::first::{First, first_at};
@@ -175,11 +175,7 @@ fn alternatives(
 fn if_(alloc: Global, tokens: &[Token], from: usize, depth: u8) -> Result<Reading<Stmt>, Halt>
     requires within { from < length tokens.now }
     requires word { HasWord tokens.now from w.IF }
-    ensures spells { IfOk result (λ reading. SpellsStmt tokens.now depth from reading.part reading.end) }
-    ensures only { IfOk result (λ reading. IsOnly (λ tokens. SpellsStmt tokens depth) tokens.now from reading.end reading.stop) }
-    ensures ahead { IfOk result (λ reading. IsAhead tokens.now from reading.end reading.stop) }
-    ensures refused { IfErr result (λ halt. IsHalted (λ tokens. SpellsStmt tokens depth) tokens.now from halt) }
-    ensures least { IsLeastIn 24 (λ tokens. SpellsStmt tokens depth) tokens.now from result }
+    ensures { ReadsNested depth tokens.now from result }
 {
     if depth == 0 {
         return Err(Halt::Refused(from));
@@ -213,11 +209,7 @@ fn if_(alloc: Global, tokens: &[Token], from: usize, depth: u8) -> Result<Readin
 fn case(alloc: Global, tokens: &[Token], from: usize, depth: u8) -> Result<Reading<Stmt>, Halt>
     requires within { from < length tokens.now }
     requires word { HasWord tokens.now from w.CASE }
-    ensures spells { IfOk result (λ reading. SpellsStmt tokens.now depth from reading.part reading.end) }
-    ensures only { IfOk result (λ reading. IsOnly (λ tokens. SpellsStmt tokens depth) tokens.now from reading.end reading.stop) }
-    ensures ahead { IfOk result (λ reading. IsAhead tokens.now from reading.end reading.stop) }
-    ensures refused { IfErr result (λ halt. IsHalted (λ tokens. SpellsStmt tokens depth) tokens.now from halt) }
-    ensures least { IsLeastIn 24 (λ tokens. SpellsStmt tokens depth) tokens.now from result }
+    ensures { ReadsNested depth tokens.now from result }
 {
     if depth == 0 {
         return Err(Halt::Refused(from));
@@ -284,11 +276,7 @@ pub fn body(
 fn repeat(alloc: Global, tokens: &[Token], from: usize, depth: u8) -> Result<Reading<Stmt>, Halt>
     requires within { from < length tokens.now }
     requires word { bodies.is_one bodies.loop_words (what_at tokens.now from) ≡ true }
-    ensures spells { IfOk result (λ reading. SpellsStmt tokens.now depth from reading.part reading.end) }
-    ensures only { IfOk result (λ reading. IsOnly (λ tokens. SpellsStmt tokens depth) tokens.now from reading.end reading.stop) }
-    ensures ahead { IfOk result (λ reading. IsAhead tokens.now from reading.end reading.stop) }
-    ensures refused { IfErr result (λ halt. IsHalted (λ tokens. SpellsStmt tokens depth) tokens.now from halt) }
-    ensures least { IsLeastIn 24 (λ tokens. SpellsStmt tokens depth) tokens.now from result }
+    ensures { ReadsNested depth tokens.now from result }
 {
     if depth == 0 {
         return Err(Halt::Refused(from));
@@ -317,11 +305,7 @@ fn repeat(alloc: Global, tokens: &[Token], from: usize, depth: u8) -> Result<Rea
 fn begin(alloc: Global, tokens: &[Token], from: usize, depth: u8) -> Result<Reading<Stmt>, Halt>
     requires within { from < length tokens.now }
     requires word { HasWord tokens.now from w.BEGIN }
-    ensures spells { IfOk result (λ reading. SpellsStmt tokens.now depth from reading.part reading.end) }
-    ensures only { IfOk result (λ reading. IsOnly (λ tokens. SpellsStmt tokens depth) tokens.now from reading.end reading.stop) }
-    ensures ahead { IfOk result (λ reading. IsAhead tokens.now from reading.end reading.stop) }
-    ensures refused { IfErr result (λ halt. IsHalted (λ tokens. SpellsStmt tokens depth) tokens.now from halt) }
-    ensures least { IsLeastIn 24 (λ tokens. SpellsStmt tokens depth) tokens.now from result }
+    ensures { ReadsNested depth tokens.now from result }
 {
     if depth == 0 {
         return Err(Halt::Refused(from));
@@ -348,11 +332,7 @@ pub fn statement(
     depth: u8,
 ) -> Result<Reading<Stmt>, Halt>
     requires { from ≤ length tokens.now }
-    ensures spells { IfOk result (λ reading. SpellsStmt tokens.now depth from reading.part reading.end) }
-    ensures only { IfOk result (λ reading. IsOnly (λ tokens. SpellsStmt tokens depth) tokens.now from reading.end reading.stop) }
-    ensures ahead { IfOk result (λ reading. IsAhead tokens.now from reading.end reading.stop) }
-    ensures refused { IfErr result (λ halt. IsHalted (λ tokens. SpellsStmt tokens depth) tokens.now from halt) }
-    ensures least { IsLeastIn 24 (λ tokens. SpellsStmt tokens depth) tokens.now from result }
+    ensures { ReadsNested depth tokens.now from result }
 {
     let first = match first_at(tokens, from) {
         Some(first) => first,

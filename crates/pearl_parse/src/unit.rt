@@ -1,12 +1,11 @@
 // Tasks and procedures, and declarations of all kinds.
 
-ghost use Rattle.std.specs.Prelude.{◌≡◌, ◌+◌, ◌<◌, ◌≤◌, length, max, IfOk, IfErr, false};
+ghost use Rattle.std.specs.Prelude.{◌≡◌, ◌+◌, ◌<◌, ◌≤◌, length, max, false};
 ghost use Rattle.pearl_tree.specs.Standing.{what_at, HasWord, HasSymbol, IsName};
 ghost use Rattle.pearl_tree.specs.Modules.{SpellsDecl};
 ghost use Rattle.pearl_tree.specs.declared.symbol.TheConstants as s;
 ghost use Rattle.pearl_tree.specs.declared.word_code.TheConstants as w;
-ghost use Rattle.pearl_parse_expr.specs.Stops.{IsOnly, IsAhead, IsHalted};
-ghost use Rattle.pearl_parse_expr.specs.Least.{IsLeastIn};
+ghost use Rattle.pearl_parse_expr.specs.Reads.{ReadsOnly};
 ghost use Rattle.pearl_parse.specs.Modules as modules;
 
 use crate::block::block;
@@ -31,11 +30,7 @@ fn task(alloc: Global, tokens: &[Token], from: usize, name: Name) -> Result<Read
     requires name { IsName tokens.now from name }
     requires colon { HasSymbol tokens.now (from + 1) s.COLON }
     requires word { HasWord tokens.now (from + 2) w.TASK }
-    ensures spells { IfOk result (λ reading. SpellsDecl tokens.now from reading.part reading.end) }
-    ensures only { IfOk result (λ reading. IsOnly SpellsDecl tokens.now from reading.end reading.stop) }
-    ensures ahead { IfOk result (λ reading. IsAhead tokens.now from reading.end reading.stop) }
-    ensures refused { IfErr result (λ halt. IsHalted SpellsDecl tokens.now from halt) }
-    ensures least { IsLeastIn 24 SpellsDecl tokens.now from result }
+    ensures { ReadsOnly 24 SpellsDecl tokens.now from result }
 {
     let head = task_head(tokens, from + 3);
     let block = block(alloc, tokens, head.end, head.stop)?;
@@ -63,11 +58,7 @@ fn procedure(
     requires name { IsName tokens.now from name }
     requires colon { HasSymbol tokens.now (from + 1) s.COLON }
     requires word { HasWord tokens.now (from + 2) w.PROC }
-    ensures spells { IfOk result (λ reading. SpellsDecl tokens.now from reading.part reading.end) }
-    ensures only { IfOk result (λ reading. IsOnly SpellsDecl tokens.now from reading.end reading.stop) }
-    ensures ahead { IfOk result (λ reading. IsAhead tokens.now from reading.end reading.stop) }
-    ensures refused { IfErr result (λ halt. IsHalted SpellsDecl tokens.now from halt) }
-    ensures least { IsLeastIn 24 SpellsDecl tokens.now from result }
+    ensures { ReadsOnly 24 SpellsDecl tokens.now from result }
 {
     let params = match maybe_bracketed(alloc, tokens, from + 3) {
         Ok(params) => params,
@@ -92,11 +83,7 @@ fn procedure(
 fn unit(alloc: Global, tokens: &[Token], from: usize, name: Name) -> Result<Reading<Decl>, Halt>
     requires within { from < length tokens.now }
     requires name { IsName tokens.now from name }
-    ensures spells { IfOk result (λ reading. SpellsDecl tokens.now from reading.part reading.end) }
-    ensures only { IfOk result (λ reading. IsOnly SpellsDecl tokens.now from reading.end reading.stop) }
-    ensures ahead { IfOk result (λ reading. IsAhead tokens.now from reading.end reading.stop) }
-    ensures refused { IfErr result (λ halt. IsHalted SpellsDecl tokens.now from halt) }
-    ensures least { IsLeastIn 24 SpellsDecl tokens.now from result }
+    ensures { ReadsOnly 24 SpellsDecl tokens.now from result }
 {
     symbol(tokens, from + 1, from, COLON)?;
     if is_word(tokens, from + 2, TASK) {
@@ -109,11 +96,7 @@ fn unit(alloc: Global, tokens: &[Token], from: usize, name: Name) -> Result<Read
 /// The rule `decl`: what is declared here, by its first token.
 pub fn declaration(alloc: Global, tokens: &[Token], from: usize) -> Result<Reading<Decl>, Halt>
     requires { from ≤ length tokens.now }
-    ensures spells { IfOk result (λ reading. SpellsDecl tokens.now from reading.part reading.end) }
-    ensures only { IfOk result (λ reading. IsOnly SpellsDecl tokens.now from reading.end reading.stop) }
-    ensures ahead { IfOk result (λ reading. IsAhead tokens.now from reading.end reading.stop) }
-    ensures refused { IfErr result (λ halt. IsHalted SpellsDecl tokens.now from halt) }
-    ensures least { IsLeastIn 24 SpellsDecl tokens.now from result }
+    ensures { ReadsOnly 24 SpellsDecl tokens.now from result }
 {
     if is_word(tokens, from, LENGTH) {
         return length_of(tokens, from);

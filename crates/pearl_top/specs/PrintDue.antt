@@ -26,14 +26,15 @@ pub record IsPrinted (source bytes : List ℕ) : Type 0 where
   pub is : IsSpelled source
   pub text : bytes ≡ text_of_tokens (tokens_of is.tree)
 
--- the bytes have tokens, and no program begins with those up to and with the one at this place; the end of the source, which has
--- the place of its length, counts as its last token
+-- the bytes have tokens, and the one at this place is the first up to and with which no program begins: some program
+-- begins with the tokens before it. The end of the source, which has the place of its length, counts as its last token
 pub record HasStop (source : List ℕ) (place : ℕ) : Type 0 where
   pub tokens : List Token
   pub lexes : Lexes source tokens
   pub refused : IsRefusedAt tokens (length source) place
 
--- these bytes, within the limit, are refused at a place: no token begins there, or no program begins with the tokens up to and with it
+-- these bytes, within the limit, are refused at a place: the first at which no token begins, or that of the first token
+-- up to and with which no program begins
 pub record IsUnspelled (source bytes : List ℕ) : Type 0 where
   pub within : length source ≤ SOURCE_LIMIT
   pub place : ℕ

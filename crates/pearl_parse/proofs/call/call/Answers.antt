@@ -19,7 +19,7 @@ returns-in_err-called c = λ depth.
     let from = c.args.from in
     let few : length tokens < 2 ^ 55 = search rules in
     let begun = call_begun tokens depth from c.requires.within few c.requires.word in
-    unread (Spelled depth) tokens from _ c.in_err-called.field-0.0 c.from_residual.result c.from_residual.ensures (λ e is. is)
+    unread 24 (Spelled depth) tokens from _ c.in_err-called.field-0.0 c.from_residual.result c.from_residual.ensures (λ e is. is)
     (missing (Spelled depth) tokens from is_name call_rest (from + 1) from (from + 1) c.in_err-called.field-0.0 (call_goes tokens depth from c.requires.word)
     (λ others to h. h.0) (omega arith) (omega (arith, c.requires.within)) (omega (arith, c.requires.within)) c.in_err-called.ensures.missing)
     (halt_token 24 (Spelled depth) tokens from 0 2 (Then SpellsName (Then SpellsArguments Ends)) call_fills (omega arith) is_name (from + 1) from c.in_err-called.field-0.0 begun c.in_err-called.ensures.missing)
@@ -31,7 +31,7 @@ returns-in_err-arguments c = λ depth.
     let few : length tokens < 2 ^ 55 = search rules in
     let begun = call_begun tokens depth from c.requires.within few c.requires.word in
     let at = past_name 24 (Spelled depth) tokens from 0 c.in_ok-called.called (Then SpellsArguments Ends) (from + 1) from (from + 2) (omega arith) begun c.in_ok-called.ensures.stands c.in_ok-called.ensures.within in
-    unread (Spelled depth) tokens from _ c.in_err-arguments.field-0.0 c.from_residual-in_err-arguments.result c.from_residual-in_err-arguments.ensures (λ e is. is)
+    unread 24 (Spelled depth) tokens from _ c.in_err-arguments.field-0.0 c.from_residual-in_err-arguments.result c.from_residual-in_err-arguments.ensures (λ e is. is)
     (no_part (Spelled depth) tokens from SpellsArguments Ends (from + 2) from c.in_err-arguments.field-0.0 (call_goes_on tokens depth from c.requires.word) (omega arith) c.in_err-arguments.ensures.refused)
     (halt_part 24 (Spelled depth) tokens from 0 0 24 SpellsArguments Ends arguments_are_local ends_fill (omega arith) (from + 2) from (omega arith) at c.in_err-arguments.field-0.0 c.in_err-arguments.ensures.least)
 

@@ -20,7 +20,7 @@ returns-in_err-target c = λ depth.
     let tokens = c.args.tokens.now in
     let from = c.args.from in
     let few : length tokens < 2 ^ 55 = search rules in
-    unread (Spelled depth) tokens from _ c.in_err-target.field-0.0 c.from_residual.result c.from_residual.ensures (λ e is. is)
+    unread 24 (Spelled depth) tokens from _ c.in_err-target.field-0.0 c.from_residual.result c.from_residual.ensures (λ e is. is)
     (no_named tokens depth from c.in_err-target.field-0.0 c.requires.name c.in_err-target.ensures.unnamed)
     (no_target_least tokens depth from c.requires.within few c.in_err-target.field-0.0 c.in_err-target.ensures.refused c.in_err-target.ensures.least)
 
@@ -32,7 +32,7 @@ returns-in_err-value c = λ depth.
     let read = c.in_ok-target.ensures in
     let few : length tokens < 2 ^ 55 = search rules in
     let at_value = value_begins tokens depth from c.requires.within few target.part target.end target.stop read.spells (omega (arith, read.ahead)) (omega (arith, read.ahead)) (omega (arith, read.ahead)) read.least (c.if-becomes.ensures.stands refl) (c.if-becomes.ensures.within refl) in
-    unread (Spelled depth) tokens from _ c.in_err-value.field-0.0 c.from_residual-in_err-value.result c.from_residual-in_err-value.ensures (λ e is. is)
+    unread 24 (Spelled depth) tokens from _ c.in_err-value.field-0.0 c.from_residual-in_err-value.result c.from_residual-in_err-value.ensures (λ e is. is)
     (no_part (Spelled depth) tokens from SpellsWhole exit_rest (target.end + 1) target.stop c.in_err-value.field-0.0
     (assign_goes tokens depth from target.end target.stop c.requires.name (omega (arith, read.ahead)) (omega (arith, read.ahead)) read.named (sym c.if-becomes.ensures.value)) (omega (arith, read.ahead)) c.in_err-value.ensures.refused)
     (halt_part 24 (Spelled depth) tokens from 0 1 16 SpellsWhole semicolon expr_is_local semicolon_fills (omega arith) (target.end + 1) target.stop (omega (arith, read.ahead)) at_value c.in_err-value.field-0.0 c.in_err-value.ensures.least)
@@ -49,7 +49,7 @@ returns-in_err-symbol c = λ depth.
     let at_value = value_begins tokens depth from c.requires.within few target.part target.end target.stop read.spells (omega (arith, read.ahead)) (omega (arith, read.ahead)) (omega (arith, read.ahead)) read.least (c.if-becomes.ensures.stands refl) (c.if-becomes.ensures.within refl) in
     let at_close = past_part 24 (Spelled depth) tokens from 0 1 16 SpellsWhole semicolon expr_is_local semicolon_fills (omega arith) (target.end + 1) target.stop (omega (arith, read.ahead)) at_value
     value.part value.end value.stop next.spells (omega (arith, next.bounds)) (omega (arith, next.bounds)) next.least in
-    unread (Spelled depth) tokens from _ c.in_err-symbol.field-0.0 c.from_residual-in_err-symbol.result c.from_residual-in_err-symbol.ensures (λ e is. is)
+    unread 24 (Spelled depth) tokens from _ c.in_err-symbol.field-0.0 c.from_residual-in_err-symbol.result c.from_residual-in_err-symbol.ensures (λ e is. is)
     (let first = assign_goes tokens depth from target.end target.stop c.requires.name (omega (arith, read.ahead)) (omega (arith, read.ahead)) read.named (sym c.if-becomes.ensures.value) in
     let go = past (Spelled depth) tokens from SpellsWhole extends_expression exit_rest (target.end + 1) target.stop value.end value.stop first next.bounds.2 next.longest (λ others at to h. ap extends_expression h.0) in
     missing (Spelled depth) tokens from (is_symbol s.SEMICOLON) exit_rest value.end value.stop value.end c.in_err-symbol.field-0.0 go
@@ -86,7 +86,7 @@ returns-in_err-arguments c = λ depth.
     let read = c.in_ok-target.ensures in
     let few : length tokens < 2 ^ 55 = search rules in
     let at = arguments_begin tokens depth from c.requires.within few target.part target.end target.stop read.spells (omega (arith, read.ahead)) (omega (arith, read.ahead)) (omega (arith, read.ahead)) read.least c.in_ok-called.called c.in_ok-called.ensures.stands in
-    unread (Spelled depth) tokens from _ c.in_err-arguments.field-0.0 c.from_residual-in_err-arguments.result c.from_residual-in_err-arguments.ensures (λ e is. is)
+    unread 24 (Spelled depth) tokens from _ c.in_err-arguments.field-0.0 c.from_residual-in_err-arguments.result c.from_residual-in_err-arguments.ensures (λ e is. is)
     (no_part (Spelled depth) tokens from SpellsArguments Ends (from + 1) target.stop c.in_err-arguments.field-0.0
     (named_call_goes tokens depth from target.end target.stop c.requires.name (omega (arith, read.ahead)) (omega (arith, read.ahead)) read.named (sym c.if-becomes.ensures.value)) (omega (arith, read.ahead)) c.in_err-arguments.ensures.refused)
     (halt_part 24 (Spelled depth) tokens from 0 0 24 SpellsArguments Ends arguments_are_local ends_fill (omega arith) (from + 1) target.stop (omega arith) at c.in_err-arguments.field-0.0 c.in_err-arguments.ensures.least)

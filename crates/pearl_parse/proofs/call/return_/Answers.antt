@@ -22,7 +22,7 @@ returns-in_err-value c = λ depth.
     let few : length tokens < 2 ^ 55 = search rules in
     let begun = return_begun tokens depth from c.requires.within few c.requires.word in
     let halt = c.in_err-value.field-0.0 in
-    unread (Spelled depth) tokens from _ c.in_err-value.field-0.0 c.from_residual.result c.from_residual.ensures (λ e is. is)
+    unread 24 (Spelled depth) tokens from _ c.in_err-value.field-0.0 c.from_residual.result c.from_residual.ensures (λ e is. is)
     (no_first (Spelled depth) tokens from SpellsOptionalValue exit_rest (from + 1) from c.in_err-value.field-0.0 (return_goes tokens depth from c.requires.word)
     (omega arith) (omega arith) c.in_err-value.ensures.refused)
     (halt_first 24 (Spelled depth) tokens from 0 1 16 (Maybe SpellsValue) semicolon maybe_value_is_local semicolon_fills (omega arith) (from + 1) from (omega arith) begun SpellsOptionalValue halt (omega arith)
@@ -36,7 +36,7 @@ returns-in_err-symbol c = λ depth.
     let read = c.in_ok-value.ensures in
     let few : length tokens < 2 ^ 55 = search rules in
     let at = return_past tokens from c.requires.within few depth c.requires.word value.part value.end value.stop read.spells (omega (arith, read.bounds)) (omega (arith, read.bounds)) (omega (arith, read.bounds)) read.least in
-    unread (Spelled depth) tokens from _ c.in_err-symbol.field-0.0 c.from_residual-in_err-symbol.result c.from_residual-in_err-symbol.ensures (λ e is. is)
+    unread 24 (Spelled depth) tokens from _ c.in_err-symbol.field-0.0 c.from_residual-in_err-symbol.result c.from_residual-in_err-symbol.ensures (λ e is. is)
     (let go = past_only (Spelled depth) tokens from SpellsOptionalValue exit_rest (from + 1) from value.end value.stop (return_goes tokens depth from c.requires.word) (omega (arith, read.bounds)) read.only in
     missing (Spelled depth) tokens from (is_symbol s.SEMICOLON) exit_rest value.end value.stop value.end c.in_err-symbol.field-0.0 go
     (λ others to h. ap (is_symbol s.SEMICOLON) h.0) (omega (arith, read.bounds)) (omega (arith, read.bounds)) (omega (arith, read.bounds)) c.in_err-symbol.ensures.missing)

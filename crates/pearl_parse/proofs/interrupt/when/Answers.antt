@@ -22,7 +22,7 @@ returns-in_err-interrupt c = λ depth.
     let tokens = c.args.tokens.now in
     let from = c.args.from in
     let few : length tokens < 2 ^ 55 = search rules in
-    unread (Spelled depth) tokens from _ c.in_err-interrupt.field-0.0 c.from_residual.result c.from_residual.ensures (λ e is. is)
+    unread 24 (Spelled depth) tokens from _ c.in_err-interrupt.field-0.0 c.from_residual.result c.from_residual.ensures (λ e is. is)
     (missing (Spelled depth) tokens from is_name when_rest (from + 1) from (from + 1) c.in_err-interrupt.field-0.0 (when_goes tokens depth from c.requires.word)
     (λ others to h. h.0) (omega arith) (omega (arith, c.requires.within)) (omega (arith, c.requires.within)) c.in_err-interrupt.ensures.missing)
     (interrupt_missing tokens depth from c.requires.within few c.requires.word c.in_err-interrupt.field-0.0 c.in_err-interrupt.ensures.missing)
@@ -33,7 +33,7 @@ returns-in_err-task c = λ depth.
     let from = c.args.from in
     let few : length tokens < 2 ^ 55 = search rules in
     let at_name = interrupt_continues tokens depth from c.requires.within few c.requires.word c.in_ok-interrupt.interrupt c.in_ok-interrupt.ensures.stands c.in_ok-interrupt.ensures.within (c.if-is_word.ensures.stands refl) (c.if-is_word.ensures.within refl) in
-    unread (Spelled depth) tokens from _ c.in_err-task.field-0.0 c.from_residual-in_err-task.result c.from_residual-in_err-task.ensures (λ e is. is)
+    unread 24 (Spelled depth) tokens from _ c.in_err-task.field-0.0 c.from_residual-in_err-task.result c.from_residual-in_err-task.ensures (λ e is. is)
     (missing (Spelled depth) tokens from is_name continue_rest (from + 2) (from + 2) (from + 3) c.in_err-task.field-0.0 (when_continues tokens depth from c.requires.word (c.if-is_word.ensures.stands refl))
     (λ others to h. subst (λ k. is_name (what_at others k) ≡ true) (omega arith) h.0) (omega arith) (omega (arith, c.if-is_word.ensures.within refl)) (omega (arith, c.in_ok-interrupt.ensures.within)) c.in_err-task.ensures.missing)
     (name_missing tokens depth from (from + 3) (from + 2) c.in_err-task.field-0.0 at_name c.in_err-task.ensures.missing)
@@ -45,7 +45,7 @@ returns-in_err-symbol c = λ depth.
     let few : length tokens < 2 ^ 55 = search rules in
     let at_name = interrupt_continues tokens depth from c.requires.within few c.requires.word c.in_ok-interrupt.interrupt c.in_ok-interrupt.ensures.stands c.in_ok-interrupt.ensures.within (c.if-is_word.ensures.stands refl) (c.if-is_word.ensures.within refl) in
     let at_close = behind_name tokens depth from c.in_ok-task.task (from + 3) (from + 2) (from + 4) (omega arith) at_name c.in_ok-task.ensures.stands c.in_ok-task.ensures.within in
-    unread (Spelled depth) tokens from _ c.in_err-symbol.field-0.0 c.from_residual-in_err-symbol.result c.from_residual-in_err-symbol.ensures (λ e is. is)
+    unread 24 (Spelled depth) tokens from _ c.in_err-symbol.field-0.0 c.from_residual-in_err-symbol.result c.from_residual-in_err-symbol.ensures (λ e is. is)
     (missing (Spelled depth) tokens from (is_symbol s.SEMICOLON) continue_rest (from + 2) (from + 2) (from + 4) c.in_err-symbol.field-0.0 (when_continues tokens depth from c.requires.word (c.if-is_word.ensures.stands refl))
     (λ others to h. ap (is_symbol s.SEMICOLON) (subst (λ k. HasSymbol others k s.SEMICOLON) (omega arith) h.1)) (omega arith) (omega (arith, c.in_ok-task.ensures.within)) (omega (arith, c.in_ok-interrupt.ensures.within)) c.in_err-symbol.ensures.missing)
     (semicolon_missing tokens depth from (from + 4) (from + 2) c.in_err-symbol.field-0.0 at_close c.in_err-symbol.ensures.missing)
@@ -69,7 +69,7 @@ returns-in_err-symbol-2 c = λ depth.
     let from = c.args.from in
     let few : length tokens < 2 ^ 55 = search rules in
     let at_close = interrupt_resumes tokens depth from c.requires.within few c.requires.word c.in_ok-interrupt.interrupt c.in_ok-interrupt.ensures.stands c.in_ok-interrupt.ensures.within (c.if-is_word-2.ensures.stands refl) (c.if-is_word-2.ensures.within refl) in
-    unread (Spelled depth) tokens from _ c.in_err-symbol-2.field-0.0 c.from_residual-in_err-symbol-2.result c.from_residual-in_err-symbol-2.ensures (λ e is. is)
+    unread 24 (Spelled depth) tokens from _ c.in_err-symbol-2.field-0.0 c.from_residual-in_err-symbol-2.result c.from_residual-in_err-symbol-2.ensures (λ e is. is)
     (missing (Spelled depth) tokens from (is_symbol s.SEMICOLON) resume_rest (from + 2) (from + 2) (from + 3) c.in_err-symbol-2.field-0.0 (when_resumes tokens depth from c.requires.word (c.if-is_word-2.ensures.stands refl))
     (λ others to h. ap (is_symbol s.SEMICOLON) (subst (λ k. HasSymbol others k s.SEMICOLON) (omega arith) h.0)) (omega arith) (omega (arith, c.if-is_word-2.ensures.within refl)) (omega (arith, c.in_ok-interrupt.ensures.within)) c.in_err-symbol-2.ensures.missing)
     (semicolon_missing tokens depth from (from + 3) (from + 2) c.in_err-symbol-2.field-0.0 at_close c.in_err-symbol-2.ensures.missing)
@@ -93,7 +93,7 @@ returns-in_err-after c = λ depth.
     let from = c.args.from in
     let few : length tokens < 2 ^ 55 = search rules in
     let late = interrupt_late tokens depth from c.requires.within few c.requires.word c.in_ok-interrupt.interrupt c.in_ok-interrupt.ensures.stands c.in_ok-interrupt.ensures.within in
-    unread (Spelled depth) tokens from _ c.in_err-after.field-0.0 c.from_residual-in_err-after.result c.from_residual-in_err-after.ensures (λ e is. is)
+    unread 24 (Spelled depth) tokens from _ c.in_err-after.field-0.0 c.from_residual-in_err-after.result c.from_residual-in_err-after.ensures (λ e is. is)
     (no_part (Spelled depth) tokens from SpellsOptionalAfter begun_rest (from + 2) (from + 2) c.in_err-after.field-0.0
     (when_begins tokens depth from c.requires.word (sym c.if-is_word.ensures.value) (sym c.if-is_word-2.ensures.value)) (omega arith) c.in_err-after.ensures.refused)
     (halt_part 24 (Spelled depth) tokens from 0 3 8 (Maybe (After w.AFTER)) (Then SpellsAnyBegun Ends) (maybe_after_is_local w.AFTER) begun_fills (omega arith) (from + 2) (from + 2) (omega arith) late
@@ -107,7 +107,7 @@ returns-in_err-begun c = λ depth.
     let read = c.in_ok-after.ensures in
     let few : length tokens < 2 ^ 55 = search rules in
     let at = interrupt_begins tokens depth from c.requires.within few c.requires.word c.in_ok-interrupt.interrupt c.in_ok-interrupt.ensures.stands c.in_ok-interrupt.ensures.within after.part after.end after.stop read.spells (omega (arith, read.bounds)) (omega (arith, read.bounds)) read.least in
-    unread (Spelled depth) tokens from _ c.in_err-begun.field-0.0 c.from_residual-in_err-begun.result c.from_residual-in_err-begun.ensures (λ e is. is)
+    unread 24 (Spelled depth) tokens from _ c.in_err-begun.field-0.0 c.from_residual-in_err-begun.result c.from_residual-in_err-begun.ensures (λ e is. is)
     (let go = past (Spelled depth) tokens from SpellsOptionalAfter extends_expression begun_rest (from + 2) (from + 2) after.end after.stop
     (when_begins tokens depth from c.requires.word (sym c.if-is_word.ensures.value) (sym c.if-is_word-2.ensures.value)) read.bounds.2 read.longest avoids_begun in
     no_part (Spelled depth) tokens from SpellsBegun Ends after.end after.stop c.in_err-begun.field-0.0 go (omega (arith, read.bounds)) c.in_err-begun.ensures.refused)

@@ -17,7 +17,7 @@ returns-in_err-symbol-clause-reads c = λ depth.
     let tokens = c.args.tokens.now in
     let from = c.args.from in
     let few : length tokens < 2 ^ 55 = search rules in
-    unread (Spelled depth) tokens from _ c.in_err-symbol.field-0.0 c.from_residual.result c.from_residual.ensures (λ e is. is)
+    unread 24 (Spelled depth) tokens from _ c.in_err-symbol.field-0.0 c.from_residual.result c.from_residual.ensures (λ e is. is)
     (missing (Spelled depth) tokens from (is_symbol s.SEMICOLON) exit_rest (from + 1) from (from + 1) c.in_err-symbol.field-0.0 (exit_goes tokens depth from c.requires.word)
     (λ others to h. ap (is_symbol s.SEMICOLON) h.0) (omega arith) (omega (arith, c.requires.within)) (omega (arith, c.requires.within)) c.in_err-symbol.ensures.missing)
     (semicolon_missing tokens depth from (from + 1) from c.in_err-symbol.field-0.0 (exit_begun tokens depth from c.requires.within few c.requires.word) c.in_err-symbol.ensures.missing)

@@ -13,7 +13,7 @@ returns-in_err-interrupt c = λ depth.
     let tokens = c.args.tokens.now in
     let from = c.args.from in
     let few : length tokens < 2 ^ 55 = search rules in
-    unread (Spelled depth) tokens from _ c.in_err-interrupt.field-0.0 c.from_residual.result c.from_residual.ensures (λ e is. is)
+    unread 24 (Spelled depth) tokens from _ c.in_err-interrupt.field-0.0 c.from_residual.result c.from_residual.ensures (λ e is. is)
     (missing (Spelled depth) tokens from is_name interrupt_rest (from + 1) from (from + 1) c.in_err-interrupt.field-0.0 (interrupt_goes tokens depth from c.args.word c.requires.word)
     (λ others to h. h.0) (omega arith) (omega (arith, c.requires.within)) (omega (arith, c.requires.within)) c.in_err-interrupt.ensures.missing)
     (name_missing tokens depth from (from + 1) from c.in_err-interrupt.field-0.0 (interrupt_begun tokens depth from c.requires.within few c.args.word c.requires.word) c.in_err-interrupt.ensures.missing)
@@ -24,7 +24,7 @@ returns-in_err-symbol c = λ depth.
     let from = c.args.from in
     let few : length tokens < 2 ^ 55 = search rules in
     let begun = interrupt_begun tokens depth from c.requires.within few c.args.word c.requires.word in
-    unread (Spelled depth) tokens from _ c.in_err-symbol.field-0.0 c.from_residual-in_err-symbol.result c.from_residual-in_err-symbol.ensures (λ e is. is)
+    unread 24 (Spelled depth) tokens from _ c.in_err-symbol.field-0.0 c.from_residual-in_err-symbol.result c.from_residual-in_err-symbol.ensures (λ e is. is)
     (missing (Spelled depth) tokens from (is_symbol s.SEMICOLON) interrupt_rest (from + 1) from (from + 2) c.in_err-symbol.field-0.0 (interrupt_goes tokens depth from c.args.word c.requires.word)
     (λ others to h. ap (is_symbol s.SEMICOLON) (subst (λ k. HasSymbol others k s.SEMICOLON) (omega arith) h.1)) (omega arith) (omega (arith, c.in_ok-interrupt.ensures.within)) (omega (arith, c.requires.within)) c.in_err-symbol.ensures.missing)
     (semicolon_missing tokens depth from (from + 2) from c.in_err-symbol.field-0.0

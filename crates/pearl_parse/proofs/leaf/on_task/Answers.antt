@@ -21,7 +21,7 @@ returns-in_err-symbol c = λ depth.
     let read = c.maybe_name-task.ensures in
     let few : length tokens < 2 ^ 55 = search rules in
     let begun = task_begun tokens depth from c.requires.within few c.args.word c.requires.word in
-    unread (Spelled depth) tokens from _ c.in_err-symbol.field-0.0 c.from_residual.result c.from_residual.ensures (λ e is. is)
+    unread 24 (Spelled depth) tokens from _ c.in_err-symbol.field-0.0 c.from_residual.result c.from_residual.ensures (λ e is. is)
     (let go = past_only (Spelled depth) tokens from (SpellsOptional is_name SpellsName) exit_rest (from + 1) from task.end task.stop (task_goes tokens depth from c.args.word c.requires.word) (omega (arith, read.bounds)) read.only in
     missing (Spelled depth) tokens from (is_symbol s.SEMICOLON) exit_rest task.end task.stop task.end c.in_err-symbol.field-0.0 go
     (λ others to h. ap (is_symbol s.SEMICOLON) h.0) (omega (arith, read.bounds)) (omega (arith, read.bounds)) (omega (arith, read.bounds)) c.in_err-symbol.ensures.missing)

@@ -1,4 +1,4 @@
-use Rattle.std.proofs.Common.{sym, subst, ◌+◌, ◌<◌, ◌≤◌, ◌^◌, length, rules, refl, arith}
+use Rattle.std.proofs.Common.{sym, subst, ◌<◌, ◌^◌, length, rules, arith}
 use Rattle.pearl_parse.specs.Modules.{SpellsHead, SpellsOpening, SpellsEnding, SpellsSource}
 use Rattle.pearl_parse.proofs.Steps.{Ends, err_told, past_only, no_part, no_first}
 use Rattle.pearl_parse.proofs.ModuleRests.{problems_rest, list_rest, source_goes, last_goes, Declarations, as_tree}

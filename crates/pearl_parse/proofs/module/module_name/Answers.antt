@@ -1,4 +1,4 @@
-use Rattle.std.proofs.Common.{◌+◌, refl, sym, ap, ◌<◌, ◌≤◌, ◌^◌, length, rules, arith}
+use Rattle.std.proofs.Common.{◌+◌, refl, sym, ap, ◌<◌, ◌^◌, length, rules, arith}
 use Rattle.pearl_tree.specs.Standing.{what_at, SpellsMaybe}
 use Rattle.pearl_tree.specs.Modules.{SpellsModuleName}
 use Rattle.pearl_tree.specs.declared.symbol.TheConstants as s

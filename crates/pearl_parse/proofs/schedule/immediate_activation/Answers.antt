@@ -16,7 +16,7 @@ returns-in_err-activation c = λ depth.
     let from = c.args.from in
     let few : length tokens < 2 ^ 55 = search rules in
     let begun = by_rule tokens depth from c.requires.within few (Then SpellsActivation Ends) (activation_made depth) in
-    unread (Spelled depth) tokens from _ c.in_err-activation.field-0.0 c.from_residual.result c.from_residual.ensures (λ e is. is)
+    unread 24 (Spelled depth) tokens from _ c.in_err-activation.field-0.0 c.from_residual.result c.from_residual.ensures (λ e is. is)
     (no_part (Spelled depth) tokens from SpellsActivation Ends from from c.in_err-activation.field-0.0 (activate_goes tokens depth from c.requires.word) (omega arith) c.in_err-activation.ensures.refused)
     (halt_part 24 (Spelled depth) tokens from 0 0 16 SpellsActivation Ends activation_is_local ends_fill (omega arith) from from (omega arith) begun c.in_err-activation.field-0.0 c.in_err-activation.ensures.least)
 

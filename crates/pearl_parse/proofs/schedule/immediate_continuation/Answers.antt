@@ -20,7 +20,7 @@ returns-in_err-task c = λ depth.
     let from = c.args.from in
     let few : length tokens < 2 ^ 55 = search rules in
     let at = past_word 24 (Spelled depth) tokens from 0 w.CONTINUE (Then SpellsName semicolon) from from (from + 1) (omega arith) (by_rule tokens depth from c.requires.within few continuation (continuation_made depth)) c.requires.word c.requires.within in
-    unread (Spelled depth) tokens from _ c.in_err-task.field-0.0 c.from_residual.result c.from_residual.ensures (λ e is. is)
+    unread 24 (Spelled depth) tokens from _ c.in_err-task.field-0.0 c.from_residual.result c.from_residual.ensures (λ e is. is)
     (missing (Spelled depth) tokens from is_name continue_rest from from (from + 1) c.in_err-task.field-0.0 (continue_goes tokens depth from c.requires.word)
     (λ others to h. h.0) (omega arith) (omega (arith, c.requires.within)) (omega (arith, c.requires.within)) c.in_err-task.ensures.missing)
     (name_missing tokens depth from (from + 1) from c.in_err-task.field-0.0 at c.in_err-task.ensures.missing)
@@ -31,7 +31,7 @@ returns-in_err-symbol c = λ depth.
     let from = c.args.from in
     let few : length tokens < 2 ^ 55 = search rules in
     let at = past_word 24 (Spelled depth) tokens from 0 w.CONTINUE (Then SpellsName semicolon) from from (from + 1) (omega arith) (by_rule tokens depth from c.requires.within few continuation (continuation_made depth)) c.requires.word c.requires.within in
-    unread (Spelled depth) tokens from _ c.in_err-symbol.field-0.0 c.from_residual-in_err-symbol.result c.from_residual-in_err-symbol.ensures (λ e is. is)
+    unread 24 (Spelled depth) tokens from _ c.in_err-symbol.field-0.0 c.from_residual-in_err-symbol.result c.from_residual-in_err-symbol.ensures (λ e is. is)
     (missing (Spelled depth) tokens from (is_symbol s.SEMICOLON) continue_rest from from (from + 2) c.in_err-symbol.field-0.0 (continue_goes tokens depth from c.requires.word)
     (λ others to h. ap (is_symbol s.SEMICOLON) h.1) (omega arith) (omega (arith, c.in_ok-task.ensures.within)) (omega (arith, c.requires.within)) c.in_err-symbol.ensures.missing)
     (semicolon_missing tokens depth from (from + 2) from c.in_err-symbol.field-0.0

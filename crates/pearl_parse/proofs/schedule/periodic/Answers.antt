@@ -19,7 +19,7 @@ returns-in_err-period c = λ depth.
     let from = c.args.from in
     let few : length tokens < 2 ^ 55 = search rules in
     let begun = by_rule tokens depth from c.requires.within few (Then SpellsPeriod (Then SpellsActivation Ends)) (periodic_activation_made depth) in
-    unread (Spelled depth) tokens from _ c.in_err-period.field-0.0 c.from_residual.result c.from_residual.ensures (λ e is. is)
+    unread 24 (Spelled depth) tokens from _ c.in_err-period.field-0.0 c.from_residual.result c.from_residual.ensures (λ e is. is)
     (no_part (Spelled depth) tokens from SpellsLongPeriod activation_rest from from c.in_err-period.field-0.0 (periodic_goes tokens depth from c.requires.word) (omega arith) c.in_err-period.ensures.refused)
     (halt_part 24 (Spelled depth) tokens from 0 3 16 SpellsPeriod (Then SpellsActivation Ends) period_is_local activation_part_fills (omega arith) from from (omega arith) begun c.in_err-period.field-0.0 c.in_err-period.ensures.least)
 
@@ -33,7 +33,7 @@ returns-in_err-activation c = λ depth.
     let begun = by_rule tokens depth from c.requires.within few (Then SpellsPeriod (Then SpellsActivation Ends)) (periodic_activation_made depth) in
     let at = past_part 24 (Spelled depth) tokens from 0 3 16 SpellsPeriod (Then SpellsActivation Ends) period_is_local activation_part_fills (omega arith) from from (omega arith) begun
     period.part period.end period.stop read.spells (omega (arith, read.bounds)) (omega (arith, read.bounds)) read.least in
-    unread (Spelled depth) tokens from _ c.in_err-activation.field-0.0 c.from_residual-in_err-activation.result c.from_residual-in_err-activation.ensures (λ e is. is)
+    unread 24 (Spelled depth) tokens from _ c.in_err-activation.field-0.0 c.from_residual-in_err-activation.result c.from_residual-in_err-activation.ensures (λ e is. is)
     (let go = past (Spelled depth) tokens from SpellsLongPeriod extends_expression activation_rest from from period.end period.stop (periodic_goes tokens depth from c.requires.word) read.bounds.2 read.longest (λ others at to h. ap extends_expression h.2.1) in
     no_part (Spelled depth) tokens from SpellsActivation Ends period.end period.stop c.in_err-activation.field-0.0 go read.bounds.2 c.in_err-activation.ensures.refused)
     (halt_part 24 (Spelled depth) tokens from 0 0 16 SpellsActivation Ends activation_is_local ends_fill (omega arith) period.end period.stop (omega (arith, read.bounds)) at c.in_err-activation.field-0.0 c.in_err-activation.ensures.least)

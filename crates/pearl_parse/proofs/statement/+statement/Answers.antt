@@ -13,10 +13,11 @@ use Rattle.pearl_parse.proofs.LeafRests.{Spelled}
 use Rattle.pearl_parse.proofs.Repetitions.{each_next, each_ends}
 use Rattle.pearl_parse.proofs.Choices.{some_of, choices_next, choices_end, no_choice, choices_begin}
 use Rattle.pearl_parse.proofs.Blocks.{block_is_longest, no_block}
-use Rattle.pearl_parse.proofs.NestedRests.{closing_rest, otherwise_rest, then_rest, choices_rest, block_rest, avoids_closing, avoids_otherwise, avoids_choices, if_goes, case_goes, begin_goes, repeat_goes, if_spelled, case_spelled, begin_spelled, repeat_spelled, no_if, no_case, no_begin, no_repeat, no_statement, out_of_memory, out_of_memory_behind}
+use Rattle.pearl_parse.proofs.NestedRests.{closing_rest, otherwise_rest, then_rest, choices_rest, block_rest, avoids_closing, avoids_otherwise, avoids_choices, if_goes, case_goes, begin_goes, repeat_goes, if_spelled, case_spelled, begin_spelled, repeat_spelled, no_if, no_case, no_begin, no_repeat, no_statement, out_of_memory_behind}
 use Rattle.pearl_parse.proofs.StatementLeast.{stmt_kept, branch_kept, branch_read, maybe_branch_read, no_choice_least, choices_read, no_inner, inner_read, some_statement, no_memory, closing_halts, closed_goes, past_statements, past_other, choices_halt, past_choices, inner_halts, past_inner, if_halts, past_condition, case_halts, past_selector, repeat_halts, past_heads, begin_begun}
 use Rattle.pearl_parse.proofs.RepeatedLeast.{none_least, next_least, end_least}
-use Rattle.pearl_parse.proofs.States.{told_none, handed_in, handed_behind}
+use Rattle.pearl_parse.proofs.States.{told_none, handed_behind}
+use Rattle.pearl_parse.proofs.Unread.{none_read, unread, no_memory_read}
 use Rattle.pearl_parse.proofs.statement.+statement.Goals as goal
 
 pub statements-each-preserved : goal.statements-each-preserved
@@ -96,30 +97,42 @@ alternatives-returns-clause-spells t c = some_of c.args.tokens.now c.args.depth 
 pub alternatives-returns-clause-longest : goal.alternatives-returns-clause-longest
 alternatives-returns-clause-longest t c = choices_end c.args.tokens.now c.args.depth c.args.from c.each.end c.each.stop c.each.invariant.goes (omega (arith, c.each.invariant.bounds)) (sym c.each-test.ensures.value)
 
-pub if_-returns-then-depth-eq0-clause-refused : goal.if_-returns-then-depth-eq0-clause-refused
-if_-returns-then-depth-eq0-clause-refused t c = no_if c.args.tokens.now c.args.depth c.args.from c.if-depth-eq0.true (omega (arith, c.requires.within)) c.requires.word
+pub if_-returns-then-depth-eq0 : goal.if_-returns-then-depth-eq0
+if_-returns-then-depth-eq0 t c =
+    let few : length c.args.tokens.now < 2 ^ 55 = search rules in
+    none_read 24 (Spelled c.args.depth) c.args.tokens.now c.args.from _
+    (no_if c.args.tokens.now c.args.depth c.args.from c.if-depth-eq0.true (omega (arith, c.requires.within)) c.requires.word)
+    (some_statement c.args.tokens.now c.args.depth c.args.from (omega (arith, c.requires.within)) few)
 
-pub if_-returns-in_err-condition-clause-refused : goal.if_-returns-in_err-condition-clause-refused
-if_-returns-in_err-condition-clause-refused t c =
+pub if_-returns-in_err-condition : goal.if_-returns-in_err-condition
+if_-returns-in_err-condition t c =
     let tokens = c.args.tokens.now in
     let from = c.args.from in
     let depth = c.args.depth in
     let go_0 = if_goes tokens depth from c.requires.word in
-    err_told _ _ c.in_err-condition.field-0.0 c.from_residual.result c.from_residual.ensures (λ e is. is)
+    let few : length tokens < 2 ^ 55 = search rules in
+    let deep : 0 < depth = omega (arith, c.if-depth-eq0.false) in
+    let inside : from < length tokens = omega (arith, c.requires.within) in
+    unread 24 (Spelled depth) tokens from _ c.in_err-condition.field-0.0 c.from_residual.result c.from_residual.ensures (λ e is. is)
     (no_first (Spelled depth) tokens from SpellsCondition (then_rest (depth - 1)) from from c.in_err-condition.field-0.0 go_0 (omega arith) (omega arith) c.in_err-condition.ensures.refused)
+    (if_halts tokens depth from inside few deep c.in_err-condition.field-0.0 c.in_err-condition.ensures.refused c.in_err-condition.ensures.least)
 
-pub if_-returns-in_err-statements-clause-refused : goal.if_-returns-in_err-statements-clause-refused
-if_-returns-in_err-statements-clause-refused t c =
-    err_told _ _ c.in_err-statements.field-0.0 c.from_residual-in_err-statements.result c.from_residual-in_err-statements.ensures (λ e is. is)
-    (out_of_memory (Spelled c.args.depth) c.args.tokens.now c.args.from c.in_err-statements.field-0.0 c.in_err-statements.ensures.refused)
+pub if_-returns-in_err-statements : goal.if_-returns-in_err-statements
+if_-returns-in_err-statements t c =
+    let tokens = c.args.tokens.now in
+    let from = c.args.from in
+    let depth = c.args.depth in
+    no_memory_read 24 (Spelled depth) tokens from _ c.in_err-statements.field-0.0 c.from_residual-in_err-statements.result c.from_residual-in_err-statements.ensures (λ e is. is) c.in_err-statements.ensures.refused
 
-pub if_-returns-in_err-otherwise-clause-refused : goal.if_-returns-in_err-otherwise-clause-refused
-if_-returns-in_err-otherwise-clause-refused t c =
-    err_told _ _ c.in_err-otherwise.field-0.0 c.from_residual-in_err-otherwise.result c.from_residual-in_err-otherwise.ensures (λ e is. is)
-    (out_of_memory (Spelled c.args.depth) c.args.tokens.now c.args.from c.in_err-otherwise.field-0.0 c.in_err-otherwise.ensures.refused)
+pub if_-returns-in_err-otherwise : goal.if_-returns-in_err-otherwise
+if_-returns-in_err-otherwise t c =
+    let tokens = c.args.tokens.now in
+    let from = c.args.from in
+    let depth = c.args.depth in
+    no_memory_read 24 (Spelled depth) tokens from _ c.in_err-otherwise.field-0.0 c.from_residual-in_err-otherwise.result c.from_residual-in_err-otherwise.ensures (λ e is. is) c.in_err-otherwise.ensures.refused
 
-pub if_-returns-in_err-closing-clause-refused : goal.if_-returns-in_err-closing-clause-refused
-if_-returns-in_err-closing-clause-refused t c =
+pub if_-returns-in_err-closing : goal.if_-returns-in_err-closing
+if_-returns-in_err-closing t c =
     let tokens = c.args.tokens.now in
     let from = c.args.from in
     let depth = c.args.depth in
@@ -130,11 +143,21 @@ if_-returns-in_err-closing-clause-refused t c =
     let go_1 = past_only (Spelled depth) tokens from SpellsCondition (then_rest (depth - 1)) from from condition.end condition.stop go_0 (omega (arith, c.in_ok-condition.ensures.ahead)) c.in_ok-condition.ensures.only in
     let go_2 = past (Spelled depth) tokens from (SpellsStatements (depth - 1)) begins_statement (otherwise_rest (depth - 1) w.ELSE) condition.end condition.stop statements.end statements.stop go_1 (omega (arith, c.in_ok-statements.ensures.bounds)) c.in_ok-statements.ensures.longest (avoids_otherwise begins_statement (depth - 1) w.ELSE refl refl) in
     let go_3 = past (Spelled depth) tokens from (SpellsOptionalHeaded (depth - 1) w.ELSE) begins_statement (closing_rest w.FIN) statements.end statements.stop otherwise.end otherwise.stop go_2 (omega (arith, c.in_ok-otherwise.ensures.bounds)) c.in_ok-otherwise.ensures.longest (avoids_closing begins_statement w.FIN refl) in
-    err_told _ _ c.in_err-closing.field-0.0 c.from_residual-in_err-closing.result c.from_residual-in_err-closing.ensures (λ e is. is)
+    let few : length tokens < 2 ^ 55 = search rules in
+    let deep : 0 < depth = omega (arith, c.if-depth-eq0.false) in
+    let inside : from < length tokens = omega (arith, c.requires.within) in
+    let head = c.in_ok-condition.ensures in
+    let inner = c.in_ok-statements.ensures in
+    let other = c.in_ok-otherwise.ensures in
+    let at_0 = past_condition tokens depth from inside few deep condition.part condition.end condition.stop head.spells (omega (arith, head.ahead)) (omega (arith, head.ahead)) (omega (arith, head.ahead)) head.least in
+    let at_1 = past_statements tokens depth from condition.end condition.stop (omega (arith, head.ahead)) at_0 statements.part.items statements.end statements.stop inner.spells (omega (arith, inner.bounds)) (omega (arith, inner.bounds)) inner.least in
+    let at_2 = past_other tokens depth from w.ELSE statements.end statements.stop (omega (arith, head.ahead, inner.bounds)) at_1 otherwise.part otherwise.end otherwise.stop other.spells (omega (arith, other.bounds)) (omega (arith, other.bounds)) other.least in
+    unread 24 (Spelled depth) tokens from _ c.in_err-closing.field-0.0 c.from_residual-in_err-closing.result c.from_residual-in_err-closing.ensures (λ e is. is)
     (no_part (Spelled depth) tokens from (SpellsClosing w.FIN) Ends otherwise.end otherwise.stop c.in_err-closing.field-0.0 go_3 (omega (arith, c.in_ok-condition.ensures.ahead, c.in_ok-statements.ensures.bounds, c.in_ok-otherwise.ensures.bounds)) c.in_err-closing.ensures.refused)
+    (closing_halts tokens depth from w.FIN otherwise.end otherwise.stop at_2 c.in_err-closing.field-0.0 (c.in_err-closing.ensures.least (omega arith)))
 
-pub if_-returns-clause-spells : goal.if_-returns-clause-spells
-if_-returns-clause-spells t c =
+pub if_-returns : goal.if_-returns
+if_-returns t c =
     let tokens = c.args.tokens.now in
     let from = c.args.from in
     let depth = c.args.depth in
@@ -142,53 +165,73 @@ if_-returns-clause-spells t c =
     let statements = c.in_ok-statements.statements in
     let otherwise = c.in_ok-otherwise.otherwise in
     let deep : 0 < depth = omega (arith, c.if-depth-eq0.false) in
-    if_spelled tokens depth from c.place_at.result c.place_at.ensures deep c.in_ok-boxed.field-0 condition.part c.new.result otherwise.part c.in_ok-boxed.ensures.value condition.end statements.end otherwise.end c.in_ok-condition.ensures.spells
-    (subst (λ xs. SpellsStatements (depth - 1) tokens condition.end xs statements.end) (sym c.new.ensures) c.in_ok-statements.ensures.spells) c.in_ok-otherwise.ensures.spells c.in_ok-closing.ensures.stands
-
-pub if_-returns-clause-only : goal.if_-returns-clause-only
-if_-returns-clause-only t c =
-    let tokens = c.args.tokens.now in
-    let from = c.args.from in
-    let depth = c.args.depth in
-    let condition = c.in_ok-condition.condition in
-    let statements = c.in_ok-statements.statements in
-    let otherwise = c.in_ok-otherwise.otherwise in
     let go_0 = if_goes tokens depth from c.requires.word in
     let go_1 = past_only (Spelled depth) tokens from SpellsCondition (then_rest (depth - 1)) from from condition.end condition.stop go_0 (omega (arith, c.in_ok-condition.ensures.ahead)) c.in_ok-condition.ensures.only in
     let go_2 = past (Spelled depth) tokens from (SpellsStatements (depth - 1)) begins_statement (otherwise_rest (depth - 1) w.ELSE) condition.end condition.stop statements.end statements.stop go_1 (omega (arith, c.in_ok-statements.ensures.bounds)) c.in_ok-statements.ensures.longest (avoids_otherwise begins_statement (depth - 1) w.ELSE refl refl) in
     let go_3 = past (Spelled depth) tokens from (SpellsOptionalHeaded (depth - 1) w.ELSE) begins_statement (closing_rest w.FIN) statements.end statements.stop otherwise.end otherwise.stop go_2 (omega (arith, c.in_ok-otherwise.ensures.bounds)) c.in_ok-otherwise.ensures.longest (avoids_closing begins_statement w.FIN refl) in
-    ends (Spelled depth) tokens from (closing_rest w.FIN) otherwise.end otherwise.stop c.max.result (otherwise.end + 2) go_3 (omega (arith, c.max.ensures)) (λ others to h. omega (arith, h.2.2, h.3))
+    let few : length tokens < 2 ^ 55 = search rules in
+    let inside : from < length tokens = omega (arith, c.requires.within) in
+    let head = c.in_ok-condition.ensures in
+    let inner = c.in_ok-statements.ensures in
+    let other = c.in_ok-otherwise.ensures in
+    let at_0 = past_condition tokens depth from inside few deep condition.part condition.end condition.stop head.spells (omega (arith, head.ahead)) (omega (arith, head.ahead)) (omega (arith, head.ahead)) head.least in
+    let at_1 = past_statements tokens depth from condition.end condition.stop (omega (arith, head.ahead)) at_0 statements.part.items statements.end statements.stop inner.spells (omega (arith, inner.bounds)) (omega (arith, inner.bounds)) inner.least in
+    let at_2 = past_other tokens depth from w.ELSE statements.end statements.stop (omega (arith, head.ahead, inner.bounds)) at_1 otherwise.part otherwise.end otherwise.stop other.spells (omega (arith, other.bounds)) (omega (arith, other.bounds)) other.least in
+    record {
+      spells = if_spelled tokens depth from c.place_at.result c.place_at.ensures deep c.in_ok-boxed.field-0 condition.part c.new.result otherwise.part c.in_ok-boxed.ensures.value condition.end statements.end otherwise.end c.in_ok-condition.ensures.spells
+          (subst (λ xs. SpellsStatements (depth - 1) tokens condition.end xs statements.end) (sym c.new.ensures) c.in_ok-statements.ensures.spells) c.in_ok-otherwise.ensures.spells c.in_ok-closing.ensures.stands;
+      only = ends (Spelled depth) tokens from (closing_rest w.FIN) otherwise.end otherwise.stop c.max.result (otherwise.end + 2) go_3 (omega (arith, c.max.ensures)) (λ others to h. omega (arith, h.2.2, h.3));
+      ahead = search rules;
+      refused = tt;
+      least = closed_goes tokens depth from w.FIN otherwise.end otherwise.stop at_2 c.max.result c.in_ok-closing.ensures.stands c.in_ok-closing.ensures.within (omega (arith, other.bounds)) c.max.ensures;
+    }
 
-pub case-returns-then-depth-eq0-clause-refused : goal.case-returns-then-depth-eq0-clause-refused
-case-returns-then-depth-eq0-clause-refused t c = no_case c.args.tokens.now c.args.depth c.args.from c.if-depth-eq0.true (omega (arith, c.requires.within)) c.requires.word
+pub case-returns-then-depth-eq0 : goal.case-returns-then-depth-eq0
+case-returns-then-depth-eq0 t c =
+    let few : length c.args.tokens.now < 2 ^ 55 = search rules in
+    none_read 24 (Spelled c.args.depth) c.args.tokens.now c.args.from _
+    (no_case c.args.tokens.now c.args.depth c.args.from c.if-depth-eq0.true (omega (arith, c.requires.within)) c.requires.word)
+    (some_statement c.args.tokens.now c.args.depth c.args.from (omega (arith, c.requires.within)) few)
 
-pub case-returns-in_err-selector-clause-refused : goal.case-returns-in_err-selector-clause-refused
-case-returns-in_err-selector-clause-refused t c =
+pub case-returns-in_err-selector : goal.case-returns-in_err-selector
+case-returns-in_err-selector t c =
     let tokens = c.args.tokens.now in
     let from = c.args.from in
     let depth = c.args.depth in
     let go_0 = case_goes tokens depth from c.requires.word in
-    err_told _ _ c.in_err-selector.field-0.0 c.from_residual.result c.from_residual.ensures (λ e is. is)
+    let few : length tokens < 2 ^ 55 = search rules in
+    let deep : 0 < depth = omega (arith, c.if-depth-eq0.false) in
+    let inside : from < length tokens = omega (arith, c.requires.within) in
+    unread 24 (Spelled depth) tokens from _ c.in_err-selector.field-0.0 c.from_residual.result c.from_residual.ensures (λ e is. is)
     (no_part (Spelled depth) tokens from (λ tokens. SpellsAfter tokens w.CASE) (choices_rest (depth - 1)) from from c.in_err-selector.field-0.0 go_0 (omega (arith)) c.in_err-selector.ensures.refused)
+    (case_halts tokens depth from inside few deep c.in_err-selector.field-0.0 c.in_err-selector.ensures.least)
 
-pub case-returns-in_err-alternatives-clause-refused : goal.case-returns-in_err-alternatives-clause-refused
-case-returns-in_err-alternatives-clause-refused t c =
+pub case-returns-in_err-alternatives : goal.case-returns-in_err-alternatives
+case-returns-in_err-alternatives t c =
     let tokens = c.args.tokens.now in
     let from = c.args.from in
     let depth = c.args.depth in
     let selector = c.in_ok-selector.selector in
     let go_0 = case_goes tokens depth from c.requires.word in
     let go_1 = past (Spelled depth) tokens from (λ tokens. SpellsAfter tokens w.CASE) extends_expression (choices_rest (depth - 1)) from from selector.end selector.stop go_0 (omega (arith, c.in_ok-selector.ensures.bounds)) c.in_ok-selector.ensures.longest (avoids_choices extends_expression (depth - 1) refl) in
-    err_told _ _ c.in_err-alternatives.field-0.0 c.from_residual-in_err-alternatives.result c.from_residual-in_err-alternatives.ensures (λ e is. is)
+    let few : length tokens < 2 ^ 55 = search rules in
+    let deep : 0 < depth = omega (arith, c.if-depth-eq0.false) in
+    let inside : from < length tokens = omega (arith, c.requires.within) in
+    let head = c.in_ok-selector.ensures in
+    let at_0 = past_selector tokens depth from inside few deep selector.part selector.end selector.stop head.spells (omega (arith, head.bounds)) (omega (arith, head.bounds)) head.least in
+    unread 24 (Spelled depth) tokens from _ c.in_err-alternatives.field-0.0 c.from_residual-in_err-alternatives.result c.from_residual-in_err-alternatives.ensures (λ e is. is)
     (no_part (Spelled depth) tokens from (SpellsChoices (depth - 1)) (otherwise_rest (depth - 1) w.OUT) selector.end selector.stop c.in_err-alternatives.field-0.0 go_1 (omega (arith, c.in_ok-selector.ensures.bounds)) c.in_err-alternatives.ensures.refused)
+    (choices_halt tokens depth from selector.end selector.stop (omega (arith, head.bounds)) at_0 c.in_err-alternatives.field-0.0 c.in_err-alternatives.ensures.least)
 
-pub case-returns-in_err-otherwise-clause-refused : goal.case-returns-in_err-otherwise-clause-refused
-case-returns-in_err-otherwise-clause-refused t c =
-    err_told _ _ c.in_err-otherwise.field-0.0 c.from_residual-in_err-otherwise.result c.from_residual-in_err-otherwise.ensures (λ e is. is)
-    (out_of_memory (Spelled c.args.depth) c.args.tokens.now c.args.from c.in_err-otherwise.field-0.0 c.in_err-otherwise.ensures.refused)
+pub case-returns-in_err-otherwise : goal.case-returns-in_err-otherwise
+case-returns-in_err-otherwise t c =
+    let tokens = c.args.tokens.now in
+    let from = c.args.from in
+    let depth = c.args.depth in
+    no_memory_read 24 (Spelled depth) tokens from _ c.in_err-otherwise.field-0.0 c.from_residual-in_err-otherwise.result c.from_residual-in_err-otherwise.ensures (λ e is. is) c.in_err-otherwise.ensures.refused
 
-pub case-returns-in_err-closing-clause-refused : goal.case-returns-in_err-closing-clause-refused
-case-returns-in_err-closing-clause-refused t c =
+pub case-returns-in_err-closing : goal.case-returns-in_err-closing
+case-returns-in_err-closing t c =
     let tokens = c.args.tokens.now in
     let from = c.args.from in
     let depth = c.args.depth in
@@ -199,11 +242,21 @@ case-returns-in_err-closing-clause-refused t c =
     let go_1 = past (Spelled depth) tokens from (λ tokens. SpellsAfter tokens w.CASE) extends_expression (choices_rest (depth - 1)) from from selector.end selector.stop go_0 (omega (arith, c.in_ok-selector.ensures.bounds)) c.in_ok-selector.ensures.longest (avoids_choices extends_expression (depth - 1) refl) in
     let go_2 = past (Spelled depth) tokens from (SpellsChoices (depth - 1)) extends_alternatives (otherwise_rest (depth - 1) w.OUT) selector.end selector.stop alternatives.end alternatives.stop go_1 (omega (arith, c.in_ok-alternatives.ensures.bounds)) c.in_ok-alternatives.ensures.longest (avoids_otherwise extends_alternatives (depth - 1) w.OUT refl refl) in
     let go_3 = past (Spelled depth) tokens from (SpellsOptionalHeaded (depth - 1) w.OUT) begins_statement (closing_rest w.FIN) alternatives.end alternatives.stop otherwise.end otherwise.stop go_2 (omega (arith, c.in_ok-otherwise.ensures.bounds)) c.in_ok-otherwise.ensures.longest (avoids_closing begins_statement w.FIN refl) in
-    err_told _ _ c.in_err-closing.field-0.0 c.from_residual-in_err-closing.result c.from_residual-in_err-closing.ensures (λ e is. is)
+    let few : length tokens < 2 ^ 55 = search rules in
+    let deep : 0 < depth = omega (arith, c.if-depth-eq0.false) in
+    let inside : from < length tokens = omega (arith, c.requires.within) in
+    let head = c.in_ok-selector.ensures in
+    let at_0 = past_selector tokens depth from inside few deep selector.part selector.end selector.stop head.spells (omega (arith, head.bounds)) (omega (arith, head.bounds)) head.least in
+    let inner = c.in_ok-alternatives.ensures in
+    let other = c.in_ok-otherwise.ensures in
+    let at_1 = past_choices tokens depth from selector.end selector.stop (omega (arith, head.bounds)) at_0 alternatives.part.items alternatives.end alternatives.stop inner.spells (omega (arith, inner.bounds)) (omega (arith, inner.bounds)) inner.least in
+    let at_2 = past_other tokens depth from w.OUT alternatives.end alternatives.stop (omega (arith, head.bounds, inner.bounds)) at_1 otherwise.part otherwise.end otherwise.stop other.spells (omega (arith, other.bounds)) (omega (arith, other.bounds)) other.least in
+    unread 24 (Spelled depth) tokens from _ c.in_err-closing.field-0.0 c.from_residual-in_err-closing.result c.from_residual-in_err-closing.ensures (λ e is. is)
     (no_part (Spelled depth) tokens from (SpellsClosing w.FIN) Ends otherwise.end otherwise.stop c.in_err-closing.field-0.0 go_3 (omega (arith, c.in_ok-selector.ensures.bounds, c.in_ok-alternatives.ensures.bounds, c.in_ok-otherwise.ensures.bounds)) c.in_err-closing.ensures.refused)
+    (closing_halts tokens depth from w.FIN otherwise.end otherwise.stop at_2 c.in_err-closing.field-0.0 (c.in_err-closing.ensures.least (omega arith)))
 
-pub case-returns-clause-spells : goal.case-returns-clause-spells
-case-returns-clause-spells t c =
+pub case-returns : goal.case-returns
+case-returns t c =
     let tokens = c.args.tokens.now in
     let from = c.args.from in
     let depth = c.args.depth in
@@ -211,48 +264,66 @@ case-returns-clause-spells t c =
     let alternatives = c.in_ok-alternatives.alternatives in
     let otherwise = c.in_ok-otherwise.otherwise in
     let deep : 0 < depth = omega (arith, c.if-depth-eq0.false) in
-    case_spelled tokens depth from c.place_at.result c.place_at.ensures deep c.in_ok-boxed.field-0 selector.part c.new.result otherwise.part c.in_ok-boxed.ensures.value selector.end alternatives.end otherwise.end c.in_ok-selector.ensures.spells
-    (subst (λ xs. SpellsSome (SpellsBranch tokens (depth - 1) w.ALT) selector.end xs alternatives.end) (sym c.new.ensures) c.in_ok-alternatives.ensures.spells) c.in_ok-otherwise.ensures.spells c.in_ok-closing.ensures.stands
-
-pub case-returns-clause-only : goal.case-returns-clause-only
-case-returns-clause-only t c =
-    let tokens = c.args.tokens.now in
-    let from = c.args.from in
-    let depth = c.args.depth in
-    let selector = c.in_ok-selector.selector in
-    let alternatives = c.in_ok-alternatives.alternatives in
-    let otherwise = c.in_ok-otherwise.otherwise in
     let go_0 = case_goes tokens depth from c.requires.word in
     let go_1 = past (Spelled depth) tokens from (λ tokens. SpellsAfter tokens w.CASE) extends_expression (choices_rest (depth - 1)) from from selector.end selector.stop go_0 (omega (arith, c.in_ok-selector.ensures.bounds)) c.in_ok-selector.ensures.longest (avoids_choices extends_expression (depth - 1) refl) in
     let go_2 = past (Spelled depth) tokens from (SpellsChoices (depth - 1)) extends_alternatives (otherwise_rest (depth - 1) w.OUT) selector.end selector.stop alternatives.end alternatives.stop go_1 (omega (arith, c.in_ok-alternatives.ensures.bounds)) c.in_ok-alternatives.ensures.longest (avoids_otherwise extends_alternatives (depth - 1) w.OUT refl refl) in
     let go_3 = past (Spelled depth) tokens from (SpellsOptionalHeaded (depth - 1) w.OUT) begins_statement (closing_rest w.FIN) alternatives.end alternatives.stop otherwise.end otherwise.stop go_2 (omega (arith, c.in_ok-otherwise.ensures.bounds)) c.in_ok-otherwise.ensures.longest (avoids_closing begins_statement w.FIN refl) in
-    ends (Spelled depth) tokens from (closing_rest w.FIN) otherwise.end otherwise.stop c.max.result (otherwise.end + 2) go_3 (omega (arith, c.max.ensures)) (λ others to h. omega (arith, h.2.2, h.3))
+    let few : length tokens < 2 ^ 55 = search rules in
+    let inside : from < length tokens = omega (arith, c.requires.within) in
+    let head = c.in_ok-selector.ensures in
+    let at_0 = past_selector tokens depth from inside few deep selector.part selector.end selector.stop head.spells (omega (arith, head.bounds)) (omega (arith, head.bounds)) head.least in
+    let inner = c.in_ok-alternatives.ensures in
+    let other = c.in_ok-otherwise.ensures in
+    let at_1 = past_choices tokens depth from selector.end selector.stop (omega (arith, head.bounds)) at_0 alternatives.part.items alternatives.end alternatives.stop inner.spells (omega (arith, inner.bounds)) (omega (arith, inner.bounds)) inner.least in
+    let at_2 = past_other tokens depth from w.OUT alternatives.end alternatives.stop (omega (arith, head.bounds, inner.bounds)) at_1 otherwise.part otherwise.end otherwise.stop other.spells (omega (arith, other.bounds)) (omega (arith, other.bounds)) other.least in
+    record {
+      spells = case_spelled tokens depth from c.place_at.result c.place_at.ensures deep c.in_ok-boxed.field-0 selector.part c.new.result otherwise.part c.in_ok-boxed.ensures.value selector.end alternatives.end otherwise.end c.in_ok-selector.ensures.spells
+          (subst (λ xs. SpellsSome (SpellsBranch tokens (depth - 1) w.ALT) selector.end xs alternatives.end) (sym c.new.ensures) c.in_ok-alternatives.ensures.spells) c.in_ok-otherwise.ensures.spells c.in_ok-closing.ensures.stands;
+      only = ends (Spelled depth) tokens from (closing_rest w.FIN) otherwise.end otherwise.stop c.max.result (otherwise.end + 2) go_3 (omega (arith, c.max.ensures)) (λ others to h. omega (arith, h.2.2, h.3));
+      ahead = search rules;
+      refused = tt;
+      least = closed_goes tokens depth from w.FIN otherwise.end otherwise.stop at_2 c.max.result c.in_ok-closing.ensures.stands c.in_ok-closing.ensures.within (omega (arith, other.bounds)) c.max.ensures;
+    }
 
-pub repeat-returns-then-depth-eq0-clause-refused : goal.repeat-returns-then-depth-eq0-clause-refused
-repeat-returns-then-depth-eq0-clause-refused t c = no_repeat c.args.tokens.now c.args.depth c.args.from c.if-depth-eq0.true (omega (arith, c.requires.within)) c.requires.word
+pub repeat-returns-then-depth-eq0 : goal.repeat-returns-then-depth-eq0
+repeat-returns-then-depth-eq0 t c =
+    let few : length c.args.tokens.now < 2 ^ 55 = search rules in
+    none_read 24 (Spelled c.args.depth) c.args.tokens.now c.args.from _
+    (no_repeat c.args.tokens.now c.args.depth c.args.from c.if-depth-eq0.true (omega (arith, c.requires.within)) c.requires.word)
+    (some_statement c.args.tokens.now c.args.depth c.args.from (omega (arith, c.requires.within)) few)
 
-pub repeat-returns-in_err-heads-clause-refused : goal.repeat-returns-in_err-heads-clause-refused
-repeat-returns-in_err-heads-clause-refused t c =
+pub repeat-returns-in_err-heads : goal.repeat-returns-in_err-heads
+repeat-returns-in_err-heads t c =
     let tokens = c.args.tokens.now in
     let from = c.args.from in
     let depth = c.args.depth in
     let go_0 = repeat_goes tokens depth from c.requires.word in
-    err_told _ _ c.in_err-heads.field-0.0 c.from_residual.result c.from_residual.ensures (λ e is. is)
+    let few : length tokens < 2 ^ 55 = search rules in
+    let deep : 0 < depth = omega (arith, c.if-depth-eq0.false) in
+    let inside : from < length tokens = omega (arith, c.requires.within) in
+    unread 24 (Spelled depth) tokens from _ c.in_err-heads.field-0.0 c.from_residual.result c.from_residual.ensures (λ e is. is)
     (no_first (Spelled depth) tokens from SpellsHeads (block_rest (depth - 1)) from from c.in_err-heads.field-0.0 go_0 (omega arith) (omega arith) c.in_err-heads.ensures.refused)
+    (repeat_halts tokens depth from inside few deep c.in_err-heads.field-0.0 c.in_err-heads.ensures.refused c.in_err-heads.ensures.least)
 
-pub repeat-returns-in_err-body-clause-refused : goal.repeat-returns-in_err-body-clause-refused
-repeat-returns-in_err-body-clause-refused t c =
+pub repeat-returns-in_err-body : goal.repeat-returns-in_err-body
+repeat-returns-in_err-body t c =
     let tokens = c.args.tokens.now in
     let from = c.args.from in
     let depth = c.args.depth in
     let heads = c.in_ok-heads.heads in
     let go_0 = repeat_goes tokens depth from c.requires.word in
     let go_1 = past_only (Spelled depth) tokens from SpellsHeads (block_rest (depth - 1)) from from heads.end heads.stop go_0 (omega (arith, c.in_ok-heads.ensures.ahead)) c.in_ok-heads.ensures.only in
-    err_told _ _ c.in_err-body.field-0.0 c.from_residual-in_err-body.result c.from_residual-in_err-body.ensures (λ e is. is)
+    let few : length tokens < 2 ^ 55 = search rules in
+    let deep : 0 < depth = omega (arith, c.if-depth-eq0.false) in
+    let inside : from < length tokens = omega (arith, c.requires.within) in
+    let head = c.in_ok-heads.ensures in
+    let at_0 = past_heads tokens depth from inside few deep heads.part heads.end heads.stop head.spells (omega (arith, head.ahead)) (omega (arith, head.ahead)) (omega (arith, head.ahead)) head.least in
+    unread 24 (Spelled depth) tokens from _ c.in_err-body.field-0.0 c.from_residual-in_err-body.result c.from_residual-in_err-body.ensures (λ e is. is)
     (no_part (Spelled depth) tokens from (SpellsBlock (depth - 1)) (closing_rest w.END) heads.end heads.stop c.in_err-body.field-0.0 go_1 (omega (arith, c.in_ok-heads.ensures.ahead)) c.in_err-body.ensures.refused)
+    (inner_halts tokens depth from heads.end heads.stop (omega (arith, head.ahead)) at_0 c.in_err-body.field-0.0 c.in_err-body.ensures.least)
 
-pub repeat-returns-in_err-closing-clause-refused : goal.repeat-returns-in_err-closing-clause-refused
-repeat-returns-in_err-closing-clause-refused t c =
+pub repeat-returns-in_err-closing : goal.repeat-returns-in_err-closing
+repeat-returns-in_err-closing t c =
     let tokens = c.args.tokens.now in
     let from = c.args.from in
     let depth = c.args.depth in
@@ -261,72 +332,102 @@ repeat-returns-in_err-closing-clause-refused t c =
     let go_0 = repeat_goes tokens depth from c.requires.word in
     let go_1 = past_only (Spelled depth) tokens from SpellsHeads (block_rest (depth - 1)) from from heads.end heads.stop go_0 (omega (arith, c.in_ok-heads.ensures.ahead)) c.in_ok-heads.ensures.only in
     let go_2 = past (Spelled depth) tokens from (SpellsBlock (depth - 1)) extends_body (closing_rest w.END) heads.end heads.stop body.end body.stop go_1 (omega (arith, c.in_ok-body.ensures.bounds)) c.in_ok-body.ensures.longest (avoids_closing extends_body w.END refl) in
-    err_told _ _ c.in_err-closing.field-0.0 c.from_residual-in_err-closing.result c.from_residual-in_err-closing.ensures (λ e is. is)
+    let few : length tokens < 2 ^ 55 = search rules in
+    let deep : 0 < depth = omega (arith, c.if-depth-eq0.false) in
+    let inside : from < length tokens = omega (arith, c.requires.within) in
+    let head = c.in_ok-heads.ensures in
+    let at_0 = past_heads tokens depth from inside few deep heads.part heads.end heads.stop head.spells (omega (arith, head.ahead)) (omega (arith, head.ahead)) (omega (arith, head.ahead)) head.least in
+    let inner = c.in_ok-body.ensures in
+    let at_1 = past_inner tokens depth from heads.end heads.stop (omega (arith, head.ahead)) at_0 body.part body.end body.stop inner.spells (omega (arith, inner.bounds)) (omega (arith, inner.bounds)) inner.least in
+    unread 24 (Spelled depth) tokens from _ c.in_err-closing.field-0.0 c.from_residual-in_err-closing.result c.from_residual-in_err-closing.ensures (λ e is. is)
     (no_part (Spelled depth) tokens from (SpellsClosing w.END) Ends body.end body.stop c.in_err-closing.field-0.0 go_2 (omega (arith, c.in_ok-heads.ensures.ahead, c.in_ok-body.ensures.bounds)) c.in_err-closing.ensures.refused)
+    (closing_halts tokens depth from w.END body.end body.stop at_1 c.in_err-closing.field-0.0 (c.in_err-closing.ensures.least (omega arith)))
 
-pub repeat-returns-clause-spells : goal.repeat-returns-clause-spells
-repeat-returns-clause-spells t c =
+pub repeat-returns : goal.repeat-returns
+repeat-returns t c =
     let tokens = c.args.tokens.now in
     let from = c.args.from in
     let depth = c.args.depth in
     let heads = c.in_ok-heads.heads in
     let body = c.in_ok-body.body in
     let deep : 0 < depth = omega (arith, c.if-depth-eq0.false) in
-    repeat_spelled tokens depth from c.place_at.result c.place_at.ensures deep c.in_ok-boxed.field-0 heads.part body.part c.in_ok-boxed.ensures.value heads.end body.end c.in_ok-heads.ensures.spells c.in_ok-body.ensures.spells c.in_ok-closing.ensures.stands
-
-pub repeat-returns-clause-only : goal.repeat-returns-clause-only
-repeat-returns-clause-only t c =
-    let tokens = c.args.tokens.now in
-    let from = c.args.from in
-    let depth = c.args.depth in
-    let heads = c.in_ok-heads.heads in
-    let body = c.in_ok-body.body in
     let go_0 = repeat_goes tokens depth from c.requires.word in
     let go_1 = past_only (Spelled depth) tokens from SpellsHeads (block_rest (depth - 1)) from from heads.end heads.stop go_0 (omega (arith, c.in_ok-heads.ensures.ahead)) c.in_ok-heads.ensures.only in
     let go_2 = past (Spelled depth) tokens from (SpellsBlock (depth - 1)) extends_body (closing_rest w.END) heads.end heads.stop body.end body.stop go_1 (omega (arith, c.in_ok-body.ensures.bounds)) c.in_ok-body.ensures.longest (avoids_closing extends_body w.END refl) in
-    ends (Spelled depth) tokens from (closing_rest w.END) body.end body.stop c.max.result (body.end + 2) go_2 (omega (arith, c.max.ensures)) (λ others to h. omega (arith, h.2.2, h.3))
+    let few : length tokens < 2 ^ 55 = search rules in
+    let inside : from < length tokens = omega (arith, c.requires.within) in
+    let head = c.in_ok-heads.ensures in
+    let at_0 = past_heads tokens depth from inside few deep heads.part heads.end heads.stop head.spells (omega (arith, head.ahead)) (omega (arith, head.ahead)) (omega (arith, head.ahead)) head.least in
+    let inner = c.in_ok-body.ensures in
+    let at_1 = past_inner tokens depth from heads.end heads.stop (omega (arith, head.ahead)) at_0 body.part body.end body.stop inner.spells (omega (arith, inner.bounds)) (omega (arith, inner.bounds)) inner.least in
+    record {
+      spells = repeat_spelled tokens depth from c.place_at.result c.place_at.ensures deep c.in_ok-boxed.field-0 heads.part body.part c.in_ok-boxed.ensures.value heads.end body.end c.in_ok-heads.ensures.spells c.in_ok-body.ensures.spells c.in_ok-closing.ensures.stands;
+      only = ends (Spelled depth) tokens from (closing_rest w.END) body.end body.stop c.max.result (body.end + 2) go_2 (omega (arith, c.max.ensures)) (λ others to h. omega (arith, h.2.2, h.3));
+      ahead = search rules;
+      refused = tt;
+      least = closed_goes tokens depth from w.END body.end body.stop at_1 c.max.result c.in_ok-closing.ensures.stands c.in_ok-closing.ensures.within (omega (arith, inner.bounds)) c.max.ensures;
+    }
 
-pub begin-returns-then-depth-eq0-clause-refused : goal.begin-returns-then-depth-eq0-clause-refused
-begin-returns-then-depth-eq0-clause-refused t c = no_begin c.args.tokens.now c.args.depth c.args.from c.if-depth-eq0.true (omega (arith, c.requires.within)) c.requires.word
+pub begin-returns-then-depth-eq0 : goal.begin-returns-then-depth-eq0
+begin-returns-then-depth-eq0 t c =
+    let few : length c.args.tokens.now < 2 ^ 55 = search rules in
+    none_read 24 (Spelled c.args.depth) c.args.tokens.now c.args.from _
+    (no_begin c.args.tokens.now c.args.depth c.args.from c.if-depth-eq0.true (omega (arith, c.requires.within)) c.requires.word)
+    (some_statement c.args.tokens.now c.args.depth c.args.from (omega (arith, c.requires.within)) few)
 
-pub begin-returns-in_err-body-clause-refused : goal.begin-returns-in_err-body-clause-refused
-begin-returns-in_err-body-clause-refused t c =
+pub begin-returns-in_err-body : goal.begin-returns-in_err-body
+begin-returns-in_err-body t c =
     let tokens = c.args.tokens.now in
     let from = c.args.from in
     let depth = c.args.depth in
     let go_0 = begin_goes tokens depth from c.requires.word in
-    err_told _ _ c.in_err-body.field-0.0 c.from_residual.result c.from_residual.ensures (λ e is. is)
+    let few : length tokens < 2 ^ 55 = search rules in
+    let deep : 0 < depth = omega (arith, c.if-depth-eq0.false) in
+    let inside : from < length tokens = omega (arith, c.requires.within) in
+    let at_0 = begin_begun tokens depth from inside few deep c.requires.word in
+    unread 24 (Spelled depth) tokens from _ c.in_err-body.field-0.0 c.from_residual.result c.from_residual.ensures (λ e is. is)
     (no_part (Spelled depth) tokens from (SpellsBlock (depth - 1)) (closing_rest w.END) (from + 1) (from + 1) c.in_err-body.field-0.0 (goes_longer (Spelled depth) tokens from (Then (SpellsBlock (depth - 1)) (closing_rest w.END)) (from + 1) from (from + 1) go_0 (omega arith)) (omega arith) c.in_err-body.ensures.refused)
+    (inner_halts tokens depth from (from + 1) (from + 1) (omega arith) at_0 c.in_err-body.field-0.0 c.in_err-body.ensures.least)
 
-pub begin-returns-in_err-closing-clause-refused : goal.begin-returns-in_err-closing-clause-refused
-begin-returns-in_err-closing-clause-refused t c =
+pub begin-returns-in_err-closing : goal.begin-returns-in_err-closing
+begin-returns-in_err-closing t c =
     let tokens = c.args.tokens.now in
     let from = c.args.from in
     let depth = c.args.depth in
     let body = c.in_ok-body.body in
     let go_0 = begin_goes tokens depth from c.requires.word in
     let go_1 = past (Spelled depth) tokens from (SpellsBlock (depth - 1)) extends_body (closing_rest w.END) (from + 1) from body.end body.stop go_0 (omega (arith, c.in_ok-body.ensures.bounds)) c.in_ok-body.ensures.longest (avoids_closing extends_body w.END refl) in
-    err_told _ _ c.in_err-closing.field-0.0 c.from_residual-in_err-closing.result c.from_residual-in_err-closing.ensures (λ e is. is)
+    let few : length tokens < 2 ^ 55 = search rules in
+    let deep : 0 < depth = omega (arith, c.if-depth-eq0.false) in
+    let inside : from < length tokens = omega (arith, c.requires.within) in
+    let at_0 = begin_begun tokens depth from inside few deep c.requires.word in
+    let inner = c.in_ok-body.ensures in
+    let at_1 = past_inner tokens depth from (from + 1) (from + 1) (omega arith) at_0 body.part body.end body.stop inner.spells (omega (arith, inner.bounds)) (omega (arith, inner.bounds)) inner.least in
+    unread 24 (Spelled depth) tokens from _ c.in_err-closing.field-0.0 c.from_residual-in_err-closing.result c.from_residual-in_err-closing.ensures (λ e is. is)
     (no_part (Spelled depth) tokens from (SpellsClosing w.END) Ends body.end body.stop c.in_err-closing.field-0.0 go_1 (omega (arith, c.in_ok-body.ensures.bounds)) c.in_err-closing.ensures.refused)
+    (closing_halts tokens depth from w.END body.end body.stop at_1 c.in_err-closing.field-0.0 (c.in_err-closing.ensures.least (omega arith)))
 
-pub begin-returns-clause-spells : goal.begin-returns-clause-spells
-begin-returns-clause-spells t c =
+pub begin-returns : goal.begin-returns
+begin-returns t c =
     let tokens = c.args.tokens.now in
     let from = c.args.from in
     let depth = c.args.depth in
     let body = c.in_ok-body.body in
     let deep : 0 < depth = omega (arith, c.if-depth-eq0.false) in
-    begin_spelled tokens depth from c.place_at.result c.place_at.ensures deep c.in_ok-boxed.field-0 body.part c.in_ok-boxed.ensures.value body.end c.requires.word c.in_ok-body.ensures.spells c.in_ok-closing.ensures.stands
-
-pub begin-returns-clause-only : goal.begin-returns-clause-only
-begin-returns-clause-only t c =
-    let tokens = c.args.tokens.now in
-    let from = c.args.from in
-    let depth = c.args.depth in
-    let body = c.in_ok-body.body in
     let go_0 = begin_goes tokens depth from c.requires.word in
     let go_1 = past (Spelled depth) tokens from (SpellsBlock (depth - 1)) extends_body (closing_rest w.END) (from + 1) from body.end body.stop go_0 (omega (arith, c.in_ok-body.ensures.bounds)) c.in_ok-body.ensures.longest (avoids_closing extends_body w.END refl) in
-    ends (Spelled depth) tokens from (closing_rest w.END) body.end body.stop c.max.result (body.end + 2) go_1 (omega (arith, c.max.ensures)) (λ others to h. omega (arith, h.2.2, h.3))
+    let few : length tokens < 2 ^ 55 = search rules in
+    let inside : from < length tokens = omega (arith, c.requires.within) in
+    let at_0 = begin_begun tokens depth from inside few deep c.requires.word in
+    let inner = c.in_ok-body.ensures in
+    let at_1 = past_inner tokens depth from (from + 1) (from + 1) (omega arith) at_0 body.part body.end body.stop inner.spells (omega (arith, inner.bounds)) (omega (arith, inner.bounds)) inner.least in
+    record {
+      spells = begin_spelled tokens depth from c.place_at.result c.place_at.ensures deep c.in_ok-boxed.field-0 body.part c.in_ok-boxed.ensures.value body.end c.requires.word c.in_ok-body.ensures.spells c.in_ok-closing.ensures.stands;
+      only = ends (Spelled depth) tokens from (closing_rest w.END) body.end body.stop c.max.result (body.end + 2) go_1 (omega (arith, c.max.ensures)) (λ others to h. omega (arith, h.2.2, h.3));
+      ahead = search rules;
+      refused = tt;
+      least = closed_goes tokens depth from w.END body.end body.stop at_1 c.max.result c.in_ok-closing.ensures.stands c.in_ok-closing.ensures.within (omega (arith, inner.bounds)) c.max.ensures;
+    }
 
 pub body-returns-then-from-tokens-clause-refused : goal.body-returns-then-from-tokens-clause-refused
 body-returns-then-from-tokens-clause-refused t c = no_block c.args.tokens.now c.args.depth c.args.from c.args.least_stop (omega (arith, c.if-from-tokens.true)) c.requires.0 c.requires.1
@@ -359,20 +460,15 @@ body-returns-clause-longest t c =
     block_is_longest c.args.tokens.now c.args.depth c.args.from declarations.end declarations.stop statements.end statements.stop
     (omega (arith, c.max-least_stop.ensures, c.in_ok-statements.ensures.bounds)) (omega (arith, c.in_ok-statements.ensures.bounds)) c.in_ok-declarations.ensures.longest c.in_ok-statements.ensures.longest
 
-pub statement-returns-in-None-clause-refused : goal.statement-returns-in-None-clause-refused
-statement-returns-in-None-clause-refused t c = no_statement c.args.tokens.now c.args.depth c.args.from c.requires (c.in-None.ensures.none refl)
+pub statement-returns-in-None : goal.statement-returns-in-None
+statement-returns-in-None t c =
+    let few : length c.args.tokens.now < 2 ^ 55 = search rules in
+    none_read 24 (Spelled c.args.depth) c.args.tokens.now c.args.from _
+    (no_statement c.args.tokens.now c.args.depth c.args.from c.requires (c.in-None.ensures.none refl))
+    (some_statement c.args.tokens.now c.args.depth c.args.from (omega (arith, c.requires)) few)
 
-pub statement-returns-in-Simple-clause-spells : goal.statement-returns-in-Simple-clause-spells
-statement-returns-in-Simple-clause-spells t c = (c.simple.ensures c.args.depth).spells
-
-pub statement-returns-in-Simple-clause-only : goal.statement-returns-in-Simple-clause-only
-statement-returns-in-Simple-clause-only t c = (c.simple.ensures c.args.depth).only
-
-pub statement-returns-in-Simple-clause-ahead : goal.statement-returns-in-Simple-clause-ahead
-statement-returns-in-Simple-clause-ahead t c = (c.simple.ensures c.args.depth).ahead
-
-pub statement-returns-in-Simple-clause-refused : goal.statement-returns-in-Simple-clause-refused
-statement-returns-in-Simple-clause-refused t c = (c.simple.ensures c.args.depth).refused
+pub statement-returns-in-Simple : goal.statement-returns-in-Simple
+statement-returns-in-Simple t c = c.simple.ensures c.args.depth
 
 pub statements-each-init : goal.statements-each-init
 statements-each-init t c =
@@ -440,169 +536,19 @@ alternatives-returns-clause-least t c =
     let few : length c.args.tokens.now < 2 ^ 55 = search rules in
     choices_read c.args.tokens.now c.args.depth c.args.from (omega (arith, c.requires)) few c.args.least_stop c.each.end c.each.stop (omega (arith, c.each.invariant.bounds)) c.each.invariant.least
 
-pub if_-returns-then-depth-eq0-clause-least : goal.if_-returns-then-depth-eq0-clause-least
-if_-returns-then-depth-eq0-clause-least t c =
-    let few : length c.args.tokens.now < 2 ^ 55 = search rules in
-    some_statement c.args.tokens.now c.args.depth c.args.from (omega (arith, c.requires.within)) few
-
-pub if_-returns-in_err-condition-clause-least : goal.if_-returns-in_err-condition-clause-least
-if_-returns-in_err-condition-clause-least t c =
+pub if_-returns-in_err-boxed : goal.if_-returns-in_err-boxed
+if_-returns-in_err-boxed t c =
     let tokens = c.args.tokens.now in
     let from = c.args.from in
     let depth = c.args.depth in
-    let few : length tokens < 2 ^ 55 = search rules in
-    let deep : 0 < depth = omega (arith, c.if-depth-eq0.false) in
-    let inside : from < length tokens = omega (arith, c.requires.within) in
-    handed_in 24 (Spelled depth) tokens from 0 _ c.in_err-condition.field-0.0 c.from_residual.result c.from_residual.ensures (λ e is. is) (omega arith)
-    (if_halts tokens depth from inside few deep c.in_err-condition.field-0.0 c.in_err-condition.ensures.refused c.in_err-condition.ensures.least)
+    no_memory_read 24 (Spelled depth) tokens from _ c.in_err-boxed.field-0.0 c.from_residual-in_err-boxed.result c.from_residual-in_err-boxed.ensures (λ e is. is) c.in_err-boxed.ensures.fault
 
-pub if_-returns-in_err-statements-clause-least : goal.if_-returns-in_err-statements-clause-least
-if_-returns-in_err-statements-clause-least t c =
+pub case-returns-in_err-boxed : goal.case-returns-in_err-boxed
+case-returns-in_err-boxed t c =
     let tokens = c.args.tokens.now in
     let from = c.args.from in
     let depth = c.args.depth in
-    handed_in 24 (Spelled depth) tokens from 0 _ c.in_err-statements.field-0.0 c.from_residual-in_err-statements.result c.from_residual-in_err-statements.ensures (λ e is. is) (omega arith)
-    (no_memory 24 (Spelled depth) tokens from 0 c.in_err-statements.field-0.0 c.in_err-statements.ensures.refused)
-
-pub if_-returns-in_err-otherwise-clause-least : goal.if_-returns-in_err-otherwise-clause-least
-if_-returns-in_err-otherwise-clause-least t c =
-    let tokens = c.args.tokens.now in
-    let from = c.args.from in
-    let depth = c.args.depth in
-    handed_in 24 (Spelled depth) tokens from 0 _ c.in_err-otherwise.field-0.0 c.from_residual-in_err-otherwise.result c.from_residual-in_err-otherwise.ensures (λ e is. is) (omega arith)
-    (no_memory 24 (Spelled depth) tokens from 0 c.in_err-otherwise.field-0.0 c.in_err-otherwise.ensures.refused)
-
-pub if_-returns-in_err-closing-clause-least : goal.if_-returns-in_err-closing-clause-least
-if_-returns-in_err-closing-clause-least t c =
-    let tokens = c.args.tokens.now in
-    let from = c.args.from in
-    let depth = c.args.depth in
-    let few : length tokens < 2 ^ 55 = search rules in
-    let deep : 0 < depth = omega (arith, c.if-depth-eq0.false) in
-    let inside : from < length tokens = omega (arith, c.requires.within) in
-    let condition = c.in_ok-condition.condition in
-    let statements = c.in_ok-statements.statements in
-    let otherwise = c.in_ok-otherwise.otherwise in
-    let head = c.in_ok-condition.ensures in
-    let inner = c.in_ok-statements.ensures in
-    let other = c.in_ok-otherwise.ensures in
-    let at_0 = past_condition tokens depth from inside few deep condition.part condition.end condition.stop head.spells (omega (arith, head.ahead)) (omega (arith, head.ahead)) (omega (arith, head.ahead)) head.least in
-    let at_1 = past_statements tokens depth from condition.end condition.stop (omega (arith, head.ahead)) at_0 statements.part.items statements.end statements.stop inner.spells (omega (arith, inner.bounds)) (omega (arith, inner.bounds)) inner.least in
-    let at_2 = past_other tokens depth from w.ELSE statements.end statements.stop (omega (arith, head.ahead, inner.bounds)) at_1 otherwise.part otherwise.end otherwise.stop other.spells (omega (arith, other.bounds)) (omega (arith, other.bounds)) other.least in
-    handed_in 24 (Spelled depth) tokens from 0 _ c.in_err-closing.field-0.0 c.from_residual-in_err-closing.result c.from_residual-in_err-closing.ensures (λ e is. is) (omega arith)
-    (closing_halts tokens depth from w.FIN otherwise.end otherwise.stop at_2 c.in_err-closing.field-0.0 (c.in_err-closing.ensures.least (omega arith)))
-
-pub if_-returns-in_err-boxed-clause-least : goal.if_-returns-in_err-boxed-clause-least
-if_-returns-in_err-boxed-clause-least t c =
-    let tokens = c.args.tokens.now in
-    let from = c.args.from in
-    let depth = c.args.depth in
-    handed_in 24 (Spelled depth) tokens from 0 _ c.in_err-boxed.field-0.0 c.from_residual-in_err-boxed.result c.from_residual-in_err-boxed.ensures (λ e is. is) (omega arith)
-    (no_memory 24 (Spelled depth) tokens from 0 c.in_err-boxed.field-0.0 c.in_err-boxed.ensures.fault)
-
-pub if_-returns-clause-least : goal.if_-returns-clause-least
-if_-returns-clause-least t c =
-    let tokens = c.args.tokens.now in
-    let from = c.args.from in
-    let depth = c.args.depth in
-    let few : length tokens < 2 ^ 55 = search rules in
-    let deep : 0 < depth = omega (arith, c.if-depth-eq0.false) in
-    let inside : from < length tokens = omega (arith, c.requires.within) in
-    let condition = c.in_ok-condition.condition in
-    let statements = c.in_ok-statements.statements in
-    let otherwise = c.in_ok-otherwise.otherwise in
-    let head = c.in_ok-condition.ensures in
-    let inner = c.in_ok-statements.ensures in
-    let other = c.in_ok-otherwise.ensures in
-    let at_0 = past_condition tokens depth from inside few deep condition.part condition.end condition.stop head.spells (omega (arith, head.ahead)) (omega (arith, head.ahead)) (omega (arith, head.ahead)) head.least in
-    let at_1 = past_statements tokens depth from condition.end condition.stop (omega (arith, head.ahead)) at_0 statements.part.items statements.end statements.stop inner.spells (omega (arith, inner.bounds)) (omega (arith, inner.bounds)) inner.least in
-    let at_2 = past_other tokens depth from w.ELSE statements.end statements.stop (omega (arith, head.ahead, inner.bounds)) at_1 otherwise.part otherwise.end otherwise.stop other.spells (omega (arith, other.bounds)) (omega (arith, other.bounds)) other.least in
-    closed_goes tokens depth from w.FIN otherwise.end otherwise.stop at_2 c.max.result c.in_ok-closing.ensures.stands c.in_ok-closing.ensures.within (omega (arith, other.bounds)) c.max.ensures
-
-pub case-returns-then-depth-eq0-clause-least : goal.case-returns-then-depth-eq0-clause-least
-case-returns-then-depth-eq0-clause-least t c =
-    let few : length c.args.tokens.now < 2 ^ 55 = search rules in
-    some_statement c.args.tokens.now c.args.depth c.args.from (omega (arith, c.requires.within)) few
-
-pub case-returns-in_err-selector-clause-least : goal.case-returns-in_err-selector-clause-least
-case-returns-in_err-selector-clause-least t c =
-    let tokens = c.args.tokens.now in
-    let from = c.args.from in
-    let depth = c.args.depth in
-    let few : length tokens < 2 ^ 55 = search rules in
-    let deep : 0 < depth = omega (arith, c.if-depth-eq0.false) in
-    let inside : from < length tokens = omega (arith, c.requires.within) in
-    handed_in 24 (Spelled depth) tokens from 0 _ c.in_err-selector.field-0.0 c.from_residual.result c.from_residual.ensures (λ e is. is) (omega arith)
-    (case_halts tokens depth from inside few deep c.in_err-selector.field-0.0 c.in_err-selector.ensures.least)
-
-pub case-returns-in_err-alternatives-clause-least : goal.case-returns-in_err-alternatives-clause-least
-case-returns-in_err-alternatives-clause-least t c =
-    let tokens = c.args.tokens.now in
-    let from = c.args.from in
-    let depth = c.args.depth in
-    let few : length tokens < 2 ^ 55 = search rules in
-    let deep : 0 < depth = omega (arith, c.if-depth-eq0.false) in
-    let inside : from < length tokens = omega (arith, c.requires.within) in
-    let selector = c.in_ok-selector.selector in
-    let head = c.in_ok-selector.ensures in
-    let at_0 = past_selector tokens depth from inside few deep selector.part selector.end selector.stop head.spells (omega (arith, head.bounds)) (omega (arith, head.bounds)) head.least in
-    handed_in 24 (Spelled depth) tokens from 0 _ c.in_err-alternatives.field-0.0 c.from_residual-in_err-alternatives.result c.from_residual-in_err-alternatives.ensures (λ e is. is) (omega arith)
-    (choices_halt tokens depth from selector.end selector.stop (omega (arith, head.bounds)) at_0 c.in_err-alternatives.field-0.0 c.in_err-alternatives.ensures.least)
-
-pub case-returns-in_err-otherwise-clause-least : goal.case-returns-in_err-otherwise-clause-least
-case-returns-in_err-otherwise-clause-least t c =
-    let tokens = c.args.tokens.now in
-    let from = c.args.from in
-    let depth = c.args.depth in
-    handed_in 24 (Spelled depth) tokens from 0 _ c.in_err-otherwise.field-0.0 c.from_residual-in_err-otherwise.result c.from_residual-in_err-otherwise.ensures (λ e is. is) (omega arith)
-    (no_memory 24 (Spelled depth) tokens from 0 c.in_err-otherwise.field-0.0 c.in_err-otherwise.ensures.refused)
-
-pub case-returns-in_err-closing-clause-least : goal.case-returns-in_err-closing-clause-least
-case-returns-in_err-closing-clause-least t c =
-    let tokens = c.args.tokens.now in
-    let from = c.args.from in
-    let depth = c.args.depth in
-    let few : length tokens < 2 ^ 55 = search rules in
-    let deep : 0 < depth = omega (arith, c.if-depth-eq0.false) in
-    let inside : from < length tokens = omega (arith, c.requires.within) in
-    let selector = c.in_ok-selector.selector in
-    let head = c.in_ok-selector.ensures in
-    let at_0 = past_selector tokens depth from inside few deep selector.part selector.end selector.stop head.spells (omega (arith, head.bounds)) (omega (arith, head.bounds)) head.least in
-    let alternatives = c.in_ok-alternatives.alternatives in
-    let otherwise = c.in_ok-otherwise.otherwise in
-    let inner = c.in_ok-alternatives.ensures in
-    let other = c.in_ok-otherwise.ensures in
-    let at_1 = past_choices tokens depth from selector.end selector.stop (omega (arith, head.bounds)) at_0 alternatives.part.items alternatives.end alternatives.stop inner.spells (omega (arith, inner.bounds)) (omega (arith, inner.bounds)) inner.least in
-    let at_2 = past_other tokens depth from w.OUT alternatives.end alternatives.stop (omega (arith, head.bounds, inner.bounds)) at_1 otherwise.part otherwise.end otherwise.stop other.spells (omega (arith, other.bounds)) (omega (arith, other.bounds)) other.least in
-    handed_in 24 (Spelled depth) tokens from 0 _ c.in_err-closing.field-0.0 c.from_residual-in_err-closing.result c.from_residual-in_err-closing.ensures (λ e is. is) (omega arith)
-    (closing_halts tokens depth from w.FIN otherwise.end otherwise.stop at_2 c.in_err-closing.field-0.0 (c.in_err-closing.ensures.least (omega arith)))
-
-pub case-returns-in_err-boxed-clause-least : goal.case-returns-in_err-boxed-clause-least
-case-returns-in_err-boxed-clause-least t c =
-    let tokens = c.args.tokens.now in
-    let from = c.args.from in
-    let depth = c.args.depth in
-    handed_in 24 (Spelled depth) tokens from 0 _ c.in_err-boxed.field-0.0 c.from_residual-in_err-boxed.result c.from_residual-in_err-boxed.ensures (λ e is. is) (omega arith)
-    (no_memory 24 (Spelled depth) tokens from 0 c.in_err-boxed.field-0.0 c.in_err-boxed.ensures.fault)
-
-pub case-returns-clause-least : goal.case-returns-clause-least
-case-returns-clause-least t c =
-    let tokens = c.args.tokens.now in
-    let from = c.args.from in
-    let depth = c.args.depth in
-    let few : length tokens < 2 ^ 55 = search rules in
-    let deep : 0 < depth = omega (arith, c.if-depth-eq0.false) in
-    let inside : from < length tokens = omega (arith, c.requires.within) in
-    let selector = c.in_ok-selector.selector in
-    let head = c.in_ok-selector.ensures in
-    let at_0 = past_selector tokens depth from inside few deep selector.part selector.end selector.stop head.spells (omega (arith, head.bounds)) (omega (arith, head.bounds)) head.least in
-    let alternatives = c.in_ok-alternatives.alternatives in
-    let otherwise = c.in_ok-otherwise.otherwise in
-    let inner = c.in_ok-alternatives.ensures in
-    let other = c.in_ok-otherwise.ensures in
-    let at_1 = past_choices tokens depth from selector.end selector.stop (omega (arith, head.bounds)) at_0 alternatives.part.items alternatives.end alternatives.stop inner.spells (omega (arith, inner.bounds)) (omega (arith, inner.bounds)) inner.least in
-    let at_2 = past_other tokens depth from w.OUT alternatives.end alternatives.stop (omega (arith, head.bounds, inner.bounds)) at_1 otherwise.part otherwise.end otherwise.stop other.spells (omega (arith, other.bounds)) (omega (arith, other.bounds)) other.least in
-    closed_goes tokens depth from w.FIN otherwise.end otherwise.stop at_2 c.max.result c.in_ok-closing.ensures.stands c.in_ok-closing.ensures.within (omega (arith, other.bounds)) c.max.ensures
+    no_memory_read 24 (Spelled depth) tokens from _ c.in_err-boxed.field-0.0 c.from_residual-in_err-boxed.result c.from_residual-in_err-boxed.ensures (λ e is. is) c.in_err-boxed.ensures.fault
 
 pub body-returns-then-from-tokens-clause-least : goal.body-returns-then-from-tokens-clause-least
 body-returns-then-from-tokens-clause-least t c =
@@ -633,136 +579,16 @@ body-returns-clause-least t c =
     (omega (arith, first.bounds, c.requires, c.max-least_stop.ensures)) first.least c.max-least_stop.ensures statements.part.items statements.end statements.stop inner.spells (omega (arith, inner.bounds)) (omega (arith, inner.bounds))
     (omega (arith, inner.bounds)) inner.least
 
-pub repeat-returns-then-depth-eq0-clause-least : goal.repeat-returns-then-depth-eq0-clause-least
-repeat-returns-then-depth-eq0-clause-least t c =
-    let few : length c.args.tokens.now < 2 ^ 55 = search rules in
-    some_statement c.args.tokens.now c.args.depth c.args.from (omega (arith, c.requires.within)) few
-
-pub repeat-returns-in_err-heads-clause-least : goal.repeat-returns-in_err-heads-clause-least
-repeat-returns-in_err-heads-clause-least t c =
+pub repeat-returns-in_err-boxed : goal.repeat-returns-in_err-boxed
+repeat-returns-in_err-boxed t c =
     let tokens = c.args.tokens.now in
     let from = c.args.from in
     let depth = c.args.depth in
-    let few : length tokens < 2 ^ 55 = search rules in
-    let deep : 0 < depth = omega (arith, c.if-depth-eq0.false) in
-    let inside : from < length tokens = omega (arith, c.requires.within) in
-    handed_in 24 (Spelled depth) tokens from 0 _ c.in_err-heads.field-0.0 c.from_residual.result c.from_residual.ensures (λ e is. is) (omega arith)
-    (repeat_halts tokens depth from inside few deep c.in_err-heads.field-0.0 c.in_err-heads.ensures.refused c.in_err-heads.ensures.least)
+    no_memory_read 24 (Spelled depth) tokens from _ c.in_err-boxed.field-0.0 c.from_residual-in_err-boxed.result c.from_residual-in_err-boxed.ensures (λ e is. is) c.in_err-boxed.ensures.fault
 
-pub repeat-returns-in_err-body-clause-least : goal.repeat-returns-in_err-body-clause-least
-repeat-returns-in_err-body-clause-least t c =
+pub begin-returns-in_err-boxed : goal.begin-returns-in_err-boxed
+begin-returns-in_err-boxed t c =
     let tokens = c.args.tokens.now in
     let from = c.args.from in
     let depth = c.args.depth in
-    let few : length tokens < 2 ^ 55 = search rules in
-    let deep : 0 < depth = omega (arith, c.if-depth-eq0.false) in
-    let inside : from < length tokens = omega (arith, c.requires.within) in
-    let heads = c.in_ok-heads.heads in
-    let head = c.in_ok-heads.ensures in
-    let at_0 = past_heads tokens depth from inside few deep heads.part heads.end heads.stop head.spells (omega (arith, head.ahead)) (omega (arith, head.ahead)) (omega (arith, head.ahead)) head.least in
-    handed_in 24 (Spelled depth) tokens from 0 _ c.in_err-body.field-0.0 c.from_residual-in_err-body.result c.from_residual-in_err-body.ensures (λ e is. is) (omega arith)
-    (inner_halts tokens depth from heads.end heads.stop (omega (arith, head.ahead)) at_0 c.in_err-body.field-0.0 c.in_err-body.ensures.least)
-
-pub repeat-returns-in_err-closing-clause-least : goal.repeat-returns-in_err-closing-clause-least
-repeat-returns-in_err-closing-clause-least t c =
-    let tokens = c.args.tokens.now in
-    let from = c.args.from in
-    let depth = c.args.depth in
-    let few : length tokens < 2 ^ 55 = search rules in
-    let deep : 0 < depth = omega (arith, c.if-depth-eq0.false) in
-    let inside : from < length tokens = omega (arith, c.requires.within) in
-    let heads = c.in_ok-heads.heads in
-    let head = c.in_ok-heads.ensures in
-    let at_0 = past_heads tokens depth from inside few deep heads.part heads.end heads.stop head.spells (omega (arith, head.ahead)) (omega (arith, head.ahead)) (omega (arith, head.ahead)) head.least in
-    let body = c.in_ok-body.body in
-    let inner = c.in_ok-body.ensures in
-    let at_1 = past_inner tokens depth from heads.end heads.stop (omega (arith, head.ahead)) at_0 body.part body.end body.stop inner.spells (omega (arith, inner.bounds)) (omega (arith, inner.bounds)) inner.least in
-    handed_in 24 (Spelled depth) tokens from 0 _ c.in_err-closing.field-0.0 c.from_residual-in_err-closing.result c.from_residual-in_err-closing.ensures (λ e is. is) (omega arith)
-    (closing_halts tokens depth from w.END body.end body.stop at_1 c.in_err-closing.field-0.0 (c.in_err-closing.ensures.least (omega arith)))
-
-pub repeat-returns-in_err-boxed-clause-least : goal.repeat-returns-in_err-boxed-clause-least
-repeat-returns-in_err-boxed-clause-least t c =
-    let tokens = c.args.tokens.now in
-    let from = c.args.from in
-    let depth = c.args.depth in
-    handed_in 24 (Spelled depth) tokens from 0 _ c.in_err-boxed.field-0.0 c.from_residual-in_err-boxed.result c.from_residual-in_err-boxed.ensures (λ e is. is) (omega arith)
-    (no_memory 24 (Spelled depth) tokens from 0 c.in_err-boxed.field-0.0 c.in_err-boxed.ensures.fault)
-
-pub repeat-returns-clause-least : goal.repeat-returns-clause-least
-repeat-returns-clause-least t c =
-    let tokens = c.args.tokens.now in
-    let from = c.args.from in
-    let depth = c.args.depth in
-    let few : length tokens < 2 ^ 55 = search rules in
-    let deep : 0 < depth = omega (arith, c.if-depth-eq0.false) in
-    let inside : from < length tokens = omega (arith, c.requires.within) in
-    let heads = c.in_ok-heads.heads in
-    let head = c.in_ok-heads.ensures in
-    let at_0 = past_heads tokens depth from inside few deep heads.part heads.end heads.stop head.spells (omega (arith, head.ahead)) (omega (arith, head.ahead)) (omega (arith, head.ahead)) head.least in
-    let body = c.in_ok-body.body in
-    let inner = c.in_ok-body.ensures in
-    let at_1 = past_inner tokens depth from heads.end heads.stop (omega (arith, head.ahead)) at_0 body.part body.end body.stop inner.spells (omega (arith, inner.bounds)) (omega (arith, inner.bounds)) inner.least in
-    closed_goes tokens depth from w.END body.end body.stop at_1 c.max.result c.in_ok-closing.ensures.stands c.in_ok-closing.ensures.within (omega (arith, inner.bounds)) c.max.ensures
-
-pub begin-returns-then-depth-eq0-clause-least : goal.begin-returns-then-depth-eq0-clause-least
-begin-returns-then-depth-eq0-clause-least t c =
-    let few : length c.args.tokens.now < 2 ^ 55 = search rules in
-    some_statement c.args.tokens.now c.args.depth c.args.from (omega (arith, c.requires.within)) few
-
-pub begin-returns-in_err-body-clause-least : goal.begin-returns-in_err-body-clause-least
-begin-returns-in_err-body-clause-least t c =
-    let tokens = c.args.tokens.now in
-    let from = c.args.from in
-    let depth = c.args.depth in
-    let few : length tokens < 2 ^ 55 = search rules in
-    let deep : 0 < depth = omega (arith, c.if-depth-eq0.false) in
-    let inside : from < length tokens = omega (arith, c.requires.within) in
-    let at_0 = begin_begun tokens depth from inside few deep c.requires.word in
-    handed_in 24 (Spelled depth) tokens from 0 _ c.in_err-body.field-0.0 c.from_residual.result c.from_residual.ensures (λ e is. is) (omega arith)
-    (inner_halts tokens depth from (from + 1) (from + 1) (omega arith) at_0 c.in_err-body.field-0.0 c.in_err-body.ensures.least)
-
-pub begin-returns-in_err-closing-clause-least : goal.begin-returns-in_err-closing-clause-least
-begin-returns-in_err-closing-clause-least t c =
-    let tokens = c.args.tokens.now in
-    let from = c.args.from in
-    let depth = c.args.depth in
-    let few : length tokens < 2 ^ 55 = search rules in
-    let deep : 0 < depth = omega (arith, c.if-depth-eq0.false) in
-    let inside : from < length tokens = omega (arith, c.requires.within) in
-    let at_0 = begin_begun tokens depth from inside few deep c.requires.word in
-    let body = c.in_ok-body.body in
-    let inner = c.in_ok-body.ensures in
-    let at_1 = past_inner tokens depth from (from + 1) (from + 1) (omega arith) at_0 body.part body.end body.stop inner.spells (omega (arith, inner.bounds)) (omega (arith, inner.bounds)) inner.least in
-    handed_in 24 (Spelled depth) tokens from 0 _ c.in_err-closing.field-0.0 c.from_residual-in_err-closing.result c.from_residual-in_err-closing.ensures (λ e is. is) (omega arith)
-    (closing_halts tokens depth from w.END body.end body.stop at_1 c.in_err-closing.field-0.0 (c.in_err-closing.ensures.least (omega arith)))
-
-pub begin-returns-in_err-boxed-clause-least : goal.begin-returns-in_err-boxed-clause-least
-begin-returns-in_err-boxed-clause-least t c =
-    let tokens = c.args.tokens.now in
-    let from = c.args.from in
-    let depth = c.args.depth in
-    handed_in 24 (Spelled depth) tokens from 0 _ c.in_err-boxed.field-0.0 c.from_residual-in_err-boxed.result c.from_residual-in_err-boxed.ensures (λ e is. is) (omega arith)
-    (no_memory 24 (Spelled depth) tokens from 0 c.in_err-boxed.field-0.0 c.in_err-boxed.ensures.fault)
-
-pub begin-returns-clause-least : goal.begin-returns-clause-least
-begin-returns-clause-least t c =
-    let tokens = c.args.tokens.now in
-    let from = c.args.from in
-    let depth = c.args.depth in
-    let few : length tokens < 2 ^ 55 = search rules in
-    let deep : 0 < depth = omega (arith, c.if-depth-eq0.false) in
-    let inside : from < length tokens = omega (arith, c.requires.within) in
-    let at_0 = begin_begun tokens depth from inside few deep c.requires.word in
-    let body = c.in_ok-body.body in
-    let inner = c.in_ok-body.ensures in
-    let at_1 = past_inner tokens depth from (from + 1) (from + 1) (omega arith) at_0 body.part body.end body.stop inner.spells (omega (arith, inner.bounds)) (omega (arith, inner.bounds)) inner.least in
-    closed_goes tokens depth from w.END body.end body.stop at_1 c.max.result c.in_ok-closing.ensures.stands c.in_ok-closing.ensures.within (omega (arith, inner.bounds)) c.max.ensures
-
-pub statement-returns-in-None-clause-least : goal.statement-returns-in-None-clause-least
-statement-returns-in-None-clause-least t c =
-    let few : length c.args.tokens.now < 2 ^ 55 = search rules in
-    some_statement c.args.tokens.now c.args.depth c.args.from (omega (arith, c.requires)) few
-
-pub statement-returns-in-Simple-clause-least : goal.statement-returns-in-Simple-clause-least
-statement-returns-in-Simple-clause-least t c =
-    (c.simple.ensures c.args.depth).least
+    no_memory_read 24 (Spelled depth) tokens from _ c.in_err-boxed.field-0.0 c.from_residual-in_err-boxed.result c.from_residual-in_err-boxed.ensures (λ e is. is) c.in_err-boxed.ensures.fault

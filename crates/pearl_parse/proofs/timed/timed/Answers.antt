@@ -21,7 +21,7 @@ returns-in_err-time c = λ depth.
     let tokens = c.args.tokens.now in
     let from = c.args.from in
     let few : length tokens < 2 ^ 55 = search rules in
-    unread (Spelled depth) tokens from _ c.in_err-time.field-0.0 c.from_residual.result c.from_residual.ensures (λ e is. is)
+    unread 24 (Spelled depth) tokens from _ c.in_err-time.field-0.0 c.from_residual.result c.from_residual.ensures (λ e is. is)
     (no_time c.args.tokens.now depth c.args.from c.args.later c.time_word.result c.in_err-time.field-0.0 c.requires.word c.time_word.ensures c.in_err-time.ensures.refused)
     (timed_halts tokens depth from c.requires.within few c.args.later c.time_word.result c.time_word.ensures c.in_err-time.field-0.0 c.in_err-time.ensures.least)
 
@@ -35,7 +35,7 @@ returns-in_err-task c = λ depth.
     let few : length tokens < 2 ^ 55 = search rules in
     let at = timed_continues tokens depth from c.requires.within few c.args.later c.time_word.result c.time_word.ensures time.part time.end time.stop read.spells (omega (arith, read.bounds)) (omega (arith, read.bounds)) read.least in
     let at_name = past_word 24 (Spelled depth) tokens from 0 w.CONTINUE (Then SpellsName semicolon) time.end time.stop (time.end + 1) (omega arith) at (c.if-is_word.ensures.stands refl) (c.if-is_word.ensures.within refl) in
-    unread (Spelled depth) tokens from _ c.in_err-task.field-0.0 c.from_residual-in_err-task.result c.from_residual-in_err-task.ensures (λ e is. is)
+    unread 24 (Spelled depth) tokens from _ c.in_err-task.field-0.0 c.from_residual-in_err-task.result c.from_residual-in_err-task.ensures (λ e is. is)
     (missing (Spelled depth) tokens from is_name continue_rest time.end time.stop (time.end + 1) c.in_err-task.field-0.0
     (continued_goes tokens depth from later c.time_word.result time.end time.stop c.requires.word c.time_word.ensures read.bounds.2 (omega (arith, read.bounds)) read.longest (c.if-is_word.ensures.stands refl))
     (λ others to h. h.0) read.bounds.2 (omega (arith, c.if-is_word.ensures.within refl)) (omega (arith, read.bounds)) c.in_err-task.ensures.missing)
@@ -52,7 +52,7 @@ returns-in_err-symbol c = λ depth.
     let at = timed_continues tokens depth from c.requires.within few c.args.later c.time_word.result c.time_word.ensures time.part time.end time.stop read.spells (omega (arith, read.bounds)) (omega (arith, read.bounds)) read.least in
     let at_name = past_word 24 (Spelled depth) tokens from 0 w.CONTINUE (Then SpellsName semicolon) time.end time.stop (time.end + 1) (omega arith) at (c.if-is_word.ensures.stands refl) (c.if-is_word.ensures.within refl) in
     let at_close = behind_name tokens depth from c.in_ok-task.task (time.end + 1) time.stop (time.end + 2) (omega arith) at_name c.in_ok-task.ensures.stands c.in_ok-task.ensures.within in
-    unread (Spelled depth) tokens from _ c.in_err-symbol.field-0.0 c.from_residual-in_err-symbol.result c.from_residual-in_err-symbol.ensures (λ e is. is)
+    unread 24 (Spelled depth) tokens from _ c.in_err-symbol.field-0.0 c.from_residual-in_err-symbol.result c.from_residual-in_err-symbol.ensures (λ e is. is)
     (missing (Spelled depth) tokens from (is_symbol s.SEMICOLON) continue_rest time.end time.stop (time.end + 2) c.in_err-symbol.field-0.0
     (continued_goes tokens depth from later c.time_word.result time.end time.stop c.requires.word c.time_word.ensures read.bounds.2 (omega (arith, read.bounds)) read.longest (c.if-is_word.ensures.stands refl))
     (λ others to h. ap (is_symbol s.SEMICOLON) h.1) read.bounds.2 (omega (arith, c.in_ok-task.ensures.within)) (omega (arith, read.bounds)) c.in_err-symbol.ensures.missing)
@@ -88,7 +88,7 @@ returns-in_err-symbol-2 c = λ depth.
     let few : length tokens < 2 ^ 55 = search rules in
     let at = timed_resumes tokens depth from c.requires.within few c.args.later c.time_word.result c.time_word.ensures time.part time.end time.stop read.spells (omega (arith, read.bounds)) (omega (arith, read.bounds)) read.least in
     let at_close = past_word 24 (Spelled depth) tokens from 0 w.RESUME semicolon time.end time.stop (time.end + 1) (omega arith) at (c.if-is_word-2.ensures.stands refl) (c.if-is_word-2.ensures.within refl) in
-    unread (Spelled depth) tokens from _ c.in_err-symbol-2.field-0.0 c.from_residual-in_err-symbol-2.result c.from_residual-in_err-symbol-2.ensures (λ e is. is)
+    unread 24 (Spelled depth) tokens from _ c.in_err-symbol-2.field-0.0 c.from_residual-in_err-symbol-2.result c.from_residual-in_err-symbol-2.ensures (λ e is. is)
     (missing (Spelled depth) tokens from (is_symbol s.SEMICOLON) resume_rest time.end time.stop (time.end + 1) c.in_err-symbol-2.field-0.0
     (resumed_goes tokens depth from later c.time_word.result time.end time.stop c.requires.word c.time_word.ensures read.bounds.2 (omega (arith, read.bounds)) read.longest (c.if-is_word-2.ensures.stands refl))
     (λ others to h. ap (is_symbol s.SEMICOLON) h.0) read.bounds.2 (omega (arith, c.if-is_word-2.ensures.within refl)) (omega (arith, read.bounds)) c.in_err-symbol-2.ensures.missing)
@@ -122,7 +122,7 @@ returns-in_err-begun c = λ depth.
     let read = c.in_ok-time.ensures in
     let few : length tokens < 2 ^ 55 = search rules in
     let at = timed_begins tokens depth from c.requires.within few c.args.later c.time_word.result c.time_word.ensures time.part time.end time.stop read.spells (omega (arith, read.bounds)) (omega (arith, read.bounds)) read.least in
-    unread (Spelled depth) tokens from _ c.in_err-begun.field-0.0 c.from_residual-in_err-begun.result c.from_residual-in_err-begun.ensures (λ e is. is)
+    unread 24 (Spelled depth) tokens from _ c.in_err-begun.field-0.0 c.from_residual-in_err-begun.result c.from_residual-in_err-begun.ensures (λ e is. is)
     (no_part (Spelled depth) tokens from SpellsBegun Ends time.end time.stop c.in_err-begun.field-0.0
     (begins_goes tokens depth from later c.time_word.result time.end time.stop c.requires.word c.time_word.ensures read.bounds.2 (omega (arith, read.bounds)) read.longest (sym c.if-is_word.ensures.value) (sym c.if-is_word-2.ensures.value)) read.bounds.2 c.in_err-begun.ensures.refused)
     (halt_part 24 (Spelled depth) tokens from 0 0 24 SpellsAnyBegun Ends begun_is_local ends_fill (omega arith) time.end time.stop (omega (arith, read.bounds)) at c.in_err-begun.field-0.0 c.in_err-begun.ensures.least)

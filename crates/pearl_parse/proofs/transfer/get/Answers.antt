@@ -19,7 +19,7 @@ returns-in_err-targets c = λ depth.
     let from = c.args.from in
     let few : length tokens < 2 ^ 55 = search rules in
     let begun = get_begun tokens depth from c.requires.within few c.requires.word in
-    unread (Spelled depth) tokens from _ c.in_err-targets.field-0.0 c.from_residual.result c.from_residual.ensures (λ e is. is)
+    unread 24 (Spelled depth) tokens from _ c.in_err-targets.field-0.0 c.from_residual.result c.from_residual.ensures (λ e is. is)
     (no_first (Spelled depth) tokens from (SpellsBefore w.FROM SpellsOwnRef) station_ends (from + 1) from c.in_err-targets.field-0.0 (get_goes tokens depth from c.requires.word)
     (omega arith) (omega arith) c.in_err-targets.ensures.refused)
     (halt_first 24 (Spelled depth) tokens from 0 4 24 (SpellsBefore w.FROM SpellsOwnRef) (Then SpellsStation Ends) (before_is_local SpellsOwnRef own_ref_keeps w.FROM (omega arith)) station_part_fills (omega arith) (from + 1) from (omega arith) begun (SpellsBefore w.FROM SpellsOwnRef) c.in_err-targets.field-0.0 (omega arith)
@@ -35,7 +35,7 @@ returns-in_err-station c = λ depth.
     let begun = get_begun tokens depth from c.requires.within few c.requires.word in
     let at = past_first 24 (Spelled depth) tokens from 0 4 24 (SpellsBefore w.FROM SpellsOwnRef) (Then SpellsStation Ends) (before_is_local SpellsOwnRef own_ref_keeps w.FROM (omega arith)) station_part_fills (omega arith) (from + 1) from (omega arith) begun targets.part.items targets.end targets.stop read.spells
     (omega (arith, read.ahead)) (omega (arith, read.ahead)) (omega arith) (omega (arith, read.ahead)) (read.least (omega arith)) in
-    unread (Spelled depth) tokens from _ c.in_err-station.field-0.0 c.from_residual-in_err-station.result c.from_residual-in_err-station.ensures (λ e is. is)
+    unread 24 (Spelled depth) tokens from _ c.in_err-station.field-0.0 c.from_residual-in_err-station.result c.from_residual-in_err-station.ensures (λ e is. is)
     (let go = past_only (Spelled depth) tokens from (SpellsBefore w.FROM SpellsOwnRef) station_ends (from + 1) from targets.end targets.stop (get_goes tokens depth from c.requires.word) (omega (arith, read.ahead)) read.only in
     no_part (Spelled depth) tokens from SpellsStation Ends targets.end targets.stop c.in_err-station.field-0.0 go (omega (arith, read.ahead)) c.in_err-station.ensures.refused)
     (halt_part 24 (Spelled depth) tokens from 0 0 24 SpellsStation Ends station_is_local ends_fill (omega arith) targets.end targets.stop (omega (arith, read.ahead)) at c.in_err-station.field-0.0 c.in_err-station.ensures.least)

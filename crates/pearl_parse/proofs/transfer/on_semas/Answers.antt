@@ -20,7 +20,7 @@ returns-in_err-names c = λ depth.
     let from = c.args.from in
     let few : length tokens < 2 ^ 55 = search rules in
     let begun = semas_begun tokens depth from c.requires.within few c.args.word c.requires.word in
-    unread (Spelled depth) tokens from _ c.in_err-names.field-0.0 c.from_residual.result c.from_residual.ensures (λ e is. is)
+    unread 24 (Spelled depth) tokens from _ c.in_err-names.field-0.0 c.from_residual.result c.from_residual.ensures (λ e is. is)
     (no_first (Spelled depth) tokens from SpellsNameList exit_rest (from + 1) from c.in_err-names.field-0.0 (semas_goes tokens depth from c.args.word c.requires.word)
     (omega arith) (omega arith) c.in_err-names.ensures.refused)
     (halt_first 24 (Spelled depth) tokens from 0 1 16 SpellsNameList semicolon name_list_is_local semicolon_fills (omega arith) (from + 1) from (omega arith) begun SpellsNameList c.in_err-names.field-0.0 (omega arith)
@@ -36,7 +36,7 @@ returns-in_err-symbol c = λ depth.
     let begun = semas_begun tokens depth from c.requires.within few c.args.word c.requires.word in
     let at = past_first 24 (Spelled depth) tokens from 0 1 16 SpellsNameList semicolon name_list_is_local semicolon_fills (omega arith) (from + 1) from (omega arith) begun names.part.items names.end names.stop read.spells
     (omega (arith, read.ahead)) (omega (arith, read.ahead)) (omega arith) (omega (arith, read.ahead)) read.least in
-    unread (Spelled depth) tokens from _ c.in_err-symbol.field-0.0 c.from_residual-in_err-symbol.result c.from_residual-in_err-symbol.ensures (λ e is. is)
+    unread 24 (Spelled depth) tokens from _ c.in_err-symbol.field-0.0 c.from_residual-in_err-symbol.result c.from_residual-in_err-symbol.ensures (λ e is. is)
     (let go = past (Spelled depth) tokens from SpellsNameList (by_comma never) exit_rest (from + 1) from names.end names.stop (semas_goes tokens depth from c.args.word c.requires.word) (omega (arith, read.ahead)) read.longest (λ others at to h. ap (by_comma never) h.0) in
     missing (Spelled depth) tokens from (is_symbol s.SEMICOLON) exit_rest names.end names.stop names.end c.in_err-symbol.field-0.0 go
     (λ others to h. ap (is_symbol s.SEMICOLON) h.0) (omega (arith, read.ahead)) (omega (arith, read.ahead)) (omega (arith, read.ahead)) c.in_err-symbol.ensures.missing)

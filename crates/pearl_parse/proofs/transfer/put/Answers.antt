@@ -22,7 +22,7 @@ returns-in_err-values c = λ depth.
     let from = c.args.from in
     let few : length tokens < 2 ^ 55 = search rules in
     let begun = put_begun tokens depth from c.requires.within few c.requires.word in
-    unread (Spelled depth) tokens from _ c.in_err-values.field-0.0 c.from_residual.result c.from_residual.ensures (λ e is. is)
+    unread 24 (Spelled depth) tokens from _ c.in_err-values.field-0.0 c.from_residual.result c.from_residual.ensures (λ e is. is)
     (no_first (Spelled depth) tokens from (SpellsBefore w.TO SpellsWhole) station_ends (from + 1) from c.in_err-values.field-0.0 (put_goes tokens depth from c.requires.word)
     (omega arith) (omega arith) c.in_err-values.ensures.refused)
     (halt_first 24 (Spelled depth) tokens from 0 4 24 (SpellsBefore w.TO SpellsWhole) (Then SpellsStation Ends) (before_is_local SpellsWhole whole_keeps w.TO (omega arith)) station_part_fills (omega arith) (from + 1) from (omega arith) begun (SpellsBefore w.TO SpellsWhole) c.in_err-values.field-0.0 (omega arith)
@@ -38,7 +38,7 @@ returns-in_err-station c = λ depth.
     let begun = put_begun tokens depth from c.requires.within few c.requires.word in
     let at = past_first 24 (Spelled depth) tokens from 0 4 24 (SpellsBefore w.TO SpellsWhole) (Then SpellsStation Ends) (before_is_local SpellsWhole whole_keeps w.TO (omega arith)) station_part_fills (omega arith) (from + 1) from (omega arith) begun values.part.items values.end values.stop read.spells
     (omega (arith, read.ahead)) (omega (arith, read.ahead)) (omega arith) (omega (arith, read.ahead)) (read.least (omega arith)) in
-    unread (Spelled depth) tokens from _ c.in_err-station.field-0.0 c.from_residual-in_err-station.result c.from_residual-in_err-station.ensures (λ e is. is)
+    unread 24 (Spelled depth) tokens from _ c.in_err-station.field-0.0 c.from_residual-in_err-station.result c.from_residual-in_err-station.ensures (λ e is. is)
     (let go = past_only (Spelled depth) tokens from (SpellsBefore w.TO SpellsWhole) station_ends (from + 1) from values.end values.stop (put_goes tokens depth from c.requires.word) (omega (arith, read.ahead)) read.only in
     no_part (Spelled depth) tokens from SpellsStation Ends values.end values.stop c.in_err-station.field-0.0 go (omega (arith, read.ahead)) c.in_err-station.ensures.refused)
     (halt_part 24 (Spelled depth) tokens from 0 0 24 SpellsStation Ends station_is_local ends_fill (omega arith) values.end values.stop (omega (arith, read.ahead)) at c.in_err-station.field-0.0 c.in_err-station.ensures.least)

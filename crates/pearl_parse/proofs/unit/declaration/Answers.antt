@@ -1,36 +1,62 @@
-use Rattle.std.proofs.Common.{sym, ◌+◌, ◌<◌, ◌^◌, length, rules, arith}
+use Rattle.std.proofs.Common.{sym, ◌<◌, ◌^◌, length, rules, arith}
 use Rattle.pearl_tree.specs.Standing.{what_at}
 use Rattle.pearl_parse.proofs.UnitRests.{no_first, no_declaration}
 use Rattle.pearl_tree.specs.Modules.{SpellsDecl}
 use Rattle.pearl_parse.proofs.UnitLeast.{reaches_wider, least_wider}
 use Rattle.pearl_parse.proofs.Beginnings.{declaration_begins}
+use Rattle.pearl_parse.proofs.Unread.{none_read}
 use Rattle.pearl_parse.proofs.unit.declaration.Goals as goal
 
-pub returns-in-None-clause-refused : goal.returns-in-None-clause-refused
-returns-in-None-clause-refused c =
+pub returns-in-None : goal.returns-in-None
+returns-in-None c =
     let tokens = c.args.tokens.now in
     let from = c.args.from in
     let none = no_first (what_at tokens from) (c.name_at.ensures.none c.in-None.is) (sym c.if-is_word.ensures.value) (sym c.if-is_word-2.ensures.value)
     (sym c.if-is_word-3.ensures.value) (sym c.if-is_word-4.ensures.value) in
-    (no_declaration tokens from none, omega arith, c.requires)
-
-pub returns-then-is_word-clause-least : goal.returns-then-is_word-clause-least
-returns-then-is_word-clause-least c =
-    least_wider 16 24 SpellsDecl c.args.tokens.now c.args.from (omega arith) c.length_of.result c.length_of.ensures.least
-
-pub returns-then-is_word-2-clause-least : goal.returns-then-is_word-2-clause-least
-returns-then-is_word-2-clause-least c =
-    least_wider 16 24 SpellsDecl c.args.tokens.now c.args.from (omega arith) c.type_of.result c.type_of.ensures.least
-
-pub returns-then-is_word-3-clause-least : goal.returns-then-is_word-3-clause-least
-returns-then-is_word-3-clause-least c =
-    least_wider 16 24 SpellsDecl c.args.tokens.now c.args.from (omega arith) c.declare.result c.declare.ensures.least
-
-pub returns-then-is_word-4-clause-least : goal.returns-then-is_word-4-clause-least
-returns-then-is_word-4-clause-least c =
-    least_wider 16 24 SpellsDecl c.args.tokens.now c.args.from (omega arith) c.specify.result c.specify.ensures.least
-
-pub returns-in-None-clause-least : goal.returns-in-None-clause-least
-returns-in-None-clause-least c =
     let few : length c.args.tokens.now < 2 ^ 55 = search rules in
-    reaches_wider 16 24 SpellsDecl c.args.tokens.now c.args.from (omega arith) c.args.from (declaration_begins c.args.tokens.now c.args.from c.requires few)
+    none_read 24 SpellsDecl tokens from _ (no_declaration tokens from none, omega arith, c.requires)
+    (reaches_wider 16 24 SpellsDecl c.args.tokens.now c.args.from (omega arith) c.args.from (declaration_begins c.args.tokens.now c.args.from c.requires few))
+
+pub returns-then-is_word : goal.returns-then-is_word
+returns-then-is_word c =
+    let read = c.length_of.ensures in
+    record {
+      spells = read.spells;
+      only = read.longest;
+      ahead = read.ahead;
+      refused = read.refused;
+      least = least_wider 16 24 SpellsDecl c.args.tokens.now c.args.from (omega arith) c.length_of.result read.least;
+    }
+
+pub returns-then-is_word-2 : goal.returns-then-is_word-2
+returns-then-is_word-2 c =
+    let read = c.type_of.ensures in
+    record {
+      spells = read.spells;
+      only = read.longest;
+      ahead = read.ahead;
+      refused = read.refused;
+      least = least_wider 16 24 SpellsDecl c.args.tokens.now c.args.from (omega arith) c.type_of.result read.least;
+    }
+
+pub returns-then-is_word-3 : goal.returns-then-is_word-3
+returns-then-is_word-3 c =
+    let read = c.declare.ensures in
+    record {
+      spells = read.spells;
+      only = read.longest;
+      ahead = read.ahead;
+      refused = read.refused;
+      least = least_wider 16 24 SpellsDecl c.args.tokens.now c.args.from (omega arith) c.declare.result read.least;
+    }
+
+pub returns-then-is_word-4 : goal.returns-then-is_word-4
+returns-then-is_word-4 c =
+    let read = c.specify.ensures in
+    record {
+      spells = read.spells;
+      only = read.longest;
+      ahead = read.ahead;
+      refused = read.refused;
+      least = least_wider 16 24 SpellsDecl c.args.tokens.now c.args.from (omega arith) c.specify.result read.least;
+    }

@@ -1,14 +1,14 @@
-use Rattle.std.proofs.Common.{ap, ◌+◌, ◌<◌, ◌^◌, length, rules, arith}
+use Rattle.std.proofs.Common.{ap, ◌<◌, ◌^◌, length, rules, arith}
 use Rattle.pearl_tree.specs.Modules.{SpellsBlock, SpellsDecl}
 use Rattle.pearl_parse_expr.specs.Stops.{is_name}
-use Rattle.pearl_parse.proofs.Steps.{Ends, err_told, past_only, no_part}
+use Rattle.pearl_parse.proofs.Steps.{Ends, past_only, no_part}
 use Rattle.pearl_parse.proofs.UnitRests.{block_goes}
 use Rattle.pearl_parse.proofs.UnitLeast.{past_params, past_returns, unit_halts, unit_goes}
-use Rattle.pearl_parse.proofs.States.{handed_in}
+use Rattle.pearl_parse.proofs.Unread.{unread}
 use Rattle.pearl_parse.proofs.unit.procedure.Goals as goal
 
-pub returns-in_err-block-clause-refused : goal.returns-in_err-block-clause-refused
-returns-in_err-block-clause-refused c =
+pub returns-in_err-block : goal.returns-in_err-block
+returns-in_err-block c =
     let tokens = c.args.tokens.now in
     let from = c.args.from in
     let params = c.in-Ok.params in
@@ -18,55 +18,37 @@ returns-in_err-block-clause-refused c =
     let stop = c.max.result in
     let go = block_goes tokens from (ap is_name c.requires.name.0) c.requires.word params.end params.stop returns.end returns.stop stop (omega (arith, first.ahead))
     (omega (arith, c.max.ensures)) (omega (arith, c.max.ensures)) first.longest second.longest in
-    err_told _ _ c.in_err-block.field-0.0 c.from_residual.result c.from_residual.ensures (λ e is. is)
-    (no_part SpellsDecl tokens from SpellsBlock Ends returns.end stop c.in_err-block.field-0.0 go (omega (arith, c.max.ensures, first.ahead)) c.in_err-block.ensures.refused)
-
-pub returns-clause-only : goal.returns-clause-only
-returns-clause-only c =
-    let tokens = c.args.tokens.now in
-    let from = c.args.from in
-    let params = c.in-Ok.params in
-    let first = c.in-Ok.ensures in
-    let returns = c.returns-returns.result in
-    let second = c.returns-returns.ensures in
-    let stop = c.max.result in
-    let block = c.in_ok-block.block in
-    let last = c.in_ok-block.ensures in
-    let go = block_goes tokens from (ap is_name c.requires.name.0) c.requires.word params.end params.stop returns.end returns.stop stop (omega (arith, first.ahead))
-    (omega (arith, c.max.ensures)) (omega (arith, c.max.ensures)) first.longest second.longest in
-    past_only SpellsDecl tokens from SpellsBlock Ends returns.end stop block.end block.stop go last.bounds.2 last.only
-
-pub returns-in_err-block-clause-least : goal.returns-in_err-block-clause-least
-returns-in_err-block-clause-least c =
-    let tokens = c.args.tokens.now in
-    let from = c.args.from in
     let few : length tokens < 2 ^ 55 = search rules in
-    let params = c.in-Ok.params in
-    let first = c.in-Ok.ensures in
-    let returns = c.returns-returns.result in
-    let second = c.returns-returns.ensures in
-    let stop = c.max.result in
     let at_0 = past_params tokens from few c.args.name c.requires.name (omega (arith, c.requires.within)) c.requires.colon (omega (arith, c.requires.within)) c.requires.within c.requires.word params.part.items params.end params.stop first.spells
     (omega (arith, first.ahead)) (omega (arith, first.ahead)) (omega (arith, first.ahead)) first.least in
     let at = past_returns tokens from few params.end params.stop (omega (arith, first.ahead)) at_0 returns.part returns.end returns.stop stop second.spells (omega (arith, second.ahead)) (omega (arith, second.ahead))
     (omega (arith, first.ahead, second.ahead, c.max.ensures)) second.least c.max.ensures in
-    handed_in 24 SpellsDecl tokens from 0 _ c.in_err-block.field-0.0 c.from_residual.result c.from_residual.ensures (λ e is. is) (omega arith)
+    unread 24 SpellsDecl tokens from _ c.in_err-block.field-0.0 c.from_residual.result c.from_residual.ensures (λ e is. is)
+    (no_part SpellsDecl tokens from SpellsBlock Ends returns.end stop c.in_err-block.field-0.0 go (omega (arith, c.max.ensures, first.ahead)) c.in_err-block.ensures.refused)
     (unit_halts tokens from few returns.end stop (omega (arith, first.ahead, second.ahead)) at c.in_err-block.field-0.0 c.in_err-block.ensures.least)
 
-pub returns-clause-least : goal.returns-clause-least
-returns-clause-least c =
+pub returns : goal.returns
+returns c =
     let tokens = c.args.tokens.now in
     let from = c.args.from in
-    let few : length tokens < 2 ^ 55 = search rules in
     let params = c.in-Ok.params in
     let first = c.in-Ok.ensures in
     let returns = c.returns-returns.result in
     let second = c.returns-returns.ensures in
     let stop = c.max.result in
+    let block = c.in_ok-block.block in
+    let last = c.in_ok-block.ensures in
+    let go = block_goes tokens from (ap is_name c.requires.name.0) c.requires.word params.end params.stop returns.end returns.stop stop (omega (arith, first.ahead))
+    (omega (arith, c.max.ensures)) (omega (arith, c.max.ensures)) first.longest second.longest in
+    let few : length tokens < 2 ^ 55 = search rules in
     let at_0 = past_params tokens from few c.args.name c.requires.name (omega (arith, c.requires.within)) c.requires.colon (omega (arith, c.requires.within)) c.requires.within c.requires.word params.part.items params.end params.stop first.spells
     (omega (arith, first.ahead)) (omega (arith, first.ahead)) (omega (arith, first.ahead)) first.least in
     let at = past_returns tokens from few params.end params.stop (omega (arith, first.ahead)) at_0 returns.part returns.end returns.stop stop second.spells (omega (arith, second.ahead)) (omega (arith, second.ahead))
     (omega (arith, first.ahead, second.ahead, c.max.ensures)) second.least c.max.ensures in
-    let block = c.in_ok-block.block in
-    let last = c.in_ok-block.ensures in
-    unit_goes tokens from few returns.end stop (omega (arith, first.ahead, second.ahead)) at block.part block.end block.stop last.spells (omega (arith, last.bounds)) (omega (arith, last.bounds)) (omega (arith, last.bounds)) last.least
+    record {
+      spells = search rules;
+      only = past_only SpellsDecl tokens from SpellsBlock Ends returns.end stop block.end block.stop go last.bounds.2 last.only;
+      ahead = search rules;
+      refused = tt;
+      least = unit_goes tokens from few returns.end stop (omega (arith, first.ahead, second.ahead)) at block.part block.end block.stop last.spells (omega (arith, last.bounds)) (omega (arith, last.bounds)) (omega (arith, last.bounds)) last.least;
+    }

@@ -2,57 +2,45 @@ use Rattle.std.proofs.Common.{◌+◌, ap, ◌<◌, ◌^◌, length, rules, arit
 use Rattle.pearl_tree.specs.Modules.{SpellsTaskHead, SpellsBlock, SpellsDecl}
 use Rattle.pearl_parse_decl.specs.Readings.{extends_head}
 use Rattle.pearl_parse_expr.specs.Stops.{is_name}
-use Rattle.pearl_parse.proofs.Steps.{Ends, err_told, past, past_only, no_part}
+use Rattle.pearl_parse.proofs.Steps.{Ends, past, past_only, no_part}
 use Rattle.pearl_parse.proofs.BlockRests.{block_rest, head_stops}
 use Rattle.pearl_parse.proofs.UnitRests.{task_goes}
 use Rattle.pearl_parse.proofs.UnitLeast.{past_head, unit_halts, unit_goes}
-use Rattle.pearl_parse.proofs.States.{handed_in}
+use Rattle.pearl_parse.proofs.Unread.{unread}
 use Rattle.pearl_parse.proofs.unit.task.Goals as goal
 
-pub returns-in_err-block-clause-refused : goal.returns-in_err-block-clause-refused
-returns-in_err-block-clause-refused c =
+pub returns-in_err-block : goal.returns-in_err-block
+returns-in_err-block c =
     let tokens = c.args.tokens.now in
     let from = c.args.from in
     let head = c.task_head-head.result in
     let read = c.task_head-head.ensures in
     let go = past SpellsDecl tokens from SpellsTaskHead extends_head block_rest (from + 3) (from + 2) head.end head.stop
     (task_goes tokens from (ap is_name c.requires.name.0) c.requires.word) (omega (arith, read.ahead)) read.longest head_stops in
-    err_told _ _ c.in_err-block.field-0.0 c.from_residual.result c.from_residual.ensures (λ e is. is)
-    (no_part SpellsDecl tokens from SpellsBlock Ends head.end head.stop c.in_err-block.field-0.0 go (omega (arith, read.ahead)) c.in_err-block.ensures.refused)
-
-pub returns-clause-only : goal.returns-clause-only
-returns-clause-only c =
-    let tokens = c.args.tokens.now in
-    let from = c.args.from in
-    let head = c.task_head-head.result in
-    let read = c.task_head-head.ensures in
-    let block = c.in_ok-block.block in
-    let last = c.in_ok-block.ensures in
-    let go = past SpellsDecl tokens from SpellsTaskHead extends_head block_rest (from + 3) (from + 2) head.end head.stop
-    (task_goes tokens from (ap is_name c.requires.name.0) c.requires.word) (omega (arith, read.ahead)) read.longest head_stops in
-    past_only SpellsDecl tokens from SpellsBlock Ends head.end head.stop block.end block.stop go last.bounds.2 last.only
-
-pub returns-in_err-block-clause-least : goal.returns-in_err-block-clause-least
-returns-in_err-block-clause-least c =
-    let tokens = c.args.tokens.now in
-    let from = c.args.from in
     let few : length tokens < 2 ^ 55 = search rules in
-    let head = c.task_head-head.result in
-    let read = c.task_head-head.ensures in
     let at = past_head tokens from few c.args.name c.requires.name (omega (arith, c.requires.within)) c.requires.colon (omega (arith, c.requires.within)) c.requires.within c.requires.word head.part head.end head.stop read.spells
     (omega (arith, read.ahead)) (omega (arith, read.ahead)) (omega (arith, read.ahead)) read.least in
-    handed_in 24 SpellsDecl tokens from 0 _ c.in_err-block.field-0.0 c.from_residual.result c.from_residual.ensures (λ e is. is) (omega arith)
+    unread 24 SpellsDecl tokens from _ c.in_err-block.field-0.0 c.from_residual.result c.from_residual.ensures (λ e is. is)
+    (no_part SpellsDecl tokens from SpellsBlock Ends head.end head.stop c.in_err-block.field-0.0 go (omega (arith, read.ahead)) c.in_err-block.ensures.refused)
     (unit_halts tokens from few head.end head.stop (omega (arith, read.ahead)) at c.in_err-block.field-0.0 c.in_err-block.ensures.least)
 
-pub returns-clause-least : goal.returns-clause-least
-returns-clause-least c =
+pub returns : goal.returns
+returns c =
     let tokens = c.args.tokens.now in
     let from = c.args.from in
-    let few : length tokens < 2 ^ 55 = search rules in
     let head = c.task_head-head.result in
     let read = c.task_head-head.ensures in
-    let at = past_head tokens from few c.args.name c.requires.name (omega (arith, c.requires.within)) c.requires.colon (omega (arith, c.requires.within)) c.requires.within c.requires.word head.part head.end head.stop read.spells
-    (omega (arith, read.ahead)) (omega (arith, read.ahead)) (omega (arith, read.ahead)) read.least in
     let block = c.in_ok-block.block in
     let last = c.in_ok-block.ensures in
-    unit_goes tokens from few head.end head.stop (omega (arith, read.ahead)) at block.part block.end block.stop last.spells (omega (arith, last.bounds)) (omega (arith, last.bounds)) (omega (arith, last.bounds)) last.least
+    let go = past SpellsDecl tokens from SpellsTaskHead extends_head block_rest (from + 3) (from + 2) head.end head.stop
+    (task_goes tokens from (ap is_name c.requires.name.0) c.requires.word) (omega (arith, read.ahead)) read.longest head_stops in
+    let few : length tokens < 2 ^ 55 = search rules in
+    let at = past_head tokens from few c.args.name c.requires.name (omega (arith, c.requires.within)) c.requires.colon (omega (arith, c.requires.within)) c.requires.within c.requires.word head.part head.end head.stop read.spells
+    (omega (arith, read.ahead)) (omega (arith, read.ahead)) (omega (arith, read.ahead)) read.least in
+    record {
+      spells = search rules;
+      only = past_only SpellsDecl tokens from SpellsBlock Ends head.end head.stop block.end block.stop go last.bounds.2 last.only;
+      ahead = search rules;
+      refused = tt;
+      least = unit_goes tokens from few head.end head.stop (omega (arith, read.ahead)) at block.part block.end block.stop last.spells (omega (arith, last.bounds)) (omega (arith, last.bounds)) (omega (arith, last.bounds)) last.least;
+    }

@@ -3,41 +3,29 @@ use Rattle.pearl_tree.specs.Modules.{SpellsDecl}
 use Rattle.pearl_tree.specs.declared.symbol.TheConstants as s
 use Rattle.pearl_tree.specs.declared.word_code.TheConstants as w
 use Rattle.pearl_parse_expr.specs.Stops.{is_name, is_symbol, is_word}
-use Rattle.pearl_parse.proofs.Steps.{err_told, missing}
+use Rattle.pearl_parse.proofs.Steps.{missing}
 use Rattle.pearl_parse.proofs.UnitRests.{unit_rest, word_rest, unit_goes, word_goes}
 use Rattle.pearl_parse.proofs.UnitLeast.{no_colon, no_proc}
-use Rattle.pearl_parse.proofs.States.{handed_in}
+use Rattle.pearl_parse.proofs.Unread.{unread}
 use Rattle.pearl_parse.proofs.unit.unit.Goals as goal
 
-pub returns-in_err-symbol-clause-refused : goal.returns-in_err-symbol-clause-refused
-returns-in_err-symbol-clause-refused c =
+pub returns-in_err-symbol : goal.returns-in_err-symbol
+returns-in_err-symbol c =
     let tokens = c.args.tokens.now in
     let from = c.args.from in
-    err_told _ _ c.in_err-symbol.field-0.0 c.from_residual.result c.from_residual.ensures (λ e is. is)
+    let few : length tokens < 2 ^ 55 = search rules in
+    unread 24 SpellsDecl tokens from _ c.in_err-symbol.field-0.0 c.from_residual.result c.from_residual.ensures (λ e is. is)
     (missing SpellsDecl tokens from (is_symbol s.COLON) unit_rest (from + 1) from (from + 1) c.in_err-symbol.field-0.0 (unit_goes tokens from (ap is_name c.requires.name.0))
     (λ others to h. ap (is_symbol s.COLON) h) (omega arith) (omega (arith, c.requires.within)) (omega (arith, c.requires.within)) c.in_err-symbol.ensures.missing)
+    (no_colon tokens from few c.args.name c.requires.name c.requires.within c.in_err-symbol.field-0.0 c.in_err-symbol.ensures.missing)
 
-pub returns-in_err-word-clause-refused : goal.returns-in_err-word-clause-refused
-returns-in_err-word-clause-refused c =
+pub returns-in_err-word : goal.returns-in_err-word
+returns-in_err-word c =
     let tokens = c.args.tokens.now in
     let from = c.args.from in
-    err_told _ _ c.in_err-word.field-0.0 c.from_residual-in_err-word.result c.from_residual-in_err-word.ensures (λ e is. is)
+    let few : length tokens < 2 ^ 55 = search rules in
+    unread 24 SpellsDecl tokens from _ c.in_err-word.field-0.0 c.from_residual-in_err-word.result c.from_residual-in_err-word.ensures (λ e is. is)
     (missing SpellsDecl tokens from (is_word w.PROC) word_rest (from + 2) (from + 2) (from + 2) c.in_err-word.field-0.0
     (word_goes tokens from (ap is_name c.requires.name.0) (sym c.if-is_word.ensures.value))
     (λ others to h. h) (omega arith) (omega (arith, c.in_ok-symbol.ensures.within)) (omega (arith, c.in_ok-symbol.ensures.within)) c.in_err-word.ensures.missing)
-
-pub returns-in_err-symbol-clause-least : goal.returns-in_err-symbol-clause-least
-returns-in_err-symbol-clause-least c =
-    let tokens = c.args.tokens.now in
-    let from = c.args.from in
-    let few : length tokens < 2 ^ 55 = search rules in
-    handed_in 24 SpellsDecl tokens from 0 _ c.in_err-symbol.field-0.0 c.from_residual.result c.from_residual.ensures (λ e is. is) (omega arith)
-    (no_colon tokens from few c.args.name c.requires.name c.requires.within c.in_err-symbol.field-0.0 c.in_err-symbol.ensures.missing)
-
-pub returns-in_err-word-clause-least : goal.returns-in_err-word-clause-least
-returns-in_err-word-clause-least c =
-    let tokens = c.args.tokens.now in
-    let from = c.args.from in
-    let few : length tokens < 2 ^ 55 = search rules in
-    handed_in 24 SpellsDecl tokens from 0 _ c.in_err-word.field-0.0 c.from_residual-in_err-word.result c.from_residual-in_err-word.ensures (λ e is. is) (omega arith)
     (no_proc tokens from few c.args.name c.requires.name c.requires.within c.in_ok-symbol.ensures.stands c.in_ok-symbol.ensures.within c.in_err-word.field-0.0 c.in_err-word.ensures.missing)

@@ -9,6 +9,13 @@ pub returns-clause-contained : goal.returns-clause-contained
 returns-clause-contained c =
     contained_of 7 SpellsDevice (omega arith) device_keeps
 
-pub returns-clause-least : goal.returns-clause-least
-returns-clause-least c =
-    least_wider 16 24 SpellsDevice c.args.tokens.now c.args.from (omega arith) c.device.result c.device.ensures.least
+pub returns-clause-reads : goal.returns-clause-reads
+returns-clause-reads c =
+    let read = c.device.ensures in
+    record {
+      spells = read.spells;
+      only = read.longest;
+      ahead = read.ahead;
+      refused = read.refused;
+      least = least_wider 16 24 SpellsDevice c.args.tokens.now c.args.from (omega arith) c.device.result read.least;
+    }
