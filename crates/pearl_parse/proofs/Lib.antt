@@ -41,3 +41,4 @@ pub mod UnitLeast
 pub mod SystemLeast
 pub mod ModuleLeast
 pub mod Unread
+pub mod Optional

@@ -30,31 +30,19 @@ begins_module_name token = is_symbol s.LEFT_ROUND token || is_name token
 abbrev pub SpellsOptionalName : List Token → Spelling (Option ModuleName)
 SpellsOptionalName = SpellsOptional begins_module_name SpellsModuleName
 
--- MODULE [ "(" id ")" | id ] ";"
-abbrev pub SpellsHead : List Token → Spelling (Option ModuleName)
-SpellsHead tokens from name to =
-    (m : ℕ) × HasWord tokens from w.MODULE × SpellsOptionalName tokens (from + 1) name m ×
-    HasSymbol tokens m s.SEMICOLON × (to ≡ m + 1)
-
 -- [ SYSTEM ";" { device } ]
 abbrev pub SpellsOptionalSystem : List Token → Spelling (Option (Parts Device))
 SpellsOptionalSystem = SpellsOptional (is_word w.SYSTEM) SpellsSystem
 
--- MODULE [ "(" id ")" | id ] ";", where a name that is missing says nothing of the token there
-abbrev pub SpellsTitle : List Token → Spelling (Option ModuleName)
-SpellsTitle tokens from name to =
+-- MODULE [ "(" id ")" | id ] ";"
+abbrev pub SpellsHead : List Token → Spelling (Option ModuleName)
+SpellsHead tokens from name to =
     (m : ℕ) × HasWord tokens from w.MODULE × SpellsMaybe (SpellsModuleName tokens) (from + 1) name m ×
     HasSymbol tokens m s.SEMICOLON × (to ≡ m + 1)
 
 -- [ SYSTEM ";" { device } ] PROBLEM ";"
 abbrev pub SpellsOpening : List Token → Spelling (Option (Parts Device))
 SpellsOpening tokens from system to =
-    (m : ℕ) × SpellsOptionalSystem tokens from system m × HasWord tokens m w.PROBLEM ×
-    HasSymbol tokens (m + 1) s.SEMICOLON × (to ≡ m + 2)
-
--- the same, where a system part that is missing says nothing of the token there
-abbrev pub SpellsOpened : List Token → Spelling (Option (Parts Device))
-SpellsOpened tokens from system to =
     (m : ℕ) × SpellsMaybe (SpellsSystem tokens) from system m × HasWord tokens m w.PROBLEM ×
     HasSymbol tokens (m + 1) s.SEMICOLON × (to ≡ m + 2)
 
@@ -78,10 +66,12 @@ abbrev pub SpellsSource : List Token → Spelling Tree
 SpellsSource tokens from tree to = SpellsTree tokens from tree to × (to ≡ length tokens)
 
 -- the first token of a device, and of a declaration
-pub device_begins : (tokens : List Token) (from : ℕ) (x : Device) (to : ℕ) → SpellsDevice tokens from x to → is_name (what_at tokens from) ≡ true
+pub device_begins : (tokens : List Token) (from : ℕ) (x : Device) (to : ℕ) → SpellsDevice tokens from x to →
+    is_name (what_at tokens from) ≡ true
 device_begins tokens from x to h = ap is_name h.1.0
 
-pub declaration_begins : (tokens : List Token) (from : ℕ) (x : Decl) (to : ℕ) → SpellsDecl tokens from x to → begins_declaration (what_at tokens from) ≡ true
+pub declaration_begins : (tokens : List Token) (from : ℕ) (x : Decl) (to : ℕ) → SpellsDecl tokens from x to →
+    begins_declaration (what_at tokens from) ≡ true
 declaration_begins tokens from (decl.Length sort number p) to h = ap begins_declaration h.1
 declaration_begins tokens from (decl.Type name typing p) to h = ap begins_declaration h.2
 declaration_begins tokens from (decl.Declare parts p) to h = ap begins_declaration h.2

@@ -4,8 +4,9 @@ ghost use Rattle.std.specs.Prelude.{◌≡◌, ◌≢◌, ◌+◌, ◌<◌, ◌�
 ghost use Rattle.pearl_tree.specs.Standing.{SpellsMaybe};
 ghost use Rattle.pearl_tree.specs.Modules.{Spells, SpellsModuleName, SpellsTree};
 ghost use Rattle.pearl_parse_expr.specs.declared.reading.Halt.{Halt};
-ghost use Rattle.pearl_parse_expr.specs.Stops.{IsOnly, IsAhead, IsHalted};
+ghost use Rattle.pearl_parse_expr.specs.Stops.{IsOnly, IsHalted};
 ghost use Rattle.pearl_parse_expr.specs.Least.{HaltsIn};
+ghost use Rattle.pearl_parse_expr.specs.Reads.{ReadsOnly};
 ghost use Rattle.pearl_parse.specs.Reached.{HaltsBehind};
 ghost use Rattle.pearl_parse.specs.Stops as spec;
 ghost use Rattle.pearl_parse.specs.Modules as modules;
@@ -59,12 +60,8 @@ fn module_name(tokens: &[Token], from: usize) -> Result<Reading<Option<ModuleNam
 /// `MODULE [ "(" id ")" | id ] ";"`
 fn head(tokens: &[Token], from: usize) -> Result<Reading<Option<ModuleName>>, Halt>
     requires { from ≤ length tokens.now }
-    ensures spells { IfOk result (λ reading. modules.SpellsHead tokens.now from reading.part reading.end) }
-    ensures only { IfOk result (λ reading. IsOnly modules.SpellsHead tokens.now from reading.end reading.stop) }
-    ensures ahead { IfOk result (λ reading. IsAhead tokens.now from reading.end reading.stop) }
+    ensures reads { ReadsOnly 16 modules.SpellsHead tokens.now from result }
     ensures close { IfOk result (λ reading. reading.stop ≡ reading.end) }
-    ensures refused { IfErr result (λ halt. IsHalted modules.SpellsHead tokens.now from halt) }
-    ensures least { IfErr result (λ halt. HaltsIn 16 modules.SpellsTitle tokens.now from halt) }
     ensures memory { IfErr result (λ halt. halt ≢ Halt.NoMemory) }
 {
     word(tokens, from, from, MODULE)?;

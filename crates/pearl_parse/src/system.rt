@@ -5,8 +5,9 @@ ghost use Rattle.pearl_tree.specs.Standing.{HasWord, SpellsMaybe};
 ghost use Rattle.pearl_tree.specs.Declarations.{SpellsDevice};
 ghost use Rattle.pearl_tree.specs.Modules.{SpellsSystem};
 ghost use Rattle.pearl_tree.specs.declared.word_code.TheConstants as w;
-ghost use Rattle.pearl_parse_expr.specs.Stops.{IsLongest, IsOnly, IsAhead, IsHalted, is_name};
+ghost use Rattle.pearl_parse_expr.specs.Stops.{IsLongest, IsAhead, IsHalted, is_name};
 ghost use Rattle.pearl_parse_expr.specs.Least.{IsLeastIn};
+ghost use Rattle.pearl_parse_expr.specs.Reads.{ReadsOnly};
 ghost use Rattle.pearl_parse.specs.Stops as spec;
 ghost use Rattle.pearl_parse.specs.Modules as modules;
 
@@ -92,11 +93,7 @@ pub fn opening(
     from: usize,
 ) -> Result<Reading<Option<Parts<Device>>>, Halt>
     requires { from ≤ length tokens.now }
-    ensures spells { IfOk result (λ reading. modules.SpellsOpening tokens.now from reading.part reading.end) }
-    ensures only { IfOk result (λ reading. IsOnly modules.SpellsOpening tokens.now from reading.end reading.stop) }
-    ensures ahead { IfOk result (λ reading. IsAhead tokens.now from reading.end reading.stop) }
-    ensures refused { IfErr result (λ halt. IsHalted modules.SpellsOpening tokens.now from halt) }
-    ensures least { IsLeastIn 24 modules.SpellsOpened tokens.now from result }
+    ensures { ReadsOnly 24 modules.SpellsOpening tokens.now from result }
 {
     let system = maybe_system(alloc, tokens, from)?;
     word(tokens, system.end, system.stop, PROBLEM)?;

@@ -14,17 +14,20 @@ returns-then-not-is_word-clause-longest c =
     let tokens = c.args.tokens.now in
     let from = c.args.from in
     only_is_longest SpellsOptionalSystem is_name tokens from from from
-    (optional_is_none (is_word w.SYSTEM) SpellsSystem tokens from from (sym c.if-not-is_word.ensures.value) (omega arith) (λ others x to h. system_begins others from x to h))
+    (optional_is_none (is_word w.SYSTEM) SpellsSystem tokens from from (sym c.if-not-is_word.ensures.value)
+    (omega arith) (λ others x to h. system_begins others from x to h))
 
 pub returns-in-Ok-clause-longest : goal.returns-in-Ok-clause-longest
 returns-in-Ok-clause-longest c =
     let read = c.in-Ok.ensures in
-    optional_is_longest (is_word w.SYSTEM) SpellsSystem c.args.tokens.now c.args.from is_name c.in-Ok.devices.end c.in-Ok.devices.stop (sym c.if-not-is_word.ensures.value)
+    optional_is_longest (is_word w.SYSTEM) SpellsSystem c.args.tokens.now c.args.from is_name c.in-Ok.devices.end
+    c.in-Ok.devices.stop (sym c.if-not-is_word.ensures.value)
     (omega (arith, read.ahead)) read.longest
 
 pub returns-in-Err-clause-refused : goal.returns-in-Err-clause-refused
 returns-in-Err-clause-refused c =
-    optional_is_halted (is_word w.SYSTEM) SpellsSystem c.args.tokens.now c.args.from c.in-Err.halt (sym c.if-not-is_word.ensures.value) c.in-Err.ensures.refused
+    optional_is_halted (is_word w.SYSTEM) SpellsSystem c.args.tokens.now c.args.from c.in-Err.halt
+    (sym c.if-not-is_word.ensures.value) c.in-Err.ensures.refused
 
 pub returns-then-not-is_word-clause-least : goal.returns-then-not-is_word-clause-least
 returns-then-not-is_word-clause-least c =
@@ -35,12 +38,14 @@ returns-in-Ok-clause-least c =
     let tokens = c.args.tokens.now in
     let from = c.args.from in
     let read = c.in-Ok.ensures in
-    goes_as 16 16 SpellsSystem (λ tokens. SpellsMaybe (SpellsSystem tokens)) tokens from from (omega arith) (λ stop near r. some_reaches 16 SpellsSystem tokens from stop near r) c.in-Ok.devices.end c.in-Ok.devices.stop
+    goes_as 16 16 SpellsSystem (λ tokens. SpellsMaybe (SpellsSystem tokens)) tokens from from (omega arith)
+    (λ stop near r. some_reaches 16 SpellsSystem tokens from stop near r) c.in-Ok.devices.end c.in-Ok.devices.stop
     (omega (arith, read.ahead)) read.least
 
 pub returns-in-Err-clause-least : goal.returns-in-Err-clause-least
 returns-in-Err-clause-least c =
     let tokens = c.args.tokens.now in
     let from = c.args.from in
-    halts_as 16 16 SpellsSystem (λ tokens. SpellsMaybe (SpellsSystem tokens)) tokens from from (omega arith) (λ stop near r. some_reaches 16 SpellsSystem tokens from stop near r) c.in-Err.halt c.in-Err.ensures.refused
+    halts_as 16 16 SpellsSystem (λ tokens. SpellsMaybe (SpellsSystem tokens)) tokens from from (omega arith)
+    (λ stop near r. some_reaches 16 SpellsSystem tokens from stop near r) c.in-Err.halt c.in-Err.ensures.refused
     c.in-Err.ensures.least

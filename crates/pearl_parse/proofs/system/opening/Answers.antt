@@ -1,89 +1,93 @@
-use Rattle.std.proofs.Common.{◌+◌, ap, ◌<◌, ◌^◌, length, rules, arith}
+use Rattle.std.proofs.Common.{◌+◌, ap, ◌<◌, ◌^◌, length, rules, arith, refl}
 use Rattle.pearl_tree.specs.declared.symbol.TheConstants as s
 use Rattle.pearl_tree.specs.declared.word_code.TheConstants as w
 use Rattle.pearl_parse_expr.specs.Stops.{is_name, is_symbol, is_word}
-use Rattle.pearl_parse.specs.Modules.{SpellsOptionalSystem, SpellsOpening, SpellsOpened}
-use Rattle.pearl_parse.proofs.Steps.{err_told, past, missing, no_first, ends}
+use Rattle.pearl_parse.specs.Modules.{SpellsOptionalSystem, SpellsOpening}
+use Rattle.pearl_parse.proofs.Steps.{past, missing, no_first, ends}
 use Rattle.pearl_parse.proofs.ModuleRests.{problem_rest, opening_goes, problem_stops}
-use Rattle.pearl_parse.proofs.States.{handed_in}
 use Rattle.pearl_parse.proofs.SystemLeast.{no_system, past_system, no_problem, no_last, opening_goes as opening_least}
+use Rattle.pearl_tree.specs.Modules.{SpellsSystem}
+use Rattle.pearl_parse.proofs.Unread.{unread}
+use Rattle.pearl_parse.proofs.Optional.{maybe_of}
 use Rattle.pearl_parse.proofs.system.opening.Goals as goal
 
-pub returns-in_err-system-clause-refused : goal.returns-in_err-system-clause-refused
-returns-in_err-system-clause-refused c =
+pub returns-in_err-system : goal.returns-in_err-system
+returns-in_err-system c =
     let tokens = c.args.tokens.now in
     let from = c.args.from in
-    err_told _ _ c.in_err-system.field-0.0 c.from_residual.result c.from_residual.ensures (λ e is. is)
-    (no_first SpellsOpening tokens from SpellsOptionalSystem problem_rest from from c.in_err-system.field-0.0 (opening_goes tokens from) (omega arith) (omega arith)
+    let few : length tokens < 2 ^ 55 = search rules in
+    unread 24 SpellsOpening tokens from _ c.in_err-system.field-0.0 c.from_residual.result c.from_residual.ensures
+    (λ e is. is)
+    (no_first SpellsOpening tokens from SpellsOptionalSystem problem_rest from from c.in_err-system.field-0.0
+    (opening_goes tokens from) (omega arith) (omega arith)
     c.in_err-system.ensures.refused)
+    (no_system tokens from c.requires few c.in_err-system.field-0.0 c.in_err-system.ensures.refused
+    c.in_err-system.ensures.least)
 
-pub returns-in_err-word-clause-refused : goal.returns-in_err-word-clause-refused
-returns-in_err-word-clause-refused c =
+pub returns-in_err-word : goal.returns-in_err-word
+returns-in_err-word c =
     let tokens = c.args.tokens.now in
     let from = c.args.from in
     let system = c.in_ok-system.system in
     let read = c.in_ok-system.ensures in
-    let go = past SpellsOpening tokens from SpellsOptionalSystem is_name problem_rest from from system.end system.stop (opening_goes tokens from) read.bounds.2 read.longest problem_stops in
-    err_told _ _ c.in_err-word.field-0.0 c.from_residual-in_err-word.result c.from_residual-in_err-word.ensures (λ e is. is)
-    (missing SpellsOpening tokens from (is_word w.PROBLEM) problem_rest system.end system.stop system.end c.in_err-word.field-0.0 go
-    (λ others to h. ap (is_word w.PROBLEM) h.0) read.bounds.2 (omega (arith, read.bounds)) read.bounds.3 c.in_err-word.ensures.missing)
-
-pub returns-in_err-symbol-clause-refused : goal.returns-in_err-symbol-clause-refused
-returns-in_err-symbol-clause-refused c =
-    let tokens = c.args.tokens.now in
-    let from = c.args.from in
-    let system = c.in_ok-system.system in
-    let read = c.in_ok-system.ensures in
-    let go = past SpellsOpening tokens from SpellsOptionalSystem is_name problem_rest from from system.end system.stop (opening_goes tokens from) read.bounds.2 read.longest problem_stops in
-    err_told _ _ c.in_err-symbol.field-0.0 c.from_residual-in_err-symbol.result c.from_residual-in_err-symbol.ensures (λ e is. is)
-    (missing SpellsOpening tokens from (is_symbol s.SEMICOLON) problem_rest system.end system.stop (system.end + 1) c.in_err-symbol.field-0.0 go
-    (λ others to h. ap (is_symbol s.SEMICOLON) h.1) read.bounds.2 (omega (arith, c.in_ok-word.ensures.within)) read.bounds.3 c.in_err-symbol.ensures.missing)
-
-pub returns-clause-only : goal.returns-clause-only
-returns-clause-only c =
-    let tokens = c.args.tokens.now in
-    let from = c.args.from in
-    let system = c.in_ok-system.system in
-    let read = c.in_ok-system.ensures in
-    let go = past SpellsOpening tokens from SpellsOptionalSystem is_name problem_rest from from system.end system.stop (opening_goes tokens from) read.bounds.2 read.longest problem_stops in
-    ends SpellsOpening tokens from problem_rest system.end system.stop c.max.result (system.end + 2) go (omega (arith, c.max.ensures)) (λ others to h. h.2)
-
-pub returns-in_err-system-clause-least : goal.returns-in_err-system-clause-least
-returns-in_err-system-clause-least c =
-    let tokens = c.args.tokens.now in
-    let from = c.args.from in
+    let go = past SpellsOpening tokens from SpellsOptionalSystem is_name problem_rest from from system.end system.stop
+    (opening_goes tokens from) read.bounds.2 read.longest problem_stops in
     let few : length tokens < 2 ^ 55 = search rules in
-    handed_in 24 SpellsOpened tokens from 0 _ c.in_err-system.field-0.0 c.from_residual.result c.from_residual.ensures (λ e is. is) (omega arith)
-    (no_system tokens from c.requires few c.in_err-system.field-0.0 c.in_err-system.ensures.refused c.in_err-system.ensures.least)
+    let at = past_system tokens from c.requires few system.part system.end system.stop read.spells
+    (omega (arith, read.bounds)) (omega (arith, read.bounds)) (omega (arith, read.bounds)) read.least in
+    unread 24 SpellsOpening tokens from _ c.in_err-word.field-0.0 c.from_residual-in_err-word.result
+    c.from_residual-in_err-word.ensures (λ e is. is)
+    (missing SpellsOpening tokens from (is_word w.PROBLEM) problem_rest system.end system.stop system.end
+    c.in_err-word.field-0.0 go
+    (λ others to h. ap (is_word w.PROBLEM) h.0) read.bounds.2 (omega (arith, read.bounds)) read.bounds.3
+    c.in_err-word.ensures.missing)
+    (no_problem tokens from c.requires few system.end system.stop at c.in_err-word.field-0.0
+    c.in_err-word.ensures.missing)
 
-pub returns-in_err-word-clause-least : goal.returns-in_err-word-clause-least
-returns-in_err-word-clause-least c =
+pub returns-in_err-symbol : goal.returns-in_err-symbol
+returns-in_err-symbol c =
     let tokens = c.args.tokens.now in
     let from = c.args.from in
-    let few : length tokens < 2 ^ 55 = search rules in
     let system = c.in_ok-system.system in
     let read = c.in_ok-system.ensures in
-    let at = past_system tokens from c.requires few system.part system.end system.stop read.spells (omega (arith, read.bounds)) (omega (arith, read.bounds)) (omega (arith, read.bounds)) read.least in
-    handed_in 24 SpellsOpened tokens from 0 _ c.in_err-word.field-0.0 c.from_residual-in_err-word.result c.from_residual-in_err-word.ensures (λ e is. is) (omega arith)
-    (no_problem tokens from c.requires few system.end system.stop at c.in_err-word.field-0.0 c.in_err-word.ensures.missing)
+    let go = past SpellsOpening tokens from SpellsOptionalSystem is_name problem_rest from from system.end system.stop
+    (opening_goes tokens from) read.bounds.2 read.longest problem_stops in
+    let few : length tokens < 2 ^ 55 = search rules in
+    let at = past_system tokens from c.requires few system.part system.end system.stop read.spells
+    (omega (arith, read.bounds)) (omega (arith, read.bounds)) (omega (arith, read.bounds)) read.least in
+    unread 24 SpellsOpening tokens from _ c.in_err-symbol.field-0.0 c.from_residual-in_err-symbol.result
+    c.from_residual-in_err-symbol.ensures (λ e is. is)
+    (missing SpellsOpening tokens from (is_symbol s.SEMICOLON) problem_rest system.end system.stop (system.end + 1)
+    c.in_err-symbol.field-0.0 go
+    (λ others to h. ap (is_symbol s.SEMICOLON) h.1) read.bounds.2 (omega (arith, c.in_ok-word.ensures.within))
+    read.bounds.3 c.in_err-symbol.ensures.missing)
+    (no_last tokens from c.requires few system.end system.stop at c.in_ok-word.ensures.stands
+    c.in_ok-word.ensures.within c.in_err-symbol.field-0.0 c.in_err-symbol.ensures.missing)
 
-pub returns-in_err-symbol-clause-least : goal.returns-in_err-symbol-clause-least
-returns-in_err-symbol-clause-least c =
+pub returns : goal.returns
+returns c =
     let tokens = c.args.tokens.now in
     let from = c.args.from in
-    let few : length tokens < 2 ^ 55 = search rules in
     let system = c.in_ok-system.system in
     let read = c.in_ok-system.ensures in
-    let at = past_system tokens from c.requires few system.part system.end system.stop read.spells (omega (arith, read.bounds)) (omega (arith, read.bounds)) (omega (arith, read.bounds)) read.least in
-    handed_in 24 SpellsOpened tokens from 0 _ c.in_err-symbol.field-0.0 c.from_residual-in_err-symbol.result c.from_residual-in_err-symbol.ensures (λ e is. is) (omega arith)
-    (no_last tokens from c.requires few system.end system.stop at c.in_ok-word.ensures.stands c.in_ok-word.ensures.within c.in_err-symbol.field-0.0 c.in_err-symbol.ensures.missing)
-
-pub returns-clause-least : goal.returns-clause-least
-returns-clause-least c =
-    let tokens = c.args.tokens.now in
-    let from = c.args.from in
+    let go = past SpellsOpening tokens from SpellsOptionalSystem is_name problem_rest from from system.end system.stop
+    (opening_goes tokens from) read.bounds.2 read.longest problem_stops in
     let few : length tokens < 2 ^ 55 = search rules in
-    let system = c.in_ok-system.system in
-    let read = c.in_ok-system.ensures in
-    let at = past_system tokens from c.requires few system.part system.end system.stop read.spells (omega (arith, read.bounds)) (omega (arith, read.bounds)) (omega (arith, read.bounds)) read.least in
-    opening_least tokens from c.requires few system.end system.stop at c.in_ok-word.ensures.stands c.in_ok-word.ensures.within c.max.result c.in_ok-symbol.ensures.stands c.in_ok-symbol.ensures.within c.max.ensures
+    let at = past_system tokens from c.requires few system.part system.end system.stop read.spells
+    (omega (arith, read.bounds)) (omega (arith, read.bounds)) (omega (arith, read.bounds)) read.least in
+    record {
+      spells = (
+        system.end,
+        maybe_of (is_word w.SYSTEM) SpellsSystem tokens from system.part system.end read.spells,
+        c.in_ok-word.ensures.stands,
+        c.in_ok-symbol.ensures.stands,
+        refl,
+      );
+      only = ends SpellsOpening tokens from problem_rest system.end system.stop c.max.result (system.end + 2) go
+          (omega (arith, c.max.ensures)) (λ others to h. h.2);
+      ahead = search rules;
+      refused = tt;
+      least = opening_least tokens from c.requires few system.end system.stop at c.in_ok-word.ensures.stands
+          c.in_ok-word.ensures.within c.max.result c.in_ok-symbol.ensures.stands c.in_ok-symbol.ensures.within
+          c.max.ensures;
+    }

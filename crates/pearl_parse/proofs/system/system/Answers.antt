@@ -13,8 +13,10 @@ returns-in_err-symbol-clause-refused c =
     let tokens = c.args.tokens.now in
     let from = c.args.from in
     err_told _ _ c.in_err-symbol.field-0.0 c.from_residual.result c.from_residual.ensures (λ e is. is)
-    (missing SpellsSystem tokens from (is_symbol s.SEMICOLON) devices_rest (from + 1) from (from + 1) c.in_err-symbol.field-0.0 (devices_go tokens from)
-    (λ others to h. ap (is_symbol s.SEMICOLON) h.0) (omega arith) (omega (arith, c.requires.within)) (omega (arith, c.requires.within)) c.in_err-symbol.ensures.missing)
+    (missing SpellsSystem tokens from (is_symbol s.SEMICOLON) devices_rest (from + 1) from (from + 1)
+    c.in_err-symbol.field-0.0 (devices_go tokens from)
+    (λ others to h. ap (is_symbol s.SEMICOLON) h.0) (omega arith) (omega (arith, c.requires.within))
+    (omega (arith, c.requires.within)) c.in_err-symbol.ensures.missing)
 
 pub returns-in-Ok-clause-longest : goal.returns-in-Ok-clause-longest
 returns-in-Ok-clause-longest c =
@@ -25,8 +27,10 @@ returns-in_err-symbol-clause-least c =
     let tokens = c.args.tokens.now in
     let from = c.args.from in
     let few : length tokens < 2 ^ 55 = search rules in
-    handed_in 16 SpellsSystem tokens from 0 _ c.in_err-symbol.field-0.0 c.from_residual.result c.from_residual.ensures (λ e is. is) (omega arith)
-    (no_devices tokens from c.requires.word c.requires.within few c.in_err-symbol.field-0.0 c.in_err-symbol.ensures.missing)
+    handed_in 16 SpellsSystem tokens from 0 _ c.in_err-symbol.field-0.0 c.from_residual.result c.from_residual.ensures
+    (λ e is. is) (omega arith)
+    (no_devices tokens from c.requires.word c.requires.within few c.in_err-symbol.field-0.0
+    c.in_err-symbol.ensures.missing)
 
 pub returns-in-Ok-clause-least : goal.returns-in-Ok-clause-least
 returns-in-Ok-clause-least c =
@@ -35,5 +39,7 @@ returns-in-Ok-clause-least c =
     let few : length tokens < 2 ^ 55 = search rules in
     let devices = c.in-Ok.devices in
     let read = c.in-Ok.ensures in
-    system_goes tokens from c.requires.word c.requires.within few c.in_ok-symbol.ensures.stands c.in_ok-symbol.ensures.within devices.part.items devices.end devices.stop read.spells (omega (arith, read.bounds)) (omega (arith, read.bounds))
+    system_goes tokens from c.requires.word c.requires.within few c.in_ok-symbol.ensures.stands
+    c.in_ok-symbol.ensures.within devices.part.items devices.end devices.stop read.spells
+    (omega (arith, read.bounds)) (omega (arith, read.bounds))
     (omega (arith, read.bounds)) read.least
