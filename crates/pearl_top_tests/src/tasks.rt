@@ -168,12 +168,7 @@ fn refused() -> &'static [Case] {
     ]
 }
 
-fn all_end_so(
-    rt: &impl Abort,
-    alloc: Global,
-    cases: &[Case],
-    wanted: Status,
-) -> Result<(), Fail> {
+fn all_end_so(rt: &impl Abort, alloc: Global, cases: &[Case], wanted: Status) -> Result<(), Fail> {
     for &(body, journal, text) in cases {
         let source = format!(in alloc; "{HEAD}{body}\nMODEND;\n")?;
         let (status, written) = carry_out(alloc, RUN, source.as_bytes(), journal.as_bytes(), 4096)?;
