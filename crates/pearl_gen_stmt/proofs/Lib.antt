@@ -14,6 +14,7 @@ pub mod Heard
 pub mod Arriving
 pub mod Offering
 pub mod Parts
+pub mod Stacks
 mod Example
 mod Settling
 mod Keeping

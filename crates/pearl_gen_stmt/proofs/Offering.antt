@@ -13,7 +13,7 @@ use Rattle.pearl_instructions.specs.Objects.{routine_at}
 use Rattle.pearl_instructions.specs.Rows.{begun}
 use Rattle.pearl_meaning.specs.Programs.{offer}
 use Rattle.pearl_meaning.specs.Hearing.{HeardAfter}
-use Rattle.pearl_gen_expr.specs.Comes.{Aim, offers, or_lost, Comes}
+use Rattle.pearl_gen_expr.specs.Comes.{offers, or_lost, Comes}
 use Rattle.pearl_gen_expr.specs.ExprCode.{instructions_or_none}
 use Rattle.pearl_gen_stmt.specs.Generated.{IsGenerated}
 use Rattle.pearl_gen_stmt.specs.Offering.{TasksOffer}

@@ -1,5 +1,5 @@
 -- In a valid object the code of expressions and statements arrives at what they mean.
-use Rattle.std.specs.Prelude.{◌≡◌, ℕ, ◌+◌, ◌≤◌, Bool, List, [], ◌∷◌, ◌++◌, length, map, Option, Some, None, option_map, option_and_then, slice_get}
+use Rattle.std.specs.Prelude.{◌≡◌, ℕ, ◌+◌, Bool, List, [], ◌∷◌, ◌++◌, length, map, Option, Some, None, option_map, option_and_then, slice_get}
 use Rattle.std.specs.List.{AllZip}
 use Rattle.std.proofs.Common.{refl, sym, subst, ap, ◌∙◌, arith}
 use Rattle.std.proofs.lemmas.List.{length-map}
@@ -28,12 +28,12 @@ use Rattle.pearl_meaning.specs.Values as values
 use Rattle.pearl_meaning.specs.Values.{eval, hand_over}
 use Rattle.pearl_meaning.specs.Transfers.{offset}
 use Rattle.pearl_meaning.specs.Execution.{exec_all}
-use Rattle.pearl_meaning.specs.Hearing.{SuitsNeed, HeardInAfter, HeardIn}
+use Rattle.pearl_meaning.specs.Hearing.{SuitsNeed, HeardInAfter}
 use Rattle.pearl_meaning.specs.Laws.{UsesUp}
 use Rattle.pearl_meaning.proofs.ExpressionsUse.{CallsUse, calls_uses, eval_uses, hand_over_uses}
 use Rattle.pearl_meaning.proofs.StatementsUse.{target_uses, exec_all_uses, calls_use_up}
 use Rattle.pearl_meaning.proofs.HeardUses.{LeavesNone, heard_used}
-use Rattle.pearl_gen_expr.specs.Comes.{Aim, or_lost, Comes}
+use Rattle.pearl_gen_expr.specs.Comes.{or_lost, Comes}
 use Rattle.pearl_gen_expr.specs.Contexts.{Standing, stack, Context, at, lowest, HasCells, IsStoreOf}
 use Rattle.pearl_gen_expr.specs.Carrying.{End, meant, Carries}
 use Rattle.pearl_gen_expr.specs.Ends.{on_top, result_on_top, offset_on_top, ways}

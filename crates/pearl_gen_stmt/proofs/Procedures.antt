@@ -10,12 +10,10 @@ use Rattle.pearl_value.specs.declared.cell.Cell.{Cell}
 use Rattle.pearl_value.specs.declared.trap.Trap.TheVariants.{Range}
 use Rattle.pearl_rules.specs.declared.action.Action.TheVariants as action
 use Rattle.pearl_rules.specs.declared.action.Answer.{Answer}
-use Rattle.pearl_stack.specs.Frames.{Frame}
 use Rattle.pearl_program.specs.PlainPrograms.{PlainRoutine, PlainProcedure, PlainProg}
 use Rattle.pearl_program.specs.Typing.{Around}
 use Rattle.pearl_program.specs.Sound.{IsSound, IsProcedure, CallSmaller, around_of}
 use Rattle.pearl_program.specs.Weights.{calls, greatest_of_all}
-use Rattle.pearl_instructions.specs.declared.instr.Instr.{Instr}
 use Rattle.pearl_instructions.specs.declared.instr.Instr.TheVariants as instr
 use Rattle.pearl_instructions.specs.declared.object.Code.{Code}
 use Rattle.pearl_instructions.specs.declared.object.Procedure.{Procedure}
@@ -24,22 +22,21 @@ use Rattle.pearl_instructions.specs.Objects.{routine_at, result_of}
 use Rattle.pearl_instructions.specs.Steps.{Silent, Offers, needed}
 use Rattle.pearl_instructions.specs.Flow.{fresh, called}
 use Rattle.pearl_instructions.specs.Flow as flow
-use Rattle.pearl_instructions.specs.Rows.{act, row}
 use Rattle.pearl_instructions.specs.Stacks.{cell_kinds, cells_or_none}
 use Rattle.pearl_meaning.specs.Frames.{Store}
-use Rattle.pearl_meaning.specs.Evaluation.{Outcome, Value, Needs, Fails, Does, on_value, bind, next, push_frame, drop_frame}
+use Rattle.pearl_meaning.specs.Evaluation.{Does, bind, next, push_frame, drop_frame}
 use Rattle.pearl_meaning.specs.Setting.{Setting}
 use Rattle.pearl_meaning.specs.Loops.{Flow, Normal, Exit, Return}
 use Rattle.pearl_meaning.specs.Execution.{exec_all}
 use Rattle.pearl_meaning.specs.Programs.{unset, result_at_end, result_of as result_of_flow, entered, call_within}
 use Rattle.pearl_meaning.proofs.CallsAlike.{calls_run}
 use Rattle.pearl_gen_expr.specs.Contexts.{stack, Context, at, within_call, HasCells, IsStoreOf, pushed}
-use Rattle.pearl_gen_expr.specs.Carrying.{End, Arrived, Meets, Carries}
+use Rattle.pearl_gen_expr.specs.Carrying.{End, Meets, Carries}
 use Rattle.pearl_gen_expr.specs.Tables.{HasTables, Head, head_of, code_head}
 use Rattle.pearl_gen_expr.specs.ExprCode.{code_of, Is}
 use Rattle.pearl_gen_expr.specs.Ends.{IsResult, result_on_top, flow_stack, IsFlow, ways}
 use Rattle.pearl_gen_expr.specs.Calls.{CallsCarry}
-use Rattle.pearl_gen_expr.proofs.Moves.{by_row, row_is, frame_at, RowMeets, gives_carries, instr_carries, silent_meets, stops_meets, given_meets, needed_meets, bind_within, row_within}
+use Rattle.pearl_gen_expr.proofs.Moves.{frame_at, RowMeets, gives_carries, instr_carries, silent_meets, stops_meets, given_meets, needed_meets, bind_within, row_within}
 use Rattle.pearl_gen_expr.proofs.Index.{taken_is, dropped_is}
 use Rattle.pearl_gen_expr.proofs.Tables.{each}
 use Rattle.pearl_gen_expr.proofs.Whole.{expressions_carry}

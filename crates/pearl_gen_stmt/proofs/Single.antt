@@ -7,7 +7,6 @@ use Rattle.pearl_value.specs.declared.cell.Cell.{Cell}
 use Rattle.pearl_value.specs.declared.cell.Cell.TheVariants.{Fixed, Bits, Chars, Clock, Span, Ref}
 use Rattle.pearl_value.specs.Conversions.{converted}
 use Rattle.pearl_rules.specs.declared.action.Action.{Action}
-use Rattle.pearl_rules.specs.declared.action.Action.TheVariants as action
 use Rattle.pearl_rules.specs.declared.action.Answer.{Answer}
 use Rattle.pearl_stack.specs.Frames.{Frame}
 use Rattle.pearl_instructions.specs.declared.instr.Instr.{Instr}
@@ -18,7 +17,7 @@ use Rattle.pearl_instructions.specs.Operators.{suits_kind}
 use Rattle.pearl_instructions.specs.Flow.{jump_zero}
 use Rattle.pearl_instructions.specs.Rows.{act}
 use Rattle.pearl_meaning.specs.Frames.{Store}
-use Rattle.pearl_meaning.specs.Evaluation.{Outcome, Value, Needs, Fails, Does, gives, on_value, bind, ask, value_or_trap, put_cell, own_cell, given as eval_given}
+use Rattle.pearl_meaning.specs.Evaluation.{Value, Does, gives, on_value, bind, ask, value_or_trap, put_cell, own_cell, given as eval_given}
 use Rattle.pearl_meaning.specs.Values.{convert}
 use Rattle.pearl_meaning.specs.Loops.{holds}
 use Rattle.pearl_gen_expr.specs.Contexts.{stack, Context, at, IsStoreOf}

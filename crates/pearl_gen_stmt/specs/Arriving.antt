@@ -105,3 +105,9 @@ CodeArrives = (p : PlainProg) (o : Object) → IsSound p → IsGenerated p o →
     (c : Context) (returns : Option (Option Kind)) (routine : PlainRoutine) →
     IsRoutineOf p o c.routine returns routine → (controls : List ℕ) (in_loop : Bool) →
     PartsArrive p o c (within_program p (result_of returns) routine) (around_part p routine returns controls in_loop)
+
+-- each stack of an object is that of a context with a store
+abbrev pub StacksStand : Type 0
+StacksStand = (o : Object) (frames : List Frame) → IsStack o frames →
+    (c : Context) × (place : ℕ) × (operands : List Cell) × (store : Store) ×
+    (frames ≡ at c place operands store) × IsStoreOf o c store

@@ -4,7 +4,7 @@
 ghost use Rattle.pearl_gen_stmt.specs.Laws.{StatementsCarry};
 ghost use Rattle.pearl_gen_stmt.specs.Generated.{ProceduresCarry, TasksCome};
 ghost use Rattle.pearl_gen_stmt.specs.Offering.{TasksOffer};
-ghost use Rattle.pearl_gen_stmt.specs.Arriving.{CodeArrives};
+ghost use Rattle.pearl_gen_stmt.specs.Arriving.{CodeArrives, StacksStand};
 
 use pearl_instructions::laws::{frames_stay, rows_lead_to_stacks, tasks_begin_with_a_stack};
 
@@ -34,6 +34,12 @@ pub fn code_arrives()
     rows_lead_to_stacks();
     frames_stay();
 }
+
+/// Each stack of an object is that of a context with a store: so whatever stack is on the first instruction of a part, the
+/// part's code arrives.
+pub fn stacks_stand()
+    ensures { StacksStand }
+{}
 
 /// After all answers that a task can have, the code of a valid object offers what the task does next.
 pub fn tasks_offer()
