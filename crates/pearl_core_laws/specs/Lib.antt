@@ -1,0 +1,2 @@
+-- what it is to act, to change one variable, and to stand as declared
+pub mod Laws
