@@ -3,7 +3,6 @@ use Rattle.std.proofs.Common.{◌≡◌, ◌≢◌, ◌↔◌, ℕ, zero, suc, �
 use Rattle.std.proofs.lemmas.Bool.{true≢false, ne_eqb, cases_lt}
 use Rattle.std.proofs.lemmas.List.{length_push, length-map}
 use Rattle.std.proofs.lemmas.Option.{slice_get-map}
-use Rattle.arrayvec.specs.ArrayVec.{ArrayVec}
 use Rattle.pearl_rules.specs.declared.action.Action.{Action}
 use Rattle.pearl_rules.specs.declared.action.Action.TheVariants as action
 use Rattle.pearl_rules.specs.declared.event.Shown.TheVariants as shown
@@ -15,7 +14,7 @@ use Rattle.pearl_rules.specs.declared.setup.TaskEntry.{TaskEntry}
 use Rattle.pearl_rules.specs.Core.{Core, Report, Shows, row_of, mode_of_row, mode_of, first_mode, first_row, opening}
 use Rattle.pearl_rules.specs.Pick.{Offered, guard, is_possible, is_ready, is_ready_row, is_eligible, is_last_of, pick, shown_active, shown_mode, shown_row, shown_of, states_first, states}
 use Rattle.pearl_rules.proofs.PickLaws.{picked}
-use Rattle.pearl_core_laws.specs.Laws.{CanAct, StandsAsDeclared}
+use Rattle.pearl_core_laws.specs.Laws.{CanAct, StandsAsDeclared, MayWait}
 
 -- WHO CAN ACT
 
@@ -59,10 +58,11 @@ module _ (core : Core) (offers : Offered) (t : ℕ) where
   pub eligible_acts : IsTrue (is_eligible core offers t) ↔ CanAct core offers t
   eligible_acts = (can_act, is_able)
 
--- every action but a request can be done
-pub others_possible : (core : Core) (asked : Action) → ((list : ArrayVec ℕ) → asked ≢ action.Request list) →
-    IsTrue (guard core asked)
-others_possible core (action.Request list) other = absurd (other list refl)
+-- every action that never waits can be done
+pub others_possible : (core : Core) (asked : Action) → (MayWait asked → ⊥) → IsTrue (guard core asked)
+others_possible core (action.Request list) other = absurd (other tt)
+others_possible core (action.Get device format kinds) other = absurd (other tt)
+others_possible core (action.Take device) other = absurd (other tt)
 others_possible core asked other = refl
 
 -- HOW TASKS ARE SHOWN
@@ -194,7 +194,8 @@ opens_task setup t task declared = record { main = λ is. begins true is; other 
 
     -- the row of a task with this word or without it
     row_with : Bool → TaskRow
-    row_with main = record { mode = first_mode main task.priority; declared = task.priority }
+    row_with main =
+        record { mode = first_mode main task.priority; declared = task.priority; continuation = None; activation = None }
 
     begins : (main : Bool) → task.main ≡ main → row_of (opening setup) t ≡ Some (row_with main)
     begins main is = at ∙ ap (λ m. Some (row_with m)) is

@@ -26,7 +26,8 @@ use Rattle.pearl_instructions.specs.Rows.{lowest, own_task}
 use Rattle.pearl_instructions.specs.Named.{is_interrupt, takes_texts, gives_texts, is_input}
 use Rattle.pearl_instructions.specs.Valid.{is_repeated, are_different, is_semaphore_list}
 use Rattle.pearl_instructions.specs.Stacks.{Below}
-use Rattle.pearl_instructions.specs.Actions.{IsInterrupt, IsReadable, input_kind, AreSemaphores, IsPriority, IsTaskNumber}
+use Rattle.pearl_rules.specs.Tables.{IsInterrupt, IsReadable, input_kind}
+use Rattle.pearl_instructions.specs.Actions.{AreSemaphores, IsPriority, IsTaskNumber}
 use Rattle.pearl_instructions.proofs.Tests.{and_true, not_true}
 
 -- a slot that has a kind is there

@@ -39,7 +39,8 @@ use Rattle.pearl_instructions.specs.Named.{is_input, takes_texts, names_interrup
 use Rattle.pearl_instructions.specs.Kinds.{plain_kind, kind_sent, kind_taken, is_kind}
 use Rattle.pearl_instructions.specs.Valid.{plain_kinds, suits_format, values_suit}
 use Rattle.pearl_instructions.specs.Stacks.{routines_of, Suits, IsTop}
-use Rattle.pearl_instructions.specs.Actions.{output_kind, IsOf, IsStart, IsOnce, IsLater, IsPut}
+use Rattle.pearl_rules.specs.Tables.{output_kind}
+use Rattle.pearl_instructions.specs.Actions.{IsOf, IsStart, IsOnce, IsLater, IsPut}
 use Rattle.pearl_instructions.proofs.Tests.{and_true, is_some_true, same_cell_true}
 use Rattle.pearl_instructions.proofs.Lists.{scheduled_ends, scheduled_long, kinds_of_values, values_of_kinds, kinds_mapped, all_values}
 use Rattle.pearl_instructions.proofs.Offered.{interrupt_there, writable_there, input_there, not_below}

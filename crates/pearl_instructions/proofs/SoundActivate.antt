@@ -25,7 +25,8 @@ use Rattle.pearl_instructions.specs.Rows.{act}
 use Rattle.pearl_instructions.specs.Operands.{Shape, is_fixed, scheduled, priority_asked, v2}
 use Rattle.pearl_instructions.specs.Named.{names_interrupt}
 use Rattle.pearl_instructions.specs.Stacks.{routines_of, Suits}
-use Rattle.pearl_instructions.specs.Actions.{IsRepeat, IsPriority}
+use Rattle.pearl_rules.specs.Slots.{IsRepeat}
+use Rattle.pearl_instructions.specs.Actions.{IsPriority}
 use Rattle.pearl_instructions.proofs.Tests.{and_true}
 use Rattle.pearl_instructions.proofs.Lists.{scheduled_ends, scheduled_long}
 use Rattle.pearl_instructions.proofs.Offered.{urgent_there}

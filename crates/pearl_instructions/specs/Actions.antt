@@ -19,7 +19,8 @@ use Rattle.pearl_rules.specs.declared.action.Start.{Start}
 use Rattle.pearl_rules.specs.declared.action.Start.TheVariants as start
 use Rattle.pearl_rules.specs.declared.action.Repeat.{Repeat}
 use Rattle.pearl_rules.specs.declared.action.Repeat.TheVariants as repeat
-use Rattle.pearl_rules.specs.Tables.{IsWritable}
+use Rattle.pearl_rules.specs.Slots.{Lasts, IsRepeat}
+use Rattle.pearl_rules.specs.Tables.{IsWritable, IsReadable, IsInterrupt, input_kind, output_kind}
 use Rattle.pearl_instructions.specs.declared.object.Object.{Object}
 use Rattle.pearl_instructions.specs.Objects.{items_at, slot_kind}
 
@@ -33,29 +34,6 @@ IsSlotNumber o slot = slot < sum_by (λ leaf. leaf.slots) o.leaves
 abbrev pub device_at : Object → ℕ → Option Device
 device_at o number = slice_get o.devices number
 
-abbrev pub IsInterrupt : Option Device → Type 0
-IsInterrupt (Some (device.Interrupt number)) = Unit {0}
-IsInterrupt other = ⊥
-
-abbrev pub Reads : Direction → Type 0
-Reads direction.In = Unit {0}
-Reads direction.Out = ⊥
-Reads direction.InOut = Unit {0}
-
--- a terminal that gives texts
-abbrev pub IsReadable : Option Device → Type 0
-IsReadable (Some (device.Terminal number way)) = Reads way
-IsReadable other = ⊥
-
--- the kind of the values that come in, and that of those that go out
-abbrev pub input_kind : Option Device → Option Kind
-input_kind (Some (device.Input number kind)) = Some kind
-input_kind other = None
-
-abbrev pub output_kind : Option Device → Option Kind
-output_kind (Some (device.Output number kind)) = Some kind
-output_kind other = None
-
 -- there is a kind, and this is a value of it
 abbrev pub IsOf : Option Kind → Cell → Type 0
 IsOf None x = ⊥
@@ -67,10 +45,6 @@ pub record AreSemaphores (o : Object) (semaphores : List ℕ) : Type 0 where
   pub few : length semaphores ≤ 16
   pub distinct : IsDistinct nat_eq semaphores
   pub there : AllByRecursion (λ semaphore. semaphore < length o.semaphores) semaphores
-
--- a length of time that isn't below the least one
-abbrev pub Lasts : ℤ → ℤ → Type 0
-Lasts least time = (least ≤ℤ time) × FitsSpan time
 
 abbrev pub IsStart : Object → Start → Type 0
 IsStart o start.Free = Unit {0}
@@ -88,12 +62,6 @@ IsOnce o when = IsStart o when
 abbrev pub IsLater : Object → Start → Type 0
 IsLater o start.Free = ⊥
 IsLater o when = IsOnce o when
-
-abbrev pub IsRepeat : Repeat → Type 0
-IsRepeat repeat.Once = Unit {0}
-IsRepeat (repeat.All period) = Lasts (pos 1) period
-IsRepeat (repeat.Until period end) = Lasts (pos 1) period × IsValue (Clock end)
-IsRepeat (repeat.During period time) = Lasts (pos 1) period × Lasts (pos 0) time
 
 abbrev pub IsPriority : ℕ → Type 0
 IsPriority priority = (0 < priority) × (priority ≤ 255)

@@ -20,7 +20,7 @@ pub mod Execution
 pub mod Programs
 -- which answers suit an action, and which a task can have since its start, or a part of a program since it began
 pub mod Hearing
--- the tables from which a program's run starts, and how it runs over a journal's entries: today right only for programs whose actions are Read, Write, Put, End and Trap, since the core has no rows for others
+-- the tables from which a program's run starts, and how it runs over a journal's entries
 pub mod ProgramRuns
 -- what holds of loops and calls
 pub mod Laws

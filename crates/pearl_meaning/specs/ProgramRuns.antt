@@ -1,4 +1,4 @@
--- The tables from which a program's run starts, and how it runs over a journal's entries: today right only for some actions (see `source_run`).
+-- The tables from which a program's run starts, and how it runs over a journal's entries.
 use Rattle.std.specs.Prelude.{ℕ, List, map}
 use Rattle.std.specs.List.{flat_map}
 use Rattle.pearl_value.specs.declared.cell.Cell.{Cell}
@@ -46,9 +46,6 @@ setup_of p = record {
   formats = p.formats;
 }
 
--- The state of the program's run over these entries after so many marks. It stands on the core of `pearl_rules`, which today has rows for
--- Read, Write, Put, End and Trap alone, and marks for the entry Run alone. Any other action changes nothing there and hears Nothing: so
--- this is right only for programs with these actions, and besides for Turn and Enter, which change nothing. The core's other rows come
--- with many tasks, time and devices.
+-- the state of the program's run over these entries after so many marks
 abbrev pub source_run : PlainProg → List Entry → ℕ → Source
 source_run p entries m = runs.source_run (offer p) (setup_of p) entries m

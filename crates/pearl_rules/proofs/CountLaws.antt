@@ -1,29 +1,37 @@
 -- Semaphores: when an action on counts can be done, and which counts it changes.
-use Rattle.std.proofs.Common.{◌≡◌, ◌≢◌, ◌↔◌, ℕ, zero, suc, ◌+◌, ◌-◌, ◌^◌, ◌<◌, ◌≤◌, ◌⊎◌, inl, inr, List, [], ◌∷◌, Bool, true, false, ◌&&◌, nat_eq, nat_lt, IsTrue, Option, Some, None, length, slice_get, slice_set, refl, sym, ap, subst, ◌∙◌, length-set, arith, ltb-true, ltb-false}
+use Rattle.std.proofs.Common.{◌≡◌, ◌≢◌, ◌↔◌, ℕ, ◌+◌, ◌-◌, ◌^◌, ◌<◌, ◌≤◌, ◌⊎◌, inl, inr, List, [], ◌∷◌, ◌++◌, Bool, true, false, if◌then◌else◌, ◌&&◌, nat_eq, nat_lt, nat_le, Result, Ok, Err, IsTrue, Option, Some, None, length, slice_get, slice_set, refl, sym, ap, subst, ◌∙◌, length-set, arith, ltb-true}
 use Rattle.std.specs.List.{AllByRecursion, Contains, IsDistinct}
 use Rattle.std.proofs.lemmas.Map.Keys.{IsDistinct-head, IsDistinct-tail}
-use Rattle.std.proofs.lemmas.Bool.{true≢false, and_parts, lt-ltb, le-ltb}
+use Rattle.std.proofs.lemmas.Bool.{and_parts, lt-ltb}
 use Rattle.arrayvec.specs.ArrayVec.{ArrayVec}
 use Rattle.pearl_value.specs.declared.cell.Cell.TheVariants.{Bits}
 use Rattle.pearl_value.specs.declared.trap.Trap.TheVariants.{SemaLimit}
 use Rattle.pearl_rules.specs.declared.action.Action.{Action}
 use Rattle.pearl_rules.specs.declared.action.Action.TheVariants as action
-use Rattle.pearl_rules.specs.declared.action.Start.TheVariants.{Free}
-use Rattle.pearl_rules.specs.declared.action.Repeat.TheVariants.{Once}
 use Rattle.pearl_rules.specs.declared.action.Answer.{Answer}
 use Rattle.pearl_rules.specs.declared.action.Answer.TheVariants.{Nothing, One}
 use Rattle.pearl_rules.specs.declared.event.Event.TheVariants as event
 use Rattle.pearl_rules.specs.declared.setup.Setup.{Setup}
 use Rattle.pearl_rules.specs.Tables.{IsPreset}
-use Rattle.pearl_rules.specs.Core.{Core, opening}
+use Rattle.pearl_rules.specs.declared.entry.Entry.{Entry}
+use Rattle.pearl_rules.specs.declared.entry.Entry.TheVariants as entry
+use Rattle.pearl_rules.specs.declared.row.Mode.TheVariants.{Dormant}
+use Rattle.pearl_value.specs.declared.cell.Cell.{Cell}
+use Rattle.pearl_value.specs.declared.kind.Kind.{Kind}
+use Rattle.pearl_value.specs.declared.trap.Trap.{Trap}
+use Rattle.pearl_value.specs.Conversions.{converted}
+use Rattle.pearl_rules.specs.Core.{Core, Channel, Switch, Bytes, Values, Outward, note, with_row, opening}
+use Rattle.pearl_rules.specs.Plans.{millisecond}
+use Rattle.pearl_rules.specs.Devices.{channel_of, with_channel, bytes_at, terminal_room, with_bytes, input_room, joined, with_value_by, with_value, without_value_by, without_value, arrived}
 use Rattle.pearl_rules.specs.Counts.{count_or_zero, count_at, all_free, all_below_most, lowered, raised}
-use Rattle.pearl_rules.specs.Effect.{Effect, answering, ending, priority_or_declared, releasing, trying, effect}
+use Rattle.pearl_rules.specs.Effect.{answering, releasing, trying, effect}
 use Rattle.pearl_rules.specs.Pick.{Offered, guard, turned}
 use Rattle.pearl_rules.specs.Slots.{AreNamed, Fits, HasCounts}
 use Rattle.pearl_rules.specs.Laws.{ChangesCounts}
-use Rattle.pearl_rules.proofs.Places.{here, there, where_is, no_member, alone, only_member, each, each_at, all_set, first_once, set-same, set-other, there_at}
+use Rattle.pearl_rules.proofs.Places.{here, there, where_is, no_member, only_member, each_at, all_set, first_once, set-same, set-other, there_at}
 use Rattle.pearl_rules.proofs.PickLaws.{turned-is}
-use Rattle.pearl_rules.proofs.EffectLaws.{Keeps, keeps_all, keeps_note, keeps_started, keeps_mark, keeps_stopping, keeps_ending, lowered-length, raised-length}
+use Rattle.pearl_rules.proofs.EffectLaws.{AnyPriority, AnyPlan, any_continuation, any_activation, any_brings, later}
+use Rattle.pearl_rules.proofs.Serving.{Closed, ClosedAtEnds, KeepsValues, lowered-length, raised-length, either, effect-kept, millisecond-kept, interrupted-kept}
 
 -- ONE COUNT
 
@@ -234,52 +242,132 @@ raised-small counts (s ∷ others) small distinct below =
     (sym (count-other counts s u (count_at counts s + 1) (λ same. first_once s others (IsDistinct-head nat_eq s others distinct) (subst (λ v. Contains others v) same inside))))
     (below u (there s u others inside)))
 
--- counts that are kept
-counts_kept : (setup : Setup) (core : Core) (own : ℕ) (after : Core) → HasCounts setup core → Keeps (record core { last = Some own }) after → HasCounts setup after
-counts_kept setup core own after has keeps = record {
-  as_many = ap length keeps.counts ∙ has.as_many;
-  small = subst (λ cs. AllByRecursion IsPreset cs) (sym keeps.counts) has.small;
-}
+module _ (setup : Setup) where
+  -- another core with the same counts
+  counts_moved : (core other : Core) → other.counts ≡ core.counts → HasCounts setup core → HasCounts setup other
+  counts_moved core other same has = record {
+    as_many = ap length same ∙ has.as_many;
+    small = subst (λ cs. AllByRecursion IsPreset cs) (sym same) has.small;
+  }
 
--- a release
-releasing_counts : (setup : Setup) (core : Core) (own : ℕ) (list : List ℕ) → HasCounts setup core → AreNamed setup list →
-    (can_raise : Bool) → all_below_most core.counts list ≡ can_raise → HasCounts setup (releasing (record core { last = Some own }) own list can_raise).core
-releasing_counts setup core own list has names true e = record {
-  as_many = raised-length core.counts list ∙ has.as_many;
-  small = raised-small core.counts list has.small names.distinct (below_all core.counts list e);
-}
-releasing_counts setup core own list has names false e =
-    counts_kept setup core own _ has (keeps_ending (record core { last = Some own }) own (event.Trap own SemaLimit))
+  counts_closed : Closed AnyPriority AnyPlan (HasCounts setup)
+  counts_closed = record {
+    told = λ core e has. counts_moved core (note core e) refl has;
+    stands = λ core t row mode at stays has. counts_moved core (with_row core t (record row { mode = mode })) refl has;
+    goes_on = λ core t row plan at lawful has. counts_moved core (with_row core t (record row { continuation = plan })) refl has;
+    starts = λ core t row plan at lawful has. counts_moved core (with_row core t (record row { activation = Some plan })) refl has;
+    going = λ core t row at has. any_continuation row.continuation;
+    starting = λ core t row at has. any_activation row.activation;
+    begins = λ core plan lawful. tt;
+  }
 
--- a try
-trying_counts : (setup : Setup) (core : Core) (own s : ℕ) → HasCounts setup core → (is_free : Bool) →
-    HasCounts setup (trying (record core { last = Some own }) s is_free).core
-trying_counts setup core own s has true =
-    record { as_many = lowered-length core.counts (s ∷ []) ∙ has.as_many; small = lowered-small core.counts (s ∷ []) has.small }
-trying_counts setup core own s has false = record { as_many = has.as_many; small = has.small }
+  counts_at_ends : ClosedAtEnds (HasCounts setup)
+  counts_at_ends = record {
+    ends = λ core t row at has. counts_moved core (with_row core t (record row { mode = Dormant; continuation = None })) refl has;
+    prevents = λ core t row at has. counts_moved core (with_row core t (record row { continuation = None; activation = None })) refl has;
+  }
+
+  -- the oldest value of an input
+  value_counts : (core : Core) (device : ℕ) → (without_value core device).counts ≡ core.counts
+  value_counts core device = by_channel (channel_of core device)
+    where
+      by_channel : (channel : Option Channel) → (without_value_by channel core device).counts ≡ core.counts
+      by_channel None = refl
+      by_channel (Some (Switch enabled)) = refl
+      by_channel (Some (Bytes pending)) = refl
+      by_channel (Some (Values kind pending)) = refl
+      by_channel (Some Outward) = refl
+
+  -- lower and higher counts
+  counts_lowered : (core : Core) (list : List ℕ) → HasCounts setup core → HasCounts setup (record core { counts = lowered core.counts list })
+  counts_lowered core list has =
+      record { as_many = lowered-length core.counts list ∙ has.as_many; small = lowered-small core.counts list has.small }
+
+  counts_raised : (core : Core) (list : List ℕ) → HasCounts setup core → AreNamed setup list → all_below_most core.counts list ≡ true →
+      HasCounts setup (record core { counts = raised core.counts list })
+  counts_raised core list has names below = record {
+    as_many = raised-length core.counts list ∙ has.as_many;
+    small = raised-small core.counts list has.small names.distinct (below_all core.counts list below);
+  }
+
+  -- what an action does to counts
+  counts_values : (core : Core) (asked : Action) → HasCounts setup core → Fits setup asked → KeepsValues (HasCounts setup) core asked
+  counts_values core (action.Write slot value) has fits = counts_moved core _ refl has
+  counts_values core (action.Request list) has fits = counts_lowered core list.items has
+  counts_values core (action.Release list) has fits = λ below. counts_raised core list.items has fits below
+  counts_values core (action.Try s) has fits = counts_lowered core (s ∷ []) has
+  counts_values core (action.Enable device) has fits = counts_moved core _ refl has
+  counts_values core (action.Disable device) has fits = counts_moved core _ refl has
+  counts_values core (action.Get device format kinds) has fits = λ used. counts_moved core _ refl has
+  counts_values core (action.Take device) has fits = counts_moved core (without_value core device) (value_counts core device) has
+  counts_values core (action.Read slot) has fits = tt
+  counts_values core action.Turn has fits = tt
+  counts_values core action.Enter has fits = tt
+  counts_values core action.Now has fits = tt
+  counts_values core (action.Activate t start repeat priority) has fits = tt
+  counts_values core (action.Continue t start) has fits = tt
+  counts_values core (action.Resume start) has fits = tt
+  counts_values core (action.Suspend t) has fits = tt
+  counts_values core (action.Terminate t) has fits = tt
+  counts_values core (action.Prevent t) has fits = tt
+  counts_values core (action.Trigger device) has fits = tt
+  counts_values core (action.Put device text) has fits = tt
+  counts_values core (action.Send device value) has fits = tt
+  counts_values core action.End has fits = tt
+  counts_values core (action.Trap trap) has fits = tt
+
+  -- bytes that come in
+  bytes_counts : (core : Core) (device : ℕ) (text : List ℕ) → HasCounts setup core → HasCounts setup (with_bytes core device text)
+  bytes_counts core device text has =
+      either (HasCounts setup) (nat_le (length (bytes_at core device ++ text)) terminal_room)
+      (with_channel core device (Bytes (bytes_at core device ++ text))) (note core (event.Lost device))
+      (counts_moved core _ refl has) (counts_moved core _ refl has)
+
+-- a value that comes in
+come_counts : (core : Core) (device : ℕ) (x : Cell) → (with_value core device x).counts ≡ core.counts
+come_counts core device x = by_channel (channel_of core device)
+  where
+    by_value : (kind : Kind) (pending : List Cell) (value : Result Cell Trap) → (joined core device kind pending value).counts ≡ core.counts
+    by_value kind pending (Err trap) = refl
+    by_value kind pending (Ok y) = refl
+
+    by_channel : (channel : Option Channel) → (with_value_by channel core device x).counts ≡ core.counts
+    by_channel None = refl
+    by_channel (Some (Switch enabled)) = refl
+    by_channel (Some (Bytes pending)) = refl
+    by_channel (Some Outward) = refl
+    by_channel (Some (Values kind pending)) = by_room (nat_lt (length pending) input_room)
+      where
+        by_room : (b : Bool) → (if b then joined core device kind pending (converted x kind) else note core (event.Lost device)).counts ≡ core.counts
+        by_room true = by_value kind pending (converted x kind)
+        by_room false = refl
 
 -- every action
 pub effect-counts : (setup : Setup) (core : Core) (own : ℕ) (action : Action) → HasCounts setup core → Fits setup action → HasCounts setup (effect core own action).core
-unfolding effect
-effect-counts setup core own (action.Read slot) has fits = counts_kept setup core own _ has (keeps_all (record core { last = Some own }))
-effect-counts setup core own (action.Write slot value) has fits = record { as_many = has.as_many; small = has.small }
-effect-counts setup core own action.Turn has fits = counts_kept setup core own _ has (keeps_all (record core { last = Some own }))
-effect-counts setup core own action.Enter has fits = counts_kept setup core own _ has (keeps_all (record core { last = Some own }))
-effect-counts setup core own (action.Request list) has fits =
-    record { as_many = lowered-length core.counts list.items ∙ has.as_many; small = lowered-small core.counts list.items has.small }
-effect-counts setup core own (action.Release list) has fits = releasing_counts setup core own list.items has fits (all_below_most core.counts list.items) refl
-effect-counts setup core own (action.Try s) has fits = trying_counts setup core own s has (nat_lt 0 (count_at core.counts s))
-effect-counts setup core own (action.Activate t Free Once priority) has fits =
-    counts_kept setup core own _ has (keeps_started (record core { last = Some own }) t (priority_or_declared core t priority))
-effect-counts setup core own (action.Continue t Free) has fits = counts_kept setup core own _ has (keeps_mark (record core { last = Some own }) t false)
-effect-counts setup core own (action.Suspend t) has fits = counts_kept setup core own _ has (keeps_mark (record core { last = Some own }) t true)
-effect-counts setup core own (action.Terminate t) has fits = counts_kept setup core own _ has (keeps_stopping (record core { last = Some own }) own t)
-effect-counts setup core own (action.Put device text) has fits = record { as_many = has.as_many; small = has.small }
-effect-counts setup core own action.End has fits =
-    counts_kept setup core own _ has (keeps_ending (record core { last = Some own }) own (event.End own))
-effect-counts setup core own (action.Trap trap) has fits =
-    counts_kept setup core own _ has (keeps_ending (record core { last = Some own }) own (event.Trap own trap))
-effect-counts setup core own other has fits = absurd fits
+effect-counts setup core own asked has fits =
+    let acted : Core = record core { last = Some own } in
+    let last : HasCounts setup acted = counts_moved setup core acted refl has in
+    effect-kept AnyPriority AnyPlan (HasCounts setup) (counts_closed setup) (counts_at_ends setup) core own asked (any_brings core asked)
+    (counts_values setup acted asked last fits) last
+
+-- a millisecond
+pub millisecond-counts : (setup : Setup) (core : Core) → HasCounts setup core → HasCounts setup (millisecond core)
+millisecond-counts setup core has =
+    millisecond-kept AnyPriority AnyPlan (HasCounts setup) (counts_closed setup) core (counts_moved setup core (later core) refl has)
+
+-- and whatever comes in
+pub arrived-counts : (setup : Setup) (core : Core) (come : Entry) → HasCounts setup core → HasCounts setup (arrived core come)
+arrived-counts setup core (entry.Clock time) has = counts_moved setup core (record core { clock = time }) refl has
+arrived-counts setup core (entry.Run picks) has = has
+arrived-counts setup core (entry.Tick milliseconds) has = has
+arrived-counts setup core (entry.Pass times picks) has = has
+arrived-counts setup core (entry.Irpt device) has =
+    interrupted-kept AnyPriority AnyPlan (HasCounts setup) (counts_closed setup) core device has
+arrived-counts setup core (entry.Chars device text) has = bytes_counts setup core device text.items has
+arrived-counts setup core (entry.Line device text) has = bytes_counts setup core device (text.items ++ 10 ∷ []) has
+arrived-counts setup core (entry.Value device x) has = counts_moved setup core (with_value core device x) (come_counts core device x) has
+arrived-counts setup core (entry.Turn task) has = has
+arrived-counts setup core entry.State has = has
 
 -- the first counts
 pub opening-counts : (setup : Setup) → AllByRecursion IsPreset setup.semaphores → HasCounts setup (opening setup)

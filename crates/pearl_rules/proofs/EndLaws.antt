@@ -6,32 +6,33 @@ use Rattle.std.proofs.lemmas.Option.{none-some, same_Some}
 use Rattle.pearl_rules.specs.declared.action.Action.{Action}
 use Rattle.pearl_rules.specs.declared.action.Answer.{Answer}
 use Rattle.pearl_rules.specs.declared.entry.Entry.{Entry}
-use Rattle.pearl_rules.specs.declared.entry.Entry.TheVariants.{Run, Turn, State}
+use Rattle.pearl_rules.specs.declared.entry.Entry.TheVariants.{Run, Tick, Pass, Turn, State}
 use Rattle.pearl_rules.specs.declared.setup.Setup.{Setup}
+use Rattle.pearl_rules.specs.Entries.{AreFitting}
 use Rattle.pearl_rules.specs.Pick.{pick}
-use Rattle.pearl_rules.specs.Runs.{Mark, Acts, Turns, Tells, Coming, next_of_run, next_mark, kept_at, Supplier, Source, source_offers, source_next, source_acts, source_mark, source_step, source_start, source_after, source_run, Engine, Running, Machine, machine_offers, machine_next, machine_does, machine_acts, machine_mark, machine_step, machine_run, marks_in_step, marked, unsettled, told_at_end}
+use Rattle.pearl_rules.specs.Runs.{Mark, Acts, Turns, Tells, Passes, Arrives, Coming, next_of_run, next_of_tick, next_of_pass, next_mark, kept_at, Supplier, Source, source_offers, source_next, source_acts, source_mark, source_step, source_start, source_after, source_run, Engine, Running, Machine, machine_offers, machine_next, machine_does, machine_acts, machine_mark, machine_step, machine_run, marks_in_step, marked, unsettled, told_at_end}
 use Rattle.pearl_rules.specs.Faithful.{IsFaithful}
 use Rattle.pearl_rules.specs.Laws.{HasEnded, EndsAlike, Comes, IsBeforeEnd, with_more, machine_with_more}
 use Rattle.pearl_rules.proofs.Simulation.{step_silent, step_mark, step_source, marks_silent, marks_mark}
 
 -- where the machine is at its end, so is the source, and both tell the same
 pub ends_alike : (offer : Supplier) {S : Type 0} (engine : Engine S) (setup : Setup) (count rows : ℕ) → IsFaithful offer engine setup count rows →
-    (es : List Entry) (n : ℕ) → HasEnded engine setup es n → EndsAlike offer engine setup es n
-ends_alike offer engine setup count rows faithful es n has_ended = record {
+    (es : List Entry) → AreFitting setup es → (n : ℕ) → HasEnded engine setup es n → EndsAlike offer engine setup es n
+ends_alike offer engine setup count rows faithful es fits n has_ended = record {
   ended = sym same_next ∙ has_ended.no_mark;
-  same_told = ap₂ (λ core o. told_at_end core o) (faithful.same_core es n) same_offers;
-  same_moment = ap (λ core. core.moment) (faithful.same_core es n);
+  same_told = ap₂ (λ core o. told_at_end core o) (faithful.same_core es fits n) same_offers;
+  same_moment = ap (λ core. core.moment) (faithful.same_core es fits n);
 }
   where
     source : Source
     source = source_run offer setup es (marked engine setup es n)
 
     same_offers : machine_offers (machine_run engine setup es n) ≡ source_offers offer source
-    same_offers = fun_ext (faithful.all_offers es n has_ended.settled)
+    same_offers = fun_ext (faithful.all_offers es fits n has_ended.settled)
 
     same_next : machine_next (machine_run engine setup es n) ≡ source_next offer source
     same_next =
-        ap₂ (λ core entries. next_mark (pick core (machine_offers (machine_run engine setup es n))) entries) (faithful.same_core es n) (faithful.same_entries es n)
+        ap₂ (λ core entries. next_mark (pick core (machine_offers (machine_run engine setup es n))) entries) (faithful.same_core es fits n) (faithful.same_entries es fits n)
         ∙ ap (λ o. next_mark (pick source.core o) source.entries) same_offers
 
 -- where no mark comes a step changes nothing
@@ -100,11 +101,30 @@ next-more picked (Run n ∷ es) more coming e = by_pick picked n (next_mark pick
     by_pick (Some t) zero later longer go h = go h
     by_pick (Some t) (suc n) later longer go h =
         ap (λ c. Some (record { mark = c.mark; rest = c.rest ++ more })) (same_Some (record { mark = Acts t; rest = Run n ∷ es }) coming h)
+next-more picked (Tick n ∷ es) more coming e = by_number n (next_mark picked es) (next_mark picked (es ++ more)) (next-more picked es more coming) e
+  where
+    by_number : (n : ℕ) (later longer : Option Coming) →
+        (later ≡ Some coming → longer ≡ Some (record { mark = coming.mark; rest = coming.rest ++ more })) → next_of_tick n es later ≡ Some coming →
+        next_of_tick n (es ++ more) longer ≡ Some (record { mark = coming.mark; rest = coming.rest ++ more })
+    by_number zero later longer go h = go h
+    by_number (suc n) later longer go h =
+        ap (λ c. Some (record { mark = c.mark; rest = c.rest ++ more })) (same_Some (record { mark = Passes; rest = Tick n ∷ es }) coming h)
+next-more picked (Pass times picks ∷ es) more coming e =
+    by_number times (next_mark picked es) (next_mark picked (es ++ more)) (next-more picked es more coming) e
+  where
+    by_number : (n : ℕ) (later longer : Option Coming) →
+        (later ≡ Some coming → longer ≡ Some (record { mark = coming.mark; rest = coming.rest ++ more })) → next_of_pass n picks es later ≡ Some coming →
+        next_of_pass n picks (es ++ more) longer ≡ Some (record { mark = coming.mark; rest = coming.rest ++ more })
+    by_number zero later longer go h = go h
+    by_number (suc n) later longer go h =
+        ap (λ c. Some (record { mark = c.mark; rest = c.rest ++ more }))
+        (same_Some (record { mark = Passes; rest = Run picks ∷ Pass n picks ∷ es }) coming h)
 next-more picked (Turn t ∷ es) more coming e =
     ap (λ c. Some (record { mark = c.mark; rest = c.rest ++ more })) (same_Some (record { mark = Turns t; rest = es }) coming e)
 next-more picked (State ∷ es) more coming e =
     ap (λ c. Some (record { mark = c.mark; rest = c.rest ++ more })) (same_Some (record { mark = Tells; rest = es }) coming e)
-next-more picked (entry ∷ es) more coming e = next-more picked es more coming e
+next-more picked (entry ∷ es) more coming e =
+    ap (λ c. Some (record { mark = c.mark; rest = c.rest ++ more })) (same_Some (record { mark = Arrives entry; rest = es }) coming e)
 
 -- first entries of which no mark comes leave the next mark to those after them
 pub next-none : (picked : Option ℕ) (es more : List Entry) → next_mark picked es ≡ None → next_mark picked (es ++ more) ≡ next_mark picked more
@@ -116,9 +136,22 @@ next-none picked (Run n ∷ es) more e = by_pick picked n (next_mark picked es) 
     by_pick None n later longer go h = go h
     by_pick (Some t) zero later longer go h = go h
     by_pick (Some t) (suc n) later longer go h = absurd (none-some (record { mark = Acts t; rest = Run n ∷ es }) (sym h))
+next-none picked (Tick n ∷ es) more e = by_number n (next_mark picked es) (next_mark picked (es ++ more)) (next-none picked es more) e
+  where
+    by_number : (n : ℕ) (later longer : Option Coming) → (later ≡ None → longer ≡ next_mark picked more) →
+        next_of_tick n es later ≡ None → next_of_tick n (es ++ more) longer ≡ next_mark picked more
+    by_number zero later longer go h = go h
+    by_number (suc n) later longer go h = absurd (none-some (record { mark = Passes; rest = Tick n ∷ es }) (sym h))
+next-none picked (Pass times picks ∷ es) more e =
+    by_number times (next_mark picked es) (next_mark picked (es ++ more)) (next-none picked es more) e
+  where
+    by_number : (n : ℕ) (later longer : Option Coming) → (later ≡ None → longer ≡ next_mark picked more) →
+        next_of_pass n picks es later ≡ None → next_of_pass n picks (es ++ more) longer ≡ next_mark picked more
+    by_number zero later longer go h = go h
+    by_number (suc n) later longer go h = absurd (none-some (record { mark = Passes; rest = Run picks ∷ Pass n picks ∷ es }) (sym h))
 next-none picked (Turn t ∷ es) more e = absurd (none-some (record { mark = Turns t; rest = es }) (sym e))
 next-none picked (State ∷ es) more e = absurd (none-some (record { mark = Tells; rest = es }) (sym e))
-next-none picked (entry ∷ es) more e = next-none picked es more e
+next-none picked (entry ∷ es) more e = absurd (none-some (record { mark = Arrives entry; rest = es }) (sym e))
 
 -- a task's action is done alike before more entries
 acts-more : (offer : Supplier) (s : Source) (more : List Entry) (t : ℕ) (rest : List Entry) (heard : Option (List Answer)) →
@@ -132,6 +165,8 @@ mark-more : (offer : Supplier) (s : Source) (more : List Entry) (mark : Mark) (r
 mark-more offer s more (Acts t) rest = acts-more offer s more t rest (kept_at s.heard t)
 mark-more offer s more (Turns t) rest = refl
 mark-more offer s more Tells rest = refl
+mark-more offer s more Passes rest = refl
+mark-more offer s more (Arrives entry) rest = refl
 
 -- a mark that comes is made alike before more entries
 step-more : (offer : Supplier) (s : Source) (more : List Entry) → source_next offer s ≢ None →
@@ -172,6 +207,8 @@ machine_mark-more : {S : Type 0} (engine : Engine S) (m : Machine S) (more : Lis
 machine_mark-more engine m more (Acts t) rest = machine_acts-more engine m more t rest (kept_at m.running t)
 machine_mark-more engine m more (Turns t) rest = refl
 machine_mark-more engine m more Tells rest = refl
+machine_mark-more engine m more Passes rest = refl
+machine_mark-more engine m more (Arrives entry) rest = refl
 
 -- a machine's step before its end, with more entries to come: the same step, and the same count of marks
 record StepsAlike {S : Type 0} (engine : Engine S) (m : Machine S) (more : List Entry) : Type 0 where

@@ -1,24 +1,29 @@
--- Which tasks an action ends, and which stay active.
-use Rattle.std.proofs.Common.{◌≡◌, ◌≢◌, ℕ, zero, suc, ◌<◌, ◌⊎◌, inl, inr, List, [], ◌∷◌, Bool, true, false, nat_eq, nat_lt, IsTrue, Option, Some, None, length, slice_get, slice_set, refl, sym, ap, subst, ◌∙◌, arith, eq-eqb, eqb-true}
+-- Which tasks an action ends, and which stay active; a millisecond and whatever comes in end none.
+use Rattle.std.proofs.Common.{◌≡◌, ◌≢◌, ℕ, List, [], ◌∷◌, Bool, true, false, nat_eq, nat_lt, Option, Some, None, slice_get, refl, sym, ap, subst, ◌∙◌, eqb-true}
 use Rattle.std.specs.List.{Contains}
 use Rattle.std.proofs.lemmas.Bool.{true≢false, eqb-false}
-use Rattle.pearl_value.specs.declared.trap.Trap.TheVariants.{SemaLimit}
+use Rattle.pearl_value.specs.declared.cell.Cell.{Cell}
+use Rattle.pearl_value.specs.declared.trap.Trap.TheVariants.{SemaLimit, Format}
 use Rattle.pearl_rules.specs.declared.action.Action.{Action}
 use Rattle.pearl_rules.specs.declared.action.Action.TheVariants as action
-use Rattle.pearl_rules.specs.declared.action.Start.TheVariants.{Free}
-use Rattle.pearl_rules.specs.declared.action.Repeat.TheVariants.{Once}
 use Rattle.pearl_rules.specs.declared.action.Answer.{Answer}
-use Rattle.pearl_rules.specs.declared.action.Answer.TheVariants.{Nothing}
+use Rattle.pearl_rules.specs.declared.action.Answer.TheVariants.{Nothing, One, Many}
+use Rattle.pearl_rules.specs.declared.entry.Entry.{Entry}
 use Rattle.pearl_rules.specs.declared.event.Event.{Event}
 use Rattle.pearl_rules.specs.declared.event.Event.TheVariants as event
 use Rattle.pearl_rules.specs.declared.row.Mode.{Mode}
 use Rattle.pearl_rules.specs.declared.row.Mode.TheVariants.{Dormant, Active}
 use Rattle.pearl_rules.specs.declared.row.TaskRow.{TaskRow}
-use Rattle.pearl_rules.specs.Core.{Core, note, row_of, with_row, is_active_mode, is_active_row, is_active, mode_of_row, mode_of}
+use Rattle.pearl_rules.specs.Core.{Core, Channel, Switch, Bytes, Values, Outward, row_of, with_row, is_active_mode, is_active_row, is_active, mode_of_row, mode_of}
 use Rattle.pearl_rules.specs.Counts.{count_at, all_below_most}
-use Rattle.pearl_rules.specs.Effect.{Reply, Hears, Ends, Effect, effect, on_row, with_mode, finished, answering, ending, priority_or_declared, started_by, started, marked_mode, with_mark, stopped_by, stopped_tasks, reply_if_other, stopping, releasing, trying}
+use Rattle.pearl_rules.specs.Plans.{on_row, changed_row, with_mode, millisecond}
+use Rattle.pearl_rules.specs.Devices.{channel_of, items_of, bytes_at, without_bytes, values_at, without_value_by, without_value, arrived}
+use Rattle.pearl_rules.specs.Scan.{Scanned, Short, Bad, Got, scan}
+use Rattle.pearl_rules.specs.Effect.{Hears, Ends, Effect, effect_of, effect, finished, prevented, answering, ending, priority_or_declared, stopped_by, stopped_tasks, reply_if_other, stopping, releasing, trying, getting, taking}
 use Rattle.pearl_rules.specs.Laws.{TellsEnds}
 use Rattle.pearl_rules.proofs.Places.{no_member, alone, only_member, set-same, set-other}
+use Rattle.pearl_rules.proofs.Serving.{Stays, Closed, OnlyValues, mark-kept, millisecond-kept, interrupted-kept, activated-kept, continues-kept, resuming-kept, arrived-kept}
+use Rattle.pearl_rules.proofs.EffectLaws.{AnyPriority, AnyPlan, any_continuation, any_activation}
 
 -- HOW ONE TASK STANDS
 
@@ -28,40 +33,82 @@ active_row None = refl
 active_row (Some row) = refl
 
 -- another task's row stays as it is
-pub row-other : (core : Core) (t u : ℕ) (mode : Mode) → u ≢ t → row_of (with_mode core t mode) u ≡ row_of core u
-row-other core t u mode differ = by_row (row_of core t)
+changed-other : (core : Core) (t u : ℕ) (change : TaskRow → TaskRow) → u ≢ t → row_of (changed_row core t change) u ≡ row_of core u
+changed-other core t u change differ = by_row (row_of core t)
   where
-    by_row : (row : Option TaskRow) → row_of (on_row row core (λ r. with_row core t (record r { mode = mode }))) u ≡ row_of core u
+    by_row : (row : Option TaskRow) → row_of (on_row row core (λ r. with_row core t (change r))) u ≡ row_of core u
     by_row None = refl
-    by_row (Some row) = set-other core.tasks t u (record row { mode = mode }) differ
+    by_row (Some row) = set-other core.tasks t u (change row) differ
 
--- a dormant task isn't active
-dormant_here : (core : Core) (t : ℕ) → is_active (with_mode core t Dormant) t ≡ false
+pub row-other : (core : Core) (t u : ℕ) (mode : Mode) → u ≢ t → row_of (with_mode core t mode) u ≡ row_of core u
+row-other core t u mode differ = changed-other core t u (λ row. record row { mode = mode }) differ
+
+-- a task that ended isn't active
+dormant_here : (core : Core) (t : ℕ) → is_active (finished core t) t ≡ false
 dormant_here core t = by_row (row_of core t) refl
   where
-    by_row : (row : Option TaskRow) → row_of core t ≡ row → is_active (on_row row core (λ r. with_row core t (record r { mode = Dormant }))) t ≡ false
+    by_row : (row : Option TaskRow) → row_of core t ≡ row →
+        is_active (on_row row core (λ r. with_row core t (record r { mode = Dormant; continuation = None }))) t ≡ false
     by_row None e = ap is_active_row e
-    by_row (Some row) e = ap is_active_row (set-same core.tasks t row (record row { mode = Dormant }) e)
+    by_row (Some row) e = ap is_active_row (set-same core.tasks t row (record row { mode = Dormant; continuation = None }) e)
 
--- an active task that gets the mode of one is active
-active_here : (core : Core) (t : ℕ) (mode : Mode) → is_active_mode mode ≡ true → is_active core t ≡ true → is_active (with_mode core t mode) t ≡ true
-active_here core t mode stays is = by_row (row_of core t) refl
-  where
-    by_row : (row : Option TaskRow) → row_of core t ≡ row → is_active (on_row row core (λ r. with_row core t (record r { mode = mode }))) t ≡ true
-    by_row None e = is
-    by_row (Some row) e = ap is_active_row (set-same core.tasks t row (record row { mode = mode }) e) ∙ stays
+-- WHO STAYS ACTIVE
 
--- every active task stays so where one gets the mode of an active one
-lasts : (core : Core) (t : ℕ) (mode : Mode) → (is_active core t ≡ true → is_active_mode mode ≡ true) → (u : ℕ) → is_active core u ≡ true →
-    is_active (with_mode core t mode) u ≡ true
-lasts core t mode stays u is = by_test (nat_eq u t) refl
+-- all who were active are so
+abbrev AllLast : Core → Core → Type 0
+AllLast old core = (u : ℕ) → is_active old u ≡ true → is_active core u ≡ true
+
+module _ (old : Core) where
+  -- another row of a task that is as active as before
+  row_lasts : (core : Core) (t : ℕ) (row changed : TaskRow) → row_of core t ≡ Some row →
+      (is_active_mode row.mode ≡ true → is_active_mode changed.mode ≡ true) → AllLast old core → AllLast old (with_row core t changed)
+  row_lasts core t row changed at stays last u is = by_test (nat_eq u t) refl
+    where
+      by_test : (b : Bool) → nat_eq u t ≡ b → is_active (with_row core t changed) u ≡ true
+      by_test true e =
+          let same = eqb-true u t e in
+          let here : is_active core t ≡ true = subst (λ v. is_active core v ≡ true) same (last u is) in
+          subst (λ v. is_active (with_row core t changed) v ≡ true) (sym same)
+          (ap is_active_row (set-same core.tasks t row changed at) ∙ stays (sym (ap is_active_row at) ∙ here))
+      by_test false e = ap is_active_row (set-other core.tasks t u changed (eqb-false u t e)) ∙ last u is
+
+  -- no task ends where a mode changes so
+  stays_active : (before mode : Mode) → Stays AnyPriority before mode → is_active_mode before ≡ true → is_active_mode mode ≡ true
+  stays_active Dormant mode stays is = let no : ⊥ = cc in absurd no
+  stays_active (Active priority suspended) Dormant stays is = absurd stays
+  stays_active (Active priority suspended) (Active own marked) stays is = refl
+
+  lasts_closed : Closed AnyPriority AnyPlan (AllLast old)
+  lasts_closed = record {
+    told = λ core e last. last;
+    stands = λ core t row mode at stays last. row_lasts core t row (record row { mode = mode }) at (stays_active row.mode mode stays) last;
+    goes_on = λ core t row plan at lawful last. row_lasts core t row (record row { continuation = plan }) at (λ is. is) last;
+    starts = λ core t row plan at lawful last. row_lasts core t row (record row { activation = Some plan }) at (λ is. is) last;
+    going = λ core t row at last. any_continuation row.continuation;
+    starting = λ core t row at last. any_activation row.activation;
+    begins = λ core plan lawful. tt;
+  }
+
+  -- values don't tell who is active
+  lasts_free : (core other : Core) → OnlyValues core other → AllLast old core → AllLast old other
+  lasts_free core other only last u is = ap (λ rows. is_active_row (slice_get rows u)) only.tasks ∙ last u is
+
+-- a task without plans is as active as before
+prevented_lasts : (core : Core) (t : ℕ) → AllLast core (prevented core t)
+prevented_lasts core t = by_row (row_of core t) refl
   where
-    by_test : (b : Bool) → nat_eq u t ≡ b → is_active (with_mode core t mode) u ≡ true
-    by_test true e =
-        let same = eqb-true u t e in
-        let here : is_active core t ≡ true = subst (λ v. is_active core v ≡ true) same is in
-        subst (λ v. is_active (with_mode core t mode) v ≡ true) (sym same) (active_here core t mode (stays here) here)
-    by_test false e = ap is_active_row (row-other core t u mode (eqb-false u t e)) ∙ is
+    by_row : (row : Option TaskRow) → row_of core t ≡ row →
+        AllLast core (on_row row core (λ r. with_row core t (record r { continuation = None; activation = None })))
+    by_row None e = λ u is. is
+    by_row (Some row) e = row_lasts core core t row (record row { continuation = None; activation = None }) e (λ is. is) (λ u is. is)
+
+-- no task ends in a millisecond
+pub millisecond-lasts : (core : Core) (t : ℕ) → is_active core t ≡ true → is_active (millisecond core) t ≡ true
+millisecond-lasts core = millisecond-kept AnyPriority AnyPlan (AllLast core) (lasts_closed core) core (λ u is. is)
+
+-- nor by what comes in
+pub arrived-lasts : (core : Core) (come : Entry) (t : ℕ) → is_active core t ≡ true → is_active (arrived core come) t ≡ true
+arrived-lasts core come = arrived-kept AnyPriority AnyPlan (AllLast core) (lasts_closed core) (lasts_free core) core come (λ time same u is. is) (λ u is. is)
 
 -- WHAT AN EFFECT TELLS
 
@@ -84,11 +131,11 @@ all_last core own after answer stays = record {
 }
 
 -- another task stays as it is where one ends
-other_lasts : (core : Core) (t u : ℕ) → u ≢ t → is_active (with_mode core t Dormant) u ≡ is_active core u
-other_lasts core t u differ = ap is_active_row (row-other core t u Dormant differ)
+other_lasts : (core : Core) (t u : ℕ) → u ≢ t → is_active (finished core t) u ≡ is_active core u
+other_lasts core t u differ = ap is_active_row (changed-other core t u (λ row. record row { mode = Dormant; continuation = None }) differ)
 
 -- a task that is active and then dormant, where one ends, is that one
-is_ended : (core : Core) (t u : ℕ) → is_active core u ≡ true → is_active (with_mode core t Dormant) u ≡ false → Contains (t ∷ []) u
+is_ended : (core : Core) (t u : ℕ) → is_active core u ≡ true → is_active (finished core t) u ≡ false → Contains (t ∷ []) u
 is_ended core t u is not = by_test (nat_eq u t) refl
   where
     by_test : (b : Bool) → nat_eq u t ≡ b → Contains (t ∷ []) u
@@ -96,11 +143,11 @@ is_ended core t u is not = by_test (nat_eq u t) refl
     by_test false e = absurd (true≢false (sym is ∙ sym (other_lasts core t u (eqb-false u t e)) ∙ not))
 
 -- only that one is dormant
-is_dormant : (core : Core) (t u : ℕ) → Contains (t ∷ []) u → is_active (with_mode core t Dormant) u ≡ false
-is_dormant core t u inside = subst (λ v. is_active (with_mode core t Dormant) v ≡ false) (sym (only_member t u inside)) (dormant_here core t)
+is_dormant : (core : Core) (t u : ℕ) → Contains (t ∷ []) u → is_active (finished core t) u ≡ false
+is_dormant core t u inside = subst (λ v. is_active (finished core t) v ≡ false) (sym (only_member t u inside)) (dormant_here core t)
 
 -- and all others last
-outside_lasts : (core : Core) (t u : ℕ) → (Contains (t ∷ []) u → ⊥) → is_active core u ≡ true → is_active (with_mode core t Dormant) u ≡ true
+outside_lasts : (core : Core) (t u : ℕ) → (Contains (t ∷ []) u → ⊥) → is_active core u ≡ true → is_active (finished core t) u ≡ true
 outside_lasts core t u outside is = other_lasts core t u (λ same. outside (alone t u same)) ∙ is
 
 -- an end
@@ -144,23 +191,6 @@ stopping_tells core own t = by_mode (mode_of core t) refl (nat_eq t own) refl
       ends = λ e. is_dormant core t own (alone t own (sym (eqb-true t own same)));
     }
 
--- a start
-started_lasts : (core : Core) (t priority u : ℕ) → is_active core u ≡ true → is_active (started core t priority) u ≡ true
-started_lasts core t priority u is = by_mode (mode_of core t)
-  where
-    by_mode : (mode : Mode) → is_active (started_by mode core t priority) u ≡ true
-    by_mode Dormant = lasts core t (Active priority false) (λ here. refl) u is
-    by_mode (Active own suspended) = is
-
--- a mark of suspension
-marked_lasts : (core : Core) (t : ℕ) (suspended : Bool) (u : ℕ) → is_active core u ≡ true → is_active (with_mark core t suspended) u ≡ true
-marked_lasts core t suspended u is =
-    lasts core t (marked_mode suspended (mode_of core t)) (λ here. marked (mode_of core t) ∙ sym (active_row (row_of core t)) ∙ here) u is
-  where
-    marked : (mode : Mode) → is_active_mode (marked_mode suspended mode) ≡ is_active_mode mode
-    marked Dormant = refl
-    marked (Active priority before) = refl
-
 -- a release
 releasing_tells : (core : Core) (own : ℕ) (semaphores : List ℕ) (can_raise : Bool) → TellsEnds core own (releasing core own semaphores can_raise)
 releasing_tells core own semaphores true = all_last core own _ Nothing (λ t is. is)
@@ -176,23 +206,65 @@ since_last : (core : Core) (own : ℕ) (done : Effect) → TellsEnds (record cor
 since_last core own done tells =
     record { ended = tells.ended; dormant = tells.dormant; others = tells.others; hears = tells.hears; ends = tells.ends }
 
+-- what is read from a terminal
+getting_tells : (core : Core) (own device : ℕ) (scanned : Scanned) → TellsEnds core own (getting core own device scanned)
+getting_tells core own device Short = ending_tells core own (event.End own)
+getting_tells core own device (Bad used) =
+    let tells = ending_tells (without_bytes core device used) own (event.Trap own Format) in
+    record { ended = tells.ended; dormant = tells.dormant; others = tells.others; hears = tells.hears; ends = tells.ends }
+getting_tells core own device (Got used values) = all_last core own _ (Many (record { items = values })) (λ t is. is)
+
+-- what is taken from an input
+taking_tells : (core : Core) (own device : ℕ) (values : List Cell) → TellsEnds core own (taking core own device values)
+taking_tells core own device [] = ending_tells core own (event.End own)
+taking_tells core own device (x ∷ values) = all_last core own (without_value core device) (One x) (by_channel (channel_of core device))
+  where
+    by_channel : (channel : Option Channel) → AllLast core (without_value_by channel core device)
+    by_channel None u is = is
+    by_channel (Some (Switch enabled)) u is = is
+    by_channel (Some (Bytes pending)) u is = is
+    by_channel (Some (Values kind pending)) u is = is
+    by_channel (Some Outward) u is = is
+
 -- every action
 pub effect-ends : (core : Core) (own : ℕ) (action : Action) → TellsEnds core own (effect core own action)
 unfolding effect
-effect-ends core own (action.Read slot) = all_last core own _ _ (λ t is. is)
-effect-ends core own (action.Write slot value) = all_last core own _ Nothing (λ t is. is)
-effect-ends core own action.Turn = all_last core own _ Nothing (λ t is. is)
-effect-ends core own action.Enter = all_last core own _ Nothing (λ t is. is)
-effect-ends core own (action.Request list) = all_last core own _ Nothing (λ t is. is)
-effect-ends core own (action.Release list) =
-    since_last core own _ (releasing_tells (record core { last = Some own }) own list.items (all_below_most core.counts list.items))
-effect-ends core own (action.Try s) = since_last core own _ (trying_tells (record core { last = Some own }) own s (nat_lt 0 (count_at core.counts s)))
-effect-ends core own (action.Activate t Free Once priority) =
-    all_last core own _ Nothing (λ u is. started_lasts (record core { last = Some own }) t (priority_or_declared core t priority) u is)
-effect-ends core own (action.Continue t Free) = all_last core own _ Nothing (λ u is. marked_lasts (record core { last = Some own }) t false u is)
-effect-ends core own (action.Suspend t) = all_last core own _ Nothing (λ u is. marked_lasts (record core { last = Some own }) t true u is)
-effect-ends core own (action.Terminate t) = since_last core own _ (stopping_tells (record core { last = Some own }) own t)
-effect-ends core own (action.Put device text) = all_last core own _ Nothing (λ t is. is)
-effect-ends core own action.End = since_last core own _ (ending_tells (record core { last = Some own }) own (event.End own))
-effect-ends core own (action.Trap trap) = since_last core own _ (ending_tells (record core { last = Some own }) own (event.Trap own trap))
-effect-ends core own other = since_last core own _ (ending_tells (record core { last = Some own }) own (event.End own))
+effect-ends core own asked = since_last core own _ (by_action asked)
+  where
+    acted : Core
+    acted = record core { last = Some own }
+
+    -- nobody ends
+    none : (after : Core) (answer : Answer) → AllLast acted after → TellsEnds acted own (answering after answer)
+    none after answer last = all_last acted own after answer last
+
+    by_action : (asked : Action) → TellsEnds acted own (effect_of acted own asked)
+    by_action (action.Read slot) = none acted _ (λ t is. is)
+    by_action (action.Write slot value) = none _ Nothing (λ t is. is)
+    by_action action.Turn = none acted Nothing (λ t is. is)
+    by_action action.Enter = none acted Nothing (λ t is. is)
+    by_action action.Now = none acted _ (λ t is. is)
+    by_action (action.Request list) = none _ Nothing (λ t is. is)
+    by_action (action.Release list) = releasing_tells acted own list.items (all_below_most core.counts list.items)
+    by_action (action.Try s) = trying_tells acted own s (nat_lt 0 (count_at core.counts s))
+    by_action (action.Activate t start repeat priority) = none _ Nothing
+        (activated-kept AnyPriority AnyPlan (AllLast acted) (lasts_closed acted) acted t start repeat (priority_or_declared acted t priority)
+        (λ row at. tt) tt (λ u is. is))
+    by_action (action.Continue t start) =
+        none _ Nothing (continues-kept AnyPriority AnyPlan (AllLast acted) (lasts_closed acted) acted t start tt (λ u is. is))
+    by_action (action.Resume start) =
+        none _ Nothing (resuming-kept AnyPriority AnyPlan (AllLast acted) (lasts_closed acted) acted own start tt (λ u is. is))
+    by_action (action.Suspend t) = none _ Nothing (mark-kept AnyPriority AnyPlan (AllLast acted) (lasts_closed acted) acted t true (λ u is. is))
+    by_action (action.Terminate t) = stopping_tells acted own t
+    by_action (action.Prevent t) = none _ Nothing (prevented_lasts acted t)
+    by_action (action.Enable device) = none _ Nothing (λ t is. is)
+    by_action (action.Disable device) = none _ Nothing (λ t is. is)
+    by_action (action.Trigger device) =
+        none _ Nothing (interrupted-kept AnyPriority AnyPlan (AllLast acted) (lasts_closed acted) acted device (λ u is. is))
+    by_action (action.Put device text) = none _ Nothing (λ t is. is)
+    by_action (action.Get device format kinds) =
+        getting_tells acted own device (scan (items_of core format) kinds.items (bytes_at core device))
+    by_action (action.Take device) = taking_tells acted own device (values_at core device)
+    by_action (action.Send device value) = none _ Nothing (λ t is. is)
+    by_action action.End = ending_tells acted own (event.End own)
+    by_action (action.Trap trap) = ending_tells acted own (event.Trap own trap)

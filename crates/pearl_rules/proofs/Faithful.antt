@@ -5,7 +5,9 @@ use Rattle.pearl_value.specs.WellFormed.{IsValue}
 use Rattle.pearl_rules.specs.declared.action.Answer.{Answer}
 use Rattle.pearl_rules.specs.declared.entry.Entry.{Entry}
 use Rattle.pearl_rules.specs.declared.setup.Setup.{Setup}
+use Rattle.pearl_rules.specs.Tables.{IsDevice}
 use Rattle.pearl_rules.specs.Slots.{HasKinds}
+use Rattle.pearl_rules.specs.Entries.{AreFitting}
 use Rattle.pearl_rules.specs.Runs.{Supplier, Engine, kept_at, machine_start, machine_run, source_start, source_next, source_run, marked}
 use Rattle.pearl_rules.specs.Faithful.{IsFaithful, Alone, Soon}
 use Rattle.pearl_rules.specs.Laws.{EndsSoon, Comes}
@@ -14,23 +16,25 @@ use Rattle.pearl_rules.proofs.Settling.{Reaches, reaches, settled_with}
 
 -- code that stands where each task's answers lead, and that offers soon, runs as the source's rules say
 pub faithful : (offer : Supplier) {S : Type 0} (engine : Engine S) (Stands : ℕ → List Answer → S → Type 0) (weight : ℕ → S → ℕ)
-    (setup : Setup) (rows : ℕ) → AllByRecursion IsValue setup.slots → Alone setup offer engine Stands → Soon (length setup.tasks) engine Stands weight rows → IsFaithful offer engine setup (length setup.tasks) rows
-faithful offer {S} engine Stands weight setup rows slots alone soon = record {
-  same_core = λ es n. (sim es n).same_core;
-  same_entries = λ es n. (sim es n).same_entries;
-  same_offers = λ es n t action e. same_offer setup offer S engine Stands alone t (kept_at (source_run offer setup es (marked engine setup es n)).heard t)
+    (setup : Setup) (rows : ℕ) → AllByRecursion IsValue setup.slots → AllByRecursion IsDevice setup.devices → Alone setup offer engine Stands →
+    Soon (length setup.tasks) engine Stands weight rows → IsFaithful offer engine setup (length setup.tasks) rows
+faithful offer {S} engine Stands weight setup rows slots devices alone soon = record {
+  same_core = λ es fits n. (sim es fits n).same_core;
+  same_entries = λ es fits n. (sim es fits n).same_entries;
+  same_offers = λ es fits n t action e. same_offer setup offer S engine Stands alone t (kept_at (source_run offer setup es (marked engine setup es n)).heard t)
       (kept_at (machine_run engine setup es n).running t)
-      (at_place setup offer S engine Stands alone (source_run offer setup es (marked engine setup es n)).heard (machine_run engine setup es n).running (sim es n).all t) action e;
-  all_offers = λ es n none t. sim_offers setup offer S engine Stands alone (machine_run engine setup es n)
-      (source_run offer setup es (marked engine setup es n)) (sim es n) none t;
-  goes_on = λ es m comes. goes es m (reaches setup offer S engine Stands weight rows alone soon (source_start setup es) (machine_start engine setup es) (first es) m comes);
+      (at_place setup offer S engine Stands alone (source_run offer setup es (marked engine setup es n)).heard (machine_run engine setup es n).running (sim es fits n).all t) action e;
+  all_offers = λ es fits n none t. sim_offers setup offer S engine Stands alone (machine_run engine setup es n)
+      (source_run offer setup es (marked engine setup es n)) (sim es fits n) none t;
+  goes_on = λ es fits m comes. goes es m (reaches setup offer S engine Stands weight rows alone soon (source_start setup es) (machine_start engine setup es) (first es fits) m comes);
 }
   where
-    first : (es : List Entry) → Simulates setup engine Stands (machine_start engine setup es) (source_start setup es)
-    first es = sim_start setup offer S engine Stands alone slots es
+    first : (es : List Entry) → AreFitting setup es → Simulates setup engine Stands (machine_start engine setup es) (source_start setup es)
+    first es fits = sim_start setup offer S engine Stands alone slots devices es fits
 
-    sim : (es : List Entry) (n : ℕ) → Simulates setup engine Stands (machine_run engine setup es n) (source_run offer setup es (marked engine setup es n))
-    sim es n = sim_after setup offer S engine Stands alone (source_start setup es) (machine_start engine setup es) (first es) n
+    sim : (es : List Entry) → AreFitting setup es → (n : ℕ) →
+        Simulates setup engine Stands (machine_run engine setup es n) (source_run offer setup es (marked engine setup es n))
+    sim es fits n = sim_after setup offer S engine Stands alone (source_start setup es) (machine_start engine setup es) (first es fits) n
 
     goes : (es : List Entry) (m : ℕ) → Reaches setup offer S engine Stands weight rows alone soon (machine_start engine setup es) m (m * (length setup.tasks * rows + 1)) →
         (n : ℕ) × (n ≤ (m + 1) * (length setup.tasks * rows + 1)) × (marked engine setup es n ≡ m)
@@ -38,10 +42,11 @@ faithful offer {S} engine Stands weight setup rows slots alone soon = record {
 
 -- and where the source's run ends, the machine comes to its end
 pub ends_soon : (offer : Supplier) {S : Type 0} (engine : Engine S) (Stands : ℕ → List Answer → S → Type 0) (weight : ℕ → S → ℕ)
-    (setup : Setup) (rows : ℕ) → AllByRecursion IsValue setup.slots → Alone setup offer engine Stands → Soon (length setup.tasks) engine Stands weight rows → (es : List Entry) (m : ℕ) →
+    (setup : Setup) (rows : ℕ) → AllByRecursion IsValue setup.slots → AllByRecursion IsDevice setup.devices → Alone setup offer engine Stands →
+    Soon (length setup.tasks) engine Stands weight rows → (es : List Entry) → AreFitting setup es → (m : ℕ) →
     Comes offer setup es m → source_next offer (source_run offer setup es m) ≡ None → EndsSoon engine setup es m ((m + 1) * (length setup.tasks * rows + 1))
-ends_soon offer {S} engine Stands weight setup rows slots alone soon es m comes none =
-    let first = sim_start setup offer S engine Stands alone slots es in
+ends_soon offer {S} engine Stands weight setup rows slots devices alone soon es fits m comes none =
+    let first = sim_start setup offer S engine Stands alone slots devices es fits in
     let s = settled_with setup offer S engine Stands weight rows alone soon (source_start setup es) (machine_start engine setup es) first m
     (m * (length setup.tasks * rows + 1))
     (reaches setup offer S engine Stands weight rows alone soon (source_start setup es) (machine_start engine setup es) first m comes) in
@@ -58,9 +63,10 @@ ends_soon offer {S} engine Stands weight setup rows slots alone soon es m comes 
       };
     }
 
--- each slot holds a value of its kind after any number of steps
+-- values have their kinds after any number of steps
 pub has_kinds : (offer : Supplier) {S : Type 0} (engine : Engine S) (Stands : ℕ → List Answer → S → Type 0) (setup : Setup) →
-    AllByRecursion IsValue setup.slots → Alone setup offer engine Stands → (es : List Entry) (n : ℕ) → HasKinds setup (machine_run engine setup es n).core
-has_kinds offer {S} engine Stands setup slots alone es n =
+    AllByRecursion IsValue setup.slots → AllByRecursion IsDevice setup.devices → Alone setup offer engine Stands →
+    (es : List Entry) → AreFitting setup es → (n : ℕ) → HasKinds setup (machine_run engine setup es n).core
+has_kinds offer {S} engine Stands setup slots devices alone es fits n =
     (sim_after setup offer S engine Stands alone (source_start setup es) (machine_start engine setup es)
-    (sim_start setup offer S engine Stands alone slots es) n).kinds
+    (sim_start setup offer S engine Stands alone slots devices es fits) n).kinds

@@ -1,5 +1,7 @@
 pub mod Places
 pub mod PickLaws
+pub mod Serving
+pub mod ScanLaws
 pub mod EffectLaws
 pub mod ToldLaws
 pub mod EndsLaws
@@ -12,3 +14,4 @@ pub mod Settling
 pub mod Faithful
 pub mod EndLaws
 pub mod RunLaws
+pub mod MarkLaws

@@ -3,11 +3,14 @@ use Rattle.std.proofs.Common.{◌≡◌, ◌≢◌, ℕ, zero, suc, ◌<◌, ◌
 use Rattle.std.proofs.lemmas.Bool.{true≢false, eqb-false, or_cases, or_parts, and_parts, and_cases, cases_lt}
 use Rattle.std.proofs.lemmas.Option.{same_Some, slice_get_within}
 use Rattle.pearl_rules.specs.declared.action.Action.{Action}
-use Rattle.pearl_rules.specs.declared.action.Action.TheVariants.{Request}
+use Rattle.pearl_rules.specs.declared.action.Action.TheVariants.{Request, Get, Take}
 use Rattle.pearl_rules.specs.declared.row.TaskRow.{TaskRow}
 use Rattle.pearl_rules.specs.Core.{Core, row_of}
 use Rattle.pearl_rules.specs.Counts.{all_free}
-use Rattle.pearl_rules.specs.Pick.{Offered, guard, is_possible, is_ready_row, is_eligible, priority_of, priority_of_row, is_last_of, is_last, goes_before, better_if, better, pick_first, pick, IsPicked, shown_of, states_first, states, last_if, is_as_urgent, can_turn, turned}
+use Rattle.pearl_rules.specs.Devices.{bytes_in, values_in}
+use Rattle.pearl_rules.specs.Scan.{scan}
+use Rattle.pearl_rules.specs.Tables.{items_or_none}
+use Rattle.pearl_rules.specs.Pick.{Offered, is_complete, is_some_value, guard, is_possible, is_ready_row, is_eligible, priority_of, priority_of_row, is_last_of, is_last, goes_before, better_if, better, pick_first, pick, IsPicked, shown_of, states_first, states, last_if, is_as_urgent, can_turn, turned}
 use Rattle.pearl_rules.specs.Laws.{IsFirstInRank}
 
 -- who acted last, as a test
@@ -249,27 +252,35 @@ states-same core other offers others moment rows last able = go (length core.tas
     go zero = refl
     go (suc n) = cc (go n, moment, shown n)
 
--- whether an action can be done now, where the counts are the same
-guard-same : (core other : Core) (action : Action) → core.counts ≡ other.counts → guard core action ≡ guard other action
-guard-same core other (Request list) counts = ap (λ cs. all_free cs list.items) counts
-guard-same core other action counts = refl
+-- whether an action can be done now, where counts, channels and formats are the same
+guard-same : (core other : Core) (action : Action) → core.counts ≡ other.counts → core.channels ≡ other.channels → core.formats ≡ other.formats →
+    guard core action ≡ guard other action
+guard-same core other (Request list) counts channels formats = ap (λ cs. all_free cs list.items) counts
+guard-same core other (Get device format kinds) counts channels formats =
+    λ i. is_complete (scan (items_or_none (slice_get (formats i) format)) kinds.items (bytes_in (slice_get (channels i) device)))
+guard-same core other (Take device) counts channels formats = ap (λ cs. is_some_value (values_in (slice_get cs device))) channels
+guard-same core other action counts channels formats = refl
 
 -- the same of an offer
-pub possible-same : (core other : Core) (offer : Option Action) → core.counts ≡ other.counts → is_possible core offer ≡ is_possible other offer
-possible-same core other None counts = refl
-possible-same core other (Some action) counts = guard-same core other action counts
+pub possible-same : (core other : Core) (offer : Option Action) → core.counts ≡ other.counts → core.channels ≡ other.channels →
+    core.formats ≡ other.formats → is_possible core offer ≡ is_possible other offer
+possible-same core other None counts channels formats = refl
+possible-same core other (Some action) counts channels formats = guard-same core other action counts channels formats
 
 -- the same offers at each task
 pub pick-offers : (core other : Core) (offers others : Offered) → core.tasks ≡ other.tasks → core.last ≡ other.last → core.counts ≡ other.counts →
-    ((t : ℕ) → offers t ≡ others t) → pick core offers ≡ pick other others
-pick-offers core other offers others rows last counts same =
-    pick-same core other offers others rows last (λ t. possible-same core other (offers t) counts ∙ ap (λ o. is_possible other o) (same t))
+    core.channels ≡ other.channels → core.formats ≡ other.formats → ((t : ℕ) → offers t ≡ others t) → pick core offers ≡ pick other others
+pick-offers core other offers others rows last counts channels formats same =
+    pick-same core other offers others rows last
+    (λ t. possible-same core other (offers t) counts channels formats ∙ ap (λ o. is_possible other o) (same t))
 
 -- the same for how the tasks stand
 pub states-offers : (core other : Core) (offers others : Offered) → core.moment ≡ other.moment → core.tasks ≡ other.tasks → core.last ≡ other.last →
-    core.counts ≡ other.counts → ((t : ℕ) → offers t ≡ others t) → states core offers ≡ states other others
-states-offers core other offers others moment rows last counts same =
-    states-same core other offers others moment rows last (λ t. possible-same core other (offers t) counts ∙ ap (λ o. is_possible other o) (same t))
+    core.counts ≡ other.counts → core.channels ≡ other.channels → core.formats ≡ other.formats → ((t : ℕ) → offers t ≡ others t) →
+    states core offers ≡ states other others
+states-offers core other offers others moment rows last counts channels formats same =
+    states-same core other offers others moment rows last
+    (λ t. possible-same core other (offers t) counts channels formats ∙ ap (λ o. is_possible other o) (same t))
 
 -- TURNS
 
@@ -332,7 +343,7 @@ module _ (core : Core) (offers : Offered) (t : ℕ) where
 
   -- whether a task is eligible doesn't depend on who acted last
   last-eligible : (u : ℕ) → is_eligible (record core { last = Some t }) offers u ≡ is_eligible core offers u
-  last-eligible u = ap (λ b. is_ready_row (row_of core u) b) (possible-same (record core { last = Some t }) core (offers u) refl)
+  last-eligible u = ap (λ b. is_ready_row (row_of core u) b) (possible-same (record core { last = Some t }) core (offers u) refl refl refl)
 
   -- after a turn the named task acts next
   pub turn_next : IsFirstInRank core offers t → pick (turned core offers t) offers ≡ Some t

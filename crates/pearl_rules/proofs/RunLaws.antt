@@ -1,20 +1,20 @@
 -- Every run comes to an end, and what was told stays told.
-use Rattle.std.proofs.Common.{◌≡◌, ℕ, zero, suc, ◌+◌, ◌-◌, ◌<◌, ◌≤◌, ◌⊎◌, inl, inr, List, [], ◌∷◌, ◌++◌, true, false, Option, Some, None, IsTrue, refl, sym, ap, subst, ◌∙◌, add-zero, add-suc, zero-add, append-nil, append_assoc, arith}
+use Rattle.std.proofs.Common.{◌≡◌, ℕ, zero, suc, ◌+◌, ◌-◌, ◌*◌, ◌<◌, ◌≤◌, ◌⊎◌, inl, inr, List, [], ◌∷◌, ◌++◌, true, false, Option, Some, None, IsTrue, refl, sym, ap, subst, ◌∙◌, add-zero, add-suc, zero-add, suc-mul, append-nil, append_assoc, arith}
 use Rattle.std.proofs.lemmas.Bool.{cases_lt}
 use Rattle.std.proofs.lemmas.Option.{none-some, same_Some}
 use Rattle.pearl_rules.specs.declared.action.Answer.{Answer}
 use Rattle.pearl_rules.specs.declared.entry.Entry.{Entry}
-use Rattle.pearl_rules.specs.declared.entry.Entry.TheVariants.{Run, Turn, State}
+use Rattle.pearl_rules.specs.declared.entry.Entry.TheVariants.{Run, Tick, Pass, Turn, State}
 use Rattle.pearl_rules.specs.declared.row.Mode.{Mode}
 use Rattle.pearl_rules.specs.declared.row.Mode.TheVariants.{Dormant, Active}
 use Rattle.pearl_rules.specs.declared.row.TaskRow.{TaskRow}
 use Rattle.pearl_rules.specs.declared.setup.Setup.{Setup}
 use Rattle.pearl_rules.specs.Core.{Report, first_events, row_of}
-use Rattle.pearl_rules.specs.Pick.{is_possible, is_ready, is_ready_row, pick, turned, states}
-use Rattle.pearl_rules.specs.Runs.{Mark, Acts, Turns, Tells, Coming, next_of_run, next_mark, kept_at, mapped, Supplier, Source, source_offers, source_next, source_acts, source_mark, source_step_by, source_step, source_start, source_after, source_run}
+use Rattle.pearl_rules.specs.Pick.{is_possible, is_ready, is_ready_row, pick, states}
+use Rattle.pearl_rules.specs.Runs.{Mark, Acts, Turns, Tells, Passes, Arrives, Coming, next_of_run, next_of_tick, next_of_pass, next_mark, kept_at, mapped, Supplier, Source, source_offers, source_next, source_acts, source_mark, source_step_by, source_step, source_start, source_after, source_run}
 use Rattle.pearl_rules.specs.Laws.{EndsTelling}
 use Rattle.pearl_rules.proofs.PickLaws.{picked, turned-is}
-use Rattle.pearl_rules.proofs.EffectLaws.{effect-told}
+use Rattle.pearl_rules.proofs.EffectLaws.{effect-told, millisecond-told, arrived-told}
 use Rattle.pearl_rules.proofs.Simulation.{step_source}
 use Rattle.pearl_rules.proofs.EndLaws.{stays_to}
 
@@ -24,20 +24,24 @@ use Rattle.pearl_rules.proofs.EndLaws.{stays_to}
 abbrev marks_left : List Entry → ℕ
 marks_left [] = 0
 marks_left (Run n ∷ es) = n + marks_left es
-marks_left (Turn t ∷ es) = suc (marks_left es)
-marks_left (State ∷ es) = suc (marks_left es)
-marks_left (entry ∷ es) = marks_left es
+marks_left (Tick n ∷ es) = n + marks_left es
+marks_left (Pass times picks ∷ es) = times * suc picks + marks_left es
+marks_left (entry ∷ es) = suc (marks_left es)
 
 -- the mark that comes leaves fewer, and where a task acts it is the picked one
 record Takes (chosen : Option ℕ) (es : List Entry) (coming : Coming) : Type 0 where
   is_chosen : (t : ℕ) → coming.mark ≡ Acts t → chosen ≡ Some t
   fewer : marks_left coming.rest < marks_left es
 
--- a mark of the later entries leaves fewer of those
-takes_later : (chosen : Option ℕ) (n : ℕ) (es : List Entry) (coming : Coming) → Takes chosen es coming → Takes chosen (Run n ∷ es) coming
-takes_later chosen n es coming takes =
+-- a mark of the later entries leaves fewer of all
+takes_later : (chosen : Option ℕ) (first : Entry) (es : List Entry) (coming : Coming) → Takes chosen es coming → Takes chosen (first ∷ es) coming
+takes_later chosen (Run n) es coming takes = let fewer = takes.fewer in record { is_chosen = takes.is_chosen; fewer = omega arith }
+takes_later chosen (Tick n) es coming takes = let fewer = takes.fewer in record { is_chosen = takes.is_chosen; fewer = omega arith }
+takes_later chosen (Pass times picks) es coming takes =
     let fewer = takes.fewer in
-    record { is_chosen = takes.is_chosen; fewer = omega arith }
+    let before : marks_left es ≤ times * suc picks + marks_left es = omega arith in
+    record { is_chosen = takes.is_chosen; fewer = omega (arith, fewer, before) }
+takes_later chosen first es coming takes = let fewer = takes.fewer in record { is_chosen = takes.is_chosen; fewer = omega arith }
 
 -- a task acts by a mark of its own
 same_task : (t u : ℕ) → Acts t ≡ Acts u → t ≡ u
@@ -50,11 +54,28 @@ next_takes chosen (Run n ∷ es) coming e = by_pick chosen n (next_mark chosen e
   where
     by_pick : (picked : Option ℕ) (n : ℕ) (later : Option Coming) → (later ≡ Some coming → Takes picked es coming) →
         next_of_run picked n es later ≡ Some coming → Takes picked (Run n ∷ es) coming
-    by_pick None n later go h = takes_later None n es coming (go h)
-    by_pick (Some t) zero later go h = takes_later (Some t) zero es coming (go h)
+    by_pick None n later go h = takes_later None (Run n) es coming (go h)
+    by_pick (Some t) zero later go h = takes_later (Some t) (Run zero) es coming (go h)
     by_pick (Some t) (suc n) later go h =
         subst (λ c. Takes (Some t) (Run (suc n) ∷ es) c) (same_Some (record { mark = Acts t; rest = Run n ∷ es }) coming h)
         (record { is_chosen = λ u same. ap Some (same_task t u same); fewer = omega arith })
+next_takes chosen (Tick n ∷ es) coming e = by_number n (next_mark chosen es) (next_takes chosen es coming) e
+  where
+    by_number : (n : ℕ) (later : Option Coming) → (later ≡ Some coming → Takes chosen es coming) → next_of_tick n es later ≡ Some coming →
+        Takes chosen (Tick n ∷ es) coming
+    by_number zero later go h = takes_later chosen (Tick zero) es coming (go h)
+    by_number (suc n) later go h =
+        subst (λ c. Takes chosen (Tick (suc n) ∷ es) c) (same_Some (record { mark = Passes; rest = Tick n ∷ es }) coming h)
+        (record { is_chosen = λ u same. let no : ⊥ = cc in absurd no; fewer = omega arith })
+next_takes chosen (Pass times picks ∷ es) coming e = by_number times (next_mark chosen es) (next_takes chosen es coming) e
+  where
+    by_number : (n : ℕ) (later : Option Coming) → (later ≡ Some coming → Takes chosen es coming) → next_of_pass n picks es later ≡ Some coming →
+        Takes chosen (Pass n picks ∷ es) coming
+    by_number zero later go h = takes_later chosen (Pass zero picks) es coming (go h)
+    by_number (suc n) later go h =
+        let product : suc n * suc picks ≡ n * suc picks + suc picks = suc-mul n (suc picks) in
+        subst (λ c. Takes chosen (Pass (suc n) picks ∷ es) c) (same_Some (record { mark = Passes; rest = Run picks ∷ Pass n picks ∷ es }) coming h)
+        (record { is_chosen = λ u same. let no : ⊥ = cc in absurd no; fewer = omega arith })
 next_takes chosen (Turn t ∷ es) coming e =
     subst (λ c. Takes chosen (Turn t ∷ es) c) (same_Some (record { mark = Turns t; rest = es }) coming e)
     (record { is_chosen = λ u same. let no : ⊥ = cc in absurd no; fewer = omega arith })
@@ -62,8 +83,8 @@ next_takes chosen (State ∷ es) coming e =
     subst (λ c. Takes chosen (State ∷ es) c) (same_Some (record { mark = Tells; rest = es }) coming e)
     (record { is_chosen = λ u same. let no : ⊥ = cc in absurd no; fewer = omega arith })
 next_takes chosen (entry ∷ es) coming e =
-    let takes = next_takes chosen es coming e in
-    record { is_chosen = takes.is_chosen; fewer = takes.fewer }
+    subst (λ c. Takes chosen (entry ∷ es) c) (same_Some (record { mark = Arrives entry; rest = es }) coming e)
+    (record { is_chosen = λ u same. let no : ⊥ = cc in absurd no; fewer = omega arith })
 
 -- a task whose action can't be done now isn't ready
 not_ready : (mode : Mode) → IsTrue (is_ready mode false) → ⊥
@@ -83,9 +104,8 @@ acts-entries offer s t rest None ready = absurd (not_ready_row (row_of s.core t)
 acts-entries offer s t rest (Some so_far) ready = refl
 
 -- after a mark the entries after it are what remains
-step_fewer : (offer : Supplier) (s : Source) (coming : Coming) → source_next offer s ≡ Some coming →
-    marks_left (source_step offer s).entries < marks_left s.entries
-step_fewer offer s coming e = subst (λ es. marks_left es < marks_left s.entries) (sym same) takes.fewer
+pub step-entries : (offer : Supplier) (s : Source) (coming : Coming) → source_next offer s ≡ Some coming → (source_step offer s).entries ≡ coming.rest
+step-entries offer s coming e = ap (λ x. x.entries) (step_source offer s (Some coming) e) ∙ by_mark coming.mark refl
   where
     takes : Takes (pick s.core (source_offers offer s)) s.entries coming
     takes = next_takes (pick s.core (source_offers offer s)) s.entries coming e
@@ -95,9 +115,15 @@ step_fewer offer s coming e = subst (λ es. marks_left es < marks_left s.entries
         acts-entries offer s t coming.rest (kept_at s.heard t) (picked s.core (source_offers offer s) t (takes.is_chosen t is)).eligible
     by_mark (Turns t) is = refl
     by_mark Tells is = refl
+    by_mark Passes is = refl
+    by_mark (Arrives entry) is = refl
 
-    same : (source_step offer s).entries ≡ coming.rest
-    same = ap (λ x. x.entries) (step_source offer s (Some coming) e) ∙ by_mark coming.mark refl
+-- and they ask for fewer marks
+step_fewer : (offer : Supplier) (s : Source) (coming : Coming) → source_next offer s ≡ Some coming →
+    marks_left (source_step offer s).entries < marks_left s.entries
+step_fewer offer s coming e =
+    subst (λ es. marks_left es < marks_left s.entries) (sym (step-entries offer s coming e))
+    (next_takes (pick s.core (source_offers offer s)) s.entries coming e).fewer
 
 -- a run that is at an end
 abbrev End : Supplier → Source → Type 0
@@ -155,6 +181,8 @@ mark_tells : (offer : Supplier) (s : Source) (mark : Mark) (rest : List Entry) �
 mark_tells offer s (Acts t) rest = acts_tell offer s t rest (kept_at s.heard t)
 mark_tells offer s (Turns t) rest = ([], ap (λ core. core.told) (turned-is s.core (source_offers offer s) t) ∙ sym (append-nil s.core.told))
 mark_tells offer s Tells rest = (states s.core (source_offers offer s), refl)
+mark_tells offer s Passes rest = millisecond-told s.core
+mark_tells offer s (Arrives entry) rest = arrived-told s.core entry
 
 -- and a step, with a mark or without
 step_tells : (offer : Supplier) (s : Source) → TellsOn s (source_step offer s)

@@ -1,6 +1,6 @@
 -- The machine goes the way of the source: step by step the same core, the same entries, and each task at the same place.
-use Rattle.std.proofs.Common.{◌≡◌, ℕ, zero, suc, ◌+◌, ◌<◌, List, [], ◌∷◌, ◌++◌, Option, Some, None, length, map, slice_set, refl, sym, ap, ap₂, subst, ◌∙◌, length-set, add-zero, add-one, zero-add, arith}
-use Rattle.std.specs.List.{AllByRecursion, AllZip}
+use Rattle.std.proofs.Common.{◌≡◌, ℕ, zero, suc, ◌+◌, ◌<◌, List, [], ◌∷◌, ◌++◌, Bool, true, false, Option, Some, None, length, map, slice_set, refl, sym, ap, ap₂, subst, ◌∙◌, length-set, add-zero, add-one, zero-add, arith}
+use Rattle.std.specs.List.{AllByRecursion}
 use Rattle.std.proofs.Math.Path.{fun_ext}
 use Rattle.std.proofs.lemmas.Option.{none-some, same_Some}
 use Rattle.std.proofs.lemmas.List.{length-map}
@@ -8,15 +8,20 @@ use Rattle.pearl_value.specs.WellFormed.{IsValue}
 use Rattle.pearl_rules.specs.declared.action.Action.{Action}
 use Rattle.pearl_rules.specs.declared.action.Answer.{Answer}
 use Rattle.pearl_rules.specs.declared.entry.Entry.{Entry}
+use Rattle.pearl_rules.specs.declared.entry.Entry.TheVariants.{Run, Tick, Pass, Turn, State}
 use Rattle.pearl_rules.specs.declared.setup.Setup.{Setup}
 use Rattle.pearl_rules.specs.Core.{Core, first_row}
-use Rattle.pearl_rules.specs.Slots.{IsLike, HasKinds}
-use Rattle.pearl_rules.specs.Pick.{pick, turned, showing}
+use Rattle.pearl_rules.specs.Tables.{IsDevice}
+use Rattle.pearl_rules.specs.Slots.{HasKinds}
+use Rattle.pearl_rules.specs.Entries.{IsFitting, AreFitting}
+use Rattle.pearl_rules.specs.Pick.{pick, turned, showing, last_if, can_turn}
+use Rattle.pearl_rules.specs.Plans.{millisecond}
+use Rattle.pearl_rules.specs.Devices.{arrived}
 use Rattle.pearl_rules.specs.Effect.{Reply, Hears, Ends, effect}
-use Rattle.pearl_rules.specs.Runs.{Mark, Acts, Turns, Tells, Coming, next_mark, dropped, kept_at, mapped, Supplier, Source, source_offers, source_next, heard_more, source_settled, source_acts, source_mark, source_step_by, source_step, source_start, source_after, Stepped, Silent, Offers, Engine, Running, Machine, offer_of, machine_offers, machine_next, unsettled_here, unsettled_from, unsettled, stepped, answered, fresh, machine_settled, machine_does, machine_acts, machine_mark, machine_mark_by, machine_step_by, machine_step, machine_start, machine_after, count_if, marks_by, marks_in_step, marked_after}
+use Rattle.pearl_rules.specs.Runs.{Mark, Acts, Turns, Tells, Passes, Arrives, Coming, next_of_run, next_of_tick, next_of_pass, next_mark, dropped, kept_at, mapped, Supplier, Source, source_offers, source_next, heard_more, source_settled, source_acts, source_mark, source_step_by, source_step, source_start, source_after, Stepped, Silent, Offers, Engine, Running, Machine, offer_of, machine_offers, machine_next, unsettled_here, unsettled_from, unsettled, stepped, answered, fresh, machine_settled, machine_does, machine_acts, machine_mark, machine_mark_by, machine_step_by, machine_step, machine_start, machine_after, count_if, marks_by, marks_in_step, marked_after}
 use Rattle.pearl_rules.specs.Faithful.{Alone}
 use Rattle.pearl_rules.proofs.PickLaws.{turned-is}
-use Rattle.pearl_rules.proofs.EffectLaws.{effect-length, opening-kinds, effect-kinds, effect-answers}
+use Rattle.pearl_rules.proofs.EffectLaws.{effect-length, opening-kinds, effect-kinds, effect-answers, millisecond-length, millisecond-kinds, arrived-length, arrived-kinds}
 use Rattle.pearl_rules.proofs.KeptLaws.{refreshed-length, Both, AllAt, at_at, set_at, set_right, dropped_at, refreshed_at}
 
 -- an active task is there, its code stands where its answers lead, and what it has offered is what its next instruction offers
@@ -33,6 +38,59 @@ pub record Simulates (setup : Setup) {S : Type 0} (engine : Engine S) (Stands : 
   pub kinds : HasKinds setup m.core
   pub tasks : length m.core.tasks ≡ length setup.tasks
   pub places : length m.running ≡ length setup.tasks
+  pub fits : AreFitting setup s.entries
+
+-- WHAT REMAINS OF FITTING ENTRIES
+
+-- what comes in by a mark fits
+abbrev FitsMark : Setup → Mark → Type 0
+FitsMark setup (Arrives entry) = IsFitting setup entry
+FitsMark setup mark = Unit {0}
+
+-- a mark and what remains after it fit
+record FitsAfter (setup : Setup) (coming : Coming) : Type 0 where
+  mark : FitsMark setup coming.mark
+  rest : AreFitting setup coming.rest
+
+-- of fitting entries a fitting mark comes, and fitting entries remain
+fits_after : (setup : Setup) (picked : Option ℕ) (es : List Entry) (coming : Coming) → AreFitting setup es → next_mark picked es ≡ Some coming →
+    FitsAfter setup coming
+fits_after setup picked [] coming fits e = absurd (none-some coming e)
+fits_after setup picked (Run n ∷ es) coming fits e = by_pick picked n fits.0 (next_mark picked es) (fits_after setup picked es coming fits.1) e
+  where
+    by_pick : (chosen : Option ℕ) (n : ℕ) → IsFitting setup (Run n) → (later : Option Coming) → (later ≡ Some coming → FitsAfter setup coming) →
+        next_of_run chosen n es later ≡ Some coming → FitsAfter setup coming
+    by_pick None n first later go h = go h
+    by_pick (Some t) zero first later go h = go h
+    by_pick (Some t) (suc n) first later go h =
+        let less = first.1 in
+        subst (FitsAfter setup) (same_Some (record { mark = Acts t; rest = Run n ∷ es }) coming h)
+        (record { mark = tt; rest = ((first.0, omega arith), fits.1) })
+fits_after setup picked (Tick n ∷ es) coming fits e = by_number n fits.0 (next_mark picked es) (fits_after setup picked es coming fits.1) e
+  where
+    by_number : (n : ℕ) → IsFitting setup (Tick n) → (later : Option Coming) → (later ≡ Some coming → FitsAfter setup coming) →
+        next_of_tick n es later ≡ Some coming → FitsAfter setup coming
+    by_number zero first later go h = go h
+    by_number (suc n) first later go h =
+        let less = first.1 in
+        subst (FitsAfter setup) (same_Some (record { mark = Passes; rest = Tick n ∷ es }) coming h)
+        (record { mark = tt; rest = ((first.0, omega arith), fits.1) })
+fits_after setup picked (Pass times picks ∷ es) coming fits e =
+    by_number times fits.0 (next_mark picked es) (fits_after setup picked es coming fits.1) e
+  where
+    by_number : (n : ℕ) → IsFitting setup (Pass n picks) → (later : Option Coming) → (later ≡ Some coming → FitsAfter setup coming) →
+        next_of_pass n picks es later ≡ Some coming → FitsAfter setup coming
+    by_number zero first later go h = go h
+    by_number (suc n) first later go h =
+        let less = first.1.0 in
+        subst (FitsAfter setup) (same_Some (record { mark = Passes; rest = Run picks ∷ Pass n picks ∷ es }) coming h)
+        (record { mark = tt; rest = ((first.0, first.1.1), ((first.0, (omega arith, first.1.1)), fits.1)) })
+fits_after setup picked (Turn t ∷ es) coming fits e =
+    subst (FitsAfter setup) (same_Some (record { mark = Turns t; rest = es }) coming e) (record { mark = tt; rest = fits.1 })
+fits_after setup picked (State ∷ es) coming fits e =
+    subst (FitsAfter setup) (same_Some (record { mark = Tells; rest = es }) coming e) (record { mark = tt; rest = fits.1 })
+fits_after setup picked (entry ∷ es) coming fits e =
+    subst (FitsAfter setup) (same_Some (record { mark = Arrives entry; rest = es }) coming e) (record { mark = fits.0; rest = fits.1 })
 
 -- WHERE THE MACHINE IS UNSETTLED
 
@@ -225,6 +283,7 @@ module _ (setup : Setup) (offer : Supplier) (S : Type 0) (engine : Engine S) (St
         kinds = sim.kinds;
         tasks = sim.tasks;
         places = length-set m.running u next ∙ sim.places;
+        fits = sim.fits;
       } in
       subst (λ x. Sim x s) (sym (step_silent engine m u stack e)) after
 
@@ -240,10 +299,11 @@ module _ (setup : Setup) (offer : Supplier) (S : Type 0) (engine : Engine S) (St
       ∙ ap (λ o. next_mark (pick s.core o) s.entries) (fun_ext (sim_offers m s sim e))
 
   -- the same effect on both sides
-  sim_done : (m : Machine S) (s : Source) → Sim m s → (t : ℕ) (rest : List Entry) (so_far : List Answer) (stack : S) (action : Action) →
+  sim_done : (m : Machine S) (s : Source) → Sim m s → (t : ℕ) (rest : List Entry) → AreFitting setup rest →
+      (so_far : List Answer) (stack : S) (action : Action) →
       t < length setup.tasks → Stands t so_far stack → engine.step t stack ≡ Offers action →
       Sim (machine_does engine m t rest stack (Some action)) (source_acts offer s t rest (Some so_far))
-  sim_done m s sim t rest so_far stack action there stands offers =
+  sim_done m s sim t rest fits so_far stack action there stands offers =
       let done = effect m.core t action in
       let same : done ≡ effect s.core t (offer t so_far) =
       ap₂ (λ core a. effect core t a) sim.same_core (alone.offers t so_far stack action stands offers) in
@@ -261,55 +321,73 @@ module _ (setup : Setup) (offer : Supplier) (S : Type 0) (engine : Engine S) (St
         kinds = effect-kinds setup m.core t action sim.kinds (alone.fits t so_far stack action stands offers);
         tasks = kept;
         places = refreshed-length (fresh engine) 0 done.core.tasks (answered engine (dropped done.ended m.running) t stack done.reply) ∙ kept;
+        fits = fits;
       } in
       subst (λ d. Sim (machine_settled engine done.core (answered engine (dropped done.ended m.running) t stack done.reply) rest)
       (source_settled d.core (heard_more (dropped d.ended s.heard) t so_far d.reply) rest)) same after
 
   -- one action on both sides
-  sim_acts : (m : Machine S) (s : Source) → Sim m s → (t : ℕ) (rest : List Entry) (x : Option (List Answer)) (y : Option (Running S)) →
+  sim_acts : (m : Machine S) (s : Source) → Sim m s → (t : ℕ) (rest : List Entry) → AreFitting setup rest →
+      (x : Option (List Answer)) (y : Option (Running S)) →
       BothHere t x y → Settled y → Sim (machine_acts engine m t rest y) (source_acts offer s t rest x)
-  sim_acts m s sim t rest None None b settled = sim
-  sim_acts m s sim t rest None (Some running) b settled = absurd b
-  sim_acts m s sim t rest (Some so_far) None b settled = absurd b
-  sim_acts m s sim t rest (Some so_far) (Some running) b settled =
+  sim_acts m s sim t rest fits None None b settled = sim
+  sim_acts m s sim t rest fits None (Some running) b settled = absurd b
+  sim_acts m s sim t rest fits (Some so_far) None b settled = absurd b
+  sim_acts m s sim t rest fits (Some so_far) (Some running) b settled =
       subst (λ o. Sim (machine_does engine m t rest running.stack o) (source_acts offer s t rest (Some so_far))) (sym settled.1)
-      (sim_done m s sim t rest so_far running.stack settled.0 b.there b.stands (b.offered settled.0 settled.1))
+      (sim_done m s sim t rest fits so_far running.stack settled.0 b.there b.stands (b.offered settled.0 settled.1))
 
-  -- where a mark changes neither slots nor the number of tasks, both sides have the same core after it, and what they kept
-  sim_settled : (m : Machine S) (s : Source) → Sim m s → (core other : Core) → core ≡ other → core.tasks ≡ m.core.tasks → core.slots ≡ m.core.slots →
-      (rest : List Entry) → Sim (machine_settled engine core m.running rest) (source_settled other s.heard rest)
-  sim_settled m s sim core other same tasks slots rest =
-      let kept : length core.tasks ≡ length setup.tasks = ap length tasks ∙ sim.tasks in
+  -- where a mark keeps the kinds and the number of tasks, both sides have the same core after it, and what they kept
+  sim_settled : (m : Machine S) (s : Source) → Sim m s → (core other : Core) → core ≡ other → length core.tasks ≡ length setup.tasks → HasKinds setup core →
+      (rest : List Entry) → AreFitting setup rest → Sim (machine_settled engine core m.running rest) (source_settled other s.heard rest)
+  sim_settled m s sim core other same kept kinds rest fits =
       let after : Sim (machine_settled engine core m.running rest) (source_settled core s.heard rest) = record {
         same_core = refl;
         same_entries = refl;
         all = refreshed_at (List Answer) (Running S) (Here setup engine Stands) (λ u. []) (fresh engine) 0 core.tasks
             (λ u less. begun u (omega (arith, less, kept))) s.heard m.running sim.all;
-        kinds = subst (λ now. AllZip IsLike setup.slots now) (sym slots) sim.kinds;
+        kinds = kinds;
         tasks = kept;
         places = refreshed-length (fresh engine) 0 core.tasks m.running ∙ kept;
+        fits = fits;
       } in
       subst (λ c. Sim (machine_settled engine core m.running rest) (source_settled c s.heard rest)) same after
 
+  -- who acted last and what was told is nothing that has a kind
+  turned_kinds : (m : Machine S) (s : Source) → Sim m s → (t : ℕ) → HasKinds setup (turned m.core (machine_offers m) t)
+  turned_kinds m s sim t = by_test (can_turn m.core (machine_offers m) t)
+    where
+      by_test : (can : Bool) → HasKinds setup (last_if can m.core t)
+      by_test true = record { slots = sim.kinds.slots; channels = sim.kinds.channels; formats = sim.kinds.formats }
+      by_test false = sim.kinds
+
   -- one mark on both sides
-  sim_mark : (m : Machine S) (s : Source) → Sim m s → unsettled m ≡ None → (mark : Mark) (rest : List Entry) →
+  sim_mark : (m : Machine S) (s : Source) → Sim m s → unsettled m ≡ None → (mark : Mark) (rest : List Entry) → FitsMark setup mark → AreFitting setup rest →
       Sim (machine_mark engine m mark rest) (source_mark offer s mark rest)
-  sim_mark m s sim e (Acts t) rest =
-      sim_acts m s sim t rest (kept_at s.heard t) (kept_at m.running t) (at_place s.heard m.running sim.all t) (settled_at 0 m.running e t)
-  sim_mark m s sim e (Turns t) rest =
-      let is = turned-is m.core (machine_offers m) t in
+  sim_mark m s sim e (Acts t) rest fit fits =
+      sim_acts m s sim t rest fits (kept_at s.heard t) (kept_at m.running t) (at_place s.heard m.running sim.all t) (settled_at 0 m.running e t)
+  sim_mark m s sim e (Turns t) rest fit fits =
       sim_settled m s sim (turned m.core (machine_offers m) t) (turned s.core (source_offers offer s) t)
       (ap₂ (λ core o. turned core o t) sim.same_core (fun_ext (sim_offers m s sim e)))
-      (ap (λ core. core.tasks) is) (ap (λ core. core.slots) is) rest
-  sim_mark m s sim e Tells rest =
+      (ap (λ core. length core.tasks) (turned-is m.core (machine_offers m) t) ∙ sim.tasks) (turned_kinds m s sim t) rest fits
+  sim_mark m s sim e Tells rest fit fits =
       sim_settled m s sim (showing m.core (machine_offers m)) (showing s.core (source_offers offer s))
-      (ap₂ (λ core o. showing core o) sim.same_core (fun_ext (sim_offers m s sim e))) refl refl rest
+      (ap₂ (λ core o. showing core o) sim.same_core (fun_ext (sim_offers m s sim e))) sim.tasks
+      (record { slots = sim.kinds.slots; channels = sim.kinds.channels; formats = sim.kinds.formats }) rest fits
+  sim_mark m s sim e Passes rest fit fits =
+      sim_settled m s sim (millisecond m.core) (millisecond s.core) (ap (λ core. millisecond core) sim.same_core)
+      (millisecond-length m.core ∙ sim.tasks) (millisecond-kinds setup m.core sim.kinds) rest fits
+  sim_mark m s sim e (Arrives entry) rest fit fits =
+      sim_settled m s sim (arrived m.core entry) (arrived s.core entry) (ap (λ core. arrived core entry) sim.same_core)
+      (arrived-length m.core entry ∙ sim.tasks) (arrived-kinds setup m.core entry sim.kinds fit) rest fits
 
   -- the next mark on both sides, if one comes
-  sim_coming : (m : Machine S) (s : Source) → Sim m s → unsettled m ≡ None → (coming : Option Coming) →
+  sim_coming : (m : Machine S) (s : Source) → Sim m s → unsettled m ≡ None → (coming : Option Coming) → source_next offer s ≡ coming →
       Sim (machine_mark_by engine m coming) (source_step_by offer s coming)
-  sim_coming m s sim e None = sim
-  sim_coming m s sim e (Some coming) = sim_mark m s sim e coming.mark coming.rest
+  sim_coming m s sim e None next = sim
+  sim_coming m s sim e (Some coming) next =
+      let after = fits_after setup (pick s.core (source_offers offer s)) s.entries coming sim.fits next in
+      sim_mark m s sim e coming.mark coming.rest after.mark after.rest
 
   -- one machine step, the source making as many marks
   sim_step : (start : Source) (k : ℕ) (m : Machine S) → Sim m (source_after offer start k) →
@@ -327,10 +405,11 @@ module _ (setup : Setup) (offer : Supplier) (S : Type 0) (engine : Engine S) (St
           (subst (λ j. Sim m (source_after offer start j)) same sim)
       by_next e (Some coming) next =
           let same : suc k ≡ k + marks_in_step m = sym (add-one k) ∙ ap (λ x. k + x) (sym (marks_mark m (Some coming) e next)) in
-          let source = step_source offer here (Some coming) (sym (sim_next m here sim e) ∙ next) in
+          let comes : source_next offer here ≡ Some coming = sym (sim_next m here sim e) ∙ next in
+          let source = step_source offer here (Some coming) comes in
           subst (λ j. Sim (machine_step engine m) (source_after offer start j)) same
           (subst (λ x. Sim x (source_step offer here)) (sym (step_mark engine m (Some coming) e next))
-          (subst (λ s. Sim (machine_mark_by engine m (Some coming)) s) (sym source) (sim_coming m here sim e (Some coming))))
+          (subst (λ s. Sim (machine_mark_by engine m (Some coming)) s) (sym source) (sim_coming m here sim e (Some coming) comes)))
 
       by_unsettled : (x : Option (ℕ × S)) → unsettled m ≡ x → Sim (machine_step engine m) (source_after offer start (k + marks_in_step m))
       by_unsettled None e = by_next e (machine_next m) refl
@@ -344,15 +423,17 @@ module _ (setup : Setup) (offer : Supplier) (S : Type 0) (engine : Engine S) (St
   sim_after start m sim (suc n) = sim_step start (marked_after engine m n) (machine_after engine m n) (sim_after start m sim n)
 
   -- at the start
-  pub sim_start : AllByRecursion IsValue setup.slots → (es : List Entry) → Sim (machine_start engine setup es) (source_start setup es)
-  sim_start slots es =
+  pub sim_start : AllByRecursion IsValue setup.slots → AllByRecursion IsDevice setup.devices → (es : List Entry) → AreFitting setup es →
+      Sim (machine_start engine setup es) (source_start setup es)
+  sim_start slots devices es fits =
       let kept : length (map first_row setup.tasks) ≡ length setup.tasks = length-map setup.tasks first_row in
       record {
         same_core = refl;
         same_entries = refl;
         all = refreshed_at (List Answer) (Running S) (Here setup engine Stands) (λ u. []) (fresh engine) 0 (map first_row setup.tasks)
             (λ u less. begun u (omega (arith, less, kept))) [] [] tt;
-        kinds = opening-kinds setup.slots slots;
+        kinds = opening-kinds setup slots devices;
         tasks = kept;
         places = refreshed-length (fresh engine) 0 (map first_row setup.tasks) [] ∙ kept;
+        fits = fits;
       }

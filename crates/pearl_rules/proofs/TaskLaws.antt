@@ -1,9 +1,8 @@
 -- How an action changes one task, and which actions end the task that acts.
-use Rattle.std.proofs.Common.{◌≡◌, ◌≢◌, ◌↔◌, ℕ, ◌-◌, ◌^◌, ◌<◌, ◌≤◌, List, [], ◌∷◌, ◌++◌, Bool, true, false, ◌&&◌, nat_eq, nat_lt, Option, Some, None, length, refl, sym, ap, subst, ◌∙◌, append-nil, eq-eqb, eqb-true, ltb-false}
+use Rattle.std.proofs.Common.{◌≡◌, ◌≢◌, ◌↔◌, ℕ, ◌-◌, ◌^◌, ◌<◌, ◌≤◌, List, [], ◌∷◌, Bool, true, false, ◌&&◌, nat_eq, nat_lt, Option, Some, None, length, refl, sym, ap, subst, ◌∙◌, append-nil, eq-eqb, eqb-true, ltb-false}
 use Rattle.std.specs.List.{Contains}
 use Rattle.std.proofs.lemmas.Bool.{true≢false, eqb-false, ne_eqb}
 use Rattle.pearl_value.specs.declared.trap.Trap as traps
-use Rattle.pearl_value.specs.declared.trap.Trap.TheVariants.{SemaLimit}
 use Rattle.pearl_rules.specs.declared.action.Action.{Action}
 use Rattle.pearl_rules.specs.declared.action.Action.TheVariants as action
 use Rattle.pearl_rules.specs.declared.action.Start.TheVariants.{Free}
@@ -18,47 +17,70 @@ use Rattle.pearl_rules.specs.declared.row.TaskRow.{TaskRow}
 use Rattle.pearl_rules.specs.declared.setup.Setup.{Setup}
 use Rattle.pearl_rules.specs.Core.{Core, note, row_of, with_row, mode_of_row, mode_of}
 use Rattle.pearl_rules.specs.Counts.{count_at, all_below_most}
-use Rattle.pearl_rules.specs.Effect.{Reply, Hears, Ends, Effect, effect, on_row, with_mode, answering, priority_or_declared, started_by, marked_mode, with_mark, stopped_by, stopped_tasks, reply_if_other, releasing, trying}
+use Rattle.pearl_value.specs.declared.cell.Cell.{Cell}
+use Rattle.pearl_rules.specs.Plans.{on_row, changed_row, with_mode, started_by, marked_mode, with_mark}
+use Rattle.pearl_rules.specs.Devices.{items_of, bytes_at, values_at}
+use Rattle.pearl_rules.specs.Scan.{Scanned, Short, Bad, Got, scan}
+use Rattle.pearl_rules.specs.Effect.{Reply, Hears, Ends, Effect, effect, answering, priority_or_declared, stopped_by, stopped_tasks, reply_if_other, releasing, trying, getting, taking}
 use Rattle.pearl_rules.specs.Pick.{Offered, is_possible, is_ready, is_ready_row, is_eligible}
 use Rattle.pearl_rules.specs.Slots.{Fits}
-use Rattle.pearl_rules.specs.Laws.{ChangesTask, EndsItself}
-use Rattle.pearl_rules.proofs.Places.{set-same, there_at, here, there}
-use Rattle.pearl_rules.proofs.EndsLaws.{row-other, no_end, ends_unheard}
+use Rattle.pearl_rules.specs.Laws.{ChangesTask, IsGot, EndsItself}
+use Rattle.pearl_rules.proofs.Places.{set-same, set-other, there_at, here, there}
 use Rattle.pearl_rules.proofs.CountLaws.{not_all_below}
 
 -- ONE TASK
 
+-- another task's row stays
+row-other : (core : Core) (t u : ℕ) (change : TaskRow → TaskRow) → u ≢ t → row_of (changed_row core t change) u ≡ row_of core u
+row-other core t u change differ = by_row (row_of core t)
+  where
+    by_row : (row : Option TaskRow) → row_of (on_row row core (λ r. with_row core t (change r))) u ≡ row_of core u
+    by_row None = refl
+    by_row (Some row) = set-other core.tasks t u (change row) differ
+
 -- a task that is there gets the mode
-mode_there : (core : Core) (t : ℕ) (mode : Mode) (row : TaskRow) → row_of core t ≡ Some row → mode_of (with_mode core t mode) t ≡ mode
-mode_there core t mode row at =
-    ap (λ r. mode_of (on_row r core (λ x. with_row core t (record x { mode = mode }))) t) at
-    ∙ ap mode_of_row (set-same core.tasks t row (record row { mode = mode }) at)
+mode_there : (core : Core) (t : ℕ) (change : TaskRow → TaskRow) (mode : Mode) (row : TaskRow) → ((r : TaskRow) → (change r).mode ≡ mode) →
+    row_of core t ≡ Some row → mode_of (changed_row core t change) t ≡ mode
+mode_there core t change mode row gets at =
+    ap (λ r. mode_of (on_row r core (λ x. with_row core t (change x))) t) at
+    ∙ (ap mode_of_row (set-same core.tasks t row (change row) at) ∙ gets row)
 
 -- one that isn't is dormant
-mode_dormant : (core : Core) (t : ℕ) → mode_of (with_mode core t Dormant) t ≡ Dormant
-mode_dormant core t = by_row (row_of core t) refl
+mode_dormant : (core : Core) (t : ℕ) (change : TaskRow → TaskRow) → ((r : TaskRow) → (change r).mode ≡ Dormant) → mode_of (changed_row core t change) t ≡ Dormant
+mode_dormant core t change gets = by_row (row_of core t) refl
   where
-    by_row : (row : Option TaskRow) → row_of core t ≡ row → mode_of (with_mode core t Dormant) t ≡ Dormant
-    by_row None at = ap (λ r. mode_of (on_row r core (λ x. with_row core t (record x { mode = Dormant }))) t) at ∙ ap mode_of_row at
-    by_row (Some row) at = mode_there core t Dormant row at
+    by_row : (row : Option TaskRow) → row_of core t ≡ row → mode_of (changed_row core t change) t ≡ Dormant
+    by_row None at = ap (λ r. mode_of (on_row r core (λ x. with_row core t (change x))) t) at ∙ ap mode_of_row at
+    by_row (Some row) at = mode_there core t change Dormant row gets at
 
 -- an active task is there
-mode_active : (core : Core) (t before : ℕ) (suspended : Bool) (mode : Mode) → mode_of core t ≡ Active before suspended →
-    mode_of (with_mode core t mode) t ≡ mode
-mode_active core t before suspended mode active = by_row (row_of core t) refl
+mode_active : (core : Core) (t before : ℕ) (suspended : Bool) (change : TaskRow → TaskRow) (mode : Mode) → ((r : TaskRow) → (change r).mode ≡ mode) →
+    mode_of core t ≡ Active before suspended → mode_of (changed_row core t change) t ≡ mode
+mode_active core t before suspended change mode gets active = by_row (row_of core t) refl
   where
-    by_row : (row : Option TaskRow) → row_of core t ≡ row → mode_of (with_mode core t mode) t ≡ mode
+    by_row : (row : Option TaskRow) → row_of core t ≡ row → mode_of (changed_row core t change) t ≡ mode
     by_row None at = let no : Dormant ≡ Active before suspended = sym (ap mode_of_row at) ∙ active in let never : ⊥ = cc in absurd never
-    by_row (Some row) at = mode_there core t mode row at
+    by_row (Some row) at = mode_there core t change mode row gets at
 
--- a task's mode is all that changes
-mode_alone : (core : Core) (t : ℕ) (mode : Mode) → with_mode core t mode ≡ record core { tasks = (with_mode core t mode).tasks }
-mode_alone core t mode = by_row (row_of core t)
+-- a task's row is all that changes
+row_alone : (core : Core) (t : ℕ) (change : TaskRow → TaskRow) → changed_row core t change ≡ record core { tasks = (changed_row core t change).tasks }
+row_alone core t change = by_row (row_of core t)
   where
-    by_row : (row : Option TaskRow) → on_row row core (λ r. with_row core t (record r { mode = mode }))
-        ≡ record core { tasks = (on_row row core (λ r. with_row core t (record r { mode = mode }))).tasks }
+    by_row : (row : Option TaskRow) → on_row row core (λ r. with_row core t (change r))
+        ≡ record core { tasks = (on_row row core (λ r. with_row core t (change r))).tasks }
     by_row None = refl
     by_row (Some row) = refl
+
+-- an end
+abbrev ends_row : TaskRow → TaskRow
+ends_row row = record row { mode = Dormant; continuation = None }
+
+abbrev stands_so : Mode → TaskRow → TaskRow
+stands_so mode row = record row { mode = mode }
+
+-- an answer is no end
+no_end : (answer : Answer) → Hears answer ≡ Ends → ⊥
+no_end answer e = cc
 
 module _ (core : Core) (own : ℕ) where
   -- the core in which this task acted last
@@ -69,13 +91,14 @@ module _ (core : Core) (own : ℕ) where
   abbrev leading : Core → Reply → List ℕ → Effect
   leading after reply ended = record { core = after; reply = reply; ended = ended }
 
-  -- another mode, and an event
-  told_change : (t : ℕ) (mode : Mode) (e : Event) (reply : Reply) (ended : List ℕ) → mode_of (with_mode acted t mode) t ≡ mode →
-      ChangesTask core own t mode (e ∷ []) reply (leading (note (with_mode acted t mode) e) reply ended)
-  told_change t mode e reply ended is = record {
+  -- another row, and an event
+  told_change : (t : ℕ) (change : TaskRow → TaskRow) (mode : Mode) (e : Event) (reply : Reply) (ended : List ℕ) →
+      mode_of (changed_row acted t change) t ≡ mode →
+      ChangesTask core own t mode (e ∷ []) reply (leading (note (changed_row acted t change) e) reply ended)
+  told_change t change mode e reply ended is = record {
     stands = is;
-    others = λ u differ. row-other acted t u mode differ;
-    rest = ap (λ c. note c e) (mode_alone acted t mode);
+    others = λ u differ. row-other acted t u change differ;
+    rest = ap (λ c. note c e) (row_alone acted t change);
     replies = refl;
   }
 
@@ -84,8 +107,8 @@ module _ (core : Core) (own : ℕ) where
       ChangesTask core own t mode [] reply (leading (with_mode acted t mode) reply ended)
   silent_change t mode reply ended is = record {
     stands = is;
-    others = λ u differ. row-other acted t u mode differ;
-    rest = mode_alone acted t mode
+    others = λ u differ. row-other acted t u (stands_so mode) differ;
+    rest = row_alone acted t (stands_so mode)
         ∙ ap (λ told. let c : Core = record acted { tasks = (with_mode acted t mode).tasks; told = told } in c) (sym (append-nil core.told));
     replies = refl;
   }
@@ -115,7 +138,8 @@ module _ (core : Core) (own : ℕ) where
       let at = there_at core.tasks t less in
       let chosen = priority_or_declared core t priority in
       subst (λ mode. ChangesTask core own t (Active chosen false) (event.Start t chosen ∷ []) (Hears Nothing) (answering (started_by mode acted t chosen) Nothing))
-      (sym dormant) (told_change t (Active chosen false) (event.Start t chosen) (Hears Nothing) [] (mode_there acted t (Active chosen false) at.0 at.1))
+      (sym dormant) (told_change t (stands_so (Active chosen false)) (Active chosen false) (event.Start t chosen) (Hears Nothing) []
+      (mode_there acted t (stands_so (Active chosen false)) (Active chosen false) at.0 (λ r. refl) at.1))
 
   pub start_overruns : (t before : ℕ) (suspended : Bool) (priority : Option ℕ) → mode_of core t ≡ Active before suspended →
       ChangesTask core own t (Active before suspended) (event.Overrun t ∷ []) (Hears Nothing) (effect core own (action.Activate t Free Once priority))
@@ -132,14 +156,14 @@ module _ (core : Core) (own : ℕ) where
       ChangesTask core own t (Active priority suspended) [] (Hears Nothing) (answering (with_mark acted t suspended) Nothing)
   marks t priority before suspended active =
       subst (λ mode. ChangesTask core own t (Active priority suspended) [] (Hears Nothing) (answering (with_mode acted t (marked_mode suspended mode)) Nothing))
-      (sym active) (silent_change t (Active priority suspended) (Hears Nothing) [] (mode_active acted t priority before (Active priority suspended) active))
+      (sym active) (silent_change t (Active priority suspended) (Hears Nothing) [] (mode_active acted t priority before (stands_so (Active priority suspended)) (Active priority suspended) (λ r. refl) active))
 
   -- a dormant task has none
   marks_none : (t : ℕ) (suspended : Bool) → mode_of core t ≡ Dormant →
       ChangesTask core own t Dormant [] (Hears Nothing) (answering (with_mark acted t suspended) Nothing)
   marks_none t suspended dormant =
       subst (λ mode. ChangesTask core own t Dormant [] (Hears Nothing) (answering (with_mode acted t (marked_mode suspended mode)) Nothing))
-      (sym dormant) (silent_change t Dormant (Hears Nothing) [] (mode_dormant acted t))
+      (sym dormant) (silent_change t Dormant (Hears Nothing) [] (mode_dormant acted t (stands_so Dormant) (λ r. refl)))
 
   pub suspend_suspends : (t priority : ℕ) (before : Bool) → mode_of core t ≡ Active priority before →
       ChangesTask core own t (Active priority true) [] (Hears Nothing) (effect core own (action.Suspend t))
@@ -163,18 +187,18 @@ module _ (core : Core) (own : ℕ) where
 
   pub end_ends : ChangesTask core own own Dormant (event.End own ∷ []) Ends (effect core own action.End)
   unfolding effect
-  end_ends = told_change own Dormant (event.End own) Ends (own ∷ []) (mode_dormant acted own)
+  end_ends = told_change own ends_row Dormant (event.End own) Ends (own ∷ []) (mode_dormant acted own ends_row (λ r. refl))
 
   pub trap_breaks_off : (trap : traps.Trap) → ChangesTask core own own Dormant (event.Trap own trap ∷ []) Ends (effect core own (action.Trap trap))
   unfolding effect
-  trap_breaks_off trap = told_change own Dormant (event.Trap own trap) Ends (own ∷ []) (mode_dormant acted own)
+  trap_breaks_off trap = told_change own ends_row Dormant (event.Trap own trap) Ends (own ∷ []) (mode_dormant acted own ends_row (λ r. refl))
 
   -- an active task that is ended from outside
   stops : (t : ℕ) (reply : Reply) (priority : ℕ) (suspended : Bool) → mode_of core t ≡ Active priority suspended →
       ChangesTask core own t Dormant (event.Stop t ∷ []) reply (leading (stopped_by (mode_of core t) acted t) reply (stopped_tasks (mode_of core t) t))
   stops t reply priority suspended active =
       subst (λ mode. ChangesTask core own t Dormant (event.Stop t ∷ []) reply (leading (stopped_by mode acted t) reply (stopped_tasks mode t)))
-      (sym active) (told_change t Dormant (event.Stop t) reply (t ∷ []) (mode_dormant acted t))
+      (sym active) (told_change t ends_row Dormant (event.Stop t) reply (t ∷ []) (mode_dormant acted t ends_row (λ r. refl)))
 
   pub terminate_stops : (t priority : ℕ) (suspended : Bool) → mode_of core t ≡ Active priority suspended → t ≢ own →
       ChangesTask core own t Dormant (event.Stop t ∷ []) (Hears Nothing) (effect core own (action.Terminate t))
@@ -249,6 +273,17 @@ terminate_ends t own = by_test (nat_eq t own) refl
     by_test true same = (λ e. eqb-true t own same, λ e. refl)
     by_test false differ = (λ e. absurd (no_end Nothing e), λ e. absurd (eqb-false t own differ e))
 
+-- a GET ends its task where its fields aren't all there and good
+get_ends : (core : Core) (own device : ℕ) (scanned : Scanned) → ((getting core own device scanned).reply ≡ Ends) ↔ (IsGot scanned → ⊥)
+get_ends core own device Short = (λ e never. never, λ h. refl)
+get_ends core own device (Bad used) = (λ e never. never, λ h. refl)
+get_ends core own device (Got used values) = (λ e. absurd (no_end _ e), λ h. absurd (h tt))
+
+-- and a TAKE where no value is there
+take_ends : (core : Core) (own device : ℕ) (values : List Cell) → ((taking core own device values).reply ≡ Ends) ↔ (values ≡ [])
+take_ends core own device [] = (λ e. refl, λ h. refl)
+take_ends core own device (x ∷ others) = (λ e. absurd (no_end _ e), λ h. absurd (let never : ⊥ = cc in never))
+
 -- every action that fits
 pub effect-ends_itself : (setup : Setup) (core : Core) (own : ℕ) (action : Action) → Fits setup action →
     ((effect core own action).reply ≡ Ends) ↔ EndsItself core own action
@@ -260,11 +295,20 @@ effect-ends_itself setup core own action.Enter fits = heard Nothing
 effect-ends_itself setup core own (action.Request list) fits = heard Nothing
 effect-ends_itself setup core own (action.Release list) fits = release_ends core own list.items (all_below_most core.counts list.items) refl
 effect-ends_itself setup core own (action.Try s) fits = try_heard (record core { last = Some own }) s (nat_lt 0 (count_at core.counts s))
-effect-ends_itself setup core own (action.Activate t Free Once priority) fits = heard Nothing
-effect-ends_itself setup core own (action.Continue t Free) fits = heard Nothing
+effect-ends_itself setup core own (action.Activate t start repeat priority) fits = heard Nothing
+effect-ends_itself setup core own (action.Continue t start) fits = heard Nothing
+effect-ends_itself setup core own (action.Resume start) fits = heard Nothing
 effect-ends_itself setup core own (action.Suspend t) fits = heard Nothing
 effect-ends_itself setup core own (action.Terminate t) fits = terminate_ends t own
+effect-ends_itself setup core own (action.Prevent t) fits = heard Nothing
+effect-ends_itself setup core own (action.Enable device) fits = heard Nothing
+effect-ends_itself setup core own (action.Disable device) fits = heard Nothing
+effect-ends_itself setup core own (action.Trigger device) fits = heard Nothing
 effect-ends_itself setup core own (action.Put device text) fits = heard Nothing
+effect-ends_itself setup core own (action.Get device format kinds) fits =
+    get_ends (record core { last = Some own }) own device (scan (items_of core format) kinds.items (bytes_at core device))
+effect-ends_itself setup core own (action.Take device) fits = take_ends (record core { last = Some own }) own device (values_at core device)
+effect-ends_itself setup core own (action.Send device value) fits = heard Nothing
 effect-ends_itself setup core own action.End fits = (λ e. tt, λ e. refl)
 effect-ends_itself setup core own (action.Trap trap) fits = (λ e. tt, λ e. refl)
-effect-ends_itself setup core own other fits = absurd fits
+effect-ends_itself setup core own action.Now fits = heard _

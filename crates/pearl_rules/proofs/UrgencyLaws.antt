@@ -1,111 +1,122 @@
--- The priorities of tasks: the declared ones stay, and all are from 1 to 255.
-use Rattle.std.proofs.Common.{◌≡◌, ℕ, ◌<◌, ◌≤◌, List, [], ◌∷◌, Bool, true, false, nat_lt, Option, Some, None, map, slice_get, slice_set, refl, sym, ap, subst, ◌∙◌}
+-- The priorities of tasks: the declared ones stay, and all are from 1 to 255; and each plan is a lawful one.
+use Rattle.std.proofs.Common.{◌≡◌, ℕ, ◌<◌, List, [], ◌∷◌, Bool, true, false, Option, Some, None, IfSome, map, refl, sym, ap, subst, ◌∙◌, arith}
 use Rattle.std.specs.List.{AllByRecursion}
-use Rattle.std.specs.Prelude.{IfSome}
-use Rattle.pearl_value.specs.declared.trap.Trap.TheVariants.{SemaLimit}
 use Rattle.pearl_rules.specs.declared.action.Action.{Action}
 use Rattle.pearl_rules.specs.declared.action.Action.TheVariants as action
-use Rattle.pearl_rules.specs.declared.action.Start.TheVariants.{Free}
-use Rattle.pearl_rules.specs.declared.action.Repeat.TheVariants.{Once}
+use Rattle.pearl_rules.specs.declared.action.Start.{Start}
+use Rattle.pearl_rules.specs.declared.action.Start.TheVariants as start
+use Rattle.pearl_rules.specs.declared.entry.Entry.{Entry}
+use Rattle.pearl_rules.specs.declared.entry.Entry.TheVariants as entry
 use Rattle.pearl_rules.specs.declared.row.Mode.{Mode}
 use Rattle.pearl_rules.specs.declared.row.Mode.TheVariants.{Dormant, Active}
+use Rattle.pearl_rules.specs.declared.row.Activation.{Activation}
 use Rattle.pearl_rules.specs.declared.row.TaskRow.{TaskRow}
 use Rattle.pearl_rules.specs.declared.setup.Setup.{Setup}
 use Rattle.pearl_rules.specs.declared.setup.TaskEntry.{TaskEntry}
 use Rattle.pearl_rules.specs.Tables.{IsTaskEntry}
-use Rattle.pearl_rules.specs.Core.{Core, row_of, with_row, mode_of_row, mode_of, first_mode, first_row, declared_of, opening}
-use Rattle.pearl_rules.specs.Counts.{count_at, all_below_most}
-use Rattle.pearl_rules.specs.Effect.{on_row, with_mode, declared_or_zero, priority_or_declared, started_by, started, marked_mode, with_mark, stopped_by, stopping, releasing, trying, effect}
-use Rattle.pearl_rules.specs.Slots.{IsUrgency, Fits, IsUrgentMode, IsUrgentRow, HasUrgencies}
+use Rattle.pearl_rules.specs.Core.{Core, row_of, with_row, first_mode, first_row, declared_of, opening}
+use Rattle.pearl_rules.specs.Plans.{millisecond}
+use Rattle.pearl_rules.specs.Devices.{arrived}
+use Rattle.pearl_rules.specs.Effect.{declared_or_zero, priority_or_declared, effect}
+use Rattle.pearl_rules.specs.Pick.{Offered, turned}
+use Rattle.pearl_rules.specs.Slots.{IsUrgency, Fits, IsStart, IsOnce, IsLater, IsUrgentMode, IsUrgentRow, HasUrgencies, IsPlan, IsPlannedRow, HasPlans}
+use Rattle.pearl_rules.specs.Entries.{IsFitting}
 use Rattle.pearl_rules.proofs.Places.{each_at, all_set}
+use Rattle.pearl_rules.proofs.Serving.{Stays, Starts, Closed, ClosedAtEnds, OnlyValues, Brings, millisecond-kept, arrived-kept, effect-free}
+use Rattle.pearl_rules.proofs.EffectLaws.{AnyPriority, AnyPlan, any_continuation, with_clock_of, arrived-leaves}
+use Rattle.pearl_rules.proofs.PickLaws.{turned-is}
 
--- a task's mode is that of its row
-urgent_row : (row : Option TaskRow) → IfSome row IsUrgentRow → IsUrgentMode (mode_of_row row)
-urgent_row None is = tt
-urgent_row (Some row) is = is.1
+-- PRIORITIES
 
--- a task's row has such priorities
-urgent_at : (core : Core) → HasUrgencies core → (t : ℕ) (row : Option TaskRow) → row_of core t ≡ row → IfSome row IsUrgentRow
-urgent_at core has t None e = tt
-urgent_at core has t (Some row) e = each_at IsUrgentRow core.tasks has t row e
+-- the mode of a task that no step ends has such a priority
+urgent_mode : (before mode : Mode) → Stays IsUrgency before mode → IsUrgentMode before → IsUrgentMode mode
+urgent_mode Dormant Dormant stays is = tt
+urgent_mode Dormant (Active priority suspended) stays is = stays
+urgent_mode (Active own before) Dormant stays is = tt
+urgent_mode (Active own before) (Active priority suspended) stays is = subst IsUrgency stays is
 
--- another mode of a task that is there
-urgent_set : (core : Core) → HasUrgencies core → (t : ℕ) (mode : Mode) → ((row : TaskRow) → row_of core t ≡ Some row → IsUrgentMode mode) →
-    HasUrgencies (with_mode core t mode)
-urgent_set core has t mode is = by_row (row_of core t) refl
-  where
-    by_row : (row : Option TaskRow) → row_of core t ≡ row → HasUrgencies (on_row row core (λ r. with_row core t (record r { mode = mode })))
-    by_row None e = has
-    by_row (Some row) e =
-        all_set IsUrgentRow core.tasks has t (record row { mode = mode }) ((each_at IsUrgentRow core.tasks has t row e).0, is row e)
+-- a task's row
+urgent_at : (core : Core) (t : ℕ) (row : TaskRow) → row_of core t ≡ Some row → HasUrgencies core → IsUrgentRow row
+urgent_at core t row at has = each_at IsUrgentRow core.tasks has t row at
 
--- a start with a priority that it names, or with the declared one
+urgent_starts : (plan : Option Activation) → IfSome plan (λ activation. IsUrgency activation.priority) → IfSome plan (Starts IsUrgency AnyPlan)
+urgent_starts None is = tt
+urgent_starts (Some plan) is = (is, tt)
+
+urgent_closed : Closed IsUrgency AnyPlan HasUrgencies
+urgent_closed = record {
+  told = λ core e has. has;
+  stands = λ core t row mode at stays has.
+      let is = urgent_at core t row at has in
+      all_set IsUrgentRow core.tasks has t (record row { mode = mode }) (is.0, urgent_mode row.mode mode stays is.1, is.2);
+  goes_on = λ core t row plan at lawful has. all_set IsUrgentRow core.tasks has t (record row { continuation = plan }) (urgent_at core t row at has);
+  starts = λ core t row plan at lawful has.
+      let is = urgent_at core t row at has in
+      all_set IsUrgentRow core.tasks has t (record row { activation = Some plan }) (is.0, is.1, lawful.0);
+  going = λ core t row at has. any_continuation row.continuation;
+  starting = λ core t row at has. urgent_starts row.activation (urgent_at core t row at has).2;
+  begins = λ core plan lawful. tt;
+}
+
+urgent_at_ends : ClosedAtEnds HasUrgencies
+urgent_at_ends = record {
+  ends = λ core t row at has.
+      let is = urgent_at core t row at has in
+      all_set IsUrgentRow core.tasks has t (record row { mode = Dormant; continuation = None }) (is.0, tt, is.2);
+  prevents = λ core t row at has.
+      let is = urgent_at core t row at has in
+      all_set IsUrgentRow core.tasks has t (record row { continuation = None; activation = None }) (is.0, is.1, tt);
+}
+
+urgent_free : (core other : Core) → OnlyValues core other → HasUrgencies core → HasUrgencies other
+urgent_free core other only has = subst (λ rows. AllByRecursion IsUrgentRow rows) (sym only.tasks) has
+
+-- a start has the priority that it names, or the declared one
 urgent_priority : (core : Core) → HasUrgencies core → (t : ℕ) (priority : Option ℕ) → IfSome priority IsUrgency →
     (row : TaskRow) → row_of core t ≡ Some row → IsUrgency (priority_or_declared core t priority)
-urgent_priority core has t None names row e = subst (λ r. IsUrgency (declared_or_zero r)) (sym e) (each_at IsUrgentRow core.tasks has t row e).0
+urgent_priority core has t None names row e = subst (λ r. IsUrgency (declared_or_zero r)) (sym e) (urgent_at core t row e has).0
 urgent_priority core has t (Some priority) names row e = names
 
--- a start
-urgent_started : (core : Core) → HasUrgencies core → (t priority : ℕ) → ((row : TaskRow) → row_of core t ≡ Some row → IsUrgency priority) →
-    HasUrgencies (started core t priority)
-urgent_started core has t priority is = by_mode (mode_of core t)
-  where
-    by_mode : (mode : Mode) → HasUrgencies (started_by mode core t priority)
-    by_mode Dormant = urgent_set core has t (Active priority false) is
-    by_mode (Active own suspended) = has
+urgent_brings : (setup : Setup) (core : Core) (asked : Action) → HasUrgencies core → Fits setup asked → Brings IsUrgency AnyPlan core asked
+urgent_brings setup core (action.Activate t start repeat priority) has fits = (urgent_priority core has t priority fits.3, λ now. tt)
+urgent_brings setup core (action.Continue t start) has fits = λ now. tt
+urgent_brings setup core (action.Resume start) has fits = λ now. tt
+urgent_brings setup core (action.Read slot) has fits = tt
+urgent_brings setup core (action.Write slot value) has fits = tt
+urgent_brings setup core action.Turn has fits = tt
+urgent_brings setup core action.Enter has fits = tt
+urgent_brings setup core action.Now has fits = tt
+urgent_brings setup core (action.Request list) has fits = tt
+urgent_brings setup core (action.Release list) has fits = tt
+urgent_brings setup core (action.Try s) has fits = tt
+urgent_brings setup core (action.Suspend t) has fits = tt
+urgent_brings setup core (action.Terminate t) has fits = tt
+urgent_brings setup core (action.Prevent t) has fits = tt
+urgent_brings setup core (action.Enable device) has fits = tt
+urgent_brings setup core (action.Disable device) has fits = tt
+urgent_brings setup core (action.Trigger device) has fits = tt
+urgent_brings setup core (action.Put device text) has fits = tt
+urgent_brings setup core (action.Get device format kinds) has fits = tt
+urgent_brings setup core (action.Take device) has fits = tt
+urgent_brings setup core (action.Send device value) has fits = tt
+urgent_brings setup core action.End has fits = tt
+urgent_brings setup core (action.Trap trap) has fits = tt
 
--- a mark of suspension
-urgent_mark : (core : Core) → HasUrgencies core → (t : ℕ) (suspended : Bool) → HasUrgencies (with_mark core t suspended)
-urgent_mark core has t suspended =
-    urgent_set core has t (marked_mode suspended (mode_of core t)) (λ row e. marked (mode_of core t) (urgent_row (row_of core t) (urgent_at core has t (row_of core t) refl)))
-  where
-    marked : (mode : Mode) → IsUrgentMode mode → IsUrgentMode (marked_mode suspended mode)
-    marked Dormant is = tt
-    marked (Active priority before) is = is
-
--- an end from outside
-urgent_stopping : (core : Core) → HasUrgencies core → (own t : ℕ) → HasUrgencies (stopping core own t).core
-urgent_stopping core has own t = by_mode (mode_of core t)
-  where
-    by_mode : (mode : Mode) → HasUrgencies (stopped_by mode core t)
-    by_mode Dormant = has
-    by_mode (Active priority suspended) = urgent_set core has t Dormant (λ row e. tt)
-
--- a release
-urgent_releasing : (core : Core) → HasUrgencies core → (own : ℕ) (list : List ℕ) (can_raise : Bool) → HasUrgencies (releasing core own list can_raise).core
-urgent_releasing core has own list true = has
-urgent_releasing core has own list false = urgent_set core has own Dormant (λ row e. tt)
-
--- a try
-urgent_trying : (core : Core) → HasUrgencies core → (s : ℕ) (is_free : Bool) → HasUrgencies (trying core s is_free).core
-urgent_trying core has s true = has
-urgent_trying core has s false = has
-
--- every action
+-- every action, every millisecond and whatever comes in
 pub effect-urgencies : (setup : Setup) (core : Core) (own : ℕ) (action : Action) → HasUrgencies core → Fits setup action → HasUrgencies (effect core own action).core
-unfolding effect
-effect-urgencies setup core own (action.Read slot) has fits = has
-effect-urgencies setup core own (action.Write slot value) has fits = has
-effect-urgencies setup core own action.Turn has fits = has
-effect-urgencies setup core own action.Enter has fits = has
-effect-urgencies setup core own (action.Request list) has fits = has
-effect-urgencies setup core own (action.Release list) has fits =
-    urgent_releasing (record core { last = Some own }) has own list.items (all_below_most core.counts list.items)
-effect-urgencies setup core own (action.Try s) has fits = urgent_trying (record core { last = Some own }) has s (nat_lt 0 (count_at core.counts s))
-effect-urgencies setup core own (action.Activate t Free Once priority) has fits =
-    urgent_started (record core { last = Some own }) has t (priority_or_declared core t priority) (urgent_priority core has t priority fits.1)
-effect-urgencies setup core own (action.Continue t Free) has fits = urgent_mark (record core { last = Some own }) has t false
-effect-urgencies setup core own (action.Suspend t) has fits = urgent_mark (record core { last = Some own }) has t true
-effect-urgencies setup core own (action.Terminate t) has fits = urgent_stopping (record core { last = Some own }) has own t
-effect-urgencies setup core own (action.Put device text) has fits = has
-effect-urgencies setup core own action.End has fits = urgent_set (record core { last = Some own }) has own Dormant (λ row e. tt)
-effect-urgencies setup core own (action.Trap trap) has fits = urgent_set (record core { last = Some own }) has own Dormant (λ row e. tt)
-effect-urgencies setup core own other has fits = absurd fits
+effect-urgencies setup core own asked has fits =
+    effect-free IsUrgency AnyPlan HasUrgencies urgent_closed urgent_free urgent_at_ends core own asked (urgent_brings setup core asked has fits) has
+
+pub millisecond-urgencies : (core : Core) → HasUrgencies core → HasUrgencies (millisecond core)
+millisecond-urgencies core has = millisecond-kept IsUrgency AnyPlan HasUrgencies urgent_closed core has
+
+pub arrived-urgencies : (core : Core) (come : Entry) → HasUrgencies core → HasUrgencies (arrived core come)
+arrived-urgencies core come has = arrived-kept IsUrgency AnyPlan HasUrgencies urgent_closed urgent_free core come (λ time same. has) has
 
 -- the first rows
 pub opening-urgencies : (tasks : List TaskEntry) → AllByRecursion IsTaskEntry tasks → AllByRecursion IsUrgentRow (map first_row tasks)
 opening-urgencies [] all = tt
-opening-urgencies (task ∷ tasks) all = ((all.0.urgent, first task.main), opening-urgencies tasks all.1)
+opening-urgencies (task ∷ tasks) all = ((all.0.urgent, first task.main, tt), opening-urgencies tasks all.1)
   where
     first : (main : Bool) → IsUrgentMode (first_mode main task.priority)
     first true = all.0.urgent
@@ -115,3 +126,132 @@ opening-urgencies (task ∷ tasks) all = ((all.0.urgent, first task.main), openi
 pub opening-declared : (tasks : List TaskEntry) → map declared_of (map first_row tasks) ≡ map (λ task. task.priority) tasks
 opening-declared [] = refl
 opening-declared (task ∷ tasks) = ap (λ ds. task.priority ∷ ds) (opening-declared tasks)
+
+-- what comes in leaves the declared ones, and the moment
+clock_tasks : (core : Core) (come : Entry) → (with_clock_of core come).tasks ≡ core.tasks
+clock_tasks core (entry.Clock time) = refl
+clock_tasks core other = refl
+
+pub arrived-declared : (core : Core) (come : Entry) → map declared_of (arrived core come).tasks ≡ map declared_of core.tasks
+arrived-declared core come = (arrived-leaves core come).declared ∙ ap (map declared_of) (clock_tasks core come)
+
+clock_moment : (core : Core) (come : Entry) → (with_clock_of core come).moment ≡ core.moment
+clock_moment core (entry.Clock time) = refl
+clock_moment core other = refl
+
+pub arrived-moment : (core : Core) (come : Entry) → (arrived core come).moment ≡ core.moment
+arrived-moment core come = (arrived-leaves core come).moment ∙ clock_moment core come
+
+-- PLANS
+
+lawful_starts : (setup : Setup) (plan : Option Activation) → IfSome plan (λ activation. IsPlan setup activation.plan) →
+    IfSome plan (Starts AnyPriority (IsPlan setup))
+lawful_starts setup None is = tt
+lawful_starts setup (Some plan) is = (tt, is)
+
+-- a start without a repetition
+once_starts : (setup : Setup) (when : Start) → IsOnce setup when → IsStart setup when
+once_starts setup start.Free is = is
+once_starts setup (start.At time) is = is
+once_starts setup (start.After time) is = is
+once_starts setup (start.When interrupt) is = is
+once_starts setup (start.WhenAfter interrupt time) is = absurd is
+
+later_once : (setup : Setup) (when : Start) → IsLater setup when → IsOnce setup when
+later_once setup start.Free is = absurd is
+later_once setup (start.At time) is = is
+later_once setup (start.After time) is = is
+later_once setup (start.When interrupt) is = is
+later_once setup (start.WhenAfter interrupt time) is = is
+
+module _ (setup : Setup) where
+  plans_at : (core : Core) (t : ℕ) (row : TaskRow) → row_of core t ≡ Some row → HasPlans setup core → IsPlannedRow setup row
+  plans_at core t row at has = each_at (IsPlannedRow setup) core.tasks has.plans t row at
+
+  -- another row with lawful plans
+  plans_set : (core : Core) (t : ℕ) (row : TaskRow) → IsPlannedRow setup row → HasPlans setup core → HasPlans setup (with_row core t row)
+  plans_set core t row is has = record { plans = all_set (IsPlannedRow setup) core.tasks has.plans t row is; clock = has.clock }
+
+  -- nothing told is a plan
+  plans_moved : (core other : Core) → other.tasks ≡ core.tasks → other.clock ≡ core.clock → HasPlans setup core → HasPlans setup other
+  plans_moved core other tasks clock has = record {
+    plans = subst (λ rows. AllByRecursion (IsPlannedRow setup) rows) (sym tasks) has.plans;
+    clock = subst (λ time. time < 86400000) (sym clock) has.clock;
+  }
+
+  plans_closed : Closed AnyPriority (IsPlan setup) (HasPlans setup)
+  plans_closed = record {
+    told = λ core e has. plans_moved core _ refl refl has;
+    stands = λ core t row mode at stays has. plans_set core t (record row { mode = mode }) (plans_at core t row at has) has;
+    goes_on = λ core t row plan at lawful has. plans_set core t (record row { continuation = plan }) (lawful, (plans_at core t row at has).1) has;
+    starts = λ core t row plan at lawful has.
+        plans_set core t (record row { activation = Some plan }) ((plans_at core t row at has).0, lawful.1) has;
+    going = λ core t row at has. (plans_at core t row at has).0;
+    starting = λ core t row at has. lawful_starts setup row.activation (plans_at core t row at has).1;
+    begins = λ core plan lawful. lawful;
+  }
+
+  plans_at_ends : ClosedAtEnds (HasPlans setup)
+  plans_at_ends = record {
+    ends = λ core t row at has. plans_set core t (record row { mode = Dormant; continuation = None }) (tt, (plans_at core t row at has).1) has;
+    prevents = λ core t row at has. plans_set core t (record row { continuation = None; activation = None }) (tt, tt) has;
+  }
+
+  plans_free : (core other : Core) → OnlyValues core other → HasPlans setup core → HasPlans setup other
+  plans_free core other only has = plans_moved core other only.tasks only.clock has
+
+  plans_brings : (core : Core) (asked : Action) → Fits setup asked → Brings AnyPriority (IsPlan setup) core asked
+  plans_brings core (action.Activate t start repeat priority) fits = (λ row at. tt, λ now. (fits.1, fits.2))
+  plans_brings core (action.Continue t start) fits = λ now. (once_starts setup start fits.1, tt)
+  plans_brings core (action.Resume start) fits = λ now. (once_starts setup start (later_once setup start fits), tt)
+  plans_brings core (action.Read slot) fits = tt
+  plans_brings core (action.Write slot value) fits = tt
+  plans_brings core action.Turn fits = tt
+  plans_brings core action.Enter fits = tt
+  plans_brings core action.Now fits = tt
+  plans_brings core (action.Request list) fits = tt
+  plans_brings core (action.Release list) fits = tt
+  plans_brings core (action.Try s) fits = tt
+  plans_brings core (action.Suspend t) fits = tt
+  plans_brings core (action.Terminate t) fits = tt
+  plans_brings core (action.Prevent t) fits = tt
+  plans_brings core (action.Enable device) fits = tt
+  plans_brings core (action.Disable device) fits = tt
+  plans_brings core (action.Trigger device) fits = tt
+  plans_brings core (action.Put device text) fits = tt
+  plans_brings core (action.Get device format kinds) fits = tt
+  plans_brings core (action.Take device) fits = tt
+  plans_brings core (action.Send device value) fits = tt
+  plans_brings core action.End fits = tt
+  plans_brings core (action.Trap trap) fits = tt
+
+  -- at the start there are no plans
+  no_plans : (tasks : List TaskEntry) → AllByRecursion (IsPlannedRow setup) (map first_row tasks)
+  no_plans [] = tt
+  no_plans (task ∷ tasks) = ((tt, tt), no_plans tasks)
+
+pub opening-plans : (setup : Setup) → HasPlans setup (opening setup)
+opening-plans setup = record { plans = no_plans setup setup.tasks; clock = omega arith }
+
+-- every action, every millisecond and whatever comes in
+pub effect-plans : (setup : Setup) (core : Core) (own : ℕ) (action : Action) → HasPlans setup core → Fits setup action → HasPlans setup (effect core own action).core
+effect-plans setup core own asked has fits =
+    effect-free AnyPriority (IsPlan setup) (HasPlans setup) (plans_closed setup) (plans_free setup) (plans_at_ends setup) core own asked
+    (plans_brings setup core asked fits) has
+
+pub turned-plans : (setup : Setup) (core : Core) (offers : Offered) (t : ℕ) → HasPlans setup core → HasPlans setup (turned core offers t)
+turned-plans setup core offers t has =
+    plans_moved setup core (turned core offers t) (ap (λ c. c.tasks) (turned-is core offers t)) (ap (λ c. c.clock) (turned-is core offers t)) has
+
+pub millisecond-plans : (setup : Setup) (core : Core) → HasPlans setup core → HasPlans setup (millisecond core)
+millisecond-plans setup core has =
+    millisecond-kept AnyPriority (IsPlan setup) (HasPlans setup) (plans_closed setup) core (plans_moved setup core _ refl refl has)
+
+-- the time of day that an entry sets is one
+clock_fits : (setup : Setup) (come : Entry) → IsFitting setup come → (time : ℕ) → come ≡ entry.Clock time → time < 86400000
+clock_fits setup come fits time same = (subst (IsFitting setup) same fits).1
+
+pub arrived-plans : (setup : Setup) (core : Core) (come : Entry) → HasPlans setup core → IsFitting setup come → HasPlans setup (arrived core come)
+arrived-plans setup core come has fits =
+    arrived-kept AnyPriority (IsPlan setup) (HasPlans setup) (plans_closed setup) (plans_free setup) core come
+    (λ time same. record { plans = has.plans; clock = clock_fits setup come fits time same }) has

@@ -1,8 +1,10 @@
--- What the state of a run is, apart from the tasks' own variables: the time, how each task stands, what the module's variables hold,
--- the semaphores' counts, who acted last, what was told.
+-- What the state of a run is, apart from the tasks' own variables: the time, how each task stands and what is planned for it, what
+-- the module's variables hold, the semaphores' counts, how each device stands, who acted last, what was told.
 use Rattle.std.specs.Prelude.{ℕ, ◌+◌, pos, List, [], ◌∷◌, ◌++◌, Bool, true, false, Option, Some, None, map, slice_get, slice_set}
 use Rattle.pearl_value.specs.declared.cell.Cell.{Cell}
 use Rattle.pearl_value.specs.declared.cell.Cell.TheVariants.{Fixed}
+use Rattle.pearl_value.specs.declared.kind.Kind.{Kind}
+use Rattle.pearl_format.specs.declared.item.Item.{Item}
 use Rattle.pearl_rules.specs.declared.row.Mode.{Mode}
 use Rattle.pearl_rules.specs.declared.row.Mode.TheVariants.{Dormant, Active}
 use Rattle.pearl_rules.specs.declared.row.TaskRow.{TaskRow}
@@ -10,6 +12,8 @@ use Rattle.pearl_rules.specs.declared.event.Event.{Event}
 use Rattle.pearl_rules.specs.declared.event.Event.TheVariants.{Start}
 use Rattle.pearl_rules.specs.declared.event.Shown.{Shown}
 use Rattle.pearl_rules.specs.declared.setup.TaskEntry.{TaskEntry}
+use Rattle.pearl_rules.specs.declared.setup.Device.{Device}
+use Rattle.pearl_rules.specs.declared.setup.Device.TheVariants as device
 use Rattle.pearl_rules.specs.declared.setup.Setup.{Setup}
 
 -- what a run tells: that something happened, or how a task stands
@@ -17,12 +21,24 @@ pub data Report : Type 0 where
   Happened : (event : Event) → Report
   Shows : (task : ℕ) (shown : Shown) → Report
 
--- the moment is in milliseconds since the start; `told` has all that was told so far, each with its moment
+-- how a device stands: whether an interrupt is let through, and what came in and waits, from the oldest on
+pub data Channel : Type 0 where
+  Switch : (enabled : Bool) → Channel
+  Bytes : (pending : List ℕ) → Channel
+  Values : (kind : Kind) (pending : List Cell) → Channel
+  Outward : Channel
+
+-- The moment is in milliseconds since the start, and `clock` is the time of day at the start, in milliseconds since midnight. The
+-- channels are those of the devices; the formats are the tables' and never change. `told` has all that was told so far, each with
+-- its moment.
 pub record Core : Type 0 where
   pub moment : ℕ
+  pub clock : ℕ
   pub tasks : List TaskRow
   pub slots : List Cell
   pub counts : List ℕ
+  pub channels : List Channel
+  pub formats : List (List Item)
   pub last : Option ℕ
   pub told : List (ℕ × Report)
 
@@ -80,7 +96,15 @@ first_mode true priority = Active priority false
 first_mode false priority = Dormant
 
 abbrev pub first_row : TaskEntry → TaskRow
-first_row task = record { mode = first_mode task.main task.priority; declared = task.priority }
+first_row task =
+    record { mode = first_mode task.main task.priority; declared = task.priority; continuation = None; activation = None }
+
+-- how a device stands at the start: interrupts are masked, and nothing has come in
+abbrev pub first_channel : Device → Channel
+first_channel (device.Interrupt number) = Switch false
+first_channel (device.Terminal number direction) = Bytes []
+first_channel (device.Input number kind) = Values kind []
+first_channel (device.Output number kind) = Outward
 
 abbrev pub first_events_if : Bool → ℕ → ℕ → List (ℕ × Report) → List (ℕ × Report)
 first_events_if true t priority rest = (0, Happened (Start t priority)) ∷ rest
@@ -95,9 +119,12 @@ first_events t (task ∷ tasks) = first_events_if task.main t task.priority (fir
 abbrev pub opening : Setup → Core
 opening setup = record {
   moment = 0;
+  clock = 0;
   tasks = map first_row setup.tasks;
   slots = setup.slots;
   counts = setup.semaphores;
+  channels = map first_channel setup.devices;
+  formats = setup.formats;
   last = None;
   told = first_events 0 setup.tasks;
 }

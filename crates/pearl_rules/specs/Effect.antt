@@ -1,20 +1,26 @@
 -- What an action does to the core, what its task hears, and which tasks end.
-use Rattle.std.specs.Prelude.{ℕ, List, [], ◌∷◌, Bool, true, false, Option, Some, None, nat_lt, nat_eq, slice_set}
-use Rattle.pearl_value.specs.declared.cell.Cell.TheVariants.{Bits}
-use Rattle.pearl_value.specs.declared.trap.Trap.TheVariants.{SemaLimit}
+use Rattle.std.specs.Prelude.{ℕ, List, [], ◌∷◌, Bool, true, false, Option, Some, None, nat_lt, nat_eq, slice_set, if◌then◌else◌}
+use Rattle.pearl_value.specs.declared.cell.Cell.{Cell}
+use Rattle.pearl_value.specs.declared.cell.Cell.TheVariants.{Bits, Clock}
+use Rattle.pearl_value.specs.declared.trap.Trap.TheVariants.{SemaLimit, Format}
 use Rattle.pearl_rules.specs.declared.action.Action.{Action}
 use Rattle.pearl_rules.specs.declared.action.Action.TheVariants as action
+use Rattle.pearl_rules.specs.declared.action.Start.{Start}
 use Rattle.pearl_rules.specs.declared.action.Start.TheVariants.{Free}
+use Rattle.pearl_rules.specs.declared.action.Repeat.{Repeat}
 use Rattle.pearl_rules.specs.declared.action.Repeat.TheVariants.{Once}
 use Rattle.pearl_rules.specs.declared.action.Answer.{Answer}
-use Rattle.pearl_rules.specs.declared.action.Answer.TheVariants.{Nothing, One}
+use Rattle.pearl_rules.specs.declared.action.Answer.TheVariants.{Nothing, One, Many}
 use Rattle.pearl_rules.specs.declared.event.Event.{Event}
 use Rattle.pearl_rules.specs.declared.event.Event.TheVariants as event
 use Rattle.pearl_rules.specs.declared.row.Mode.{Mode}
 use Rattle.pearl_rules.specs.declared.row.Mode.TheVariants.{Dormant, Active}
 use Rattle.pearl_rules.specs.declared.row.TaskRow.{TaskRow}
-use Rattle.pearl_rules.specs.Core.{Core, value_at, note, row_of, with_row, mode_of}
+use Rattle.pearl_rules.specs.Core.{Core, Switch, value_at, note, row_of, mode_of, is_active}
 use Rattle.pearl_rules.specs.Counts.{count_at, all_below_most, lowered, raised}
+use Rattle.pearl_rules.specs.Plans.{changed_row, started, with_mark, time_at, planned, plan_continuation, plan_activation}
+use Rattle.pearl_rules.specs.Devices.{with_channel, interrupted, items_of, bytes_at, without_bytes, values_at, without_value}
+use Rattle.pearl_rules.specs.Scan.{Scanned, Short, Bad, Got, scan}
 
 -- what the task has of its action: an answer, or its end
 pub data Reply : Type 0 where
@@ -27,17 +33,9 @@ pub record Effect : Type 0 where
   pub reply : Reply
   pub ended : List ℕ
 
-abbrev pub on_row : Option TaskRow → Core → (TaskRow → Core) → Core
-on_row None core go = core
-on_row (Some row) core go = go row
-
--- the task stands so from now on
-abbrev pub with_mode : Core → ℕ → Mode → Core
-with_mode core t mode = on_row (row_of core t) core (λ row. with_row core t (record row { mode = mode }))
-
--- the task becomes dormant
+-- the task becomes dormant, and goes on by no plan; the plan by which it is started stays
 abbrev pub finished : Core → ℕ → Core
-finished core t = with_mode core t Dormant
+finished core t = changed_row core t (λ row. record row { mode = Dormant; continuation = None })
 
 -- the task goes on with this answer
 abbrev pub answering : Core → Answer → Effect
@@ -58,23 +56,31 @@ abbrev pub priority_or_declared : Core → ℕ → Option ℕ → ℕ
 priority_or_declared core t None = declared_or_zero (row_of core t)
 priority_or_declared core t (Some priority) = priority
 
-abbrev pub started_by : Mode → Core → ℕ → ℕ → Core
-started_by Dormant core t priority = note (with_mode core t (Active priority false)) (event.Start t priority)
-started_by (Active own suspended) core t priority = note core (event.Overrun t)
+abbrev pub is_at_once : Start → Repeat → Bool
+is_at_once Free Once = true
+is_at_once start repeat = false
 
--- a start makes a dormant task active; one that is active stays as it is, and that it was to be started is told
-abbrev pub started : Core → ℕ → ℕ → Core
-started core t priority = started_by (mode_of core t) core t priority
+-- a start that is written with a condition or with ALL is a plan, in place of the one that the task has; else it is now
+abbrev pub activated : Core → ℕ → Start → Repeat → (priority : ℕ) → Core
+activated core t start repeat priority =
+    if is_at_once start repeat then started core t priority
+    else plan_activation core t (record { plan = planned core start repeat; priority = priority })
 
--- SUSPENDED TASKS
+-- TASKS THAT GO ON
 
--- an active task has this mark of suspension, a dormant one has none
-abbrev pub marked_mode : Bool → Mode → Mode
-marked_mode suspended Dormant = Dormant
-marked_mode suspended (Active priority before) = Active priority suspended
+-- a suspended task goes on, now or by a plan; no plan is made for a dormant task
+abbrev pub continues : Core → ℕ → Start → Core
+continues core t start =
+    if is_at_once start Once then with_mark core t false
+    else (if is_active core t then plan_continuation core t (planned core start Once) else core)
 
-abbrev pub with_mark : Core → ℕ → Bool → Core
-with_mark core t suspended = with_mode core t (marked_mode suspended (mode_of core t))
+-- a task suspends itself, and goes on by a plan
+abbrev pub resuming : Core → (own : ℕ) → Start → Core
+resuming core own start = plan_continuation (with_mark core own true) own (planned core start Once)
+
+-- both plans of a task are gone
+abbrev pub prevented : Core → ℕ → Core
+prevented core t = changed_row core t (λ row. record row { continuation = None; activation = None })
 
 -- ENDS FROM OUTSIDE
 
@@ -110,24 +116,50 @@ abbrev pub trying : Core → ℕ → (is_free : Bool) → Effect
 trying core semaphore true = answering (record core { counts = lowered core.counts (semaphore ∷ []) }) (One (Bits 1 1))
 trying core semaphore false = answering core (One (Bits 1 0))
 
--- One row for each action of the task `own`, which is the one that acted last. A turn and an entry change nothing. An action without
--- a row isn't built yet: no task offers one, and if one did it would end.
+-- TERMINALS AND INPUTS
+
+-- an action that can't be done yet isn't done; if it were, its task would end
+abbrev pub undone : Core → ℕ → Effect
+undone core own = ending core own (event.End own)
+
+-- the values that were read are answered and their bytes are gone; a bad field's bytes are gone as well, and the task is broken off
+abbrev pub getting : Core → (own device : ℕ) → Scanned → Effect
+getting core own device Short = undone core own
+getting core own device (Bad used) = ending (without_bytes core device used) own (event.Trap own Format)
+getting core own device (Got used values) = answering (without_bytes core device used) (Many (record { items = values }))
+
+-- the oldest value is answered, and is gone
+abbrev pub taking : Core → (own device : ℕ) → List Cell → Effect
+taking core own device [] = undone core own
+taking core own device (x ∷ later) = answering (without_value core device) (One x)
+
+-- One row for each action of the task `own`, which is the one that acted last. A turn and an entry change nothing.
 abbrev pub effect_of : Core → (own : ℕ) → Action → Effect
 effect_of core own (action.Read slot) = answering core (One (value_at core.slots slot))
 effect_of core own (action.Write slot value) = answering (record core { slots = slice_set core.slots slot value }) Nothing
 effect_of core own action.Turn = answering core Nothing
 effect_of core own action.Enter = answering core Nothing
+effect_of core own action.Now = answering core (One (Clock (time_at core core.moment)))
 effect_of core own (action.Request semaphores) = answering (record core { counts = lowered core.counts semaphores.items }) Nothing
 effect_of core own (action.Release semaphores) = releasing core own semaphores.items (all_below_most core.counts semaphores.items)
 effect_of core own (action.Try semaphore) = trying core semaphore (nat_lt 0 (count_at core.counts semaphore))
-effect_of core own (action.Activate t Free Once priority) = answering (started core t (priority_or_declared core t priority)) Nothing
-effect_of core own (action.Continue t Free) = answering (with_mark core t false) Nothing
+effect_of core own (action.Activate t start repeat priority) =
+    answering (activated core t start repeat (priority_or_declared core t priority)) Nothing
+effect_of core own (action.Continue t start) = answering (continues core t start) Nothing
+effect_of core own (action.Resume start) = answering (resuming core own start) Nothing
 effect_of core own (action.Suspend t) = answering (with_mark core t true) Nothing
 effect_of core own (action.Terminate t) = stopping core own t
+effect_of core own (action.Prevent t) = answering (prevented core t) Nothing
+effect_of core own (action.Enable device) = answering (with_channel core device (Switch true)) Nothing
+effect_of core own (action.Disable device) = answering (with_channel core device (Switch false)) Nothing
+effect_of core own (action.Trigger device) = answering (interrupted core device) Nothing
 effect_of core own (action.Put device text) = answering (note core (event.Out device text)) Nothing
+effect_of core own (action.Get device format kinds) =
+    getting core own device (scan (items_of core format) kinds.items (bytes_at core device))
+effect_of core own (action.Take device) = taking core own device (values_at core device)
+effect_of core own (action.Send device value) = answering (note core (event.Send device value)) Nothing
 effect_of core own action.End = ending core own (event.End own)
 effect_of core own (action.Trap trap) = ending core own (event.Trap own trap)
-effect_of core own other = ending core own (event.End own)
 
 -- what the action of the task `own` does
 unfoldable pub effect : Core → (own : ℕ) → Action → Effect

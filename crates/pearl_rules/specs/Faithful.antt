@@ -5,24 +5,27 @@ use Rattle.pearl_rules.specs.declared.action.Answer.{Answer}
 use Rattle.pearl_rules.specs.declared.entry.Entry.{Entry}
 use Rattle.pearl_rules.specs.declared.setup.Setup.{Setup}
 use Rattle.pearl_rules.specs.Slots.{Suits, Fits}
+use Rattle.pearl_rules.specs.Entries.{AreFitting}
 use Rattle.pearl_rules.specs.Runs.{Supplier, Engine, Silent, Offers, source_run, source_next, source_offers, machine_run, machine_offers, marked, unsettled}
 
--- The code runs as the source's rules say: for every list of entries and every number of machine steps, after the same marks.
+-- The code runs as the source's rules say: for every list of fitting entries and every number of machine steps, after the same marks.
 -- `rows` bounds the instructions from one action to the next, `count` is the number of tasks.
 pub record IsFaithful (offer : Supplier) {S : Type 0} (engine : Engine S) (setup : Setup) (count rows : ℕ) : Type 0 where
   -- the core is the same, and so is what remains of the journal
-  pub same_core : (es : List Entry) (n : ℕ) →
+  pub same_core : (es : List Entry) → AreFitting setup es → (n : ℕ) →
       (machine_run engine setup es n).core ≡ (source_run offer setup es (marked engine setup es n)).core
-  pub same_entries : (es : List Entry) (n : ℕ) →
+  pub same_entries : (es : List Entry) → AreFitting setup es → (n : ℕ) →
       (machine_run engine setup es n).entries ≡ (source_run offer setup es (marked engine setup es n)).entries
   -- an action that the machine has offered is what the source's task does next
-  pub same_offers : (es : List Entry) (n t : ℕ) (action : Action) → machine_offers (machine_run engine setup es n) t ≡ Some action →
+  pub same_offers : (es : List Entry) → AreFitting setup es → (n t : ℕ) (action : Action) →
+      machine_offers (machine_run engine setup es n) t ≡ Some action →
       source_offers offer (source_run offer setup es (marked engine setup es n)) t ≡ Some action
   -- where every active task has offered, all offers are the source's
-  pub all_offers : (es : List Entry) (n : ℕ) → unsettled (machine_run engine setup es n) ≡ None → (t : ℕ) →
+  pub all_offers : (es : List Entry) → AreFitting setup es → (n : ℕ) → unsettled (machine_run engine setup es n) ≡ None → (t : ℕ) →
       machine_offers (machine_run engine setup es n) t ≡ source_offers offer (source_run offer setup es (marked engine setup es n)) t
   -- the machine goes on: where m marks come, it has made them within this many steps
-  pub goes_on : (es : List Entry) (m : ℕ) → ((k : ℕ) → k < m → source_next offer (source_run offer setup es k) ≢ None) →
+  pub goes_on : (es : List Entry) → AreFitting setup es → (m : ℕ) →
+      ((k : ℕ) → k < m → source_next offer (source_run offer setup es k) ≢ None) →
       (n : ℕ) × (n ≤ (m + 1) * (count * rows + 1)) × (marked engine setup es n ≡ m)
 
 -- `Stands t heard stack`: this is where the code of task t is after these answers since its start. Each task that is there begins so.

@@ -1,15 +1,19 @@
 -- What the laws say of turns, of effects and of runs.
-use Rattle.std.specs.Prelude.{◌≡◌, ◌≢◌, ℕ, ◌-◌, ◌^◌, ◌<◌, ◌≤◌, List, [], ◌∷◌, ◌++◌, false, Option, Some, None, IsTrue, Contains, slice_get}
+use Rattle.std.specs.Prelude.{◌≡◌, ◌≢◌, ℕ, zero, suc, ◌-◌, ◌^◌, ◌<◌, ◌≤◌, List, [], ◌∷◌, ◌++◌, false, Option, Some, None, IsTrue, Contains}
 use Rattle.pearl_rules.specs.declared.action.Action.{Action}
 use Rattle.pearl_rules.specs.declared.action.Action.TheVariants as action
 use Rattle.pearl_rules.specs.declared.action.Answer.{Answer}
 use Rattle.pearl_rules.specs.declared.event.Event.{Event}
 use Rattle.pearl_rules.specs.declared.row.Mode.{Mode}
 use Rattle.pearl_rules.specs.declared.entry.Entry.{Entry}
+use Rattle.pearl_rules.specs.declared.entry.Entry.TheVariants.{Clock, Irpt, Chars, Line, Value}
 use Rattle.pearl_rules.specs.declared.row.TaskRow.{TaskRow}
 use Rattle.pearl_rules.specs.declared.setup.Setup.{Setup}
 use Rattle.pearl_rules.specs.Core.{Core, Report, Happened, row_of, mode_of, is_active, is_active_mode, told_before}
 use Rattle.pearl_rules.specs.Counts.{count_at}
+use Rattle.pearl_rules.specs.Plans.{millisecond}
+use Rattle.pearl_rules.specs.Devices.{items_of, bytes_at, values_at}
+use Rattle.pearl_rules.specs.Scan.{Scanned, Got, scan}
 use Rattle.pearl_rules.specs.Effect.{Reply, Hears, Ends, Effect, answering}
 use Rattle.pearl_rules.specs.Pick.{Offered, is_eligible, priority_of}
 use Rattle.pearl_rules.specs.Runs.{dropped, kept_at, refreshed, Supplier, Source, Engine, Machine, source_run, source_next, source_offers, machine_run, machine_offers, machine_next, marked, unsettled, told_at_end}
@@ -46,12 +50,19 @@ pub record ChangesTask (core : Core) (own t : ℕ) (mode : Mode) (events : List 
   pub rest : done.core ≡ record core { last = Some own; tasks = done.core.tasks; told = core.told ++ happened_at core.moment events }
   pub replies : done.reply ≡ reply
 
+-- all fields are there and good
+abbrev pub IsGot : Scanned → Type 0
+IsGot (Got used values) = Unit {0}
+IsGot other = ⊥
+
 -- the action ends the task that acts
 abbrev pub EndsItself : Core → (own : ℕ) → Action → Type 0
 EndsItself core own action.End = Unit {0}
 EndsItself core own (action.Trap trap) = Unit {0}
 EndsItself core own (action.Terminate t) = t ≡ own
 EndsItself core own (action.Release list) = (s : ℕ) × Contains list.items s × (2 ^ 31 - 1 ≤ count_at core.counts s)
+EndsItself core own (action.Get device format kinds) = IsGot (scan (items_of core format) kinds.items (bytes_at core device)) → ⊥
+EndsItself core own (action.Take device) = values_at core device ≡ []
 EndsItself core own other = ⊥
 
 -- What is kept of the task of this row after some tasks ended: nothing of a dormant one; an active one that is among those or of
@@ -72,6 +83,20 @@ pub record ChangesCounts (core : Core) (own : ℕ) (semaphores : List ℕ) (Chan
   pub rest : done ≡ answering (record core { last = Some own; counts = done.core.counts }) answer
 
 -- RUNS
+
+-- an entry that sets the clock, or brings an interrupt, bytes or a value
+abbrev pub ComesIn : Entry → Type 0
+ComesIn (Clock time) = Unit {0}
+ComesIn (Irpt device) = Unit {0}
+ComesIn (Chars device text) = Unit {0}
+ComesIn (Line device text) = Unit {0}
+ComesIn (Value device x) = Unit {0}
+ComesIn entry = ⊥
+
+-- the core after n milliseconds
+abbrev pub passed : ℕ → Core → Core
+passed zero core = core
+passed (suc n) core = millisecond (passed n core)
 
 -- the machine's run is at its end after n steps: nothing is unsettled and no mark comes
 pub record HasEnded {S : Type 0} (engine : Engine S) (setup : Setup) (es : List Entry) (n : ℕ) : Type 0 where

@@ -1,7 +1,8 @@
 -- Which task acts next, and how a task stands.
 use Rattle.std.specs.Prelude.{◌≡◌, ◌≢◌, ℕ, zero, suc, ◌≤◌, ◌⊎◌, List, [], ◌∷◌, ◌++◌, Bool, true, false, Option, Some, None, length, nat_lt, nat_eq, ◌||◌, ◌&&◌, IsTrue}
+use Rattle.pearl_value.specs.declared.cell.Cell.{Cell}
 use Rattle.pearl_rules.specs.declared.action.Action.{Action}
-use Rattle.pearl_rules.specs.declared.action.Action.TheVariants.{Request}
+use Rattle.pearl_rules.specs.declared.action.Action.TheVariants.{Request, Get, Take}
 use Rattle.pearl_rules.specs.declared.row.Mode.{Mode}
 use Rattle.pearl_rules.specs.declared.row.Mode.TheVariants.{Dormant, Active}
 use Rattle.pearl_rules.specs.declared.row.TaskRow.{TaskRow}
@@ -9,14 +10,27 @@ use Rattle.pearl_rules.specs.declared.event.Shown.TheVariants as shown
 use Rattle.pearl_rules.specs.declared.event.Shown.{Shown}
 use Rattle.pearl_rules.specs.Core.{Core, Report, Shows, row_of}
 use Rattle.pearl_rules.specs.Counts.{all_free}
+use Rattle.pearl_rules.specs.Devices.{items_of, bytes_at, values_at}
+use Rattle.pearl_rules.specs.Scan.{Scanned, Short, scan}
 
 -- what each task offers to do next: none where it isn't active or hasn't offered yet
 abbrev pub Offered : Type 0
 Offered = ℕ → Option Action
 
--- whether an action can be done now: a request waits until all that it names are above 0
+abbrev pub is_complete : Scanned → Bool
+is_complete Short = false
+is_complete other = true
+
+abbrev pub is_some_value : List Cell → Bool
+is_some_value [] = false
+is_some_value (x ∷ later) = true
+
+-- whether an action can be done now: a request waits until all that it names are above 0, GET until what came in at its terminal is
+-- enough, TAKE until a value is there
 abbrev pub guard : Core → Action → Bool
 guard core (Request semaphores) = all_free core.counts semaphores.items
+guard core (Get device format kinds) = is_complete (scan (items_of core format) kinds.items (bytes_at core device))
+guard core (Take device) = is_some_value (values_at core device)
 guard core action = true
 
 abbrev pub is_possible : Core → Option Action → Bool

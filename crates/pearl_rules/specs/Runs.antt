@@ -3,18 +3,23 @@ use Rattle.std.specs.Prelude.{ℕ, zero, suc, ◌+◌, List, [], ◌∷◌, ◌+
 use Rattle.pearl_rules.specs.declared.action.Action.{Action}
 use Rattle.pearl_rules.specs.declared.action.Answer.{Answer}
 use Rattle.pearl_rules.specs.declared.entry.Entry.{Entry}
-use Rattle.pearl_rules.specs.declared.entry.Entry.TheVariants.{Run, Turn, State}
+use Rattle.pearl_rules.specs.declared.entry.Entry.TheVariants.{Run, Tick, Pass, Turn, State}
 use Rattle.pearl_rules.specs.declared.row.TaskRow.{TaskRow}
 use Rattle.pearl_rules.specs.declared.setup.Setup.{Setup}
 use Rattle.pearl_rules.specs.Core.{Core, Report, is_active_row, opening}
 use Rattle.pearl_rules.specs.Pick.{Offered, pick, turned, showing, states}
+use Rattle.pearl_rules.specs.Plans.{millisecond}
+use Rattle.pearl_rules.specs.Devices.{arrived}
 use Rattle.pearl_rules.specs.Effect.{Reply, Hears, Ends, effect}
 
--- one indivisible step of a run: an action of a task, that it becomes a task's turn, or that the tasks' states are told
+-- one indivisible step of a run: an action of a task, that it becomes a task's turn, that the tasks' states are told, that a
+-- millisecond passes, or what another entry does
 pub data Mark : Type 0 where
   Acts : (task : ℕ) → Mark
   Turns : (task : ℕ) → Mark
   Tells : Mark
+  Passes : Mark
+  Arrives : (entry : Entry) → Mark
 
 -- a mark with the entries that remain after it
 pub record Coming : Type 0 where
@@ -27,13 +32,25 @@ next_of_run None n rest later = later
 next_of_run (Some t) zero rest later = later
 next_of_run (Some t) (suc n) rest later = Some (record { mark = Acts t; rest = Run n ∷ rest })
 
--- the next mark, where this task is picked and these entries remain; an entry without a row isn't built yet and makes no mark
+-- `tick 0` is dropped without a mark; else a millisecond passes, and the others are left
+abbrev pub next_of_tick : ℕ → List Entry → Option Coming → Option Coming
+next_of_tick zero rest later = later
+next_of_tick (suc n) rest later = Some (record { mark = Passes; rest = Tick n ∷ rest })
+
+-- likewise for `pass`, where `run` is left before the others
+abbrev pub next_of_pass : (times picks : ℕ) → List Entry → Option Coming → Option Coming
+next_of_pass zero picks rest later = later
+next_of_pass (suc times) picks rest later = Some (record { mark = Passes; rest = Run picks ∷ Pass times picks ∷ rest })
+
+-- the next mark, where this task is picked and these entries remain
 abbrev pub next_mark : Option ℕ → List Entry → Option Coming
 next_mark picked [] = None
 next_mark picked (Run n ∷ rest) = next_of_run picked n rest (next_mark picked rest)
+next_mark picked (Tick n ∷ rest) = next_of_tick n rest (next_mark picked rest)
+next_mark picked (Pass times picks ∷ rest) = next_of_pass times picks rest (next_mark picked rest)
 next_mark picked (Turn t ∷ rest) = Some (record { mark = Turns t; rest = rest })
 next_mark picked (State ∷ rest) = Some (record { mark = Tells; rest = rest })
-next_mark picked (entry ∷ rest) = next_mark picked rest
+next_mark picked (entry ∷ rest) = Some (record { mark = Arrives entry; rest = rest })
 
 -- What is kept of each active task begins afresh where nothing was kept of it, and nothing is kept of a dormant one.
 abbrev pub kept : {X : Type 0} → Bool → X → Option X → Option X
@@ -98,6 +115,8 @@ abbrev pub source_mark : Supplier → Source → Mark → List Entry → Source
 source_mark offer s (Acts t) rest = source_acts offer s t rest (kept_at s.heard t)
 source_mark offer s (Turns t) rest = source_settled (turned s.core (source_offers offer s) t) s.heard rest
 source_mark offer s Tells rest = source_settled (showing s.core (source_offers offer s)) s.heard rest
+source_mark offer s Passes rest = source_settled (millisecond s.core) s.heard rest
+source_mark offer s (Arrives entry) rest = source_settled (arrived s.core entry) s.heard rest
 
 abbrev pub source_step_by : Supplier → Source → Option Coming → Source
 source_step_by offer s None = s
@@ -196,6 +215,8 @@ abbrev pub machine_mark : {S : Type 0} → Engine S → Machine S → Mark → L
 machine_mark engine m (Acts t) rest = machine_acts engine m t rest (kept_at m.running t)
 machine_mark engine m (Turns t) rest = machine_settled engine (turned m.core (machine_offers m) t) m.running rest
 machine_mark engine m Tells rest = machine_settled engine (showing m.core (machine_offers m)) m.running rest
+machine_mark engine m Passes rest = machine_settled engine (millisecond m.core) m.running rest
+machine_mark engine m (Arrives entry) rest = machine_settled engine (arrived m.core entry) m.running rest
 
 abbrev pub machine_mark_by : {S : Type 0} → Engine S → Machine S → Option Coming → Machine S
 machine_mark_by engine m None = m

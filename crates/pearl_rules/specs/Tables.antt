@@ -2,6 +2,7 @@
 use Rattle.std.specs.Prelude.{◌≡◌, ◌⊎◌, ℕ, ◌<◌, ◌≤◌, ◌^◌, Bool, ◌&&◌, ◌||◌, ◌==◌, nat_le, IsTrue, List, [], ◌∷◌, Option, Some, None, length, slice_index, slice_get}
 use Rattle.std.specs.Char.{is_ascii_alphabetic, is_ascii_digit}
 use Rattle.std.specs.List.{AllByRecursion, list_all}
+use Rattle.pearl_value.specs.declared.kind.Kind.{Kind}
 use Rattle.pearl_value.specs.Kinds.{IsKind}
 use Rattle.pearl_value.specs.WellFormed.{IsValue}
 use Rattle.pearl_format.specs.declared.item.Item.{Item}
@@ -97,6 +98,28 @@ IsWritable (Some (Interrupt number)) = ⊥
 IsWritable (Some (Terminal number direction)) = Writes direction
 IsWritable (Some (Input number kind)) = ⊥
 IsWritable (Some (Output number kind)) = ⊥
+
+abbrev pub Reads : Direction → Type 0
+Reads In = Unit {0}
+Reads Out = ⊥
+Reads InOut = Unit {0}
+
+abbrev pub IsReadable : Option Device → Type 0
+IsReadable (Some (Terminal number direction)) = Reads direction
+IsReadable other = ⊥
+
+abbrev pub IsInterrupt : Option Device → Type 0
+IsInterrupt (Some (Interrupt number)) = Unit {0}
+IsInterrupt other = ⊥
+
+-- the kind of the values that come in at an input, and of those that go out at an output
+abbrev pub input_kind : Option Device → Option Kind
+input_kind (Some (Input number kind)) = Some kind
+input_kind other = None
+
+abbrev pub output_kind : Option Device → Option Kind
+output_kind (Some (Output number kind)) = Some kind
+output_kind other = None
 
 -- the number names a terminal that takes texts
 abbrev pub TakesTexts : Setup → ℕ → Type 0

@@ -14,19 +14,23 @@ ghost use Rattle.pearl_rules.specs.declared.action.Repeat.TheVariants.{Once};
 ghost use Rattle.pearl_rules.specs.declared.action.Answer.{Answer};
 ghost use Rattle.pearl_rules.specs.declared.action.Answer.TheVariants.{Nothing, One};
 ghost use Rattle.pearl_rules.specs.declared.entry.Entry.{Entry};
+ghost use Rattle.pearl_rules.specs.declared.entry.Entry.TheVariants.{Run, Tick, Pass, Turn, State};
 ghost use Rattle.pearl_rules.specs.declared.event.Event.TheVariants as event;
 ghost use Rattle.pearl_rules.specs.declared.row.Mode.TheVariants.{Dormant, Active};
 ghost use Rattle.pearl_rules.specs.declared.row.TaskRow.{TaskRow};
 ghost use Rattle.pearl_rules.specs.declared.setup.Setup.{Setup};
-ghost use Rattle.pearl_rules.specs.Core.{Core, Report, mode_of, declared_of, first_events, opening, told_before};
+ghost use Rattle.pearl_rules.specs.Core.{Core, Report, mode_of, is_active, declared_of, first_events, opening, told_before};
 ghost use Rattle.pearl_rules.specs.Counts.{count_at};
+ghost use Rattle.pearl_rules.specs.Plans.{millisecond};
+ghost use Rattle.pearl_rules.specs.Devices.{arrived};
 ghost use Rattle.pearl_rules.specs.Effect.{Hears, Ends, answering, priority_or_declared, effect};
-ghost use Rattle.pearl_rules.specs.Tables.{IsTaskEntry, IsPreset};
-ghost use Rattle.pearl_rules.specs.Slots.{Suits, Fits, HasKinds, HasCounts, HasUrgencies};
+ghost use Rattle.pearl_rules.specs.Tables.{IsTaskEntry, IsPreset, IsDevice};
+ghost use Rattle.pearl_rules.specs.Slots.{Suits, Fits, HasKinds, HasCounts, HasUrgencies, HasPlans};
+ghost use Rattle.pearl_rules.specs.Entries.{IsFitting, AreFitting};
 ghost use Rattle.pearl_rules.specs.Pick.{Offered, guard, is_eligible, pick, IsPicked, can_turn, turned, shown_of, states, showing};
-ghost use Rattle.pearl_rules.specs.Runs.{Supplier, Engine, source_run, source_next, machine_run, marked};
+ghost use Rattle.pearl_rules.specs.Runs.{Acts, Turns, Tells, Passes, Arrives, Coming, next_mark, Supplier, Source, Engine, source_step, source_after, source_run, source_next, machine_run, marked};
 ghost use Rattle.pearl_rules.specs.Faithful.{IsFaithful, Alone, Soon};
-ghost use Rattle.pearl_rules.specs.Laws.{IsFirstInRank, effect_told_before, TellsEnds, ChangesTask, EndsItself, BeginsAfresh, ChangesCounts, HasEnded, EndsAlike, EndsSoon, EndsTelling, Comes, IsBeforeEnd, with_more, machine_with_more};
+ghost use Rattle.pearl_rules.specs.Laws.{IsFirstInRank, effect_told_before, TellsEnds, ChangesTask, EndsItself, BeginsAfresh, ChangesCounts, HasEnded, EndsAlike, EndsSoon, EndsTelling, Comes, IsBeforeEnd, ComesIn, passed, with_more, machine_with_more};
 
 /// The task that acts next is the one that the rule of picking names, and there is none only where no task is eligible.
 pub fn picks_the_most_urgent()
@@ -34,14 +38,15 @@ pub fn picks_the_most_urgent()
     ensures none { (core : Core) (offers : Offered) → pick core offers ≡ None → (t : ℕ) → is_eligible core offers t ≡ false }
 {}
 
-/// Who acts next, and how the tasks stand, depends only on the tasks' rows, on the counts, on who acted last and on what each
-/// task offers; the moment is shown beside it.
+/// Who acts next, and how the tasks stand, depends only on the tasks' rows, on the counts, on what waits at terminals and inputs,
+/// on who acted last and on what each task offers; the moment is shown beside it. The formats are always the tables'.
 pub fn picks_alike()
     ensures pick { (core other : Core) (offers others : Offered) → core.tasks ≡ other.tasks → core.last ≡ other.last →
-        core.counts ≡ other.counts → ((t : ℕ) → offers t ≡ others t) → pick core offers ≡ pick other others }
+        core.counts ≡ other.counts → core.channels ≡ other.channels → core.formats ≡ other.formats →
+        ((t : ℕ) → offers t ≡ others t) → pick core offers ≡ pick other others }
     ensures states { (core other : Core) (offers others : Offered) → core.moment ≡ other.moment → core.tasks ≡ other.tasks →
-        core.last ≡ other.last → core.counts ≡ other.counts → ((t : ℕ) → offers t ≡ others t) →
-        states core offers ≡ states other others }
+        core.last ≡ other.last → core.counts ≡ other.counts → core.channels ≡ other.channels → core.formats ≡ other.formats →
+        ((t : ℕ) → offers t ≡ others t) → states core offers ≡ states other others }
 {}
 
 /// It can be a task's turn exactly where it is eligible and no eligible task has a smaller priority number. Then it counts as the
@@ -53,11 +58,15 @@ pub fn turns_to_the_named()
     ensures stays { (core : Core) (offers : Offered) (t : ℕ) → (IsFirstInRank core offers t → ⊥) → turned core offers t ≡ core }
 {}
 
-/// What was told before changes nothing: an action has the same effect, turns and states are the same, and what is told comes
-/// after what was told before.
+/// What was told before changes nothing: an action, a millisecond and whatever comes in have the same effect, turns and states are
+/// the same, and what is told comes after what was told before.
 pub fn tells_after()
     ensures acts { (before : List (ℕ × Report)) (core : Core) (own : ℕ) (action : Action) →
         effect (told_before before core) own action ≡ effect_told_before before (effect core own action) }
+    ensures passes { (before : List (ℕ × Report)) (core : Core) →
+        millisecond (told_before before core) ≡ told_before before (millisecond core) }
+    ensures arrives { (before : List (ℕ × Report)) (core : Core) (entry : Entry) →
+        arrived (told_before before core) entry ≡ told_before before (arrived core entry) }
     ensures turns { (before : List (ℕ × Report)) (core : Core) (offers : Offered) (t : ℕ) →
         turned (told_before before core) offers t ≡ told_before before (turned core offers t) }
     ensures shows { (before : List (ℕ × Report)) (core : Core) (offers : Offered) →
@@ -69,9 +78,12 @@ pub fn tells_after()
 {}
 
 /// Each task that an action makes dormant is among those that it ends, and what is kept of those begins afresh; of all other
-/// active tasks the same is kept as before. A task that hears an answer stays active.
+/// active tasks the same is kept as before. A task that hears an answer stays active. No task ends in a millisecond, nor by what
+/// comes in.
 pub fn ended_tasks_begin_afresh<X>()
     ensures ends { (core : Core) (own : ℕ) (action : Action) → TellsEnds core own (effect core own action) }
+    ensures passes { (core : Core) (t : ℕ) → IsTrue (is_active core t) → IsTrue (is_active (millisecond core) t) }
+    ensures arrives { (core : Core) (entry : Entry) (t : ℕ) → IsTrue (is_active core t) → IsTrue (is_active (arrived core entry) t) }
     ensures keeps { (fresh : ℕ → X) (rows : List TaskRow) (ended : List ℕ) (before : List (Option X)) (t : ℕ) (row : TaskRow) →
         slice_get rows t ≡ Some row → BeginsAfresh fresh rows ended before t row }
 {}
@@ -113,8 +125,9 @@ pub fn ends_make_tasks_dormant()
         ChangesTask core own t Dormant [] (Hears Nothing) (effect core own (Terminate t)) }
 {}
 
-/// Of the actions that fit the tables only these end the task that acts: its end, a trap, that it terminates itself, and a
-/// release where a count stands at 2^31 - 1. Every other one is answered.
+/// Of the actions that fit the tables only these end the task that acts: its end, a trap, that it terminates itself, a release
+/// where a count stands at 2^31 - 1, and a GET whose fields aren't all there and good, or a TAKE with no value there. Every other
+/// one is answered.
 pub fn only_ends_end()
     ensures { (setup : Setup) (core : Core) (own : ℕ) (action : Action) → Fits setup action →
         ((effect core own action).reply ≡ Ends) ↔ EndsItself core own action }
@@ -154,25 +167,94 @@ pub fn counts_stay_counts()
     ensures acts { (setup : Setup) (core : Core) (own : ℕ) (action : Action) → HasCounts setup core → Fits setup action →
         HasCounts setup (effect core own action).core }
     ensures turns { (setup : Setup) (core : Core) (offers : Offered) (t : ℕ) → HasCounts setup core → HasCounts setup (turned core offers t) }
+    ensures passes { (setup : Setup) (core : Core) → HasCounts setup core → HasCounts setup (millisecond core) }
+    ensures arrives { (setup : Setup) (core : Core) (entry : Entry) → HasCounts setup core → HasCounts setup (arrived core entry) }
 {}
 
-/// There are always the declared tasks with their declared priorities, and every active task's priority is from 1 to 255.
+/// There are always the declared tasks with their declared priorities. Every active task's priority is from 1 to 255, and so is
+/// that with which a plan starts a task.
 pub fn tasks_keep_their_declared_priority()
     ensures opens { (setup : Setup) → map declared_of (opening setup).tasks ≡ map (λ task. task.priority) setup.tasks }
     ensures acts { (core : Core) (own : ℕ) (action : Action) → map declared_of (effect core own action).core.tasks ≡ map declared_of core.tasks }
     ensures turns { (core : Core) (offers : Offered) (t : ℕ) → (turned core offers t).tasks ≡ core.tasks }
+    ensures passes { (core : Core) → map declared_of (millisecond core).tasks ≡ map declared_of core.tasks }
+    ensures arrives { (core : Core) (entry : Entry) → map declared_of (arrived core entry).tasks ≡ map declared_of core.tasks }
     ensures urgent_at_start { (setup : Setup) → AllByRecursion IsTaskEntry setup.tasks → HasUrgencies (opening setup) }
     ensures urgent { (setup : Setup) (core : Core) (own : ℕ) (action : Action) → HasUrgencies core → Fits setup action →
         HasUrgencies (effect core own action).core }
+    ensures urgent_later { (core : Core) → HasUrgencies core → HasUrgencies (millisecond core) }
+    ensures urgent_then { (core : Core) (entry : Entry) → HasUrgencies core → HasUrgencies (arrived core entry) }
 {}
 
-/// An action that fits the tables keeps the kinds of the module's variables, and is answered by what suits it: a read by a
-/// value of its variable's kind.
+/// Every plan is a lawful one, and the clock a time of day.
+pub fn plans_stay_lawful()
+    ensures opens { (setup : Setup) → HasPlans setup (opening setup) }
+    ensures acts { (setup : Setup) (core : Core) (own : ℕ) (action : Action) → HasPlans setup core → Fits setup action →
+        HasPlans setup (effect core own action).core }
+    ensures turns { (setup : Setup) (core : Core) (offers : Offered) (t : ℕ) → HasPlans setup core → HasPlans setup (turned core offers t) }
+    ensures passes { (setup : Setup) (core : Core) → HasPlans setup core → HasPlans setup (millisecond core) }
+    ensures arrives { (setup : Setup) (core : Core) (entry : Entry) → HasPlans setup core → IsFitting setup entry →
+        HasPlans setup (arrived core entry) }
+{}
+
+/// Time passes by milliseconds alone.
+pub fn time_passes()
+    ensures acts { (core : Core) (own : ℕ) (action : Action) → (effect core own action).core.moment ≡ core.moment }
+    ensures passes { (core : Core) → (millisecond core).moment ≡ core.moment + 1 }
+    ensures arrives { (core : Core) (entry : Entry) → (arrived core entry).moment ≡ core.moment }
+{}
+
+/// The module's variables and the inputs always hold values of their kinds, and an action that fits the tables is answered by what
+/// suits it: a read by a value of its variable's kind, a GET by values of its targets' kinds.
 pub fn keeps_kinds()
+    ensures opens { (setup : Setup) → AllByRecursion IsValue setup.slots → AllByRecursion IsDevice setup.devices →
+        HasKinds setup (opening setup) }
     ensures slots { (setup : Setup) (core : Core) (t : ℕ) (action : Action) → HasKinds setup core → Fits setup action →
         HasKinds setup (effect core t action).core }
+    ensures passes { (setup : Setup) (core : Core) → HasKinds setup core → HasKinds setup (millisecond core) }
+    ensures arrives { (setup : Setup) (core : Core) (entry : Entry) → HasKinds setup core → IsFitting setup entry →
+        HasKinds setup (arrived core entry) }
     ensures answers { (setup : Setup) (core : Core) (t : ℕ) (action : Action) (answer : Answer) → HasKinds setup core → Fits setup action →
         (effect core t action).reply ≡ Hears answer → Suits setup t action answer }
+{}
+
+/// Which mark comes next of a journal's entries. Of `run` it is an action of the task that acts next. `run` where nobody can act,
+/// `run 0`, `tick 0` and `pass 0` give none, and it comes of the later entries. `tick` and `pass` let a millisecond pass, and
+/// `pass` leaves its picks before the other milliseconds. Each other entry is one mark.
+pub fn entries_make_marks()
+    ensures run { (t n : ℕ) (rest : List Entry) →
+        next_mark (Some t) (Run (n + 1) ∷ rest) ≡ Some (record { mark = Acts t; rest = Run n ∷ rest }) }
+    ensures idle { (n : ℕ) (rest : List Entry) → next_mark None (Run n ∷ rest) ≡ next_mark None rest }
+    ensures no_run { (picked : Option ℕ) (rest : List Entry) → next_mark picked (Run 0 ∷ rest) ≡ next_mark picked rest }
+    ensures tick { (picked : Option ℕ) (n : ℕ) (rest : List Entry) →
+        next_mark picked (Tick (n + 1) ∷ rest) ≡ Some (record { mark = Passes; rest = Tick n ∷ rest }) }
+    ensures no_tick { (picked : Option ℕ) (rest : List Entry) → next_mark picked (Tick 0 ∷ rest) ≡ next_mark picked rest }
+    ensures pass { (picked : Option ℕ) (times picks : ℕ) (rest : List Entry) → next_mark picked (Pass (times + 1) picks ∷ rest) ≡
+        Some (record { mark = Passes; rest = Run picks ∷ Pass times picks ∷ rest }) }
+    ensures no_pass { (picked : Option ℕ) (picks : ℕ) (rest : List Entry) →
+        next_mark picked (Pass 0 picks ∷ rest) ≡ next_mark picked rest }
+    ensures turn { (picked : Option ℕ) (t : ℕ) (rest : List Entry) →
+        next_mark picked (Turn t ∷ rest) ≡ Some (record { mark = Turns t; rest = rest }) }
+    ensures state { (picked : Option ℕ) (rest : List Entry) →
+        next_mark picked (State ∷ rest) ≡ Some (record { mark = Tells; rest = rest }) }
+    ensures other { (picked : Option ℕ) (entry : Entry) (rest : List Entry) → ComesIn entry →
+        next_mark picked (entry ∷ rest) ≡ Some (record { mark = Arrives entry; rest = rest }) }
+    ensures end { (picked : Option ℕ) → next_mark picked [] ≡ None }
+{}
+
+/// What the marks of time and of what comes in do to the core, and which entries a mark leaves. `tick` lets its milliseconds pass
+/// one by one, whoever could act.
+pub fn marks_change_the_core()
+    ensures leaves { (offer : Supplier) (s : Source) (coming : Coming) → source_next offer s ≡ Some coming →
+        (source_step offer s).entries ≡ coming.rest }
+    ensures passes { (offer : Supplier) (s : Source) (coming : Coming) → source_next offer s ≡ Some coming → coming.mark ≡ Passes →
+        (source_step offer s).core ≡ millisecond s.core }
+    ensures arrives { (offer : Supplier) (s : Source) (coming : Coming) (entry : Entry) → source_next offer s ≡ Some coming →
+        coming.mark ≡ Arrives entry → (source_step offer s).core ≡ arrived s.core entry }
+    ensures tick_passes { (offer : Supplier) (s : Source) (n more : ℕ) (rest : List Entry) → s.entries ≡ Tick (n + more) ∷ rest →
+        (source_after offer s n).core ≡ passed n s.core }
+    ensures tick_leaves { (offer : Supplier) (s : Source) (n more : ℕ) (rest : List Entry) → s.entries ≡ Tick (n + more) ∷ rest →
+        (source_after offer s n).entries ≡ Tick more ∷ rest }
 {}
 
 /// Some code, with a relation that says where each task's code stands after its answers, and a weight that falls at each
@@ -190,15 +272,18 @@ pub trait Code {
 }
 
 /// What holds of one task at a time is enough for a whole run: where each task's code stands where its answers lead, and
-/// offers its next action within a bound, the machine runs as the source's rules say, for any tasks and any journal.
+/// offers its next action within a bound, the machine runs as the source's rules say, for any tasks and any journal of fitting
+/// entries.
 pub fn faithful_by_task<S: Code>()
-    ensures { (setup : Setup) → AllByRecursion IsValue setup.slots → Alone setup S.offer S.engine S.Stands → Soon (length setup.tasks) S.engine S.Stands S.weight S.rows →
-        IsFaithful S.offer S.engine setup (length setup.tasks) S.rows }
+    ensures { (setup : Setup) → AllByRecursion IsValue setup.slots → AllByRecursion IsDevice setup.devices → Alone setup S.offer S.engine S.Stands →
+        Soon (length setup.tasks) S.engine S.Stands S.weight S.rows → IsFaithful S.offer S.engine setup (length setup.tasks) S.rows }
 {}
 
-/// Under the same conditions every variable of the module holds a value of its kind, after any number of marks.
+/// Under the same conditions every variable of the module holds a value of its kind, and what waits at an input are values of its
+/// kind, after any number of marks.
 pub fn always_has_kinds<S: Code>()
-    ensures { (setup : Setup) → AllByRecursion IsValue setup.slots → Alone setup S.offer S.engine S.Stands → (es : List Entry) (n : ℕ) →
+    ensures { (setup : Setup) → AllByRecursion IsValue setup.slots → AllByRecursion IsDevice setup.devices → Alone setup S.offer S.engine S.Stands →
+        (es : List Entry) → AreFitting setup es → (n : ℕ) →
         HasKinds setup (machine_run S.engine setup es n).core }
 {}
 
@@ -206,13 +291,14 @@ pub fn always_has_kinds<S: Code>()
 /// moment, down to how each task stands.
 pub fn ends_alike<S>()
     ensures { (offer : Supplier) (engine : Engine S) (setup : Setup) (count rows : ℕ) → IsFaithful offer engine setup count rows →
-        (es : List Entry) (n : ℕ) → HasEnded engine setup es n → EndsAlike offer engine setup es n }
+        (es : List Entry) → AreFitting setup es → (n : ℕ) → HasEnded engine setup es n → EndsAlike offer engine setup es n }
 {}
 
 /// Under the same conditions the machine comes to its end where the source's run does: after the m marks that come, within
 /// m + 1 times the steps from one mark to the next.
 pub fn ends_soon<S: Code>()
-    ensures { (setup : Setup) → AllByRecursion IsValue setup.slots → Alone setup S.offer S.engine S.Stands → Soon (length setup.tasks) S.engine S.Stands S.weight S.rows → (es : List Entry) (m : ℕ) →
+    ensures { (setup : Setup) → AllByRecursion IsValue setup.slots → AllByRecursion IsDevice setup.devices → Alone setup S.offer S.engine S.Stands →
+        Soon (length setup.tasks) S.engine S.Stands S.weight S.rows → (es : List Entry) → AreFitting setup es → (m : ℕ) →
         Comes S.offer setup es m → source_next S.offer (source_run S.offer setup es m) ≡ None →
         EndsSoon S.engine setup es m ((m + 1) * (length setup.tasks * S.rows + 1)) }
 {}

@@ -19,3 +19,9 @@ returns-clause-slots c = λ setup. refl
 
 pub returns-clause-counts : goal.returns-clause-counts
 returns-clause-counts c = λ setup. refl
+
+pub returns-clause-clock : goal.returns-clause-clock
+returns-clause-clock c = λ setup. refl
+
+pub returns-clause-channels : goal.returns-clause-channels
+returns-clause-channels c = λ setup. refl

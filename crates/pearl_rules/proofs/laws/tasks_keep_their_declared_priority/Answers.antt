@@ -1,3 +1,5 @@
+use Rattle.pearl_rules.proofs.EffectLaws.{millisecond-leaves}
+use Rattle.pearl_rules.proofs.UrgencyLaws.{arrived-declared, millisecond-urgencies, arrived-urgencies}
 use Rattle.std.proofs.Common.{ap}
 use Rattle.pearl_rules.proofs.EffectLaws.{leaves}
 use Rattle.pearl_rules.proofs.PickLaws.{turned-is}
@@ -18,3 +20,15 @@ returns-clause-urgent_at_start c = λ setup all. opening-urgencies setup.tasks a
 
 pub returns-clause-urgent : goal.returns-clause-urgent
 returns-clause-urgent c = effect-urgencies
+
+pub returns-clause-passes : goal.returns-clause-passes
+returns-clause-passes c = λ core. (millisecond-leaves core).declared
+
+pub returns-clause-arrives : goal.returns-clause-arrives
+returns-clause-arrives c = arrived-declared
+
+pub returns-clause-urgent_later : goal.returns-clause-urgent_later
+returns-clause-urgent_later c = millisecond-urgencies
+
+pub returns-clause-urgent_then : goal.returns-clause-urgent_then
+returns-clause-urgent_then c = arrived-urgencies

@@ -1,3 +1,4 @@
+use Rattle.pearl_rules.proofs.ToldLaws.{millisecond-told_before, arrived-told_before}
 use Rattle.pearl_rules.proofs.ToldLaws.{effect-told_before, turned-told_before, showing-told_before, pick-told_before, states-told_before, shown-told_before}
 use Rattle.pearl_rules.proofs.laws.tells_after.Goals as goal
 
@@ -18,3 +19,9 @@ returns-clause-states c = states-told_before
 
 pub returns-clause-shown : goal.returns-clause-shown
 returns-clause-shown c = shown-told_before
+
+pub returns-clause-passes : goal.returns-clause-passes
+returns-clause-passes c = millisecond-told_before
+
+pub returns-clause-arrives : goal.returns-clause-arrives
+returns-clause-arrives c = arrived-told_before

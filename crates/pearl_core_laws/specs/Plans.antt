@@ -1,0 +1,150 @@
+-- What plans come to: which moment a time of day is, at which moments a plan serves, and what becomes of a task where
+-- plans serve.
+use Rattle.std.specs.Prelude.{◌≡◌, ◌≢◌, ℕ, ◌+◌, ◌*◌, ◌≤◌, List, [], ◌∷◌, ◌++◌, Bool, true, false, ◌&&◌, if◌then◌else◌, Option, Some, None}
+use Rattle.pearl_rules.specs.declared.action.Start.{Start}
+use Rattle.pearl_rules.specs.declared.action.Start.TheVariants.{When, WhenAfter}
+use Rattle.pearl_rules.specs.declared.action.Repeat.{Repeat}
+use Rattle.pearl_rules.specs.declared.event.Event.{Event}
+use Rattle.pearl_rules.specs.declared.event.Event.TheVariants as event
+use Rattle.pearl_rules.specs.declared.row.Mode.{Mode}
+use Rattle.pearl_rules.specs.declared.row.Mode.TheVariants.{Dormant, Active}
+use Rattle.pearl_rules.specs.declared.row.Plan.{Plan}
+use Rattle.pearl_rules.specs.declared.row.Activation.{Activation}
+use Rattle.pearl_rules.specs.declared.row.TaskRow.{TaskRow}
+use Rattle.pearl_rules.specs.Core.{Core, Channel, row_of}
+use Rattle.pearl_rules.specs.Plans.{time_at, planned, begun, waits_for, serves_if}
+use Rattle.pearl_rules.specs.Devices.{channel_of}
+use Rattle.pearl_rules.specs.Effect.{priority_or_declared}
+use Rattle.pearl_rules.specs.Laws.{happened_at}
+
+-- TIME
+
+-- a moment at which it is this time of day, not before another, and the least one
+pub record IsNextTime (core : Core) (time moment next : ℕ) : Type 0 where
+  pub right : time_at core next ≡ time
+  pub later : moment ≤ next
+  pub least : (u : ℕ) → moment ≤ u → time_at core u ≡ time → next ≤ u
+
+-- u is the first moment or so many periods after it, and not behind the last one
+abbrev pub IsMoment : (first period last u : ℕ) → Type 0
+IsMoment first period last u = ((times : ℕ) × (u ≡ first + times * period)) × (u ≤ last)
+
+-- the plan waits for an interrupt
+abbrev pub Waits : Start → Type 0
+Waits (When interrupt) = Unit {0}
+Waits (WhenAfter interrupt time) = Unit {0}
+Waits other = ⊥
+
+-- ONE TASK
+
+-- one task's row is this now, these events were told, and nothing else changed
+pub record ChangesRow (old new : Core) (t : ℕ) (row : TaskRow) (events : List Event) : Type 0 where
+  pub this : row_of new t ≡ Some row
+  pub others : (u : ℕ) → u ≢ t → row_of new u ≡ row_of old u
+  pub rest : new ≡ record old { tasks = new.tasks; told = old.told ++ happened_at old.moment events }
+
+-- how a task stands after it was to go on and to be started with a priority: an active one goes on, a dormant one is
+-- started
+abbrev pub mode_after : (goes_on : Bool) (starts : Option ℕ) → Mode → Mode
+mode_after goes_on None Dormant = Dormant
+mode_after goes_on (Some priority) Dormant = Active priority false
+mode_after true starts (Active priority suspended) = Active priority false
+mode_after false starts (Active priority suspended) = Active priority suspended
+
+-- what is told of it
+abbrev pub start_events : (t : ℕ) (starts : Option ℕ) → Mode → List Event
+start_events t None mode = []
+start_events t (Some priority) Dormant = event.Start t priority ∷ []
+start_events t (Some priority) (Active own suspended) = event.Overrun t ∷ []
+
+-- the priority with which a task is to be started now
+abbrev pub starts_now : Core → Option Activation → Option ℕ
+starts_now core None = None
+starts_now core (Some activation) = if serves_if core (Some activation.plan) then Some activation.priority else None
+
+-- NEW PLANS
+
+-- the plan that an action makes to start a task
+abbrev pub new_activation : Core → (t : ℕ) → Start → Repeat → Option ℕ → Activation
+new_activation core t start repeat priority =
+    record { plan = planned core start repeat; priority = priority_or_declared core t priority }
+
+-- a task with a new plan to be started, which serves at once where its series fires now
+abbrev pub with_new_activation : Core → Activation → TaskRow → TaskRow
+with_new_activation core activation row = record row {
+  mode = mode_after false (starts_now core (Some activation)) row.mode;
+  activation = Some activation;
+}
+
+-- a task with a new plan to go on, which serves at once where its series fires now, and is gone then
+abbrev pub with_new_continuation : Core → Plan → TaskRow → TaskRow
+with_new_continuation core plan row = record row {
+  mode = mode_after (serves_if core (Some plan)) None row.mode;
+  continuation = if serves_if core (Some plan) then None else Some plan;
+}
+
+-- MILLISECONDS
+
+-- a task after the plans that fire now have served: a plan by which it goes on is gone then
+abbrev pub served_row : Core → TaskRow → TaskRow
+served_row core row = record row {
+  mode = mode_after (serves_if core row.continuation) (starts_now core row.activation) row.mode;
+  continuation = if serves_if core row.continuation then None else row.continuation;
+}
+
+-- what is told where the plans of tasks serve, in order of declaration; the first task has the number t
+abbrev pub served_events : Core → (t : ℕ) → List TaskRow → List Event
+served_events core t [] = []
+served_events core t (row ∷ rows) =
+    start_events t (starts_now core row.activation) row.mode ++ served_events core (t + 1) rows
+
+-- INTERRUPTS
+
+-- the plan after an interrupt occurred: one that waits for it begins a new series
+abbrev pub plan_after : Core → (interrupt : ℕ) → Plan → Plan
+plan_after core interrupt plan = if waits_for interrupt plan.start then begun core plan else plan
+
+-- whether it serves at once
+abbrev pub serves_after : Core → (interrupt : ℕ) → Plan → Bool
+serves_after core interrupt plan = waits_for interrupt plan.start && serves_if core (Some (begun core plan))
+
+abbrev pub goes_after : Core → (interrupt : ℕ) → Option Plan → Bool
+goes_after core interrupt None = false
+goes_after core interrupt (Some plan) = serves_after core interrupt plan
+
+abbrev pub starts_after : Core → (interrupt : ℕ) → Option Activation → Option ℕ
+starts_after core interrupt None = None
+starts_after core interrupt (Some activation) =
+    if serves_after core interrupt activation.plan then Some activation.priority else None
+
+abbrev pub continuation_after : Core → (interrupt : ℕ) → Option Plan → Option Plan
+continuation_after core interrupt None = None
+continuation_after core interrupt (Some plan) =
+    if serves_after core interrupt plan then None else Some (plan_after core interrupt plan)
+
+abbrev pub activation_after : Core → (interrupt : ℕ) → Option Activation → Option Activation
+activation_after core interrupt None = None
+activation_after core interrupt (Some activation) =
+    Some (record activation { plan = plan_after core interrupt activation.plan })
+
+-- a task after an interrupt occurred
+abbrev pub reached_row : Core → (interrupt : ℕ) → TaskRow → TaskRow
+reached_row core interrupt row = record row {
+  mode = mode_after (goes_after core interrupt row.continuation) (starts_after core interrupt row.activation) row.mode;
+  continuation = continuation_after core interrupt row.continuation;
+  activation = activation_after core interrupt row.activation;
+}
+
+-- what is told then, in order of declaration
+abbrev pub reached_events : Core → (interrupt t : ℕ) → List TaskRow → List Event
+reached_events core interrupt t [] = []
+reached_events core interrupt t (row ∷ rows) =
+    start_events t (starts_after core interrupt row.activation) row.mode ++ reached_events core interrupt (t + 1) rows
+
+-- DEVICES
+
+-- a device's channel is this now, and nothing else changed
+pub record ChangesChannel (old new : Core) (device : ℕ) (channel : Channel) : Type 0 where
+  pub this : channel_of new device ≡ Some channel
+  pub others : (other : ℕ) → other ≢ device → channel_of new other ≡ channel_of old other
+  pub rest : new ≡ record old { channels = new.channels }

@@ -1,0 +1,475 @@
+-- What starts, plans that serve, interrupts and milliseconds keep: a property of cores that each small step keeps is kept by all of them,
+-- and by every action where ends keep it too.
+use Rattle.std.proofs.Common.{◌≡◌, ℕ, zero, suc, ◌+◌, Bool, true, false, nat_lt, if◌then◌else◌, IfSome, List, [], ◌∷◌, ◌++◌, ◌-◌, Option, Some, None, Result, Ok, Err, length, length-set, drop, nat_le, slice_set, refl, sym, ap, subst, ◌∙◌}
+use Rattle.pearl_value.specs.declared.cell.Cell.{Cell}
+use Rattle.pearl_value.specs.declared.kind.Kind.{Kind}
+use Rattle.pearl_value.specs.declared.trap.Trap.{Trap}
+use Rattle.pearl_value.specs.Conversions.{converted}
+use Rattle.pearl_value.specs.declared.trap.Trap.TheVariants.{SemaLimit, Format}
+use Rattle.pearl_rules.specs.declared.action.Action.{Action}
+use Rattle.pearl_rules.specs.declared.action.Action.TheVariants as action
+use Rattle.pearl_rules.specs.declared.action.Start.{Start}
+use Rattle.pearl_rules.specs.declared.action.Repeat.{Repeat}
+use Rattle.pearl_rules.specs.declared.action.Repeat.TheVariants.{Once}
+use Rattle.pearl_rules.specs.declared.entry.Entry.{Entry}
+use Rattle.pearl_rules.specs.declared.entry.Entry.TheVariants as entry
+use Rattle.pearl_rules.specs.declared.event.Event.{Event}
+use Rattle.pearl_rules.specs.declared.event.Event.TheVariants as event
+use Rattle.pearl_rules.specs.declared.row.Mode.{Mode}
+use Rattle.pearl_rules.specs.declared.row.Mode.TheVariants.{Dormant, Active}
+use Rattle.pearl_rules.specs.declared.row.Plan.{Plan}
+use Rattle.pearl_rules.specs.declared.row.Activation.{Activation}
+use Rattle.pearl_rules.specs.declared.row.TaskRow.{TaskRow}
+use Rattle.pearl_rules.specs.Core.{Core, Channel, Switch, Bytes, Values, Outward, note, row_of, with_row, mode_of_row, mode_of, is_active}
+use Rattle.pearl_rules.specs.Counts.{count_at, all_below_most, lowered, raised}
+use Rattle.pearl_rules.specs.Plans.{on_row, with_mode, with_continuation, with_activation, continuation_in, continuation_of, activation_in, activation_of, started_by, started, marked_mode, with_mark, planned, begun, waits_for, serves_if, continued, serve_continuation, serve_activation_by, serve_activation, plan_continuation, plan_activation, each_task, served, millisecond, begin_continuation, begin_activation, continuation_began, reached, occurred}
+use Rattle.pearl_rules.specs.Devices.{channel_of, with_channel, is_enabled, interrupted, items_of, bytes_at, terminal_room, with_bytes, without_bytes, values_at, input_room, joined, with_value_by, with_value, without_value_by, without_value, arrived}
+use Rattle.pearl_rules.specs.Scan.{Scanned, Short, Bad, Got, scan}
+use Rattle.pearl_rules.specs.Effect.{finished, ending, is_at_once, activated, continues, resuming, prevented, priority_or_declared, stopped_by, stopping, releasing, trying, getting, taking, effect_of, effect}
+
+-- how a task's mode may change where no task ends: a dormant one becomes active with a priority of this sort, an active one stays so with its own
+abbrev pub Stays : (Urgent : ℕ → Type 0) → Mode → Mode → Type 0
+Stays Urgent Dormant Dormant = Unit {0}
+Stays Urgent Dormant (Active priority suspended) = Urgent priority
+Stays Urgent (Active own before) Dormant = ⊥
+Stays Urgent (Active own before) (Active priority suspended) = own ≡ priority
+
+-- a priority and a plan of these sorts
+abbrev pub Starts : (Urgent : ℕ → Type 0) (Lawful : Plan → Type 0) → Activation → Type 0
+Starts Urgent Lawful activation = Urgent activation.priority × Lawful activation.plan
+
+-- Each small step keeps the property P: one more event, another mode, another plan. The plans of a core with P are of these sorts.
+pub record Closed (Urgent : ℕ → Type 0) (Lawful : Plan → Type 0) (P : Core → Type 0) : Type 0 where
+  pub told : (core : Core) (e : Event) → P core → P (note core e)
+  pub stands : (core : Core) (t : ℕ) (row : TaskRow) (mode : Mode) → row_of core t ≡ Some row → Stays Urgent row.mode mode → P core →
+      P (with_row core t (record row { mode = mode }))
+  pub goes_on : (core : Core) (t : ℕ) (row : TaskRow) (plan : Option Plan) → row_of core t ≡ Some row → IfSome plan Lawful → P core →
+      P (with_row core t (record row { continuation = plan }))
+  pub starts : (core : Core) (t : ℕ) (row : TaskRow) (plan : Activation) → row_of core t ≡ Some row → Starts Urgent Lawful plan → P core →
+      P (with_row core t (record row { activation = Some plan }))
+  pub going : (core : Core) (t : ℕ) (row : TaskRow) → row_of core t ≡ Some row → P core → IfSome row.continuation Lawful
+  pub starting : (core : Core) (t : ℕ) (row : TaskRow) → row_of core t ≡ Some row → P core → IfSome row.activation (Starts Urgent Lawful)
+  pub begins : (core : Core) (plan : Plan) → Lawful plan → Lawful (begun core plan)
+
+-- and so does each step that ends a task or drops its plans
+pub record ClosedAtEnds (P : Core → Type 0) : Type 0 where
+  pub ends : (core : Core) (t : ℕ) (row : TaskRow) → row_of core t ≡ Some row → P core →
+      P (with_row core t (record row { mode = Dormant; continuation = None }))
+  pub prevents : (core : Core) (t : ℕ) (row : TaskRow) → row_of core t ≡ Some row → P core →
+      P (with_row core t (record row { continuation = None; activation = None }))
+
+-- another core that differs in values, counts, channels and who acted last alone, of which it has as many
+pub record OnlyValues (core other : Core) : Type 0 where
+  pub moment : other.moment ≡ core.moment
+  pub clock : other.clock ≡ core.clock
+  pub tasks : other.tasks ≡ core.tasks
+  pub formats : other.formats ≡ core.formats
+  pub told : other.told ≡ core.told
+  pub slots : length other.slots ≡ length core.slots
+  pub counts : length other.counts ≡ length core.counts
+  pub channels : length other.channels ≡ length core.channels
+
+-- and so does whatever changes values alone
+abbrev pub IsFree : (P : Core → Type 0) → Type 0
+IsFree P = (core other : Core) → OnlyValues core other → P core → P other
+
+-- what a task does next, of these sorts
+abbrev pub Brings : (Urgent : ℕ → Type 0) (Lawful : Plan → Type 0) → Core → Action → Type 0
+Brings Urgent Lawful core (action.Activate t start repeat priority) =
+    ((row : TaskRow) → row_of core t ≡ Some row → Urgent (priority_or_declared core t priority)) × ((now : Core) → Lawful (planned now start repeat))
+Brings Urgent Lawful core (action.Continue t start) = (now : Core) → Lawful (planned now start Once)
+Brings Urgent Lawful core (action.Resume start) = (now : Core) → Lawful (planned now start Once)
+Brings Urgent Lawful core other = Unit {0}
+
+-- what an action does to values, counts and channels keeps P, in this core
+abbrev pub KeepsValues : (P : Core → Type 0) → Core → Action → Type 0
+KeepsValues P core (action.Write slot value) = P (record core { slots = slice_set core.slots slot value })
+KeepsValues P core (action.Request list) = P (record core { counts = lowered core.counts list.items })
+KeepsValues P core (action.Release list) = all_below_most core.counts list.items ≡ true → P (record core { counts = raised core.counts list.items })
+KeepsValues P core (action.Try s) = P (record core { counts = lowered core.counts (s ∷ []) })
+KeepsValues P core (action.Enable device) = P (with_channel core device (Switch true))
+KeepsValues P core (action.Disable device) = P (with_channel core device (Switch false))
+KeepsValues P core (action.Get device format kinds) = (used : ℕ) → P (without_bytes core device used)
+KeepsValues P core (action.Take device) = P (without_value core device)
+KeepsValues P core other = Unit {0}
+
+-- lower counts are as many
+pub lowered-length : (counts semaphores : List ℕ) → length (lowered counts semaphores) ≡ length counts
+lowered-length counts [] = refl
+lowered-length counts (s ∷ others) =
+    lowered-length (slice_set counts s (count_at counts s - 1)) others ∙ length-set counts s (count_at counts s - 1)
+
+-- and so are higher ones
+pub raised-length : (counts semaphores : List ℕ) → length (raised counts semaphores) ≡ length counts
+raised-length counts [] = refl
+raised-length counts (s ∷ others) =
+    raised-length (slice_set counts s (count_at counts s + 1)) others ∙ length-set counts s (count_at counts s + 1)
+
+-- who acted last is no value of the module
+pub only_last : (core : Core) (last : Option ℕ) → OnlyValues core (record core { last = last })
+only_last core last =
+    record { moment = refl; clock = refl; tasks = refl; formats = refl; told = refl; slots = refl; counts = refl; channels = refl }
+
+-- as many slots
+only_slots : (core : Core) (slots : List Cell) → length slots ≡ length core.slots → OnlyValues core (record core { slots = slots })
+only_slots core slots same =
+    record { moment = refl; clock = refl; tasks = refl; formats = refl; told = refl; slots = same; counts = refl; channels = refl }
+
+-- as many counts
+only_counts : (core : Core) (counts : List ℕ) → length counts ≡ length core.counts → OnlyValues core (record core { counts = counts })
+only_counts core counts same =
+    record { moment = refl; clock = refl; tasks = refl; formats = refl; told = refl; slots = refl; counts = same; channels = refl }
+
+-- another channel of a device
+only_channel : (core : Core) (device : ℕ) (channel : Channel) → OnlyValues core (with_channel core device channel)
+only_channel core device channel = record {
+  moment = refl;
+  clock = refl;
+  tasks = refl;
+  formats = refl;
+  told = refl;
+  slots = refl;
+  counts = refl;
+  channels = length-set core.channels device channel;
+}
+
+-- what holds with each of two answers to a question
+pub either : (P : Core → Type 0) (test : Bool) (core other : Core) → P core → P other → P (if test then core else other)
+either P true core other p q = p
+either P false core other p q = q
+
+-- what each task's step keeps is kept by the steps of all
+pub each-kept : (P : Core → Type 0) (change : Core → ℕ → Core) → ((core : Core) (t : ℕ) → P core → P (change core t)) → (n : ℕ) (core : Core) →
+    P core → P (each_task change n core)
+each-kept P change kept zero core p = p
+each-kept P change kept (suc n) core p = kept (each_task change n core) n (each-kept P change kept n core p)
+
+module _ (Urgent : ℕ → Type 0) (Lawful : Plan → Type 0) (P : Core → Type 0) (closed : Closed Urgent Lawful P) where
+  -- ROWS
+
+  -- another mode
+  mode-kept : (core : Core) (t : ℕ) (mode : Mode) → ((row : TaskRow) → row_of core t ≡ Some row → Stays Urgent row.mode mode) → P core →
+      P (with_mode core t mode)
+  mode-kept core t mode stays p = by_row (row_of core t) refl
+    where
+      by_row : (row : Option TaskRow) → row_of core t ≡ row → P (on_row row core (λ r. with_row core t (record r { mode = mode })))
+      by_row None at = p
+      by_row (Some row) at = closed.stands core t row mode at (stays row at) p
+
+  -- another plan to go on
+  continuation-kept : (core : Core) (t : ℕ) (plan : Option Plan) → IfSome plan Lawful → P core → P (with_continuation core t plan)
+  continuation-kept core t plan lawful p = by_row (row_of core t) refl
+    where
+      by_row : (row : Option TaskRow) → row_of core t ≡ row → P (on_row row core (λ r. with_row core t (record r { continuation = plan })))
+      by_row None at = p
+      by_row (Some row) at = closed.goes_on core t row plan at lawful p
+
+  -- another plan to be started
+  activation-kept : (core : Core) (t : ℕ) (plan : Activation) → ((row : TaskRow) → row_of core t ≡ Some row → Starts Urgent Lawful plan) → P core →
+      P (with_activation core t (Some plan))
+  activation-kept core t plan lawful p = by_row (row_of core t) refl
+    where
+      by_row : (row : Option TaskRow) → row_of core t ≡ row → P (on_row row core (λ r. with_row core t (record r { activation = Some plan })))
+      by_row None at = p
+      by_row (Some row) at = closed.starts core t row plan at (lawful row at) p
+
+  -- the plans that a task has
+  continuation-is : (core : Core) (t : ℕ) → P core → IfSome (continuation_of core t) Lawful
+  continuation-is core t p = by_row (row_of core t) refl
+    where
+      by_row : (row : Option TaskRow) → row_of core t ≡ row → IfSome (continuation_in row) Lawful
+      by_row None at = tt
+      by_row (Some row) at = closed.going core t row at p
+
+  activation-is : (core : Core) (t : ℕ) → P core → IfSome (activation_of core t) (Starts Urgent Lawful)
+  activation-is core t p = by_row (row_of core t) refl
+    where
+      by_row : (row : Option TaskRow) → row_of core t ≡ row → IfSome (activation_in row) (Starts Urgent Lawful)
+      by_row None at = tt
+      by_row (Some row) at = closed.starting core t row at p
+
+  -- STARTS AND SUSPENDED TASKS
+
+  pub started-kept : (core : Core) (t priority : ℕ) → ((row : TaskRow) → row_of core t ≡ Some row → Urgent priority) → P core →
+      P (started core t priority)
+  started-kept core t priority urgent p = by_mode (mode_of core t) refl
+    where
+      by_mode : (mode : Mode) → mode_of core t ≡ mode → P (started_by mode core t priority)
+      by_mode Dormant dormant =
+          closed.told (with_mode core t (Active priority false)) (event.Start t priority)
+          (mode-kept core t (Active priority false)
+          (λ row at. subst (λ m. Stays Urgent m (Active priority false)) (sym dormant ∙ ap mode_of_row at) (urgent row at)) p)
+      by_mode (Active own suspended) active = closed.told core (event.Overrun t) p
+
+  pub mark-kept : (core : Core) (t : ℕ) (suspended : Bool) → P core → P (with_mark core t suspended)
+  mark-kept core t suspended p =
+      mode-kept core t (marked_mode suspended (mode_of core t))
+      (λ row at. subst (λ m. Stays Urgent row.mode (marked_mode suspended m)) (sym (ap mode_of_row at)) (marked row.mode)) p
+    where
+      marked : (mode : Mode) → Stays Urgent mode (marked_mode suspended mode)
+      marked Dormant = tt
+      marked (Active priority before) = refl
+
+  -- PLANS THAT SERVE
+
+  continued-kept : (core : Core) (t : ℕ) → P core → P (continued core t)
+  continued-kept core t p = continuation-kept (with_mark core t false) t None tt (mark-kept core t false p)
+
+  serve_continuation-kept : (core : Core) (t : ℕ) → P core → P (serve_continuation core t)
+  serve_continuation-kept core t p =
+      either P (serves_if core (continuation_of core t)) (continued core t) core (continued-kept core t p) p
+
+  serve_activation-kept : (core : Core) (t : ℕ) → P core → P (serve_activation core t)
+  serve_activation-kept core t p = by_plan (activation_of core t) (activation-is core t p)
+    where
+      by_plan : (plan : Option Activation) → IfSome plan (Starts Urgent Lawful) → P (serve_activation_by plan core t)
+      by_plan None lawful = p
+      by_plan (Some plan) lawful =
+          either P (serves_if core (Some plan.plan)) (started core t plan.priority) core (started-kept core t plan.priority (λ row at. lawful.0) p) p
+
+  pub plan_continuation-kept : (core : Core) (t : ℕ) (plan : Plan) → Lawful plan → P core → P (plan_continuation core t plan)
+  plan_continuation-kept core t plan lawful p =
+      serve_continuation-kept (with_continuation core t (Some plan)) t (continuation-kept core t (Some plan) lawful p)
+
+  pub plan_activation-kept : (core : Core) (t : ℕ) (plan : Activation) → ((row : TaskRow) → row_of core t ≡ Some row → Starts Urgent Lawful plan) →
+      P core → P (plan_activation core t plan)
+  plan_activation-kept core t plan lawful p =
+      serve_activation-kept (with_activation core t (Some plan)) t (activation-kept core t plan lawful p)
+
+  -- MILLISECONDS AND INTERRUPTS
+
+  pub served-kept : (core : Core) (t : ℕ) → P core → P (served core t)
+  served-kept core t p = serve_activation-kept (serve_continuation core t) t (serve_continuation-kept core t p)
+
+  pub millisecond-kept : (core : Core) → P (record core { moment = core.moment + 1 }) → P (millisecond core)
+  millisecond-kept core p = each-kept P served served-kept (length core.tasks) (record core { moment = core.moment + 1 }) p
+
+  continuation_began-kept : (interrupt : ℕ) (core : Core) (t : ℕ) → P core → P (continuation_began interrupt core t)
+  continuation_began-kept interrupt core t p = by_plan (continuation_of core t) (continuation-is core t p)
+    where
+      by_plan : (plan : Option Plan) → IfSome plan Lawful → P (begin_continuation interrupt plan core t)
+      by_plan None lawful = p
+      by_plan (Some plan) lawful =
+          either P (waits_for interrupt plan.start) (plan_continuation core t (begun core plan)) core
+          (plan_continuation-kept core t (begun core plan) (closed.begins core plan lawful) p) p
+
+  activation_began-kept : (interrupt : ℕ) (core : Core) (t : ℕ) → P core → P (begin_activation interrupt (activation_of core t) core t)
+  activation_began-kept interrupt core t p = by_plan (activation_of core t) (activation-is core t p)
+    where
+      by_plan : (plan : Option Activation) → IfSome plan (Starts Urgent Lawful) → P (begin_activation interrupt plan core t)
+      by_plan None lawful = p
+      by_plan (Some plan) lawful =
+          either P (waits_for interrupt plan.plan.start) (plan_activation core t (record plan { plan = begun core plan.plan })) core
+          (plan_activation-kept core t (record plan { plan = begun core plan.plan })
+          (λ row at. (lawful.0, closed.begins core plan.plan lawful.1)) p) p
+
+  reached-kept : (interrupt : ℕ) (core : Core) (t : ℕ) → P core → P (reached interrupt core t)
+  reached-kept interrupt core t p =
+      activation_began-kept interrupt (continuation_began interrupt core t) t (continuation_began-kept interrupt core t p)
+
+  pub occurred-kept : (core : Core) (interrupt : ℕ) → P core → P (occurred core interrupt)
+  occurred-kept core interrupt p = each-kept P (reached interrupt) (reached-kept interrupt) (length core.tasks) core p
+
+  pub interrupted-kept : (core : Core) (device : ℕ) → P core → P (interrupted core device)
+  interrupted-kept core device p =
+      either P (is_enabled core device) (occurred core device) (note core (event.Masked device)) (occurred-kept core device p)
+      (closed.told core (event.Masked device) p)
+
+  -- ACTIONS ON PLANS
+
+  pub activated-kept : (core : Core) (t : ℕ) (start : Start) (repeat : Repeat) (priority : ℕ) →
+      ((row : TaskRow) → row_of core t ≡ Some row → Urgent priority) → Lawful (planned core start repeat) → P core →
+      P (activated core t start repeat priority)
+  activated-kept core t start repeat priority urgent lawful p =
+      either P (is_at_once start repeat) (started core t priority)
+      (plan_activation core t (record { plan = planned core start repeat; priority = priority })) (started-kept core t priority urgent p)
+      (plan_activation-kept core t (record { plan = planned core start repeat; priority = priority }) (λ row at. (urgent row at, lawful)) p)
+
+  pub continues-kept : (core : Core) (t : ℕ) (start : Start) → Lawful (planned core start Once) → P core → P (continues core t start)
+  continues-kept core t start lawful p =
+      either P (is_at_once start Once) (with_mark core t false)
+      (if is_active core t then plan_continuation core t (planned core start Once) else core) (mark-kept core t false p)
+      (either P (is_active core t) (plan_continuation core t (planned core start Once)) core
+      (plan_continuation-kept core t (planned core start Once) lawful p) p)
+
+  pub resuming-kept : (core : Core) (own : ℕ) (start : Start) → Lawful (planned core start Once) → P core →
+      P (resuming core own start)
+  resuming-kept core own start lawful p =
+      plan_continuation-kept (with_mark core own true) own (planned core start Once) lawful (mark-kept core own true p)
+
+  module _ (at_ends : ClosedAtEnds P) where
+    -- ENDS
+
+    finished-kept : (core : Core) (t : ℕ) → P core → P (finished core t)
+    finished-kept core t p = by_row (row_of core t) refl
+      where
+        by_row : (row : Option TaskRow) → row_of core t ≡ row →
+            P (on_row row core (λ r. with_row core t (record r { mode = Dormant; continuation = None })))
+        by_row None at = p
+        by_row (Some row) at = at_ends.ends core t row at p
+
+    prevented-kept : (core : Core) (t : ℕ) → P core → P (prevented core t)
+    prevented-kept core t p = by_row (row_of core t) refl
+      where
+        by_row : (row : Option TaskRow) → row_of core t ≡ row →
+            P (on_row row core (λ r. with_row core t (record r { continuation = None; activation = None })))
+        by_row None at = p
+        by_row (Some row) at = at_ends.prevents core t row at p
+
+    ending-kept : (core : Core) (own : ℕ) (e : Event) → P core → P (ending core own e).core
+    ending-kept core own e p = closed.told (finished core own) e (finished-kept core own p)
+
+    stopping-kept : (core : Core) (own t : ℕ) → P core → P (stopping core own t).core
+    stopping-kept core own t p = by_mode (mode_of core t)
+      where
+        by_mode : (mode : Mode) → P (stopped_by mode core t)
+        by_mode Dormant = p
+        by_mode (Active priority suspended) = closed.told (finished core t) (event.Stop t) (finished-kept core t p)
+
+    -- ACTIONS
+
+    releasing-kept : (core : Core) (own : ℕ) (semaphores : List ℕ) (can_raise : Bool) → all_below_most core.counts semaphores ≡ can_raise →
+        (all_below_most core.counts semaphores ≡ true → P (record core { counts = raised core.counts semaphores })) → P core →
+        P (releasing core own semaphores can_raise).core
+    releasing-kept core own semaphores true e raises p = raises e
+    releasing-kept core own semaphores false e raises p = ending-kept core own (event.Trap own SemaLimit) p
+
+    trying-kept : (core : Core) (semaphore : ℕ) (is_free : Bool) → P (record core { counts = lowered core.counts (semaphore ∷ []) }) → P core →
+        P (trying core semaphore is_free).core
+    trying-kept core semaphore true lowers p = lowers
+    trying-kept core semaphore false lowers p = p
+
+    getting-kept : (core : Core) (own device : ℕ) (scanned : Scanned) → ((used : ℕ) → P (without_bytes core device used)) → P core →
+        P (getting core own device scanned).core
+    getting-kept core own device Short drops p = ending-kept core own (event.End own) p
+    getting-kept core own device (Bad used) drops p = ending-kept (without_bytes core device used) own (event.Trap own Format) (drops used)
+    getting-kept core own device (Got used values) drops p = drops used
+
+    taking-kept : (core : Core) (own device : ℕ) (values : List Cell) → P (without_value core device) → P core →
+        P (taking core own device values).core
+    taking-kept core own device [] drops p = ending-kept core own (event.End own) p
+    taking-kept core own device (x ∷ later) drops p = drops
+
+    -- every action of a task, which then is the one that acted last
+    pub effect-kept : (core : Core) (own : ℕ) (asked : Action) → Brings Urgent Lawful core asked →
+        KeepsValues P (record core { last = Some own }) asked → P (record core { last = Some own }) → P (effect core own asked).core
+    unfolding effect
+    effect-kept core own asked brings values p = by_action asked brings values
+      where
+        acted : Core
+        acted = record core { last = Some own }
+
+        by_action : (asked : Action) → Brings Urgent Lawful core asked → KeepsValues P acted asked → P (effect_of acted own asked).core
+        by_action (action.Read slot) brings values = p
+        by_action (action.Write slot value) brings values = values
+        by_action action.Turn brings values = p
+        by_action action.Enter brings values = p
+        by_action action.Now brings values = p
+        by_action (action.Request list) brings values = values
+        by_action (action.Release list) brings values =
+            releasing-kept acted own list.items (all_below_most core.counts list.items) refl values p
+        by_action (action.Try s) brings values = trying-kept acted s (nat_lt 0 (count_at core.counts s)) values p
+        by_action (action.Activate t start repeat priority) brings values =
+            activated-kept acted t start repeat (priority_or_declared core t priority) brings.0 (brings.1 acted) p
+        by_action (action.Continue t start) brings values = continues-kept acted t start (brings acted) p
+        by_action (action.Resume start) brings values = resuming-kept acted own start (brings acted) p
+        by_action (action.Suspend t) brings values = mark-kept acted t true p
+        by_action (action.Terminate t) brings values = stopping-kept acted own t p
+        by_action (action.Prevent t) brings values = prevented-kept acted t p
+        by_action (action.Enable device) brings values = values
+        by_action (action.Disable device) brings values = values
+        by_action (action.Trigger device) brings values = interrupted-kept acted device p
+        by_action (action.Put device text) brings values = closed.told acted (event.Out device text) p
+        by_action (action.Get device format kinds) brings values =
+            getting-kept acted own device (scan (items_of core format) kinds.items (bytes_at core device)) values p
+        by_action (action.Take device) brings values = taking-kept acted own device (values_at core device) values p
+        by_action (action.Send device value) brings values = closed.told acted (event.Send device value) p
+        by_action action.End brings values = ending-kept acted own (event.End own) p
+        by_action (action.Trap trap) brings values = ending-kept acted own (event.Trap own trap) p
+
+  module _ (is_free : IsFree P) where
+    -- WHAT COMES IN
+
+    -- a device's channel
+    channel-kept : (core : Core) (device : ℕ) (channel : Channel) → P core → P (with_channel core device channel)
+    channel-kept core device channel p = is_free core (with_channel core device channel) (only_channel core device channel) p
+
+    pub bytes-kept : (core : Core) (device : ℕ) (text : List ℕ) → P core → P (with_bytes core device text)
+    bytes-kept core device text p =
+        either P (nat_le (length (bytes_at core device ++ text)) terminal_room) (with_channel core device (Bytes (bytes_at core device ++ text)))
+        (note core (event.Lost device)) (channel-kept core device (Bytes (bytes_at core device ++ text)) p) (closed.told core (event.Lost device) p)
+
+    joined-kept : (core : Core) (device : ℕ) (kind : Kind) (pending : List Cell) (value : Result Cell Trap) → P core →
+        P (joined core device kind pending value)
+    joined-kept core device kind pending (Err trap) p = p
+    joined-kept core device kind pending (Ok x) p = channel-kept core device (Values kind (pending ++ x ∷ [])) p
+
+    pub value-kept : (core : Core) (device : ℕ) (x : Cell) → P core → P (with_value core device x)
+    value-kept core device x p = by_channel (channel_of core device)
+      where
+        by_channel : (channel : Option Channel) → P (with_value_by channel core device x)
+        by_channel (Some (Values kind pending)) =
+            either P (nat_lt (length pending) input_room) (joined core device kind pending (converted x kind)) (note core (event.Lost device))
+            (joined-kept core device kind pending (converted x kind) p) (closed.told core (event.Lost device) p)
+        by_channel (Some (Switch enabled)) = p
+        by_channel (Some (Bytes pending)) = p
+        by_channel (Some Outward) = p
+        by_channel None = p
+
+    -- an entry of a journal; one that sets the clock is asked for
+    pub arrived-kept : (core : Core) (come : Entry) → ((time : ℕ) → come ≡ entry.Clock time → P (record core { clock = time })) → P core →
+        P (arrived core come)
+    arrived-kept core (entry.Clock time) clock p = clock time refl
+    arrived-kept core (entry.Run picks) clock p = p
+    arrived-kept core (entry.Tick milliseconds) clock p = p
+    arrived-kept core (entry.Pass times picks) clock p = p
+    arrived-kept core (entry.Irpt device) clock p = interrupted-kept core device p
+    arrived-kept core (entry.Chars device text) clock p = bytes-kept core device text.items p
+    arrived-kept core (entry.Line device text) clock p = bytes-kept core device (text.items ++ 10 ∷ []) p
+    arrived-kept core (entry.Value device x) clock p = value-kept core device x p
+    arrived-kept core (entry.Turn task) clock p = p
+    arrived-kept core entry.State clock p = p
+
+  module _ (is_free : IsFree P) (at_ends : ClosedAtEnds P) where
+    -- what an action does to values
+    free_values : (core : Core) (asked : Action) → P core → KeepsValues P core asked
+    free_values core (action.Write slot value) p = is_free core _ (only_slots core (slice_set core.slots slot value) (length-set core.slots slot value)) p
+    free_values core (action.Request list) p =
+        is_free core _ (only_counts core (lowered core.counts list.items) (lowered-length core.counts list.items)) p
+    free_values core (action.Release list) p =
+        λ below. is_free core _ (only_counts core (raised core.counts list.items) (raised-length core.counts list.items)) p
+    free_values core (action.Try s) p =
+        is_free core _ (only_counts core (lowered core.counts (s ∷ [])) (lowered-length core.counts (s ∷ []))) p
+    free_values core (action.Enable device) p = channel-kept is_free core device (Switch true) p
+    free_values core (action.Disable device) p = channel-kept is_free core device (Switch false) p
+    free_values core (action.Get device format kinds) p = λ used. channel-kept is_free core device (Bytes (drop used (bytes_at core device))) p
+    free_values core (action.Take device) p = by_channel (channel_of core device)
+      where
+        by_channel : (channel : Option Channel) → P (without_value_by channel core device)
+        by_channel (Some (Values kind pending)) = channel-kept is_free core device (Values kind (drop 1 pending)) p
+        by_channel (Some (Switch enabled)) = p
+        by_channel (Some (Bytes pending)) = p
+        by_channel (Some Outward) = p
+        by_channel None = p
+    free_values core (action.Read slot) p = tt
+    free_values core action.Turn p = tt
+    free_values core action.Enter p = tt
+    free_values core action.Now p = tt
+    free_values core (action.Activate t start repeat priority) p = tt
+    free_values core (action.Continue t start) p = tt
+    free_values core (action.Resume start) p = tt
+    free_values core (action.Suspend t) p = tt
+    free_values core (action.Terminate t) p = tt
+    free_values core (action.Prevent t) p = tt
+    free_values core (action.Trigger device) p = tt
+    free_values core (action.Put device text) p = tt
+    free_values core (action.Send device value) p = tt
+    free_values core action.End p = tt
+    free_values core (action.Trap trap) p = tt
+
+    -- an action keeps what doesn't speak of values, nor of who acted last
+    pub effect-free : (core : Core) (own : ℕ) (asked : Action) → Brings Urgent Lawful core asked → P core → P (effect core own asked).core
+    effect-free core own asked brings p =
+        let acted : Core = record core { last = Some own } in
+        let last : P acted = is_free core acted (only_last core (Some own)) p in
+        effect-kept at_ends core own asked brings (free_values acted asked last) last
