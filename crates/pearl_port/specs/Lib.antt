@@ -6,3 +6,5 @@ pub mod Families
 pub mod Values
 -- that each of the five types carries the values of its family
 pub mod ValueLaws
+-- what waits at an input of any kind, as cells
+pub mod Inputs

@@ -3,6 +3,7 @@
 #![tactic(auto)]
 
 pub mod carried;
+pub mod input;
 pub mod port;
 pub mod terminal;
 pub mod values;

@@ -1,0 +1,5 @@
+pub mod Kept
+pub mod Numbers
+pub mod BitLaws
+pub mod Pieces
+pub mod Steps

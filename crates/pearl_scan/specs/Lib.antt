@@ -1,0 +1,8 @@
+-- which bytes count as blanks
+pub mod Gaps
+-- digits that are read one after another
+pub mod Digits
+-- what an answer of a scan tells
+pub mod Answers
+-- what the laws of GET's scan say
+pub mod Laws
