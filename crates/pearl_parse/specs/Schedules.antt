@@ -12,6 +12,8 @@ use Rattle.pearl_tree.specs.declared.symbol.TheConstants as s
 use Rattle.pearl_tree.specs.declared.word_code.TheConstants as w
 use Rattle.pearl_parse_expr.specs.Stops.{extends_expression, is_word}
 use Rattle.pearl_parse.specs.Stops.{SpellsOptional}
+use Rattle.pearl_parse.specs.declared.schedule.Activation.{Activation}
+use Rattle.pearl_parse.specs.declared.schedule.Begun.{Begun}
 
 -- UNTIL or DURING
 abbrev pub begins_end : Option What → Bool
@@ -41,6 +43,10 @@ SpellsActivation tokens from part to =
     (m : ℕ) × HasWord tokens from w.ACTIVATE × IsName tokens (from + 1) part.0 ×
     SpellsOptionalPriority tokens (from + 2) part.1 m × HasSymbol tokens m s.SEMICOLON × (to ≡ m + 1)
 
+-- the same, as it is read
+abbrev pub SpellsActivated : List Token → Spelling Activation
+SpellsActivated tokens from activation to = SpellsActivation tokens from (activation.task, activation.priority) to
+
 -- [ ALL expr [ UNTIL expr | DURING expr ] ] ACTIVATE id [ PRIO expr ] ";"
 abbrev pub SpellsBegun : List Token → Spelling (Option Period × (Name × Option Expr))
 SpellsBegun tokens from part to =
@@ -50,6 +56,10 @@ SpellsBegun tokens from part to =
 abbrev pub HasBegun : List Token → ℕ → Option Period → Name → Option Expr → ℕ → Type 0
 HasBegun tokens from period task priority to =
     (m : ℕ) × SpellsMaybe (SpellsPeriod tokens) from period m × SpellsActivation tokens m (task, priority) to
+
+-- as it is read
+abbrev pub SpellsBeginning : List Token → Spelling Begun
+SpellsBeginning tokens from begun to = HasBegun tokens from begun.period begun.activation.task begun.activation.priority to
 
 abbrev pub SpellsAnyBegun : List Token → Spelling (Option Period × (Name × Option Expr))
 SpellsAnyBegun tokens from part to = HasBegun tokens from part.0 part.1.0 part.1.1 to

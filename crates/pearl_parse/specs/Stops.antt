@@ -9,6 +9,7 @@ use Rattle.pearl_parse_expr.specs.declared.reading.Halt.{Halt}
 use Rattle.pearl_parse_expr.specs.declared.reading.Halt.TheVariants.{Refused, NoMemory}
 use Rattle.pearl_parse_expr.specs.Stops.{Stuck, SpellsNamed}
 use Rattle.pearl_parse.specs.FirstWords.{statement_words}
+use Rattle.pearl_parse.specs.declared.transfer.Transfer.{Transfer}
 use Rattle.pearl_tree.specs.declared.expression.Selector.{Selector}
 use Rattle.pearl_tree.specs.Statements.{SpellsMaybeList}
 use Rattle.pearl_tree.specs.Formats.{SpellsFmt}
@@ -60,6 +61,10 @@ SpellsFormats tokens from formats to =
 abbrev pub SpellsStation : List Token → Spelling (Name × List Fmt)
 SpellsStation tokens from station to =
     IsName tokens from station.0 × HasWord tokens (from + 1) w.BY × SpellsFormats tokens (from + 2) station.1 to
+
+-- the same, as it is read
+abbrev pub SpellsTransfer : List Token → Spelling Transfer
+SpellsTransfer tokens from transfer to = SpellsStation tokens from (transfer.dation, transfer.formats.items) to
 
 abbrev pub is_among : List ℕ → ℕ → Bool
 is_among [] code = false

@@ -3,7 +3,7 @@
 ghost use Rattle.std.specs.Prelude.{◌≡◌, ◌+◌, ◌≤◌, length, max, IfOk, IfErr};
 ghost use Rattle.pearl_tree.specs.Modules.{SpellsBlock};
 ghost use Rattle.pearl_parse_expr.specs.Stops.{IsOnly};
-ghost use Rattle.pearl_parse.specs.Reached.{IsLeastBehind};
+ghost use Rattle.pearl_parse.specs.Reads.{ReadsOnlyBehind};
 ghost use Rattle.pearl_parse.specs.Stops as spec;
 
 use crate::body::whole_body;
@@ -24,11 +24,7 @@ pub fn block(
     least_stop: usize,
 ) -> Result<Reading<Body>, Halt>
     requires least_stop { (from ≤ least_stop) × (least_stop ≤ length tokens.now) }
-    ensures spells { IfOk result (λ reading. SpellsBlock tokens.now from reading.part reading.end) }
-    ensures only { IfOk result (λ reading. IsOnly SpellsBlock tokens.now from reading.end reading.stop) }
-    ensures bounds { IfOk result (λ reading. spec.StopsWithin tokens.now (from + 1) least_stop reading.end reading.stop) }
-    ensures refused { IfErr result (λ halt. spec.IsStopped SpellsBlock tokens.now from least_stop halt) }
-    ensures least { IsLeastBehind 24 SpellsBlock tokens.now from least_stop result }
+    ensures { ReadsOnlyBehind 24 SpellsBlock SpellsBlock SpellsBlock tokens.now from (from + 1) least_stop result }
 {
     symbol(tokens, from, least_stop, SEMICOLON)?;
     let body = match whole_body(alloc, tokens, from + 1) {

@@ -8,10 +8,8 @@ ghost use Rattle.pearl_tree.specs.declared.symbol.TheConstants as s;
 ghost use Rattle.pearl_parse_expr.specs.Stops.{IsOnly, IsHalted, is_name, is_symbol};
 ghost use Rattle.pearl_parse.specs.Stops as spec;
 ghost use Rattle.pearl_parse.specs.Calls as calls;
-ghost use Rattle.pearl_parse.specs.Reached.{IsLeastBehind};
-ghost use Rattle.pearl_parse_expr.specs.Least.{IsLeastIn};
 ghost use Rattle.pearl_parse_expr.specs.Reads.{ReadsOnly};
-ghost use Rattle.pearl_parse.specs.Reads.{ReadsStatement};
+ghost use Rattle.pearl_parse.specs.Reads.{ReadsListBehind, ReadsOnlyMaybe, ReadsStatement};
 
 use crate::step::{expr, name, symbol};
 use pearl_parse_decl::expression::own_reference;
@@ -43,11 +41,7 @@ fn value(alloc: Global, tokens: &[Token], from: usize) -> Result<Reading<Expr>, 
 /// `[ "(" expr ")" ]`
 fn maybe_value(alloc: Global, tokens: &[Token], from: usize) -> Result<Reading<Option<Expr>>, Halt>
     requires within { from ≤ length tokens.now }
-    ensures spells { IfOk result (λ reading. SpellsMaybe (SpellsValue tokens.now) from reading.part reading.end) }
-    ensures only { IfOk result (λ reading. IsOnly calls.SpellsOptionalValue tokens.now from reading.end reading.stop) }
-    ensures bounds { IfOk result (λ reading. spec.StopsWithin tokens.now from from reading.end reading.stop) }
-    ensures refused { IfErr result (λ halt. IsHalted calls.SpellsOptionalValue tokens.now from halt) }
-    ensures least { IsLeastIn 16 (λ tokens. SpellsMaybe (SpellsValue tokens)) tokens.now from result }
+    ensures { ReadsOnlyMaybe 16 (λ tokens. SpellsMaybe (SpellsValue tokens)) calls.SpellsOptionalValue (λ tokens. SpellsMaybe (SpellsValue tokens)) tokens.now from result }
 {
     if !is_symbol(tokens, from, LEFT_ROUND) {
         return Ok(Reading {
@@ -94,11 +88,7 @@ fn arguments(
 ) -> Result<Reading<Vec<Expr>>, Halt>
     requires from { from ≤ length tokens.now }
     requires least_stop { least_stop ≤ length tokens.now }
-    ensures spells { IfOk result (λ reading. calls.SpellsArguments tokens.now from reading.part.items reading.end) }
-    ensures only { IfOk result (λ reading. IsOnly calls.SpellsArguments tokens.now from reading.end reading.stop) }
-    ensures bounds { IfOk result (λ reading. spec.StopsWithin tokens.now (from + 1) least_stop reading.end reading.stop) }
-    ensures refused { IfErr result (λ halt. spec.IsStopped calls.SpellsArguments tokens.now from least_stop halt) }
-    ensures least { IsLeastBehind 24 calls.SpellsArguments tokens.now from least_stop result }
+    ensures { ReadsListBehind 24 calls.SpellsArguments tokens.now from least_stop result }
 {
     if !is_symbol(tokens, from, LEFT_ROUND) {
         symbol(tokens, from, least_stop, SEMICOLON)?;

@@ -6,8 +6,8 @@ ghost use Rattle.pearl_tree.specs.Statements.{SpellsFor};
 ghost use Rattle.pearl_parse_expr.specs.declared.reading.Halt.{Halt};
 ghost use Rattle.pearl_parse_expr.specs.Stops.{IsOnly, IsHalted};
 ghost use Rattle.pearl_parse.specs.Stops as spec;
-ghost use Rattle.pearl_parse_expr.specs.Least.{IsLeastIn};
 ghost use Rattle.pearl_parse_expr.specs.Reads.{ReadsOnly};
+ghost use Rattle.pearl_parse.specs.Reads.{ReadsOnlyMaybe};
 ghost use Rattle.pearl_parse.specs.Bodies as bodies;
 
 use crate::step::{maybe_after, name, word};
@@ -32,11 +32,7 @@ pub struct Heads {
 /// `[ FOR id ]`
 fn control(tokens: &[Token], from: usize) -> Result<Reading<Option<Name>>, Halt>
     requires { from ≤ length tokens.now }
-    ensures spells { IfOk result (λ reading. SpellsMaybe (SpellsFor tokens.now) from reading.part reading.end) }
-    ensures only { IfOk result (λ reading. IsOnly bodies.SpellsOptionalFor tokens.now from reading.end reading.stop) }
-    ensures bounds { IfOk result (λ reading. spec.StopsWithin tokens.now from from reading.end reading.stop) }
-    ensures refused { IfErr result (λ halt. IsHalted bodies.SpellsOptionalFor tokens.now from halt) }
-    ensures least { IsLeastIn 8 (λ tokens. SpellsMaybe (SpellsFor tokens)) tokens.now from result }
+    ensures reads { ReadsOnlyMaybe 8 (λ tokens. SpellsMaybe (SpellsFor tokens)) bodies.SpellsOptionalFor (λ tokens. SpellsMaybe (SpellsFor tokens)) tokens.now from result }
     ensures memory { IfErr result (λ halt. halt ≢ Halt.NoMemory) }
 {
     if !is_word(tokens, from, FOR) {

@@ -8,6 +8,7 @@ ghost use Rattle.pearl_parse_expr.specs.Stops.{IsOnly, IsHalted};
 ghost use Rattle.pearl_parse_expr.specs.Least.{HaltsIn};
 ghost use Rattle.pearl_parse_expr.specs.Reads.{ReadsOnly};
 ghost use Rattle.pearl_parse.specs.Reached.{HaltsBehind};
+ghost use Rattle.pearl_parse.specs.Reads.{ReadsOnlyMaybe};
 ghost use Rattle.pearl_parse.specs.Stops as spec;
 ghost use Rattle.pearl_parse.specs.Modules as modules;
 
@@ -26,12 +27,8 @@ use std::alloc::Global;
 /// `[ "(" id ")" | id ]`
 fn module_name(tokens: &[Token], from: usize) -> Result<Reading<Option<ModuleName>>, Halt>
     requires { from ≤ length tokens.now }
-    ensures spells { IfOk result (λ reading. modules.SpellsOptionalName tokens.now from reading.part reading.end) }
-    ensures only { IfOk result (λ reading. IsOnly modules.SpellsOptionalName tokens.now from reading.end reading.stop) }
-    ensures bounds { IfOk result (λ reading. spec.StopsWithin tokens.now from from reading.end reading.stop) }
+    ensures reads { ReadsOnlyMaybe 16 modules.SpellsOptionalName modules.SpellsOptionalName (λ tokens. SpellsMaybe (SpellsModuleName tokens)) tokens.now from result }
     ensures close { IfOk result (λ reading. reading.stop ≡ reading.end) }
-    ensures refused { IfErr result (λ halt. IsHalted modules.SpellsOptionalName tokens.now from halt) }
-    ensures least { IfErr result (λ halt. HaltsIn 16 (λ tokens. SpellsMaybe (SpellsModuleName tokens)) tokens.now from halt) }
     ensures memory { IfErr result (λ halt. halt ≢ Halt.NoMemory) }
 {
     if is_symbol(tokens, from, LEFT_ROUND) {

@@ -8,8 +8,7 @@ ghost use Rattle.pearl_parse_expr.specs.declared.reading.Halt.{Halt};
 ghost use Rattle.pearl_parse_expr.specs.Stops.{IsLongest, IsOnly, extends_expression};
 ghost use Rattle.pearl_parse.specs.Stops as spec;
 ghost use Rattle.pearl_parse.specs.Schedules as schedules;
-ghost use Rattle.pearl_parse.specs.Reached.{IsLeastBehind};
-ghost use Rattle.pearl_parse.specs.Reads.{ReadsStatement};
+ghost use Rattle.pearl_parse.specs.Reads.{ReadsBehind, ReadsOnlyBehind, ReadsStatement};
 
 use crate::step::{after, maybe_after, name, symbol, word};
 use pearl_parse_expr::reading::{Halt, Reading, boxed};
@@ -31,12 +30,8 @@ fn maybe_end(
 ) -> Result<Reading<Option<PeriodEnd>>, Halt>
     requires from { from ≤ length tokens.now }
     requires least_stop { least_stop ≤ length tokens.now }
-    ensures spells { IfOk result (λ reading. SpellsMaybe (SpellsPeriodEnd tokens.now) from reading.part reading.end) }
+    ensures reads { ReadsBehind 8 (λ tokens. SpellsMaybe (SpellsPeriodEnd tokens)) schedules.SpellsOptionalEnd (λ tokens. SpellsMaybe (SpellsPeriodEnd tokens)) extends_expression tokens.now from from least_stop result }
     ensures optional { IfOk result (λ reading. schedules.SpellsOptionalEnd tokens.now from reading.part reading.end) }
-    ensures longest { IfOk result (λ reading. IsLongest schedules.SpellsOptionalEnd extends_expression tokens.now from reading.end reading.stop) }
-    ensures bounds { IfOk result (λ reading. spec.StopsWithin tokens.now from least_stop reading.end reading.stop) }
-    ensures refused { IfErr result (λ halt. spec.IsStopped schedules.SpellsOptionalEnd tokens.now from least_stop halt) }
-    ensures least { IsLeastBehind 8 (λ tokens. SpellsMaybe (SpellsPeriodEnd tokens)) tokens.now from least_stop result }
 {
     if is_word(tokens, from, UNTIL) {
         return match after(alloc, tokens, from, least_stop, UNTIL) {
@@ -81,11 +76,7 @@ fn period(
     requires from { from < length tokens.now }
     requires least_stop { least_stop ≤ length tokens.now }
     requires word { HasWord tokens.now from w.ALL }
-    ensures spells { IfOk result (λ reading. SpellsPeriod tokens.now from reading.part reading.end) }
-    ensures longest { IfOk result (λ reading. IsLongest schedules.SpellsLongPeriod extends_expression tokens.now from reading.end reading.stop) }
-    ensures bounds { IfOk result (λ reading. spec.StopsWithin tokens.now (from + 1) least_stop reading.end reading.stop) }
-    ensures refused { IfErr result (λ halt. spec.IsStopped schedules.SpellsLongPeriod tokens.now from least_stop halt) }
-    ensures least { IsLeastBehind 16 SpellsPeriod tokens.now from least_stop result }
+    ensures { ReadsBehind 16 SpellsPeriod schedules.SpellsLongPeriod SpellsPeriod extends_expression tokens.now from (from + 1) least_stop result }
 {
     let duration = after(alloc, tokens, from, least_stop, ALL)?;
     let end = maybe_end(alloc, tokens, duration.end, duration.stop)?;
@@ -116,11 +107,7 @@ pub fn activate(
 ) -> Result<Reading<Activation>, Halt>
     requires from { from ≤ length tokens.now }
     requires least_stop { (from ≤ least_stop) × (least_stop ≤ length tokens.now) }
-    ensures spells { IfOk result (λ reading. schedules.SpellsActivation tokens.now from (reading.part.task, reading.part.priority) reading.end) }
-    ensures only { IfOk result (λ reading. IsOnly schedules.SpellsActivation tokens.now from reading.end reading.stop) }
-    ensures bounds { IfOk result (λ reading. spec.StopsWithin tokens.now (from + 1) least_stop reading.end reading.stop) }
-    ensures refused { IfErr result (λ halt. spec.IsStopped schedules.SpellsActivation tokens.now from least_stop halt) }
-    ensures least { IsLeastBehind 16 schedules.SpellsActivation tokens.now from least_stop result }
+    ensures { ReadsOnlyBehind 16 schedules.SpellsActivated schedules.SpellsActivation schedules.SpellsActivation tokens.now from (from + 1) least_stop result }
 {
     word(tokens, from, least_stop, ACTIVATE)?;
     let task = name(tokens, from + 1, least_stop)?;
@@ -145,11 +132,7 @@ fn maybe_period(
 ) -> Result<Reading<Option<Period>>, Halt>
     requires from { from ≤ length tokens.now }
     requires least_stop { least_stop ≤ length tokens.now }
-    ensures spells { IfOk result (λ reading. SpellsMaybe (SpellsPeriod tokens.now) from reading.part reading.end) }
-    ensures longest { IfOk result (λ reading. IsLongest schedules.SpellsOptionalPeriod extends_expression tokens.now from reading.end reading.stop) }
-    ensures bounds { IfOk result (λ reading. spec.StopsWithin tokens.now from least_stop reading.end reading.stop) }
-    ensures refused { IfErr result (λ halt. spec.IsStopped schedules.SpellsOptionalPeriod tokens.now from least_stop halt) }
-    ensures least { IsLeastBehind 16 (λ tokens. SpellsMaybe (SpellsPeriod tokens)) tokens.now from least_stop result }
+    ensures { ReadsBehind 16 (λ tokens. SpellsMaybe (SpellsPeriod tokens)) schedules.SpellsOptionalPeriod (λ tokens. SpellsMaybe (SpellsPeriod tokens)) extends_expression tokens.now from from least_stop result }
 {
     if !is_word(tokens, from, ALL) {
         return Ok(Reading {
@@ -184,11 +167,7 @@ pub fn begin(
 ) -> Result<Reading<Begun>, Halt>
     requires from { from ≤ length tokens.now }
     requires least_stop { (from ≤ least_stop) × (least_stop ≤ length tokens.now) }
-    ensures spells { IfOk result (λ reading. schedules.HasBegun tokens.now from reading.part.period reading.part.activation.task reading.part.activation.priority reading.end) }
-    ensures only { IfOk result (λ reading. IsOnly schedules.SpellsBegun tokens.now from reading.end reading.stop) }
-    ensures bounds { IfOk result (λ reading. spec.StopsWithin tokens.now (from + 1) least_stop reading.end reading.stop) }
-    ensures refused { IfErr result (λ halt. spec.IsStopped schedules.SpellsBegun tokens.now from least_stop halt) }
-    ensures least { IsLeastBehind 24 schedules.SpellsAnyBegun tokens.now from least_stop result }
+    ensures { ReadsOnlyBehind 24 schedules.SpellsBeginning schedules.SpellsBegun schedules.SpellsAnyBegun tokens.now from (from + 1) least_stop result }
 {
     let period = maybe_period(alloc, tokens, from, least_stop)?;
     let activation = activate(alloc, tokens, period.end, period.stop)?;

@@ -1,11 +1,8 @@
 // Statements that hold no others, by their first tokens.
 
-ghost use Rattle.std.specs.Prelude.{ℕ, ◌<◌, length};
+ghost use Rattle.std.specs.Prelude.{◌<◌, length, Ok};
 ghost use Rattle.pearl_tree.specs.Standing.{HasSymbol};
-ghost use Rattle.pearl_tree.specs.Statements.{SpellsStmt};
 ghost use Rattle.pearl_tree.specs.declared.symbol.TheConstants as s;
-ghost use Rattle.pearl_parse_expr.specs.Stops.{IsOnly, IsAhead};
-ghost use Rattle.pearl_parse_expr.specs.Least.{GoesIn};
 ghost use Rattle.pearl_parse.specs.Firsts.{BeginsSimple};
 ghost use Rattle.pearl_parse.specs.Reads.{ReadsStatement};
 
@@ -26,10 +23,7 @@ use std::alloc::Global;
 fn empty(tokens: &[Token], from: usize) -> Reading<Stmt>
     requires within { from < length tokens.now }
     requires symbol { HasSymbol tokens.now from s.SEMICOLON }
-    ensures spells { (depth : ℕ) → SpellsStmt tokens.now depth from result.part result.end }
-    ensures only { (depth : ℕ) → IsOnly (λ tokens. SpellsStmt tokens depth) tokens.now from result.end result.stop }
-    ensures ahead { IsAhead tokens.now from result.end result.stop }
-    ensures least { (depth : ℕ) → GoesIn 24 (λ tokens. SpellsStmt tokens depth) tokens.now from result.end result.stop }
+    ensures { ReadsStatement tokens.now from (Ok result) }
 {
     Reading {
         part: Stmt::Empty {

@@ -9,7 +9,7 @@ ghost use Rattle.pearl_parse_expr.specs.Stops.{IsLongest};
 ghost use Rattle.pearl_parse.specs.Stops as spec;
 ghost use Rattle.pearl_parse.specs.Bodies as bodies;
 ghost use Rattle.pearl_parse.specs.Reached.{IsLeastBehind};
-ghost use Rattle.pearl_parse.specs.Reads.{ReadsNested};
+ghost use Rattle.pearl_parse.specs.Reads.{ReadsBehind, ReadsNested};
 
 use crate::each::each;
 use crate::first::{First, first_at};
@@ -248,11 +248,7 @@ pub fn body(
     depth: u8,
 ) -> Result<Reading<Body>, Halt>
     requires { (from ≤ least_stop) × (least_stop ≤ length tokens.now) }
-    ensures spells { IfOk result (λ reading. SpellsBody tokens.now depth from reading.part reading.end) }
-    ensures longest { IfOk result (λ reading. IsLongest (bodies.SpellsBlock depth) bodies.extends_body tokens.now from reading.end reading.stop) }
-    ensures bounds { IfOk result (λ reading. spec.StopsWithin tokens.now from least_stop reading.end reading.stop) }
-    ensures refused { IfErr result (λ halt. spec.IsStopped (bodies.SpellsBlock depth) tokens.now from least_stop halt) }
-    ensures least { IsLeastBehind 24 (bodies.SpellsInner depth) tokens.now from least_stop result }
+    ensures { ReadsBehind 24 (λ tokens. SpellsBody tokens depth) (bodies.SpellsBlock depth) (bodies.SpellsInner depth) bodies.extends_body tokens.now from from least_stop result }
 {
     if from == tokens.len() {
         return Err(Halt::Refused(least_stop));

@@ -1,13 +1,13 @@
 // Single tokens and expressions, read behind other parts: each reader is told the stop of what was read before, and
 // stops no earlier.
 
-ghost use Rattle.std.specs.Prelude.{◌≡◌, ◌+◌, ◌<◌, ◌≤◌, length, max, IfOk, IfErr, OnOk};
+ghost use Rattle.std.specs.Prelude.{◌≡◌, ◌+◌, ◌<◌, ◌≤◌, length, max, IfOk, IfErr, Ok, OnOk};
 ghost use Rattle.pearl_tree.specs.Standing.{HasWord, HasSymbol, IsName, SpellsName, SpellsMaybe, SpellsList};
 ghost use Rattle.pearl_tree.specs.Expressions.{SpellsWhole};
 ghost use Rattle.pearl_tree.specs.Statements.{SpellsAfter};
 ghost use Rattle.pearl_parse_expr.specs.Stops.{IsLongest, IsOnly, extends_expression, is_word, is_symbol, is_name};
 ghost use Rattle.pearl_parse.specs.Stops as spec;
-ghost use Rattle.pearl_parse.specs.Reached.{IsLeastBehind};
+ghost use Rattle.pearl_parse.specs.Reads.{ReadsBehind, ReadsOnlyMaybe};
 
 use pearl_parse_expr::expression::expression_at_depth;
 use pearl_parse_expr::reading::{Halt, Reading};
@@ -63,11 +63,7 @@ pub fn expr(
 ) -> Result<Reading<Expr>, Halt>
     requires from { from ≤ length tokens.now }
     requires least_stop { least_stop ≤ length tokens.now }
-    ensures spells { IfOk result (λ reading. SpellsWhole tokens.now from reading.part reading.end) }
-    ensures longest { IfOk result (λ reading. IsLongest SpellsWhole extends_expression tokens.now from reading.end reading.stop) }
-    ensures bounds { IfOk result (λ reading. spec.StopsWithin tokens.now (from + 1) least_stop reading.end reading.stop) }
-    ensures refused { IfErr result (λ halt. spec.IsStopped SpellsWhole tokens.now from least_stop halt) }
-    ensures least { IsLeastBehind 16 SpellsWhole tokens.now from least_stop result }
+    ensures { ReadsBehind 16 SpellsWhole SpellsWhole SpellsWhole extends_expression tokens.now from (from + 1) least_stop result }
 {
     match expression_at_depth(alloc, tokens, from, BRACKETS_MAX) {
         Ok(read) => Ok(Reading {
@@ -85,9 +81,7 @@ pub fn expr(
 /// A name that may be missing.
 pub fn maybe_name(tokens: &[Token], from: usize) -> Reading<Option<Name>>
     requires { from ≤ length tokens.now }
-    ensures spells { SpellsMaybe (SpellsName tokens.now) from result.part result.end }
-    ensures only { IsOnly (spec.SpellsOptional is_name SpellsName) tokens.now from result.end result.stop }
-    ensures bounds { spec.StopsWithin tokens.now from from result.end result.stop }
+    ensures reads { ReadsOnlyMaybe 8 (λ tokens. SpellsMaybe (SpellsName tokens)) (spec.SpellsOptional is_name SpellsName) (λ tokens. SpellsMaybe (SpellsName tokens)) tokens.now from (Ok result) }
     ensures close { result.stop ≡ result.end }
 {
     match name_at(tokens, from) {
@@ -115,11 +109,7 @@ pub fn after(
     requires from { from < length tokens.now }
     requires least_stop { least_stop ≤ length tokens.now }
     requires word { HasWord tokens.now from word }
-    ensures spells { IfOk result (λ reading. SpellsAfter tokens.now word from reading.part reading.end) }
-    ensures longest { IfOk result (λ reading. IsLongest (λ tokens. SpellsAfter tokens word) extends_expression tokens.now from reading.end reading.stop) }
-    ensures bounds { IfOk result (λ reading. spec.StopsWithin tokens.now (from + 1) least_stop reading.end reading.stop) }
-    ensures refused { IfErr result (λ halt. spec.IsStopped (λ tokens. SpellsAfter tokens word) tokens.now from least_stop halt) }
-    ensures least { IsLeastBehind 8 (λ tokens. SpellsAfter tokens word) tokens.now from least_stop result }
+    ensures { ReadsBehind 8 (λ tokens. SpellsAfter tokens word) (λ tokens. SpellsAfter tokens word) (λ tokens. SpellsAfter tokens word) extends_expression tokens.now from (from + 1) least_stop result }
 {
     match expr(alloc, tokens, from + 1, least_stop) {
         Ok(read) => Ok(read),
@@ -137,11 +127,7 @@ pub fn maybe_after(
 ) -> Result<Reading<Option<Expr>>, Halt>
     requires from { from ≤ length tokens.now }
     requires least_stop { least_stop ≤ length tokens.now }
-    ensures spells { IfOk result (λ reading. SpellsMaybe (SpellsAfter tokens.now word) from reading.part reading.end) }
-    ensures longest { IfOk result (λ reading. IsLongest (spec.SpellsOptional (is_word word) (λ tokens. SpellsAfter tokens word)) extends_expression tokens.now from reading.end reading.stop) }
-    ensures bounds { IfOk result (λ reading. spec.StopsWithin tokens.now from least_stop reading.end reading.stop) }
-    ensures refused { IfErr result (λ halt. spec.IsStopped (spec.SpellsOptional (is_word word) (λ tokens. SpellsAfter tokens word)) tokens.now from least_stop halt) }
-    ensures least { IsLeastBehind 8 (λ tokens. SpellsMaybe (SpellsAfter tokens word)) tokens.now from least_stop result }
+    ensures { ReadsBehind 8 (λ tokens. SpellsMaybe (SpellsAfter tokens word)) (spec.SpellsOptional (is_word word) (λ tokens. SpellsAfter tokens word)) (λ tokens. SpellsMaybe (SpellsAfter tokens word)) extends_expression tokens.now from from least_stop result }
 {
     if !is_word(tokens, from, word) {
         return Ok(Reading {

@@ -6,8 +6,8 @@ ghost use Rattle.pearl_tree.specs.Declarations.{SpellsDevice};
 ghost use Rattle.pearl_tree.specs.Modules.{SpellsSystem};
 ghost use Rattle.pearl_tree.specs.declared.word_code.TheConstants as w;
 ghost use Rattle.pearl_parse_expr.specs.Stops.{IsLongest, IsAhead, IsHalted, is_name};
-ghost use Rattle.pearl_parse_expr.specs.Least.{IsLeastIn};
-ghost use Rattle.pearl_parse_expr.specs.Reads.{ReadsOnly};
+ghost use Rattle.pearl_parse_expr.specs.Reads.{Reads, ReadsOnly};
+ghost use Rattle.pearl_parse.specs.Reads.{ReadsMaybe};
 ghost use Rattle.pearl_parse.specs.Stops as spec;
 ghost use Rattle.pearl_parse.specs.Modules as modules;
 
@@ -39,11 +39,7 @@ impl Repeated for Device {
 fn system(alloc: Global, tokens: &[Token], from: usize) -> Result<Reading<Parts<Device>>, Halt>
     requires within { from < length tokens.now }
     requires word { HasWord tokens.now from w.SYSTEM }
-    ensures spells { IfOk result (λ reading. SpellsSystem tokens.now from reading.part reading.end) }
-    ensures longest { IfOk result (λ reading. IsLongest SpellsSystem is_name tokens.now from reading.end reading.stop) }
-    ensures ahead { IfOk result (λ reading. IsAhead tokens.now from reading.end reading.stop) }
-    ensures refused { IfErr result (λ halt. IsHalted SpellsSystem tokens.now from halt) }
-    ensures least { IsLeastIn 16 SpellsSystem tokens.now from result }
+    ensures { Reads 16 SpellsSystem is_name tokens.now from result }
 {
     symbol(tokens, from + 1, from, SEMICOLON)?;
     match each(alloc, tokens, from + 2) {
@@ -63,11 +59,7 @@ fn maybe_system(
     from: usize,
 ) -> Result<Reading<Option<Parts<Device>>>, Halt>
     requires { from ≤ length tokens.now }
-    ensures spells { IfOk result (λ reading. modules.SpellsOptionalSystem tokens.now from reading.part reading.end) }
-    ensures longest { IfOk result (λ reading. IsLongest modules.SpellsOptionalSystem is_name tokens.now from reading.end reading.stop) }
-    ensures bounds { IfOk result (λ reading. spec.StopsWithin tokens.now from from reading.end reading.stop) }
-    ensures refused { IfErr result (λ halt. IsHalted modules.SpellsOptionalSystem tokens.now from halt) }
-    ensures least { IsLeastIn 16 (λ tokens. SpellsMaybe (SpellsSystem tokens)) tokens.now from result }
+    ensures { ReadsMaybe 16 modules.SpellsOptionalSystem modules.SpellsOptionalSystem (λ tokens. SpellsMaybe (SpellsSystem tokens)) is_name tokens.now from result }
 {
     if !is_word(tokens, from, SYSTEM) {
         return Ok(Reading {

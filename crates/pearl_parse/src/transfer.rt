@@ -6,10 +6,9 @@ ghost use Rattle.pearl_tree.specs.Statements.{sema_word};
 ghost use Rattle.pearl_tree.specs.declared.word_code.TheConstants as w;
 ghost use Rattle.pearl_parse_expr.specs.Stops.{IsLongest, IsOnly, IsAhead, IsHalted};
 ghost use Rattle.pearl_parse_decl.specs.Readings.{by_comma, never};
-ghost use Rattle.pearl_parse_expr.specs.Least.{IsLeast};
-ghost use Rattle.pearl_parse.specs.Reached.{IsLeastBehind};
+ghost use Rattle.pearl_parse_expr.specs.Reads.{ReadsList};
 ghost use Rattle.pearl_parse.specs.Stops as spec;
-ghost use Rattle.pearl_parse.specs.Reads.{ReadsStatement};
+ghost use Rattle.pearl_parse.specs.Reads.{ReadsListBehind, ReadsOnlyBehind, ReadsStatement};
 
 use crate::list::before;
 use crate::step::{name, symbol, word as word_here};
@@ -28,11 +27,7 @@ use std::alloc::Global;
 /// `id { "," id }`
 fn name_list(alloc: Global, tokens: &[Token], from: usize) -> Result<Reading<Vec<Name>>, Halt>
     requires { from ≤ length tokens.now }
-    ensures spells { IfOk result (λ reading. SpellsList tokens.now (SpellsName tokens.now) from reading.part.items reading.end) }
-    ensures longest { IfOk result (λ reading. IsLongest spec.SpellsNameList (by_comma never) tokens.now from reading.end reading.stop) }
-    ensures ahead { IfOk result (λ reading. IsAhead tokens.now from reading.end reading.stop) }
-    ensures refused { IfErr result (λ halt. IsHalted spec.SpellsNameList tokens.now from halt) }
-    ensures least { IsLeast spec.SpellsNameList tokens.now from result }
+    ensures { ReadsList 16 spec.SpellsNameList (by_comma never) tokens.now from result }
 {
     list(alloc, tokens, from)
 }
@@ -71,11 +66,7 @@ fn formats(
 ) -> Result<Reading<Vec<Fmt>>, Halt>
     requires from { from ≤ length tokens.now }
     requires least_stop { least_stop ≤ length tokens.now }
-    ensures spells { IfOk result (λ reading. spec.SpellsFormats tokens.now from reading.part.items reading.end) }
-    ensures only { IfOk result (λ reading. IsOnly spec.SpellsFormats tokens.now from reading.end reading.stop) }
-    ensures bounds { IfOk result (λ reading. spec.StopsWithin tokens.now (from + 1) least_stop reading.end reading.stop) }
-    ensures refused { IfErr result (λ halt. spec.IsStopped spec.SpellsFormats tokens.now from least_stop halt) }
-    ensures least { IsLeastBehind 24 spec.SpellsFormats tokens.now from least_stop result }
+    ensures { ReadsListBehind 24 spec.SpellsFormats tokens.now from least_stop result }
 {
     match list(alloc, tokens, from) {
         Ok(list) => {
@@ -111,11 +102,7 @@ fn station(
 ) -> Result<Reading<Transfer>, Halt>
     requires from { from ≤ length tokens.now }
     requires least_stop { least_stop ≤ length tokens.now }
-    ensures spells { IfOk result (λ reading. spec.SpellsStation tokens.now from (reading.part.dation, reading.part.formats.items) reading.end) }
-    ensures only { IfOk result (λ reading. IsOnly spec.SpellsStation tokens.now from reading.end reading.stop) }
-    ensures bounds { IfOk result (λ reading. spec.StopsWithin tokens.now (from + 1) least_stop reading.end reading.stop) }
-    ensures refused { IfErr result (λ halt. spec.IsStopped spec.SpellsStation tokens.now from least_stop halt) }
-    ensures least { IsLeastBehind 24 spec.SpellsStation tokens.now from least_stop result }
+    ensures { ReadsOnlyBehind 24 spec.SpellsTransfer spec.SpellsStation spec.SpellsStation tokens.now from (from + 1) least_stop result }
 {
     let dation = name(tokens, from, least_stop)?;
     word_here(tokens, from + 1, least_stop, BY)?;

@@ -4,7 +4,7 @@ ghost use Rattle.std.specs.Prelude.{◌≡◌, ◌+◌, ◌≤◌, List, Some, N
 ghost use Rattle.pearl_tree.specs.Standing.{SpellsMaybe};
 ghost use Rattle.pearl_tree.specs.Expressions as grammar;
 ghost use Rattle.pearl_parse_expr.specs.Stops as stops;
-ghost use Rattle.pearl_parse_expr.specs.Least.{IsLeast};
+ghost use Rattle.pearl_parse_expr.specs.Reads.{Reads};
 ghost use Rattle.pearl_parse_expr.proofs.PartsBegin as parts;
 ghost use Rattle.pearl_parse_decl.specs.Readings as spec;
 
@@ -49,11 +49,7 @@ fn sign(tokens: &[Token], from: usize) -> Reading<Option<Sign>>
 /// `[ "+" | "-" ] literal`
 pub fn constant(alloc: Global, tokens: &[Token], from: usize) -> Result<Reading<Const>, Halt>
     requires { from ≤ length tokens.now }
-    ensures spells { IfOk result (λ reading. grammar.SpellsConst tokens.now from reading.part reading.end) }
-    ensures longest { IfOk result (λ reading. stops.IsLongest grammar.SpellsConst stops.extends_operand tokens.now from reading.end reading.stop) }
-    ensures ahead { IfOk result (λ reading. stops.IsAhead tokens.now from reading.end reading.stop) }
-    ensures refused { IfErr result (λ halt. stops.IsHalted grammar.SpellsConst tokens.now from halt) }
-    ensures least { IsLeast grammar.SpellsConst tokens.now from result }
+    ensures { Reads 16 grammar.SpellsConst stops.extends_operand tokens.now from result }
 {
     let sign = sign(tokens, from);
     match literal(alloc, tokens, sign.end) {

@@ -6,7 +6,7 @@ ghost use Rattle.pearl_tree.specs.Modules as modules;
 ghost use Rattle.pearl_tree.specs.declared.word_code.TheConstants as w;
 ghost use Rattle.pearl_parse_expr.specs.declared.reading.Halt.{Halt};
 ghost use Rattle.pearl_parse_expr.specs.Stops as stops;
-ghost use Rattle.pearl_parse_expr.specs.Least.{IsLeast};
+ghost use Rattle.pearl_parse_expr.specs.Reads.{ReadsOnly};
 
 use crate::list::list;
 use crate::name::bracketed_number;
@@ -25,12 +25,8 @@ use std::alloc::Global;
 pub fn length_of(tokens: &[Token], from: usize) -> Result<Reading<Decl>, Halt>
     requires within { from ≤ length tokens.now }
     requires word { HasWord tokens.now from w.LENGTH }
-    ensures spells { IfOk result (λ reading. modules.SpellsDecl tokens.now from reading.part reading.end) }
-    ensures longest { IfOk result (λ reading. stops.IsOnly modules.SpellsDecl tokens.now from reading.end reading.stop) }
-    ensures ahead { IfOk result (λ reading. stops.IsAhead tokens.now from reading.end reading.stop) }
-    ensures refused { IfErr result (λ halt. stops.IsHalted modules.SpellsDecl tokens.now from halt) }
+    ensures reads { ReadsOnly 16 modules.SpellsDecl tokens.now from result }
     ensures memory { IfErr result (λ halt. halt ≢ Halt.NoMemory) }
-    ensures least { IsLeast modules.SpellsDecl tokens.now from result }
 {
     let sort = match sort_at(tokens, from + 1) {
         Some(sort) => sort,
@@ -58,11 +54,7 @@ pub fn length_of(tokens: &[Token], from: usize) -> Result<Reading<Decl>, Halt>
 pub fn type_of(alloc: Global, tokens: &[Token], from: usize) -> Result<Reading<Decl>, Halt>
     requires within { from ≤ length tokens.now }
     requires word { HasWord tokens.now from w.TYPE }
-    ensures spells { IfOk result (λ reading. modules.SpellsDecl tokens.now from reading.part reading.end) }
-    ensures longest { IfOk result (λ reading. stops.IsOnly modules.SpellsDecl tokens.now from reading.end reading.stop) }
-    ensures ahead { IfOk result (λ reading. stops.IsAhead tokens.now from reading.end reading.stop) }
-    ensures refused { IfErr result (λ halt. stops.IsHalted modules.SpellsDecl tokens.now from halt) }
-    ensures least { IsLeast modules.SpellsDecl tokens.now from result }
+    ensures { ReadsOnly 16 modules.SpellsDecl tokens.now from result }
 {
     let name = match name_at(tokens, from + 1) {
         Some(name) => name,
@@ -90,11 +82,7 @@ pub fn type_of(alloc: Global, tokens: &[Token], from: usize) -> Result<Reading<D
 pub fn declare(alloc: Global, tokens: &[Token], from: usize) -> Result<Reading<Decl>, Halt>
     requires within { from ≤ length tokens.now }
     requires word { HasWord tokens.now from w.DCL }
-    ensures spells { IfOk result (λ reading. modules.SpellsDecl tokens.now from reading.part reading.end) }
-    ensures longest { IfOk result (λ reading. stops.IsOnly modules.SpellsDecl tokens.now from reading.end reading.stop) }
-    ensures ahead { IfOk result (λ reading. stops.IsAhead tokens.now from reading.end reading.stop) }
-    ensures refused { IfErr result (λ halt. stops.IsHalted modules.SpellsDecl tokens.now from halt) }
-    ensures least { IsLeast modules.SpellsDecl tokens.now from result }
+    ensures { ReadsOnly 16 modules.SpellsDecl tokens.now from result }
 {
     let parts = match list::<Declared>(alloc, tokens, from + 1) {
         Ok(parts) => parts,
@@ -117,11 +105,7 @@ pub fn declare(alloc: Global, tokens: &[Token], from: usize) -> Result<Reading<D
 pub fn specify(alloc: Global, tokens: &[Token], from: usize) -> Result<Reading<Decl>, Halt>
     requires within { from ≤ length tokens.now }
     requires word { HasWord tokens.now from w.SPC }
-    ensures spells { IfOk result (λ reading. modules.SpellsDecl tokens.now from reading.part reading.end) }
-    ensures longest { IfOk result (λ reading. stops.IsOnly modules.SpellsDecl tokens.now from reading.end reading.stop) }
-    ensures ahead { IfOk result (λ reading. stops.IsAhead tokens.now from reading.end reading.stop) }
-    ensures refused { IfErr result (λ halt. stops.IsHalted modules.SpellsDecl tokens.now from halt) }
-    ensures least { IsLeast modules.SpellsDecl tokens.now from result }
+    ensures { ReadsOnly 16 modules.SpellsDecl tokens.now from result }
 {
     let parts = match list::<Spec>(alloc, tokens, from + 1) {
         Ok(parts) => parts,

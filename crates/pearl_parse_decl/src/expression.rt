@@ -4,7 +4,7 @@ ghost use Rattle.std.specs.Prelude.{◌≤◌, length, IfOk, IfErr, refl};
 ghost use Rattle.pearl_tree.specs.Expressions.{SpellsWhole, SpellsOwnRef};
 ghost use Rattle.pearl_tree.specs.declared.limit.TheConstants as limit;
 ghost use Rattle.pearl_parse_expr.specs.Stops as stops;
-ghost use Rattle.pearl_parse_expr.specs.Least.{IsLeast};
+ghost use Rattle.pearl_parse_expr.specs.Reads.{Reads, ReadsAs};
 ghost use Rattle.pearl_parse_expr.proofs.PartsBegin as parts;
 
 use crate::list::Readable;
@@ -18,11 +18,7 @@ use std::alloc::Global;
 /// The longest expression that begins here.
 pub fn expression(alloc: Global, tokens: &[Token], from: usize) -> Result<Reading<Expr>, Halt>
     requires { from ≤ length tokens.now }
-    ensures spells { IfOk result (λ reading. SpellsWhole tokens.now from reading.part reading.end) }
-    ensures longest { IfOk result (λ reading. stops.IsLongest SpellsWhole stops.extends_expression tokens.now from reading.end reading.stop) }
-    ensures ahead { IfOk result (λ reading. stops.IsAhead tokens.now from reading.end reading.stop) }
-    ensures refused { IfErr result (λ halt. stops.IsHalted SpellsWhole tokens.now from halt) }
-    ensures least { IsLeast SpellsWhole tokens.now from result }
+    ensures { Reads 16 SpellsWhole stops.extends_expression tokens.now from result }
 {
     expression_at_depth(alloc, tokens, from, BRACKETS_MAX)
 }
@@ -30,14 +26,8 @@ pub fn expression(alloc: Global, tokens: &[Token], from: usize) -> Result<Readin
 /// The longest reference that begins here, with a bracket more than within an expression.
 pub fn own_reference(alloc: Global, tokens: &[Token], from: usize) -> Result<Reading<Ref>, Halt>
     requires { from ≤ length tokens.now }
-    ensures spells { IfOk result (λ reading. SpellsOwnRef tokens.now from reading.part reading.end) }
-    ensures longest { IfOk result (λ reading. stops.IsLongest SpellsOwnRef stops.extends_operand tokens.now from reading.end reading.stop) }
-    ensures named { IfOk result (λ reading. stops.IsLongest (λ tokens. stops.SpellsNamed tokens limit.OWN_BRACKETS_MAX) stops.extends_operand tokens.now from reading.end reading.stop) }
-    ensures ahead { IfOk result (λ reading. stops.IsAhead tokens.now from reading.end reading.stop) }
-    ensures refused { IfErr result (λ halt. stops.IsHalted SpellsOwnRef tokens.now from halt) }
-    ensures unnamed { IfErr result (λ halt. stops.IsHalted (λ tokens. stops.SpellsNamed tokens limit.OWN_BRACKETS_MAX) tokens.now from halt) }
-    ensures least { IsLeast SpellsOwnRef tokens.now from result }
-    ensures least_named { IsLeast (λ tokens. stops.SpellsNamed tokens limit.OWN_BRACKETS_MAX) tokens.now from result }
+    ensures reads { Reads 16 SpellsOwnRef stops.extends_operand tokens.now from result }
+    ensures named { ReadsAs 16 SpellsOwnRef (λ tokens. stops.SpellsNamed tokens limit.OWN_BRACKETS_MAX) stops.extends_operand tokens.now from result }
 {
     reference(alloc, tokens, from, OWN_BRACKETS_MAX)
 }

@@ -7,7 +7,7 @@ ghost use Rattle.pearl_tree.specs.declared.format.FreeCode.{FreeCode};
 ghost use Rattle.pearl_tree.specs.declared.format.WideCode.{WideCode};
 ghost use Rattle.pearl_parse_expr.specs.declared.reading.Halt.{Halt};
 ghost use Rattle.pearl_parse_expr.specs.Stops as stops;
-ghost use Rattle.pearl_parse_expr.specs.Least.{IsLeast};
+ghost use Rattle.pearl_parse_expr.specs.Reads.{Reads};
 ghost use Rattle.pearl_parse_expr.proofs.PartsBegin as parts;
 ghost use Rattle.pearl_parse_decl.specs.Readings as spec;
 
@@ -79,12 +79,8 @@ fn wide_at(tokens: &[Token], at: usize) -> Option<WideCode>
 /// The item of a format that begins here.
 pub fn fmt(tokens: &[Token], from: usize) -> Result<Reading<Fmt>, Halt>
     requires { from ≤ length tokens.now }
-    ensures spells { IfOk result (λ reading. grammar.SpellsFmt tokens.now from reading.part reading.end) }
-    ensures longest { IfOk result (λ reading. stops.IsLongest grammar.SpellsFmt spec.by_bracket tokens.now from reading.end reading.stop) }
-    ensures ahead { IfOk result (λ reading. stops.IsAhead tokens.now from reading.end reading.stop) }
-    ensures refused { IfErr result (λ halt. stops.IsHalted grammar.SpellsFmt tokens.now from halt) }
+    ensures reads { Reads 16 grammar.SpellsFmt spec.by_bracket tokens.now from result }
     ensures memory { IfErr result (λ halt. halt ≢ Halt.NoMemory) }
-    ensures least { IsLeast grammar.SpellsFmt tokens.now from result }
 {
     if let Some(code) = free_at(tokens, from) {
         let width = maybe_number(tokens, from + 1);

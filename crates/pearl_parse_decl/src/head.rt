@@ -6,7 +6,8 @@ ghost use Rattle.pearl_tree.specs.Declarations as grammar;
 ghost use Rattle.pearl_tree.specs.Modules as modules;
 ghost use Rattle.pearl_tree.specs.declared.word_code.TheConstants as w;
 ghost use Rattle.pearl_parse_expr.specs.Stops as stops;
-ghost use Rattle.pearl_parse_expr.specs.Least.{Reaches, GoesTo, IsLeast};
+ghost use Rattle.pearl_parse_expr.specs.Least.{Reaches, GoesTo};
+ghost use Rattle.pearl_parse_expr.specs.Reads.{Reads};
 ghost use Rattle.pearl_parse_expr.proofs.PartsBegin as parts;
 ghost use Rattle.pearl_parse_decl.specs.Readings as spec;
 
@@ -27,11 +28,7 @@ use std::alloc::Global;
 /// `names basic [ IDENT ]`
 pub fn param(alloc: Global, tokens: &[Token], from: usize) -> Result<Reading<Param>, Halt>
     requires { from ≤ length tokens.now }
-    ensures spells { IfOk result (λ reading. grammar.SpellsParam tokens.now from reading.part reading.end) }
-    ensures longest { IfOk result (λ reading. stops.IsLongest grammar.SpellsParam spec.extends_param tokens.now from reading.end reading.stop) }
-    ensures ahead { IfOk result (λ reading. stops.IsAhead tokens.now from reading.end reading.stop) }
-    ensures refused { IfErr result (λ halt. stops.IsHalted grammar.SpellsParam tokens.now from halt) }
-    ensures least { IsLeast grammar.SpellsParam tokens.now from result }
+    ensures { Reads 16 grammar.SpellsParam spec.extends_param tokens.now from result }
 {
     let names = match names(alloc, tokens, from) {
         Ok(names) => names,

@@ -1,12 +1,12 @@
 // Variables and semaphores of a declaration.
 
-ghost use Rattle.std.specs.Prelude.{◌≡◌, ◌+◌, ◌≤◌, List, length, max, IfOk, IfErr, refl};
+ghost use Rattle.std.specs.Prelude.{◌≡◌, ◌+◌, ◌≤◌, List, length, max, IfOk, IfErr, Ok, refl};
 ghost use Rattle.pearl_tree.specs.Standing.{HasWord};
 ghost use Rattle.pearl_tree.specs.Types as types;
 ghost use Rattle.pearl_tree.specs.Declarations as grammar;
 ghost use Rattle.pearl_tree.specs.declared.word_code.TheConstants as w;
 ghost use Rattle.pearl_parse_expr.specs.Stops as stops;
-ghost use Rattle.pearl_parse_expr.specs.Least.{GoesIn, IsLeast};
+ghost use Rattle.pearl_parse_expr.specs.Reads.{Reads, ReadsOnly};
 ghost use Rattle.pearl_parse_expr.proofs.PartsBegin as parts;
 ghost use Rattle.pearl_parse_decl.specs.Readings as spec;
 
@@ -33,15 +33,8 @@ fn item_behind(
     names: Reading<Names>,
 ) -> Result<Reading<Item>, Halt>
     requires within { from ≤ length tokens.now }
-    requires spells { types.SpellsNames tokens.now from names.part names.end }
-    requires longest { stops.IsOnly types.SpellsNames tokens.now from names.end names.stop }
-    requires ahead { stops.IsAhead tokens.now from names.end names.stop }
-    requires least { GoesIn 9 types.SpellsNames tokens.now from names.end names.stop }
-    ensures spells { IfOk result (λ reading. grammar.SpellsItem tokens.now from reading.part reading.end) }
-    ensures longest { IfOk result (λ reading. stops.IsLongest grammar.SpellsItem spec.extends_item tokens.now from reading.end reading.stop) }
-    ensures ahead { IfOk result (λ reading. stops.IsAhead tokens.now from reading.end reading.stop) }
-    ensures refused { IfErr result (λ halt. stops.IsHalted grammar.SpellsItem tokens.now from halt) }
-    ensures least { IsLeast grammar.SpellsItem tokens.now from result }
+    requires names { ReadsOnly 9 types.SpellsNames tokens.now from (Ok names) }
+    ensures reads { Reads 16 grammar.SpellsItem spec.extends_item tokens.now from result }
     ensures far { IfOk result (λ reading. names.stop ≤ reading.stop) }
     ensures past { IfErr result (λ halt. spec.IsPast names.stop halt) }
 {
@@ -76,11 +69,7 @@ fn item_behind(
 /// `names [ bounds ] [ INV ] type [ INIT "(" const { "," const } ")" ]`
 pub fn item(alloc: Global, tokens: &[Token], from: usize) -> Result<Reading<Item>, Halt>
     requires { from ≤ length tokens.now }
-    ensures spells { IfOk result (λ reading. grammar.SpellsItem tokens.now from reading.part reading.end) }
-    ensures longest { IfOk result (λ reading. stops.IsLongest grammar.SpellsItem spec.extends_item tokens.now from reading.end reading.stop) }
-    ensures ahead { IfOk result (λ reading. stops.IsAhead tokens.now from reading.end reading.stop) }
-    ensures refused { IfErr result (λ halt. stops.IsHalted grammar.SpellsItem tokens.now from halt) }
-    ensures least { IsLeast grammar.SpellsItem tokens.now from result }
+    ensures { Reads 16 grammar.SpellsItem spec.extends_item tokens.now from result }
 {
     match names(alloc, tokens, from) {
         Ok(names) => item_behind(alloc, tokens, from, names),
@@ -96,15 +85,8 @@ fn sema_behind(
     names: Reading<Names>,
 ) -> Result<Reading<Sema>, Halt>
     requires within { from ≤ length tokens.now }
-    requires spells { types.SpellsNames tokens.now from names.part names.end }
-    requires longest { stops.IsOnly types.SpellsNames tokens.now from names.end names.stop }
-    requires ahead { stops.IsAhead tokens.now from names.end names.stop }
-    requires least { GoesIn 9 types.SpellsNames tokens.now from names.end names.stop }
-    ensures spells { IfOk result (λ reading. grammar.SpellsSema tokens.now from reading.part reading.end) }
-    ensures longest { IfOk result (λ reading. stops.IsLongest grammar.SpellsSema spec.extends_sema tokens.now from reading.end reading.stop) }
-    ensures ahead { IfOk result (λ reading. stops.IsAhead tokens.now from reading.end reading.stop) }
-    ensures refused { IfErr result (λ halt. stops.IsHalted grammar.SpellsSema tokens.now from halt) }
-    ensures least { IsLeast grammar.SpellsSema tokens.now from result }
+    requires names { ReadsOnly 9 types.SpellsNames tokens.now from (Ok names) }
+    ensures reads { Reads 16 grammar.SpellsSema spec.extends_sema tokens.now from result }
     ensures far { IfOk result (λ reading. names.stop ≤ reading.stop) }
     ensures past { IfErr result (λ halt. spec.IsPast names.stop halt) }
 {
@@ -129,11 +111,7 @@ fn sema_behind(
 /// A variable or a semaphore, by what follows its names.
 pub fn declared(alloc: Global, tokens: &[Token], from: usize) -> Result<Reading<Declared>, Halt>
     requires { from ≤ length tokens.now }
-    ensures spells { IfOk result (λ reading. grammar.SpellsDeclared tokens.now from reading.part reading.end) }
-    ensures longest { IfOk result (λ reading. stops.IsLongest grammar.SpellsDeclared spec.extends_declared tokens.now from reading.end reading.stop) }
-    ensures ahead { IfOk result (λ reading. stops.IsAhead tokens.now from reading.end reading.stop) }
-    ensures refused { IfErr result (λ halt. stops.IsHalted grammar.SpellsDeclared tokens.now from halt) }
-    ensures least { IsLeast grammar.SpellsDeclared tokens.now from result }
+    ensures { Reads 16 grammar.SpellsDeclared spec.extends_declared tokens.now from result }
 {
     let names = match names(alloc, tokens, from) {
         Ok(names) => names,

@@ -8,7 +8,8 @@ ghost use Rattle.pearl_tree.specs.Standing.{Spelling, HasWord, HasSymbol, Spells
 ghost use Rattle.pearl_tree.specs.declared.symbol.TheConstants as s;
 ghost use Rattle.pearl_parse_expr.specs.declared.reading.Halt.{Halt};
 ghost use Rattle.pearl_parse_expr.specs.Stops as stops;
-ghost use Rattle.pearl_parse_expr.specs.Least.{IsLeast, IsLeastIn};
+ghost use Rattle.pearl_parse_expr.specs.Least.{IsLeastIn};
+ghost use Rattle.pearl_parse_expr.specs.Reads.{Reads, ReadsList, ReadsOnlyList};
 ghost use Rattle.pearl_parse_decl.specs.Readings as spec;
 
 use pearl_parse_expr::reading::{Halt, Reading, append};
@@ -28,11 +29,7 @@ pub trait Readable: Drop {
     /// The longest part that begins here.
     fn read(alloc: Global, tokens: &[Token], from: usize) -> Result<Reading<Self>, Halt>
         requires { from ≤ length tokens.now }
-        ensures spells { IfOk result (λ reading. spelling tokens.now from reading.part reading.end) }
-        ensures longest { IfOk result (λ reading. stops.IsLongest spelling extends tokens.now from reading.end reading.stop) }
-        ensures ahead { IfOk result (λ reading. stops.IsAhead tokens.now from reading.end reading.stop) }
-        ensures refused { IfErr result (λ halt. stops.IsHalted spelling tokens.now from halt) }
-        ensures least { IsLeast spelling tokens.now from result }
+        ensures reads { Reads 16 spelling extends tokens.now from result }
         ensures contained { spec.IsSelfContained spelling };
 
     // Of each kind a list in brackets may stand anywhere.
@@ -62,11 +59,7 @@ pub fn list<P: Readable>(
     from: usize,
 ) -> Result<Reading<Vec<P>>, Halt>
     requires { from ≤ length tokens.now }
-    ensures spells { IfOk result (λ reading. SpellsList tokens.now (P.spelling tokens.now) from reading.part.items reading.end) }
-    ensures longest { IfOk result (λ reading. stops.IsLongest (λ tokens. SpellsList tokens (P.spelling tokens)) (spec.by_comma P.extends) tokens.now from reading.end reading.stop) }
-    ensures ahead { IfOk result (λ reading. stops.IsAhead tokens.now from reading.end reading.stop) }
-    ensures refused { IfErr result (λ halt. stops.IsHalted (λ tokens. SpellsList tokens (P.spelling tokens)) tokens.now from halt) }
-    ensures least { IsLeast (λ tokens. SpellsList tokens (P.spelling tokens)) tokens.now from result }
+    ensures reads { ReadsList 16 (λ tokens. SpellsList tokens (P.spelling tokens)) (spec.by_comma P.extends) tokens.now from result }
     ensures contained { spec.IsSelfContained P.spelling }
 {
     let first = match P::read(alloc, tokens, from) {
@@ -112,11 +105,7 @@ pub fn bracketed<P: Readable>(
     from: usize,
 ) -> Result<Reading<Vec<P>>, Halt>
     requires { from ≤ length tokens.now }
-    ensures spells { IfOk result (λ reading. SpellsBracketed tokens.now (P.spelling tokens.now) from reading.part.items reading.end) }
-    ensures longest { IfOk result (λ reading. stops.IsOnly (λ tokens. SpellsBracketed tokens (P.spelling tokens)) tokens.now from reading.end reading.stop) }
-    ensures ahead { IfOk result (λ reading. stops.IsAhead tokens.now from reading.end reading.stop) }
-    ensures refused { IfErr result (λ halt. stops.IsHalted (λ tokens. SpellsBracketed tokens (P.spelling tokens)) tokens.now from halt) }
-    ensures least { IsLeastIn 9 (λ tokens. SpellsBracketed tokens (P.spelling tokens)) tokens.now from result }
+    ensures { ReadsOnlyList 9 (λ tokens. SpellsBracketed tokens (P.spelling tokens)) tokens.now from result }
 {
     if !is_symbol(tokens, from, LEFT_ROUND) {
         return Err(Halt::Refused(from));

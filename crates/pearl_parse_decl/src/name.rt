@@ -5,7 +5,8 @@ ghost use Rattle.pearl_tree.specs.Standing.{what_at, HasSymbol, SpellsName, Spel
 ghost use Rattle.pearl_tree.specs.Types as grammar;
 ghost use Rattle.pearl_parse_expr.specs.declared.reading.Halt.{Halt};
 ghost use Rattle.pearl_parse_expr.specs.Stops as stops;
-ghost use Rattle.pearl_parse_expr.specs.Least.{Reaches, GoesTo, IsLeast, IsLeastIn};
+ghost use Rattle.pearl_parse_expr.specs.Least.{Reaches, GoesTo};
+ghost use Rattle.pearl_parse_expr.specs.Reads.{ReadsOnly};
 ghost use Rattle.pearl_parse_expr.proofs.PartsBegin as parts;
 ghost use Rattle.pearl_parse_decl.specs.Readings as spec;
 
@@ -21,12 +22,8 @@ use std::alloc::Global;
 /// The name that stands here.
 pub fn name(tokens: &[Token], from: usize) -> Result<Reading<Name>, Halt>
     requires { from ≤ length tokens.now }
-    ensures spells { IfOk result (λ reading. SpellsName tokens.now from reading.part reading.end) }
-    ensures longest { IfOk result (λ reading. stops.IsOnly SpellsName tokens.now from reading.end reading.stop) }
-    ensures ahead { IfOk result (λ reading. stops.IsAhead tokens.now from reading.end reading.stop) }
-    ensures refused { IfErr result (λ halt. stops.IsHalted SpellsName tokens.now from halt) }
+    ensures reads { ReadsOnly 16 SpellsName tokens.now from result }
     ensures memory { IfErr result (λ halt. halt ≢ Halt.NoMemory) }
-    ensures least { IsLeast SpellsName tokens.now from result }
 {
     match name_at(tokens, from) {
         Some(part) => Ok(Reading {
@@ -41,12 +38,8 @@ pub fn name(tokens: &[Token], from: usize) -> Result<Reading<Name>, Halt>
 /// The number that stands here.
 pub fn number(tokens: &[Token], from: usize) -> Result<Reading<Number>, Halt>
     requires { from ≤ length tokens.now }
-    ensures spells { IfOk result (λ reading. SpellsNumber tokens.now from reading.part reading.end) }
-    ensures longest { IfOk result (λ reading. stops.IsOnly SpellsNumber tokens.now from reading.end reading.stop) }
-    ensures ahead { IfOk result (λ reading. stops.IsAhead tokens.now from reading.end reading.stop) }
-    ensures refused { IfErr result (λ halt. stops.IsHalted SpellsNumber tokens.now from halt) }
+    ensures reads { ReadsOnly 16 SpellsNumber tokens.now from result }
     ensures memory { IfErr result (λ halt. halt ≢ Halt.NoMemory) }
-    ensures least { IsLeast SpellsNumber tokens.now from result }
 {
     match number_at(tokens, from) {
         Some(part) => Ok(Reading {
@@ -139,11 +132,7 @@ pub fn maybe_number(tokens: &[Token], from: usize) -> Reading<Option<Number>>
 /// `id | "(" id { "," id } ")"`
 pub fn names(alloc: Global, tokens: &[Token], from: usize) -> Result<Reading<Names>, Halt>
     requires { from ≤ length tokens.now }
-    ensures spells { IfOk result (λ reading. grammar.SpellsNames tokens.now from reading.part reading.end) }
-    ensures longest { IfOk result (λ reading. stops.IsOnly grammar.SpellsNames tokens.now from reading.end reading.stop) }
-    ensures ahead { IfOk result (λ reading. stops.IsAhead tokens.now from reading.end reading.stop) }
-    ensures refused { IfErr result (λ halt. stops.IsHalted grammar.SpellsNames tokens.now from halt) }
-    ensures least { IsLeastIn 9 grammar.SpellsNames tokens.now from result }
+    ensures { ReadsOnly 9 grammar.SpellsNames tokens.now from result }
 {
     match name_at(tokens, from) {
         Some(name) => Ok(Reading {

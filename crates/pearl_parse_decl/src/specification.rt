@@ -1,6 +1,6 @@
 // Specifications of interrupts and dations, and devices.
 
-ghost use Rattle.std.specs.Prelude.{◌≡◌, ◌≢◌, ◌+◌, ◌<◌, ◌≤◌, List, None, true, false, codes, length, max, IfOk, IfErr, IfSome, refl};
+ghost use Rattle.std.specs.Prelude.{◌≡◌, ◌≢◌, ◌+◌, ◌<◌, ◌≤◌, List, None, Ok, true, false, codes, length, max, IfOk, IfErr, IfSome, refl};
 ghost use Rattle.pearl_tree.specs.Standing.{what_at, HasWord, HasId};
 ghost use Rattle.pearl_tree.specs.Types as types;
 ghost use Rattle.pearl_tree.specs.Declarations as grammar;
@@ -8,7 +8,8 @@ ghost use Rattle.pearl_tree.specs.declared.declaration.Direction.{Direction};
 ghost use Rattle.pearl_tree.specs.declared.word_code.TheConstants as w;
 ghost use Rattle.pearl_parse_expr.specs.declared.reading.Halt.{Halt};
 ghost use Rattle.pearl_parse_expr.specs.Stops as stops;
-ghost use Rattle.pearl_parse_expr.specs.Least.{GoesIn, GoesTo, IsLeast};
+ghost use Rattle.pearl_parse_expr.specs.Least.{GoesTo};
+ghost use Rattle.pearl_parse_expr.specs.Reads.{Reads, ReadsOnly};
 ghost use Rattle.pearl_parse_expr.proofs.PartsBegin as parts;
 ghost use Rattle.pearl_parse_decl.specs.Readings as spec;
 
@@ -44,12 +45,8 @@ fn direction_at(tokens: &[Token], at: usize) -> Option<Direction>
 /// `ALPHIC | BASIC basic`
 fn class(tokens: &[Token], from: usize) -> Result<Reading<Class>, Halt>
     requires { from ≤ length tokens.now }
-    ensures spells { IfOk result (λ reading. grammar.SpellsClass tokens.now from reading.part reading.end) }
-    ensures longest { IfOk result (λ reading. stops.IsLongest grammar.SpellsClass spec.by_bracket tokens.now from reading.end reading.stop) }
-    ensures ahead { IfOk result (λ reading. stops.IsAhead tokens.now from reading.end reading.stop) }
-    ensures refused { IfErr result (λ halt. stops.IsHalted grammar.SpellsClass tokens.now from halt) }
+    ensures reads { Reads 16 grammar.SpellsClass spec.by_bracket tokens.now from result }
     ensures memory { IfErr result (λ halt. halt ≢ Halt.NoMemory) }
-    ensures least { IsLeast grammar.SpellsClass tokens.now from result }
 {
     if is_word(tokens, from, ALPHIC) {
         return Ok(Reading {
@@ -150,16 +147,9 @@ fn dation_behind(
     names: Reading<Names>,
 ) -> Result<Reading<Spec>, Halt>
     requires within { from ≤ length tokens.now }
-    requires spells { types.SpellsNames tokens.now from names.part names.end }
-    requires longest { stops.IsOnly types.SpellsNames tokens.now from names.end names.stop }
-    requires ahead { stops.IsAhead tokens.now from names.end names.stop }
-    requires least { GoesIn 9 types.SpellsNames tokens.now from names.end names.stop }
+    requires names { ReadsOnly 9 types.SpellsNames tokens.now from (Ok names) }
     requires word { HasWord tokens.now names.end w.DATION }
-    ensures spells { IfOk result (λ reading. grammar.SpellsSpec tokens.now from reading.part reading.end) }
-    ensures longest { IfOk result (λ reading. stops.IsLongest grammar.SpellsSpec spec.extends_spec tokens.now from reading.end reading.stop) }
-    ensures ahead { IfOk result (λ reading. stops.IsAhead tokens.now from reading.end reading.stop) }
-    ensures refused { IfErr result (λ halt. stops.IsHalted grammar.SpellsSpec tokens.now from halt) }
-    ensures least { IsLeast grammar.SpellsSpec tokens.now from result }
+    ensures reads { Reads 16 grammar.SpellsSpec spec.extends_spec tokens.now from result }
     ensures memory { IfErr result (λ halt. halt ≢ Halt.NoMemory) }
 {
     let direction = match direction_at(tokens, names.end + 1) {
@@ -188,11 +178,7 @@ fn dation_behind(
 /// What is specified here: an interrupt or a dation.
 pub fn specified(alloc: Global, tokens: &[Token], from: usize) -> Result<Reading<Spec>, Halt>
     requires { from ≤ length tokens.now }
-    ensures spells { IfOk result (λ reading. grammar.SpellsSpec tokens.now from reading.part reading.end) }
-    ensures longest { IfOk result (λ reading. stops.IsLongest grammar.SpellsSpec spec.extends_spec tokens.now from reading.end reading.stop) }
-    ensures ahead { IfOk result (λ reading. stops.IsAhead tokens.now from reading.end reading.stop) }
-    ensures refused { IfErr result (λ halt. stops.IsHalted grammar.SpellsSpec tokens.now from halt) }
-    ensures least { IsLeast grammar.SpellsSpec tokens.now from result }
+    ensures { Reads 16 grammar.SpellsSpec spec.extends_spec tokens.now from result }
 {
     let names = match names(alloc, tokens, from) {
         Ok(names) => names,
@@ -249,12 +235,8 @@ fn device_word(tokens: &[Token], at: usize) -> Option<DeviceWord>
 /// `id ":" ( id | INTERRUPT ) "(" number ")" ";"`
 pub fn device(tokens: &[Token], from: usize) -> Result<Reading<Device>, Halt>
     requires { from ≤ length tokens.now }
-    ensures spells { IfOk result (λ reading. grammar.SpellsDevice tokens.now from reading.part reading.end) }
-    ensures longest { IfOk result (λ reading. stops.IsOnly grammar.SpellsDevice tokens.now from reading.end reading.stop) }
-    ensures ahead { IfOk result (λ reading. stops.IsAhead tokens.now from reading.end reading.stop) }
-    ensures refused { IfErr result (λ halt. stops.IsHalted grammar.SpellsDevice tokens.now from halt) }
+    ensures reads { ReadsOnly 16 grammar.SpellsDevice tokens.now from result }
     ensures memory { IfErr result (λ halt. halt ≢ Halt.NoMemory) }
-    ensures least { IsLeast grammar.SpellsDevice tokens.now from result }
 {
     let name = match name_at(tokens, from) {
         Some(name) => name,

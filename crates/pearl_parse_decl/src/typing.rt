@@ -9,7 +9,8 @@ ghost use Rattle.pearl_tree.specs.declared.symbol.TheConstants as s;
 ghost use Rattle.pearl_tree.specs.declared.word_code.TheConstants as w;
 ghost use Rattle.pearl_parse_expr.specs.declared.reading.Halt.{Halt};
 ghost use Rattle.pearl_parse_expr.specs.Stops as stops;
-ghost use Rattle.pearl_parse_expr.specs.Least.{Reaches, GoesTo, IsLeast, IsLeastIn};
+ghost use Rattle.pearl_parse_expr.specs.Least.{Reaches, GoesTo, IsLeastIn};
+ghost use Rattle.pearl_parse_expr.specs.Reads.{Reads, ReadsList};
 ghost use Rattle.pearl_parse_expr.proofs.PartsBegin as parts;
 ghost use Rattle.pearl_parse_decl.specs.Readings as spec;
 
@@ -96,12 +97,8 @@ fn upper(tokens: &[Token], from: usize) -> Reading<Option<Int>>
 /// `int [ ":" int ]`
 pub fn bound(tokens: &[Token], from: usize) -> Result<Reading<Bound>, Halt>
     requires { from ≤ length tokens.now }
-    ensures spells { IfOk result (λ reading. grammar.SpellsBound tokens.now from reading.part reading.end) }
-    ensures longest { IfOk result (λ reading. stops.IsLongest grammar.SpellsBound spec.by_colon tokens.now from reading.end reading.stop) }
-    ensures ahead { IfOk result (λ reading. stops.IsAhead tokens.now from reading.end reading.stop) }
-    ensures refused { IfErr result (λ halt. stops.IsHalted grammar.SpellsBound tokens.now from halt) }
+    ensures reads { Reads 16 grammar.SpellsBound spec.by_colon tokens.now from result }
     ensures memory { IfErr result (λ halt. halt ≢ Halt.NoMemory) }
-    ensures least { IsLeast grammar.SpellsBound tokens.now from result }
 {
     let first = match int(tokens, from) {
         Ok(first) => first,
@@ -175,12 +172,8 @@ pub fn sort_at(tokens: &[Token], at: usize) -> Option<Sort>
 /// The basic type that begins here.
 pub fn basic(tokens: &[Token], from: usize) -> Result<Reading<Basic>, Halt>
     requires { from ≤ length tokens.now }
-    ensures spells { IfOk result (λ reading. grammar.SpellsBasic tokens.now from reading.part reading.end) }
-    ensures longest { IfOk result (λ reading. stops.IsLongest grammar.SpellsBasic spec.by_bracket tokens.now from reading.end reading.stop) }
-    ensures ahead { IfOk result (λ reading. stops.IsAhead tokens.now from reading.end reading.stop) }
-    ensures refused { IfErr result (λ halt. stops.IsHalted grammar.SpellsBasic tokens.now from halt) }
+    ensures reads { Reads 16 grammar.SpellsBasic spec.by_bracket tokens.now from result }
     ensures held { IfErr result (λ halt. halt ≡ Halt.Refused from) }
-    ensures least { IsLeast grammar.SpellsBasic tokens.now from result }
 {
     if let Some(sort) = sort_at(tokens, from) {
         let number = maybe_number(tokens, from + 1);
@@ -224,11 +217,7 @@ pub fn typing(
     depth: u8,
 ) -> Result<Reading<Typing>, Halt>
     requires { from ≤ length tokens.now }
-    ensures spells { IfOk result (λ reading. grammar.SpellsTyping tokens.now depth from reading.part reading.end) }
-    ensures longest { IfOk result (λ reading. stops.IsLongest (λ tokens. grammar.SpellsTyping tokens depth) spec.by_bracket tokens.now from reading.end reading.stop) }
-    ensures ahead { IfOk result (λ reading. stops.IsAhead tokens.now from reading.end reading.stop) }
-    ensures refused { IfErr result (λ halt. stops.IsHalted (λ tokens. grammar.SpellsTyping tokens depth) tokens.now from halt) }
-    ensures least { IsLeast (λ tokens. grammar.SpellsTyping tokens depth) tokens.now from result }
+    ensures { Reads 16 (λ tokens. grammar.SpellsTyping tokens depth) spec.by_bracket tokens.now from result }
 {
     if is_word(tokens, from, STRUCT) {
         return structure(alloc, tokens, from, depth);
@@ -259,11 +248,7 @@ fn structure(
 ) -> Result<Reading<Typing>, Halt>
     requires within { from ≤ length tokens.now }
     requires word { HasWord tokens.now from w.STRUCT }
-    ensures spells { IfOk result (λ reading. grammar.SpellsTyping tokens.now depth from reading.part reading.end) }
-    ensures longest { IfOk result (λ reading. stops.IsLongest (λ tokens. grammar.SpellsTyping tokens depth) spec.by_bracket tokens.now from reading.end reading.stop) }
-    ensures ahead { IfOk result (λ reading. stops.IsAhead tokens.now from reading.end reading.stop) }
-    ensures refused { IfErr result (λ halt. stops.IsHalted (λ tokens. grammar.SpellsTyping tokens depth) tokens.now from halt) }
-    ensures least { IsLeast (λ tokens. grammar.SpellsTyping tokens depth) tokens.now from result }
+    ensures { Reads 16 (λ tokens. grammar.SpellsTyping tokens depth) spec.by_bracket tokens.now from result }
 {
     if depth == 0 {
         return Err(Halt::Refused(from));
@@ -296,11 +281,7 @@ fn fields(
     depth: u8,
 ) -> Result<Reading<Vec<Field>>, Halt>
     requires { from ≤ length tokens.now }
-    ensures spells { IfOk result (λ reading. SpellsList tokens.now (grammar.SpellsField tokens.now depth) from reading.part.items reading.end) }
-    ensures longest { IfOk result (λ reading. stops.IsLongest (λ tokens. SpellsList tokens (grammar.SpellsField tokens depth)) (spec.by_comma spec.by_bracket) tokens.now from reading.end reading.stop) }
-    ensures ahead { IfOk result (λ reading. stops.IsAhead tokens.now from reading.end reading.stop) }
-    ensures refused { IfErr result (λ halt. stops.IsHalted (λ tokens. SpellsList tokens (grammar.SpellsField tokens depth)) tokens.now from halt) }
-    ensures least { IsLeast (λ tokens. SpellsList tokens (grammar.SpellsField tokens depth)) tokens.now from result }
+    ensures { ReadsList 16 (λ tokens. SpellsList tokens (grammar.SpellsField tokens depth)) (spec.by_comma spec.by_bracket) tokens.now from result }
 {
     let first = match field(alloc, tokens, from, depth) {
         Ok(first) => first,
@@ -339,11 +320,7 @@ fn fields(
 #[cycle(typing)]
 fn field(alloc: Global, tokens: &[Token], from: usize, depth: u8) -> Result<Reading<Field>, Halt>
     requires { from ≤ length tokens.now }
-    ensures spells { IfOk result (λ reading. grammar.SpellsField tokens.now depth from reading.part reading.end) }
-    ensures longest { IfOk result (λ reading. stops.IsLongest (λ tokens. grammar.SpellsField tokens depth) spec.by_bracket tokens.now from reading.end reading.stop) }
-    ensures ahead { IfOk result (λ reading. stops.IsAhead tokens.now from reading.end reading.stop) }
-    ensures refused { IfErr result (λ halt. stops.IsHalted (λ tokens. grammar.SpellsField tokens depth) tokens.now from halt) }
-    ensures least { IsLeast (λ tokens. grammar.SpellsField tokens depth) tokens.now from result }
+    ensures { Reads 16 (λ tokens. grammar.SpellsField tokens depth) spec.by_bracket tokens.now from result }
 {
     let names = match names(alloc, tokens, from) {
         Ok(names) => names,

@@ -4,6 +4,7 @@ pub mod Lists
 pub mod Parts
 pub mod Chains
 pub mod Halts
+pub mod Readings
 pub mod Limits
 pub mod Closings
 pub mod PastEnd

@@ -8,11 +8,13 @@ use Rattle.pearl_tree.specs.declared.token.Token.{Token}
 use Rattle.pearl_tree.specs.declared.limit.TheConstants as limit
 use Rattle.pearl_tree.specs.declared.literal.Secs.{Secs}
 use Rattle.pearl_tree.specs.declared.expression.Monadic.{Monadic}
+use Rattle.pearl_tree.specs.declared.expression.Expr as tree
 use Rattle.pearl_tree.specs.declared.expression.Expr.{Expr}
+use Rattle.pearl_tree.specs.declared.expression.Operand.{Operand}
 use Rattle.pearl_tree.specs.declared.expression.Primary.{Primary}
 use Rattle.pearl_tree.specs.declared.expression.Selector.{Selector}
 use Rattle.pearl_tree.specs.Standing.{Spelling, SpellsMaybe, SpellsEach, SpellsList, what_at, place_at}
-use Rattle.pearl_tree.specs.Expressions.{SpellsSeconds, SpellsMonadic, SpellsPrimary, SpellsSelector, SpellsExpr, SpellsWhole}
+use Rattle.pearl_tree.specs.Expressions.{SpellsSeconds, SpellsMonadic, SpellsTerms, SpellsPrimary, SpellsSelector, SpellsExpr, SpellsWhole}
 use Rattle.pearl_parse_expr.specs.declared.fault.ParseFault.{ParseFault}
 use Rattle.pearl_parse_expr.specs.declared.fault.ParseFault.TheVariants as fault
 use Rattle.pearl_parse_expr.specs.declared.reading.Halt.{Halt}
@@ -137,6 +139,10 @@ abbrev pub SpellsSigned : List Token → ℕ → Spelling Primary
 SpellsSigned tokens depth from part to =
     (m : ℕ) × (monadics : List Monadic) × (length monadics ≤ limit.MONADS_MAX) × SpellsEach (SpellsMonadic tokens) from monadics m ×
     SpellsPrimary tokens depth m part to
+
+-- the same, as the operand that it is
+abbrev pub SpellsOperand : List Token → ℕ → Spelling Operand
+SpellsOperand tokens depth from operand to = SpellsTerms tokens depth from (tree.Operand operand) to
 
 -- id { "(" expr { "," expr } ")" | "." id }, by what follows the id
 abbrev pub SpellsNamed : List Token → ℕ → Spelling (List Selector)

@@ -13,6 +13,7 @@ ghost use Rattle.pearl_tree.specs.declared.symbol.TheConstants as s;
 ghost use Rattle.pearl_parse_expr.specs.declared.reading.Halt.{Halt};
 ghost use Rattle.pearl_parse_expr.specs.Stops as spec;
 ghost use Rattle.pearl_parse_expr.specs.Least.{IsLeast};
+ghost use Rattle.pearl_parse_expr.specs.Reads.{Reads, ReadsAs, ReadsList, ReadsOnly};
 
 use crate::fault::ParseFault;
 use crate::grouping::with_operand;
@@ -41,11 +42,7 @@ fn subscripts(
     depth: u8,
 ) -> Result<Reading<Vec<Expr>>, Halt>
     requires { from ≤ length tokens.now }
-    ensures spells { IfOk result (λ reading. spec.SpellsSubscriptsList tokens.now depth from reading.part.items reading.end) }
-    ensures longest { IfOk result (λ reading. spec.IsLongest (λ tokens. spec.SpellsSubscriptsList tokens depth) spec.extends_list tokens.now from reading.end reading.stop) }
-    ensures ahead { IfOk result (λ reading. spec.IsAhead tokens.now from reading.end reading.stop) }
-    ensures least { IsLeast (λ tokens. spec.SpellsSubscriptsList tokens depth) tokens.now from result }
-    ensures refused { IfErr result (λ halt. spec.IsHalted (λ tokens. spec.SpellsSubscriptsList tokens depth) tokens.now from halt) }
+    ensures { ReadsList 16 (λ tokens. spec.SpellsSubscriptsList tokens depth) spec.extends_list tokens.now from result }
 {
     let first = expression_at_depth(alloc, tokens, from, depth)?;
     let mut list = Vec::new(alloc);
@@ -88,11 +85,7 @@ fn bracketed(
     requires within { from ≤ length tokens.now }
     requires bracket { HasSymbol tokens.now from s.LEFT_ROUND }
     requires deep { 0 < depth }
-    ensures spells { IfOk result (λ reading. grammar.SpellsSelector tokens.now depth from reading.part reading.end) }
-    ensures longest { IfOk result (λ reading. spec.IsOnly (λ tokens. grammar.SpellsSelector tokens depth) tokens.now from reading.end reading.stop) }
-    ensures ahead { IfOk result (λ reading. spec.IsAhead tokens.now from reading.end reading.stop) }
-    ensures least { IsLeast (λ tokens. grammar.SpellsSelector tokens depth) tokens.now from result }
-    ensures refused { IfErr result (λ halt. spec.IsHalted (λ tokens. grammar.SpellsSelector tokens depth) tokens.now from halt) }
+    ensures { ReadsOnly 16 (λ tokens. grammar.SpellsSelector tokens depth) tokens.now from result }
 {
     let inner = match subscripts(alloc, tokens, from + 1, depth - 1) {
         Ok(inner) => inner,
@@ -119,11 +112,7 @@ fn selector(
     depth: u8,
 ) -> Result<Reading<Selector>, Halt>
     requires { from ≤ length tokens.now }
-    ensures spells { IfOk result (λ reading. grammar.SpellsSelector tokens.now depth from reading.part reading.end) }
-    ensures longest { IfOk result (λ reading. spec.IsOnly (λ tokens. grammar.SpellsSelector tokens depth) tokens.now from reading.end reading.stop) }
-    ensures ahead { IfOk result (λ reading. spec.IsAhead tokens.now from reading.end reading.stop) }
-    ensures least { IsLeast (λ tokens. grammar.SpellsSelector tokens depth) tokens.now from result }
-    ensures refused { IfErr result (λ halt. spec.IsHalted (λ tokens. grammar.SpellsSelector tokens depth) tokens.now from halt) }
+    ensures { ReadsOnly 16 (λ tokens. grammar.SpellsSelector tokens depth) tokens.now from result }
 {
     if is_symbol(tokens, from, PERIOD) {
         return component(tokens, from);
@@ -181,11 +170,7 @@ pub fn reference(
     depth: u8,
 ) -> Result<Reading<Ref>, Halt>
     requires { from ≤ length tokens.now }
-    ensures spells { IfOk result (λ reading. grammar.SpellsRef tokens.now depth from reading.part reading.end) }
-    ensures longest { IfOk result (λ reading. spec.IsLongest (λ tokens. spec.SpellsNamed tokens depth) spec.extends_operand tokens.now from reading.end reading.stop) }
-    ensures ahead { IfOk result (λ reading. spec.IsAhead tokens.now from reading.end reading.stop) }
-    ensures least { IsLeast (λ tokens. spec.SpellsNamed tokens depth) tokens.now from result }
-    ensures refused { IfErr result (λ halt. spec.IsHalted (λ tokens. spec.SpellsNamed tokens depth) tokens.now from halt) }
+    ensures { ReadsAs 16 (λ tokens. grammar.SpellsRef tokens depth) (λ tokens. spec.SpellsNamed tokens depth) spec.extends_operand tokens.now from result }
 {
     match name_at(tokens, from) {
         Some(name) => {
@@ -209,11 +194,7 @@ pub fn reference(
 fn group(alloc: Global, tokens: &[Token], from: usize, depth: u8) -> Result<Reading<Primary>, Halt>
     requires within { from ≤ length tokens.now }
     requires bracket { HasSymbol tokens.now from s.LEFT_ROUND }
-    ensures spells { IfOk result (λ reading. grammar.SpellsPrimary tokens.now depth from reading.part reading.end) }
-    ensures longest { IfOk result (λ reading. spec.IsLongest (λ tokens. grammar.SpellsPrimary tokens depth) spec.extends_operand tokens.now from reading.end reading.stop) }
-    ensures ahead { IfOk result (λ reading. spec.IsAhead tokens.now from reading.end reading.stop) }
-    ensures least { IsLeast (λ tokens. grammar.SpellsPrimary tokens depth) tokens.now from result }
-    ensures refused { IfErr result (λ halt. spec.IsHalted (λ tokens. grammar.SpellsPrimary tokens depth) tokens.now from halt) }
+    ensures { Reads 16 (λ tokens. grammar.SpellsPrimary tokens depth) spec.extends_operand tokens.now from result }
 {
     if depth == 0 {
         return Err(Halt::Refused(from));
@@ -247,11 +228,7 @@ fn limit(
     requires dimension { SpellsMaybe (SpellsNumber tokens.now) from head.dimension head.word }
     requires word { HasWord tokens.now head.word (grammar.side_word head.side) }
     requires after { from ≤ head.word }
-    ensures spells { IfOk result (λ reading. grammar.SpellsPrimary tokens.now depth from reading.part reading.end) }
-    ensures longest { IfOk result (λ reading. spec.IsLongest (λ tokens. grammar.SpellsPrimary tokens depth) spec.extends_operand tokens.now from reading.end reading.stop) }
-    ensures ahead { IfOk result (λ reading. spec.IsAhead tokens.now from reading.end reading.stop) }
-    ensures least { IsLeast (λ tokens. grammar.SpellsPrimary tokens depth) tokens.now from result }
-    ensures refused { IfErr result (λ halt. spec.IsHalted (λ tokens. grammar.SpellsPrimary tokens depth) tokens.now from halt) }
+    ensures { Reads 16 (λ tokens. grammar.SpellsPrimary tokens depth) spec.extends_operand tokens.now from result }
 {
     match reference(alloc, tokens, head.word + 1, depth) {
         Ok(read) => {
@@ -282,11 +259,7 @@ fn primary(
     depth: u8,
 ) -> Result<Reading<Primary>, Halt>
     requires { from ≤ length tokens.now }
-    ensures spells { IfOk result (λ reading. grammar.SpellsPrimary tokens.now depth from reading.part reading.end) }
-    ensures longest { IfOk result (λ reading. spec.IsLongest (λ tokens. grammar.SpellsPrimary tokens depth) spec.extends_operand tokens.now from reading.end reading.stop) }
-    ensures ahead { IfOk result (λ reading. spec.IsAhead tokens.now from reading.end reading.stop) }
-    ensures least { IsLeast (λ tokens. grammar.SpellsPrimary tokens depth) tokens.now from result }
-    ensures refused { IfErr result (λ halt. spec.IsHalted (λ tokens. grammar.SpellsPrimary tokens depth) tokens.now from halt) }
+    ensures { Reads 16 (λ tokens. grammar.SpellsPrimary tokens depth) spec.extends_operand tokens.now from result }
 {
     if is_symbol(tokens, from, LEFT_ROUND) {
         return group(alloc, tokens, from, depth);
@@ -327,11 +300,7 @@ fn operand(
     depth: u8,
 ) -> Result<Reading<Operand>, Halt>
     requires { from ≤ length tokens.now }
-    ensures spells { IfOk result (λ reading. grammar.SpellsTerms tokens.now depth from (tree.Operand reading.part) reading.end) }
-    ensures longest { IfOk result (λ reading. spec.IsLongest (λ tokens. spec.SpellsSigned tokens depth) spec.extends_operand tokens.now from reading.end reading.stop) }
-    ensures ahead { IfOk result (λ reading. spec.IsAhead tokens.now from reading.end reading.stop) }
-    ensures least { IsLeast (λ tokens. spec.SpellsSigned tokens depth) tokens.now from result }
-    ensures refused { IfErr result (λ halt. spec.IsHalted (λ tokens. spec.SpellsSigned tokens depth) tokens.now from halt) }
+    ensures { ReadsAs 16 (λ tokens. spec.SpellsOperand tokens depth) (λ tokens. spec.SpellsSigned tokens depth) spec.extends_operand tokens.now from result }
 {
     let monadics = monadics(alloc, tokens, from)?;
     match primary(alloc, tokens, from + monadics.len(), depth) {
@@ -357,11 +326,7 @@ pub fn expression_at_depth(
     depth: u8,
 ) -> Result<Reading<Expr>, Halt>
     requires { from ≤ length tokens.now }
-    ensures spells { IfOk result (λ reading. grammar.SpellsExpr tokens.now depth from reading.part reading.end) }
-    ensures longest { IfOk result (λ reading. spec.IsLongest (λ tokens. grammar.SpellsExpr tokens depth) spec.extends_expression tokens.now from reading.end reading.stop) }
-    ensures ahead { IfOk result (λ reading. spec.IsAhead tokens.now from reading.end reading.stop) }
-    ensures least { IsLeast (λ tokens. grammar.SpellsExpr tokens depth) tokens.now from result }
-    ensures refused { IfErr result (λ halt. spec.IsHalted (λ tokens. grammar.SpellsExpr tokens depth) tokens.now from halt) }
+    ensures { Reads 16 (λ tokens. grammar.SpellsExpr tokens depth) spec.extends_expression tokens.now from result }
 {
     let first = match operand(alloc, tokens, from, depth) {
         Ok(first) => first,

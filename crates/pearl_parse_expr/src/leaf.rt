@@ -10,6 +10,7 @@ ghost use Rattle.pearl_tree.specs.declared.symbol.TheConstants as s;
 ghost use Rattle.pearl_parse_expr.specs.declared.reading.Halt.{Halt};
 ghost use Rattle.pearl_parse_expr.specs.Stops as spec;
 ghost use Rattle.pearl_parse_expr.specs.Least.{Reaches, IsLeast};
+ghost use Rattle.pearl_parse_expr.specs.Reads.{Reads, ReadsOnly};
 
 use crate::literal::literal;
 use crate::operator::{monadic_at, side_at};
@@ -80,11 +81,7 @@ pub fn limit_head(tokens: &[Token], from: usize) -> Option<LimitHead>
 pub fn component(tokens: &[Token], from: usize) -> Result<Reading<Selector>, Halt>
     requires within { from ≤ length tokens.now }
     requires period { HasSymbol tokens.now from s.PERIOD }
-    ensures spells { IfOk result (λ reading. (depth : ℕ) → grammar.SpellsSelector tokens.now depth from reading.part reading.end) }
-    ensures longest { IfOk result (λ reading. (depth : ℕ) → spec.IsOnly (λ tokens. grammar.SpellsSelector tokens depth) tokens.now from reading.end reading.stop) }
-    ensures ahead { IfOk result (λ reading. spec.IsAhead tokens.now from reading.end reading.stop) }
-    ensures least { (depth : ℕ) → IsLeast (λ tokens. grammar.SpellsSelector tokens depth) tokens.now from result }
-    ensures refused { IfErr result (λ halt. (depth : ℕ) → spec.IsHalted (λ tokens. grammar.SpellsSelector tokens depth) tokens.now from halt) }
+    ensures reads { (depth : ℕ) → ReadsOnly 16 (λ tokens. grammar.SpellsSelector tokens depth) tokens.now from result }
     ensures memory { IfErr result (λ halt. halt ≢ Halt.NoMemory) }
 {
     match name_at(tokens, from + 1) {
@@ -104,11 +101,7 @@ pub fn component(tokens: &[Token], from: usize) -> Result<Reading<Selector>, Hal
 pub fn availability(tokens: &[Token], from: usize) -> Result<Reading<Primary>, Halt>
     requires within { from ≤ length tokens.now }
     requires word { HasWord tokens.now from w.TRY }
-    ensures spells { IfOk result (λ reading. (depth : ℕ) → grammar.SpellsPrimary tokens.now depth from reading.part reading.end) }
-    ensures longest { IfOk result (λ reading. (depth : ℕ) → spec.IsLongest (λ tokens. grammar.SpellsPrimary tokens depth) spec.extends_operand tokens.now from reading.end reading.stop) }
-    ensures ahead { IfOk result (λ reading. spec.IsAhead tokens.now from reading.end reading.stop) }
-    ensures least { (depth : ℕ) → IsLeast (λ tokens. grammar.SpellsPrimary tokens depth) tokens.now from result }
-    ensures refused { IfErr result (λ halt. (depth : ℕ) → spec.IsHalted (λ tokens. grammar.SpellsPrimary tokens depth) tokens.now from halt) }
+    ensures reads { (depth : ℕ) → Reads 16 (λ tokens. grammar.SpellsPrimary tokens depth) spec.extends_operand tokens.now from result }
     ensures memory { IfErr result (λ halt. halt ≢ Halt.NoMemory) }
 {
     match name_at(tokens, from + 1) {
@@ -136,11 +129,7 @@ pub fn literal_primary(
     requires now_word { spec.is_word w.NOW (what_at tokens.now from) ≡ false }
     requires try_word { spec.is_word w.TRY (what_at tokens.now from) ≡ false }
     requires limit { spec.begins_limit tokens.now from ≡ false }
-    ensures spells { IfOk result (λ reading. (depth : ℕ) → grammar.SpellsPrimary tokens.now depth from reading.part reading.end) }
-    ensures longest { IfOk result (λ reading. (depth : ℕ) → spec.IsLongest (λ tokens. grammar.SpellsPrimary tokens depth) spec.extends_operand tokens.now from reading.end reading.stop) }
-    ensures ahead { IfOk result (λ reading. spec.IsAhead tokens.now from reading.end reading.stop) }
-    ensures least { (depth : ℕ) → IsLeast (λ tokens. grammar.SpellsPrimary tokens depth) tokens.now from result }
-    ensures refused { IfErr result (λ halt. (depth : ℕ) → spec.IsHalted (λ tokens. grammar.SpellsPrimary tokens depth) tokens.now from halt) }
+    ensures { (depth : ℕ) → Reads 16 (λ tokens. grammar.SpellsPrimary tokens depth) spec.extends_operand tokens.now from result }
 {
     match literal(alloc, tokens, from) {
         Ok(literal) => Ok(Reading {

@@ -1,12 +1,13 @@
 // Literals and durations.
 
-ghost use Rattle.std.specs.Prelude.{◌≡◌, ◌≢◌, ◌+◌, ◌<◌, ◌≤◌, length, IfOk, IfErr, IfSome, Some, None, true, false};
+ghost use Rattle.std.specs.Prelude.{◌≡◌, ◌≢◌, ◌+◌, ◌<◌, ◌≤◌, length, IfOk, IfErr, IfSome, Some, None, Ok, true, false};
 ghost use Rattle.pearl_tree.specs.Standing.{what_at, IsNumber, HasWord};
 ghost use Rattle.pearl_tree.specs.Expressions.{SpellsSecs, SpellsSeconds, SpellsDuration, SpellsLiteral};
 ghost use Rattle.pearl_tree.specs.declared.word_code.TheConstants as w;
 ghost use Rattle.pearl_tree.specs.declared.literal.Duration.{Duration};
 ghost use Rattle.pearl_parse_expr.specs.declared.reading.Halt.{Halt};
-ghost use Rattle.pearl_parse_expr.specs.Least.{Reaches, GoesTo, IsLeast};
+ghost use Rattle.pearl_parse_expr.specs.Least.{Reaches, GoesTo};
+ghost use Rattle.pearl_parse_expr.specs.Reads.{Reads};
 ghost use Rattle.pearl_parse_expr.specs.Stops.{IsLongest, Stuck, IsAhead, IsHalted, extends_operand, is_plain, is_secs, is_counted, SpellsMaybeSeconds};
 
 use crate::reading::{Halt, Reading, boxed};
@@ -153,10 +154,7 @@ fn from_hours(tokens: &[Token], from: usize, hours: Number) -> Reading<Duration>
     requires within { from + 2 ≤ length tokens.now }
     requires number { IsNumber tokens.now from hours }
     requires word { HasWord tokens.now (from + 1) w.HRS }
-    ensures spells { SpellsDuration tokens.now from result.part result.end }
-    ensures longest { IsLongest SpellsDuration extends_operand tokens.now from result.end result.stop }
-    ensures ahead { IsAhead tokens.now from result.end result.stop }
-    ensures least { GoesTo SpellsDuration tokens.now from result.end result.stop }
+    ensures { Reads 16 SpellsDuration extends_operand tokens.now from (Ok result) }
 {
     match counted_at(tokens, from + 2, MIN) {
         Some(minutes) => hours_of(hours, Some(minutes), seconds_at(tokens, from + 4)),
@@ -168,10 +166,7 @@ fn from_minutes(tokens: &[Token], from: usize, minutes: Number) -> Reading<Durat
     requires within { from + 2 ≤ length tokens.now }
     requires number { IsNumber tokens.now from minutes }
     requires word { HasWord tokens.now (from + 1) w.MIN }
-    ensures spells { SpellsDuration tokens.now from result.part result.end }
-    ensures longest { IsLongest SpellsDuration extends_operand tokens.now from result.end result.stop }
-    ensures ahead { IsAhead tokens.now from result.end result.stop }
-    ensures least { GoesTo SpellsDuration tokens.now from result.end result.stop }
+    ensures { Reads 16 SpellsDuration extends_operand tokens.now from (Ok result) }
 {
     let seconds = seconds_at(tokens, from + 2);
     Reading {
@@ -233,11 +228,7 @@ fn duration(tokens: &[Token], from: usize) -> Result<Reading<Duration>, usize>
 /// The longest literal that begins here.
 pub fn literal(alloc: Global, tokens: &[Token], from: usize) -> Result<Reading<Literal>, Halt>
     requires { from ≤ length tokens.now }
-    ensures spells { IfOk result (λ reading. SpellsLiteral tokens.now from reading.part reading.end) }
-    ensures longest { IfOk result (λ reading. IsLongest SpellsLiteral extends_operand tokens.now from reading.end reading.stop) }
-    ensures ahead { IfOk result (λ reading. IsAhead tokens.now from reading.end reading.stop) }
-    ensures least { IsLeast SpellsLiteral tokens.now from result }
-    ensures refused { IfErr result (λ halt. IsHalted SpellsLiteral tokens.now from halt) }
+    ensures reads { Reads 16 SpellsLiteral extends_operand tokens.now from result }
     ensures none { IfErr result (λ halt. halt ≢ Halt.NoMemory → is_plain (what_at tokens.now from) ≡ false) }
 {
     match duration(tokens, from) {

@@ -11,113 +11,79 @@ use Rattle.pearl_parse.proofs.BlockRests.{end_rest, opened_rest, opened_goes, bo
 use Rattle.pearl_parse.specs.Reached.{HaltsBehind}
 use Rattle.pearl_parse.proofs.UnitLeast.{no_opening, block_halts, past_body, no_end_word, no_last, block_goes}
 use Rattle.pearl_parse.proofs.States.{handed_behind}
+use Rattle.pearl_parse.proofs.Unread.{unread_only_behind}
 use Rattle.pearl_parse.proofs.block.block.Goals as goal
 
-pub returns-in_err-symbol-clause-refused : goal.returns-in_err-symbol-clause-refused
-returns-in_err-symbol-clause-refused c =
+pub returns-in_err-symbol : goal.returns-in_err-symbol
+returns-in_err-symbol c =
     let tokens = c.args.tokens.now in
     let from = c.args.from in
     let least_stop = c.args.least_stop in
-    err_told _ _ c.in_err-symbol.field-0.0 c.from_residual.result c.from_residual.ensures (λ e is. is)
+    let few : length tokens < 2 ^ 55 = search rules in
+    let low = c.args.least_stop in
+    let inside : from ≤ length tokens = omega (arith, c.requires.least_stop) in
+    unread_only_behind _ c.in_err-symbol.field-0.0 c.from_residual.result c.from_residual.ensures (λ e is. is)
     (missing_behind SpellsBlock tokens from least_stop (is_symbol s.SEMICOLON) opened_rest from least_stop from c.in_err-symbol.field-0.0 (opened_goes tokens from least_stop)
     (λ others to h. ap (is_symbol s.SEMICOLON) h.0) c.requires.least_stop.0 (omega arith) (omega (arith, c.requires.least_stop)) c.requires.least_stop.1 c.in_err-symbol.ensures.missing)
-
-pub returns-in-Err-clause-refused : goal.returns-in-Err-clause-refused
-returns-in-Err-clause-refused c =
-    let tokens = c.args.tokens.now in
-    let from = c.args.from in
-    let least_stop = c.args.least_stop in
-    subst (λ halt. IsStopped SpellsBlock tokens from least_stop halt) (sym c.behind.ensures.same)
-    (no_part_behind SpellsBlock tokens from least_stop SpellsWholeBody end_rest (from + 1) least_stop (behind c.in-Err.halt least_stop) (body_goes tokens from least_stop) c.requires.least_stop.0 (omega arith)
-    (behind_is_stopped SpellsWholeBody tokens (from + 1) least_stop c.in-Err.halt c.requires.least_stop.1 c.in-Err.ensures.refused))
-
-pub returns-in_err-word-clause-refused : goal.returns-in_err-word-clause-refused
-returns-in_err-word-clause-refused c =
-    let tokens = c.args.tokens.now in
-    let from = c.args.from in
-    let least_stop = c.args.least_stop in
-    let body = c.in-Ok.body in
-    let read = c.in-Ok.ensures in
-    let stop = c.max-stop.result in
-    let go = end_goes tokens from least_stop body.end body.stop stop (omega (arith, c.max-stop.ensures)) (omega (arith, c.max-stop.ensures)) read.longest in
-    err_told _ _ c.in_err-word.field-0.0 c.from_residual-in_err-word.result c.from_residual-in_err-word.ensures (λ e is. is)
-    (missing_behind SpellsBlock tokens from least_stop (is_word w.END) end_rest body.end stop body.end c.in_err-word.field-0.0 go (λ others to h. ap (is_word w.END) h.0)
-    (omega (arith, read.bounds, c.max-stop.ensures)) (omega (arith, c.max-stop.ensures)) (omega (arith, read.bounds)) (omega (arith, read.bounds, c.max-stop.ensures, c.requires.least_stop)) c.in_err-word.ensures.missing)
-
-pub returns-in_err-symbol-2-clause-refused : goal.returns-in_err-symbol-2-clause-refused
-returns-in_err-symbol-2-clause-refused c =
-    let tokens = c.args.tokens.now in
-    let from = c.args.from in
-    let least_stop = c.args.least_stop in
-    let body = c.in-Ok.body in
-    let read = c.in-Ok.ensures in
-    let stop = c.max-stop.result in
-    let go = end_goes tokens from least_stop body.end body.stop stop (omega (arith, c.max-stop.ensures)) (omega (arith, c.max-stop.ensures)) read.longest in
-    err_told _ _ c.in_err-symbol-2.field-0.0 c.from_residual-in_err-symbol-2.result c.from_residual-in_err-symbol-2.ensures (λ e is. is)
-    (missing_behind SpellsBlock tokens from least_stop (is_symbol s.SEMICOLON) end_rest body.end stop (body.end + 1) c.in_err-symbol-2.field-0.0 go (λ others to h. ap (is_symbol s.SEMICOLON) h.1)
-    (omega (arith, read.bounds, c.max-stop.ensures)) (omega (arith, c.max-stop.ensures)) (omega (arith, c.in_ok-word.ensures.within)) (omega (arith, read.bounds, c.max-stop.ensures, c.requires.least_stop)) c.in_err-symbol-2.ensures.missing)
-
-pub returns-clause-only : goal.returns-clause-only
-returns-clause-only c =
-    let tokens = c.args.tokens.now in
-    let from = c.args.from in
-    let least_stop = c.args.least_stop in
-    let body = c.in-Ok.body in
-    let read = c.in-Ok.ensures in
-    let stop = c.max-stop.result in
-    let go = end_goes tokens from least_stop body.end body.stop stop (omega (arith, c.max-stop.ensures)) (omega (arith, c.max-stop.ensures)) read.longest in
-    ends SpellsBlock tokens from end_rest body.end stop c.max.result (body.end + 2) go (omega (arith, c.max.ensures)) (λ others to h. h.2)
-
-pub returns-in_err-symbol-clause-least : goal.returns-in_err-symbol-clause-least
-returns-in_err-symbol-clause-least c =
-    let tokens = c.args.tokens.now in
-    let from = c.args.from in
-    let few : length tokens < 2 ^ 55 = search rules in
-    let low = c.args.least_stop in
-    let inside : from ≤ length tokens = omega (arith, c.requires.least_stop) in
-    handed_behind 24 SpellsBlock tokens from low _ c.in_err-symbol.field-0.0 c.from_residual.result c.from_residual.ensures (λ e is. is)
     (no_opening tokens from low inside few c.in_err-symbol.field-0.0 c.in_err-symbol.ensures.missing)
 
-pub returns-in-Err-clause-least : goal.returns-in-Err-clause-least
-returns-in-Err-clause-least c =
+pub returns-in-Err : goal.returns-in-Err
+returns-in-Err c =
     let tokens = c.args.tokens.now in
     let from = c.args.from in
+    let least_stop = c.args.least_stop in
     let few : length tokens < 2 ^ 55 = search rules in
     let low = c.args.least_stop in
     let inside : from ≤ length tokens = omega (arith, c.requires.least_stop) in
-    subst (λ halt. HaltsBehind 24 SpellsBlock tokens from low halt) (sym c.behind.ensures.same)
-    (block_halts tokens from low inside few c.in_ok-symbol.ensures.stands c.in_ok-symbol.ensures.within c.in-Err.halt c.in-Err.ensures.least)
+    record {
+      spells = tt;
+      only = tt;
+      bounds = tt;
+      refused = subst (λ halt. IsStopped SpellsBlock tokens from least_stop halt) (sym c.behind.ensures.same)
+          (no_part_behind SpellsBlock tokens from least_stop SpellsWholeBody end_rest (from + 1) least_stop (behind c.in-Err.halt least_stop) (body_goes tokens from least_stop) c.requires.least_stop.0 (omega arith)
+          (behind_is_stopped SpellsWholeBody tokens (from + 1) least_stop c.in-Err.halt c.requires.least_stop.1 c.in-Err.ensures.refused));
+      least = subst (λ halt. HaltsBehind 24 SpellsBlock tokens from low halt) (sym c.behind.ensures.same)
+          (block_halts tokens from low inside few c.in_ok-symbol.ensures.stands c.in_ok-symbol.ensures.within c.in-Err.halt c.in-Err.ensures.least);
+    }
 
-pub returns-in_err-word-clause-least : goal.returns-in_err-word-clause-least
-returns-in_err-word-clause-least c =
+pub returns-in_err-word : goal.returns-in_err-word
+returns-in_err-word c =
     let tokens = c.args.tokens.now in
     let from = c.args.from in
-    let few : length tokens < 2 ^ 55 = search rules in
-    let low = c.args.least_stop in
-    let inside : from ≤ length tokens = omega (arith, c.requires.least_stop) in
+    let least_stop = c.args.least_stop in
     let body = c.in-Ok.body in
     let read = c.in-Ok.ensures in
     let stop = c.max-stop.result in
+    let go = end_goes tokens from least_stop body.end body.stop stop (omega (arith, c.max-stop.ensures)) (omega (arith, c.max-stop.ensures)) read.longest in
+    let few : length tokens < 2 ^ 55 = search rules in
+    let low = c.args.least_stop in
+    let inside : from ≤ length tokens = omega (arith, c.requires.least_stop) in
     let at = past_body tokens from low inside few c.in_ok-symbol.ensures.stands c.in_ok-symbol.ensures.within body.part body.end body.stop stop read.spells (omega (arith, read.bounds)) (omega (arith, read.bounds, c.max-stop.ensures, c.requires.least_stop)) read.least c.max-stop.ensures in
-    handed_behind 24 SpellsBlock tokens from low _ c.in_err-word.field-0.0 c.from_residual-in_err-word.result c.from_residual-in_err-word.ensures (λ e is. is)
+    unread_only_behind _ c.in_err-word.field-0.0 c.from_residual-in_err-word.result c.from_residual-in_err-word.ensures (λ e is. is)
+    (missing_behind SpellsBlock tokens from least_stop (is_word w.END) end_rest body.end stop body.end c.in_err-word.field-0.0 go (λ others to h. ap (is_word w.END) h.0)
+    (omega (arith, read.bounds, c.max-stop.ensures)) (omega (arith, c.max-stop.ensures)) (omega (arith, read.bounds)) (omega (arith, read.bounds, c.max-stop.ensures, c.requires.least_stop)) c.in_err-word.ensures.missing)
     (no_end_word tokens from low inside few body.end stop at c.in_err-word.field-0.0 c.in_err-word.ensures.missing)
 
-pub returns-in_err-symbol-2-clause-least : goal.returns-in_err-symbol-2-clause-least
-returns-in_err-symbol-2-clause-least c =
+pub returns-in_err-symbol-2 : goal.returns-in_err-symbol-2
+returns-in_err-symbol-2 c =
     let tokens = c.args.tokens.now in
     let from = c.args.from in
-    let few : length tokens < 2 ^ 55 = search rules in
-    let low = c.args.least_stop in
-    let inside : from ≤ length tokens = omega (arith, c.requires.least_stop) in
+    let least_stop = c.args.least_stop in
     let body = c.in-Ok.body in
     let read = c.in-Ok.ensures in
     let stop = c.max-stop.result in
+    let go = end_goes tokens from least_stop body.end body.stop stop (omega (arith, c.max-stop.ensures)) (omega (arith, c.max-stop.ensures)) read.longest in
+    let few : length tokens < 2 ^ 55 = search rules in
+    let low = c.args.least_stop in
+    let inside : from ≤ length tokens = omega (arith, c.requires.least_stop) in
     let at = past_body tokens from low inside few c.in_ok-symbol.ensures.stands c.in_ok-symbol.ensures.within body.part body.end body.stop stop read.spells (omega (arith, read.bounds)) (omega (arith, read.bounds, c.max-stop.ensures, c.requires.least_stop)) read.least c.max-stop.ensures in
-    handed_behind 24 SpellsBlock tokens from low _ c.in_err-symbol-2.field-0.0 c.from_residual-in_err-symbol-2.result c.from_residual-in_err-symbol-2.ensures (λ e is. is)
+    unread_only_behind _ c.in_err-symbol-2.field-0.0 c.from_residual-in_err-symbol-2.result c.from_residual-in_err-symbol-2.ensures (λ e is. is)
+    (missing_behind SpellsBlock tokens from least_stop (is_symbol s.SEMICOLON) end_rest body.end stop (body.end + 1) c.in_err-symbol-2.field-0.0 go (λ others to h. ap (is_symbol s.SEMICOLON) h.1)
+    (omega (arith, read.bounds, c.max-stop.ensures)) (omega (arith, c.max-stop.ensures)) (omega (arith, c.in_ok-word.ensures.within)) (omega (arith, read.bounds, c.max-stop.ensures, c.requires.least_stop)) c.in_err-symbol-2.ensures.missing)
     (no_last tokens from low inside few body.end stop at c.in_ok-word.ensures.stands c.in_ok-word.ensures.within c.in_err-symbol-2.field-0.0 c.in_err-symbol-2.ensures.missing)
 
-pub returns-clause-least : goal.returns-clause-least
-returns-clause-least c =
+pub returns : goal.returns
+returns c =
     let tokens = c.args.tokens.now in
     let from = c.args.from in
     let few : length tokens < 2 ^ 55 = search rules in
@@ -127,4 +93,12 @@ returns-clause-least c =
     let read = c.in-Ok.ensures in
     let stop = c.max-stop.result in
     let at = past_body tokens from low inside few c.in_ok-symbol.ensures.stands c.in_ok-symbol.ensures.within body.part body.end body.stop stop read.spells (omega (arith, read.bounds)) (omega (arith, read.bounds, c.max-stop.ensures, c.requires.least_stop)) read.least c.max-stop.ensures in
-    block_goes tokens from low inside few body.end stop at c.in_ok-word.ensures.stands c.in_ok-word.ensures.within c.max.result c.in_ok-symbol-2.ensures.stands c.in_ok-symbol-2.ensures.within c.max.ensures
+    let least_stop = c.args.least_stop in
+    let go = end_goes tokens from least_stop body.end body.stop stop (omega (arith, c.max-stop.ensures)) (omega (arith, c.max-stop.ensures)) read.longest in
+    record {
+      spells = search rules;
+      only = ends SpellsBlock tokens from end_rest body.end stop c.max.result (body.end + 2) go (omega (arith, c.max.ensures)) (λ others to h. h.2);
+      bounds = search rules;
+      refused = tt;
+      least = block_goes tokens from low inside few body.end stop at c.in_ok-word.ensures.stands c.in_ok-word.ensures.within c.max.result c.in_ok-symbol-2.ensures.stands c.in_ok-symbol-2.ensures.within c.max.ensures;
+    }

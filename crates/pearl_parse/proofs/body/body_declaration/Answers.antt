@@ -25,7 +25,7 @@ returns-in_err-items c =
     let few : length tokens < 2 ^ 55 = search rules in
     unread 24 SpellsBodyDecl tokens from _ c.in_err-items.field-0.0 c.from_residual-in_err-items.result c.from_residual-in_err-items.ensures (λ e is. is)
     (search rules)
-    (items_halt tokens from c.requires few c.in_ok-word.ensures.stands c.in_ok-word.ensures.within c.in_err-items.field-0.0 c.in_err-items.ensures.refused c.in_err-items.ensures.least)
+    (items_halt tokens from c.requires few c.in_ok-word.ensures.stands c.in_ok-word.ensures.within c.in_err-items.field-0.0 c.in_err-items.ensures.reads.refused c.in_err-items.ensures.reads.least)
 
 pub returns-in_err-symbol : goal.returns-in_err-symbol
 returns-in_err-symbol c =
@@ -33,7 +33,7 @@ returns-in_err-symbol c =
     let from = c.args.from in
     let few : length tokens < 2 ^ 55 = search rules in
     let items = c.in_ok-items.items in
-    let read = c.in_ok-items.ensures in
+    let read = c.in_ok-items.ensures.reads in
     let at = past_items tokens from c.requires few c.in_ok-word.ensures.stands c.in_ok-word.ensures.within items.part.items items.end items.stop read.spells (omega (arith, read.ahead)) (omega (arith, read.ahead)) (omega (arith, read.ahead)) read.least in
     unread 24 SpellsBodyDecl tokens from _ c.in_err-symbol.field-0.0 c.from_residual-in_err-symbol.result c.from_residual-in_err-symbol.ensures (λ e is. is)
     (let go = past SpellsBodyDecl tokens from Items (by_comma extends_item) semicolon (from + 1) from items.end items.stop
@@ -50,7 +50,7 @@ returns c =
     let from = c.args.from in
     let few : length tokens < 2 ^ 55 = search rules in
     let items = c.in_ok-items.items in
-    let read = c.in_ok-items.ensures in
+    let read = c.in_ok-items.ensures.reads in
     let at = past_items tokens from c.requires few c.in_ok-word.ensures.stands c.in_ok-word.ensures.within items.part.items items.end items.stop read.spells (omega (arith, read.ahead)) (omega (arith, read.ahead)) (omega (arith, read.ahead)) read.least in
     record {
       spells = search rules;

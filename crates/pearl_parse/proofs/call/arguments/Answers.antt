@@ -12,124 +12,112 @@ use Rattle.pearl_parse.proofs.Made.{semicolon}
 use Rattle.pearl_parse.proofs.Tails.{semicolon_fills, closed_fills}
 use Rattle.pearl_parse.proofs.CallLeast.{closed, exprs_are_local, no_arguments, arguments_begun, arguments_past}
 use Rattle.pearl_parse.proofs.States.{past_symbol, halt_part, halt_token, halted_behind, handed_behind, done}
+use Rattle.pearl_parse.proofs.Unread.{unread_only_behind}
 use Rattle.pearl_parse.proofs.call.arguments.Goals as goal
 
-pub returns-in_err-symbol-in-Ok-clause-refused : goal.returns-in_err-symbol-in-Ok-clause-refused
-returns-in_err-symbol-in-Ok-clause-refused c =
+pub returns-in_err-symbol-in-Ok : goal.returns-in_err-symbol-in-Ok
+returns-in_err-symbol-in-Ok c =
     let tokens = c.args.tokens.now in
     let from = c.args.from in
     let list = c.in-Ok.list in
-    let read = c.in-Ok.ensures in
+    let read = c.in-Ok.ensures.reads in
     let stop = c.max-in-Ok.result in
     let go = arguments_go tokens from list.end list.stop stop (c.if-not-is_symbol.ensures.stands refl) (omega (arith, c.max-in-Ok.ensures, read.ahead)) (omega (arith, c.max-in-Ok.ensures)) read.longest in
-    err_told _ _ c.in_err-symbol-in-Ok.field-0.0 c.from_residual-in_err-symbol-in-Ok.result c.from_residual-in_err-symbol-in-Ok.ensures (λ e is. is)
+    let low = c.args.least_stop in
+    let few : length tokens < 2 ^ 55 = search rules in
+    let at = arguments_past tokens from low (omega (arith, c.requires.from)) few (c.if-not-is_symbol.ensures.stands refl) (c.if-not-is_symbol.ensures.within refl) list.part.items list.end list.stop stop read.spells (omega (arith, read.ahead)) (omega (arith, read.ahead)) (omega (arith, c.max-in-Ok.ensures, read.ahead, c.requires.least_stop)) read.least
+    (omega (arith, c.max-in-Ok.ensures)) in
+    unread_only_behind _ c.in_err-symbol-in-Ok.field-0.0 c.from_residual-in_err-symbol-in-Ok.result c.from_residual-in_err-symbol-in-Ok.ensures (λ e is. is)
     (missing_behind SpellsArguments tokens from c.args.least_stop (is_symbol s.RIGHT_ROUND) closed_rest list.end stop list.end c.in_err-symbol-in-Ok.field-0.0 go
     (λ others to h. ap (is_symbol s.RIGHT_ROUND) h.0) (omega (arith, c.max-in-Ok.ensures, read.ahead)) (omega (arith, c.max-in-Ok.ensures)) (omega (arith, read.ahead)) (omega (arith, c.max-in-Ok.ensures, read.ahead, c.requires.least_stop))
     c.in_err-symbol-in-Ok.ensures.missing)
-
-pub returns-in_err-symbol-in-Ok-2-clause-refused : goal.returns-in_err-symbol-in-Ok-2-clause-refused
-returns-in_err-symbol-in-Ok-2-clause-refused c =
-    let tokens = c.args.tokens.now in
-    let from = c.args.from in
-    let list = c.in-Ok.list in
-    let read = c.in-Ok.ensures in
-    let stop = c.max-in-Ok-2.result in
-    let go = arguments_go tokens from list.end list.stop stop (c.if-not-is_symbol.ensures.stands refl) (omega (arith, c.max-in-Ok-2.ensures, read.ahead)) (omega (arith, c.max-in-Ok-2.ensures)) read.longest in
-    err_told _ _ c.in_err-symbol-in-Ok-2.field-0.0 c.from_residual-in_err-symbol-in-Ok-2.result c.from_residual-in_err-symbol-in-Ok-2.ensures (λ e is. is)
-    (missing_behind SpellsArguments tokens from c.args.least_stop (is_symbol s.SEMICOLON) closed_rest list.end stop (list.end + 1) c.in_err-symbol-in-Ok-2.field-0.0 go
-    (λ others to h. ap (is_symbol s.SEMICOLON) h.1) (omega (arith, c.max-in-Ok-2.ensures, read.ahead)) (omega (arith, c.max-in-Ok-2.ensures)) (omega (arith, c.in_ok-symbol-in-Ok.ensures.within)) (omega (arith, c.max-in-Ok-2.ensures, read.ahead, c.requires.least_stop))
-    c.in_err-symbol-in-Ok-2.ensures.missing)
-
-pub returns-in_ok-symbol-in-Ok-2-clause-only : goal.returns-in_ok-symbol-in-Ok-2-clause-only
-returns-in_ok-symbol-in-Ok-2-clause-only c =
-    let tokens = c.args.tokens.now in
-    let from = c.args.from in
-    let list = c.in-Ok.list in
-    let read = c.in-Ok.ensures in
-    let stop = c.max-in-Ok-3.result in
-    let go = arguments_go tokens from list.end list.stop stop (c.if-not-is_symbol.ensures.stands refl) (omega (arith, c.max-in-Ok-3.ensures, read.ahead)) (omega (arith, c.max-in-Ok-3.ensures)) read.longest in
-    ends SpellsArguments tokens from closed_rest list.end stop c.max-in-Ok-4.result (list.end + 2) go (omega (arith, c.max-in-Ok-4.ensures)) (λ others to h. h.2)
-
-pub returns-in-Refused-clause-refused : goal.returns-in-Refused-clause-refused
-returns-in-Refused-clause-refused c =
-    let tokens = c.args.tokens.now in
-    let from = c.args.from in
-    let stuck = stuck_of (λ tokens. SpellsList tokens (SpellsWhole tokens)) tokens (from + 1) c.in-Refused.stop c.in-Err.halt c.in-Refused.is c.in-Err.ensures.refused in
-    let new = c.max-in-Refused.result in (
-      arguments_stuck tokens from c.in-Refused.stop new (c.if-not-is_symbol.ensures.stands refl) (omega (arith, c.max-in-Refused.ensures, stuck.1)) (omega (arith, c.max-in-Refused.ensures)) stuck.0,
-      omega (arith, c.max-in-Refused.ensures, stuck.1),
-      omega (arith, c.max-in-Refused.ensures),
-      omega (arith, c.max-in-Refused.ensures, stuck.2, c.requires.least_stop),
-    )
-
-pub returns-in_err-symbol-clause-least : goal.returns-in_err-symbol-clause-least
-returns-in_err-symbol-clause-least c =
-    let tokens = c.args.tokens.now in
-    let from = c.args.from in
-    let low = c.args.least_stop in
-    let few : length tokens < 2 ^ 55 = search rules in
-    handed_behind 24 SpellsArguments tokens from low _ c.in_err-symbol.field-0.0 c.from_residual.result c.from_residual.ensures (λ e is. is)
-    (halt_token 24 SpellsArguments tokens from low 1 semicolon semicolon_fills (omega arith) (is_symbol s.SEMICOLON) from low c.in_err-symbol.field-0.0 (no_arguments tokens from low (omega (arith, c.requires.from)) few) c.in_err-symbol.ensures.missing)
-
-pub returns-then-not-is_symbol-clause-least : goal.returns-then-not-is_symbol-clause-least
-returns-then-not-is_symbol-clause-least c =
-    let tokens = c.args.tokens.now in
-    let from = c.args.from in
-    let low = c.args.least_stop in
-    let few : length tokens < 2 ^ 55 = search rules in
-    done 24 SpellsArguments tokens from low (from + 1) low c.max.result
-    (past_symbol 24 SpellsArguments tokens from low s.SEMICOLON Ends from low (from + 1) (omega arith) (no_arguments tokens from low (omega (arith, c.requires.from)) few) c.in_ok-symbol.ensures.stands c.in_ok-symbol.ensures.within) (omega (arith, c.max.ensures))
-
-pub returns-in_err-symbol-in-Ok-clause-least : goal.returns-in_err-symbol-in-Ok-clause-least
-returns-in_err-symbol-in-Ok-clause-least c =
-    let tokens = c.args.tokens.now in
-    let from = c.args.from in
-    let low = c.args.least_stop in
-    let few : length tokens < 2 ^ 55 = search rules in
-    let list = c.in-Ok.list in
-    let read = c.in-Ok.ensures in
-    let stop = c.max-in-Ok.result in
-    let at = arguments_past tokens from low (omega (arith, c.requires.from)) few (c.if-not-is_symbol.ensures.stands refl) (c.if-not-is_symbol.ensures.within refl) list.part.items list.end list.stop stop read.spells (omega (arith, read.ahead)) (omega (arith, read.ahead)) (omega (arith, c.max-in-Ok.ensures, read.ahead, c.requires.least_stop)) read.least
-    (omega (arith, c.max-in-Ok.ensures)) in
-    handed_behind 24 SpellsArguments tokens from low _ c.in_err-symbol-in-Ok.field-0.0 c.from_residual-in_err-symbol-in-Ok.result c.from_residual-in_err-symbol-in-Ok.ensures (λ e is. is)
     (halt_token 24 SpellsArguments tokens from low 2 closed closed_fills (omega arith) (is_symbol s.RIGHT_ROUND) list.end stop c.in_err-symbol-in-Ok.field-0.0 at c.in_err-symbol-in-Ok.ensures.missing)
 
-pub returns-in_err-symbol-in-Ok-2-clause-least : goal.returns-in_err-symbol-in-Ok-2-clause-least
-returns-in_err-symbol-in-Ok-2-clause-least c =
+pub returns-in_err-symbol-in-Ok-2 : goal.returns-in_err-symbol-in-Ok-2
+returns-in_err-symbol-in-Ok-2 c =
     let tokens = c.args.tokens.now in
     let from = c.args.from in
+    let list = c.in-Ok.list in
+    let read = c.in-Ok.ensures.reads in
+    let stop = c.max-in-Ok-2.result in
+    let go = arguments_go tokens from list.end list.stop stop (c.if-not-is_symbol.ensures.stands refl) (omega (arith, c.max-in-Ok-2.ensures, read.ahead)) (omega (arith, c.max-in-Ok-2.ensures)) read.longest in
     let low = c.args.least_stop in
     let few : length tokens < 2 ^ 55 = search rules in
-    let list = c.in-Ok.list in
-    let read = c.in-Ok.ensures in
-    let stop = c.max-in-Ok-2.result in
     let at = arguments_past tokens from low (omega (arith, c.requires.from)) few (c.if-not-is_symbol.ensures.stands refl) (c.if-not-is_symbol.ensures.within refl) list.part.items list.end list.stop stop read.spells (omega (arith, read.ahead)) (omega (arith, read.ahead)) (omega (arith, c.max-in-Ok-2.ensures, read.ahead, c.requires.least_stop)) read.least
     (omega (arith, c.max-in-Ok-2.ensures)) in
     let at_close = past_symbol 24 SpellsArguments tokens from low s.RIGHT_ROUND semicolon list.end stop (list.end + 1) (omega arith) at c.in_ok-symbol-in-Ok.ensures.stands c.in_ok-symbol-in-Ok.ensures.within in
-    handed_behind 24 SpellsArguments tokens from low _ c.in_err-symbol-in-Ok-2.field-0.0 c.from_residual-in_err-symbol-in-Ok-2.result c.from_residual-in_err-symbol-in-Ok-2.ensures (λ e is. is)
+    unread_only_behind _ c.in_err-symbol-in-Ok-2.field-0.0 c.from_residual-in_err-symbol-in-Ok-2.result c.from_residual-in_err-symbol-in-Ok-2.ensures (λ e is. is)
+    (missing_behind SpellsArguments tokens from c.args.least_stop (is_symbol s.SEMICOLON) closed_rest list.end stop (list.end + 1) c.in_err-symbol-in-Ok-2.field-0.0 go
+    (λ others to h. ap (is_symbol s.SEMICOLON) h.1) (omega (arith, c.max-in-Ok-2.ensures, read.ahead)) (omega (arith, c.max-in-Ok-2.ensures)) (omega (arith, c.in_ok-symbol-in-Ok.ensures.within)) (omega (arith, c.max-in-Ok-2.ensures, read.ahead, c.requires.least_stop))
+    c.in_err-symbol-in-Ok-2.ensures.missing)
     (halt_token 24 SpellsArguments tokens from low 1 semicolon semicolon_fills (omega arith) (is_symbol s.SEMICOLON) (list.end + 1) stop c.in_err-symbol-in-Ok-2.field-0.0 at_close c.in_err-symbol-in-Ok-2.ensures.missing)
 
-pub returns-in_ok-symbol-in-Ok-2-clause-least : goal.returns-in_ok-symbol-in-Ok-2-clause-least
-returns-in_ok-symbol-in-Ok-2-clause-least c =
+pub returns-in_ok-symbol-in-Ok-2 : goal.returns-in_ok-symbol-in-Ok-2
+returns-in_ok-symbol-in-Ok-2 c =
     let tokens = c.args.tokens.now in
     let from = c.args.from in
     let low = c.args.least_stop in
     let few : length tokens < 2 ^ 55 = search rules in
     let list = c.in-Ok.list in
-    let read = c.in-Ok.ensures in
+    let read = c.in-Ok.ensures.reads in
     let stop = c.max-in-Ok-3.result in
     let at = arguments_past tokens from low (omega (arith, c.requires.from)) few (c.if-not-is_symbol.ensures.stands refl) (c.if-not-is_symbol.ensures.within refl) list.part.items list.end list.stop stop read.spells (omega (arith, read.ahead)) (omega (arith, read.ahead)) (omega (arith, c.max-in-Ok-3.ensures, read.ahead, c.requires.least_stop)) read.least
     (omega (arith, c.max-in-Ok-3.ensures)) in
     let at_close = past_symbol 24 SpellsArguments tokens from low s.RIGHT_ROUND semicolon list.end stop (list.end + 1) (omega arith) at c.in_ok-symbol-in-Ok.ensures.stands c.in_ok-symbol-in-Ok.ensures.within in
-    done 24 SpellsArguments tokens from low (list.end + 2) stop c.max-in-Ok-4.result
-    (past_symbol 24 SpellsArguments tokens from low s.SEMICOLON Ends (list.end + 1) stop (list.end + 2) (omega arith) at_close c.in_ok-symbol-in-Ok-2.ensures.stands c.in_ok-symbol-in-Ok-2.ensures.within) (omega (arith, c.max-in-Ok-4.ensures))
+    let go = arguments_go tokens from list.end list.stop stop (c.if-not-is_symbol.ensures.stands refl) (omega (arith, c.max-in-Ok-3.ensures, read.ahead)) (omega (arith, c.max-in-Ok-3.ensures)) read.longest in
+    record {
+      spells = search rules;
+      only = ends SpellsArguments tokens from closed_rest list.end stop c.max-in-Ok-4.result (list.end + 2) go (omega (arith, c.max-in-Ok-4.ensures)) (λ others to h. h.2);
+      bounds = search rules;
+      refused = tt;
+      least = done 24 SpellsArguments tokens from low (list.end + 2) stop c.max-in-Ok-4.result
+          (past_symbol 24 SpellsArguments tokens from low s.SEMICOLON Ends (list.end + 1) stop (list.end + 2) (omega arith) at_close c.in_ok-symbol-in-Ok-2.ensures.stands c.in_ok-symbol-in-Ok-2.ensures.within) (omega (arith, c.max-in-Ok-4.ensures));
+    }
 
-pub returns-in-Refused-clause-least : goal.returns-in-Refused-clause-least
-returns-in-Refused-clause-least c =
+pub returns-in-Refused : goal.returns-in-Refused
+returns-in-Refused c =
+    let tokens = c.args.tokens.now in
+    let from = c.args.from in
+    let stuck = stuck_of (λ tokens. SpellsList tokens (SpellsWhole tokens)) tokens (from + 1) c.in-Refused.stop c.in-Err.halt c.in-Refused.is c.in-Err.ensures.reads.refused in
+    let new = c.max-in-Refused.result in
+    let low = c.args.least_stop in
+    let few : length tokens < 2 ^ 55 = search rules in
+    record {
+      spells = tt;
+      only = tt;
+      bounds = tt;
+      refused = (
+        arguments_stuck tokens from c.in-Refused.stop new (c.if-not-is_symbol.ensures.stands refl) (omega (arith, c.max-in-Refused.ensures, stuck.1)) (omega (arith, c.max-in-Refused.ensures)) stuck.0,
+        omega (arith, c.max-in-Refused.ensures, stuck.1),
+        omega (arith, c.max-in-Refused.ensures),
+        omega (arith, c.max-in-Refused.ensures, stuck.2, c.requires.least_stop),
+      );
+      least = halt_part 24 SpellsArguments tokens from low 2 16 (λ tokens. SpellsList tokens (SpellsWhole tokens)) closed exprs_are_local closed_fills (omega arith) (from + 1) low (omega arith)
+          (arguments_begun tokens from low (omega (arith, c.requires.from)) few (c.if-not-is_symbol.ensures.stands refl) (c.if-not-is_symbol.ensures.within refl)) (Refused c.max-in-Refused.result)
+          (halted_behind (λ tokens. SpellsList tokens (SpellsWhole tokens)) tokens (from + 1) c.in-Err.halt c.in-Refused.stop low c.max-in-Refused.result c.in-Refused.is c.in-Err.ensures.reads.refused c.in-Err.ensures.reads.least (omega (arith, c.max-in-Refused.ensures)));
+    }
+
+pub returns-in_err-symbol : goal.returns-in_err-symbol
+returns-in_err-symbol c =
     let tokens = c.args.tokens.now in
     let from = c.args.from in
     let low = c.args.least_stop in
     let few : length tokens < 2 ^ 55 = search rules in
-    halt_part 24 SpellsArguments tokens from low 2 16 (λ tokens. SpellsList tokens (SpellsWhole tokens)) closed exprs_are_local closed_fills (omega arith) (from + 1) low (omega arith)
-    (arguments_begun tokens from low (omega (arith, c.requires.from)) few (c.if-not-is_symbol.ensures.stands refl) (c.if-not-is_symbol.ensures.within refl)) (Refused c.max-in-Refused.result)
-    (halted_behind (λ tokens. SpellsList tokens (SpellsWhole tokens)) tokens (from + 1) c.in-Err.halt c.in-Refused.stop low c.max-in-Refused.result c.in-Refused.is c.in-Err.ensures.refused c.in-Err.ensures.least (omega (arith, c.max-in-Refused.ensures)))
+    unread_only_behind _ c.in_err-symbol.field-0.0 c.from_residual.result c.from_residual.ensures (λ e is. is)
+    (search rules)
+    (halt_token 24 SpellsArguments tokens from low 1 semicolon semicolon_fills (omega arith) (is_symbol s.SEMICOLON) from low c.in_err-symbol.field-0.0 (no_arguments tokens from low (omega (arith, c.requires.from)) few) c.in_err-symbol.ensures.missing)
+
+pub returns-then-not-is_symbol : goal.returns-then-not-is_symbol
+returns-then-not-is_symbol c =
+    let tokens = c.args.tokens.now in
+    let from = c.args.from in
+    let low = c.args.least_stop in
+    let few : length tokens < 2 ^ 55 = search rules in
+    record {
+      spells = search rules;
+      only = search rules;
+      bounds = search rules;
+      refused = tt;
+      least = done 24 SpellsArguments tokens from low (from + 1) low c.max.result
+          (past_symbol 24 SpellsArguments tokens from low s.SEMICOLON Ends from low (from + 1) (omega arith) (no_arguments tokens from low (omega (arith, c.requires.from)) few) c.in_ok-symbol.ensures.stands c.in_ok-symbol.ensures.within) (omega (arith, c.max.ensures));
+    }

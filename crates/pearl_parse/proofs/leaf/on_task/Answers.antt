@@ -18,7 +18,7 @@ returns-in_err-symbol c = λ depth.
     let tokens = c.args.tokens.now in
     let from = c.args.from in
     let task = c.maybe_name-task.result in
-    let read = c.maybe_name-task.ensures in
+    let read = c.maybe_name-task.ensures.reads in
     let few : length tokens < 2 ^ 55 = search rules in
     let begun = task_begun tokens depth from c.requires.within few c.args.word c.requires.word in
     unread 24 (Spelled depth) tokens from _ c.in_err-symbol.field-0.0 c.from_residual.result c.from_residual.ensures (λ e is. is)
@@ -27,14 +27,14 @@ returns-in_err-symbol c = λ depth.
     (λ others to h. ap (is_symbol s.SEMICOLON) h.0) (omega (arith, read.bounds)) (omega (arith, read.bounds)) (omega (arith, read.bounds)) c.in_err-symbol.ensures.missing)
     (semicolon_missing tokens depth from task.end task.stop c.in_err-symbol.field-0.0
     (past_first 24 (Spelled depth) tokens from 0 1 24 (Maybe SpellsName) semicolon maybe_name_is_local semicolon_fills (omega arith) (from + 1) from (omega arith) begun task.part task.end task.stop read.spells
-    (omega (arith, read.bounds)) (omega (arith, read.bounds)) (omega arith) (omega (arith, read.bounds)) (record { goes = inl read.close })) c.in_err-symbol.ensures.missing)
+    (omega (arith, read.bounds)) (omega (arith, read.bounds)) (omega arith) (omega (arith, read.bounds)) (record { goes = inl c.maybe_name-task.ensures.close })) c.in_err-symbol.ensures.missing)
 
 pub returns : goal.returns
 returns c = λ depth.
     let tokens = c.args.tokens.now in
     let from = c.args.from in
     let task = c.maybe_name-task.result in
-    let read = c.maybe_name-task.ensures in
+    let read = c.maybe_name-task.ensures.reads in
     let go = past_only (Spelled depth) tokens from (SpellsOptional is_name SpellsName) exit_rest (from + 1) from task.end task.stop (task_goes tokens depth from c.args.word c.requires.word) (omega (arith, read.bounds)) read.only in
     record {
       spells = search rules;

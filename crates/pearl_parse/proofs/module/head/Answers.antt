@@ -30,7 +30,7 @@ returns-in_err-name-clause-reads c =
     let few : length tokens < 2 ^ 55 = search rules in
     let word = c.in_ok-word.ensures in
     let told = c.in_err-name.field-0.0 in
-    let none = c.in_err-name.ensures in
+    let none = c.in_err-name.ensures.reads in
     unread 16 SpellsHead tokens from _ told c.from_residual-in_err-name.result c.from_residual-in_err-name.ensures
     (λ e is. is)
     (no_first SpellsHead tokens from SpellsOptionalName exit_rest (from + 1) from told (name_goes tokens from)
@@ -44,7 +44,7 @@ returns-in_err-symbol-clause-reads c =
     let few : length tokens < 2 ^ 55 = search rules in
     let word = c.in_ok-word.ensures in
     let name = c.in_ok-name.name in
-    let read = c.in_ok-name.ensures in
+    let read = c.in_ok-name.ensures.reads in
     let told = c.in_err-symbol.field-0.0 in
     let go = past_only SpellsHead tokens from SpellsOptionalName exit_rest (from + 1) from name.end name.stop
     (name_goes tokens from) (omega (arith, read.bounds)) read.only in
@@ -54,14 +54,14 @@ returns-in_err-symbol-clause-reads c =
     (λ others to h. ap (is_symbol s.SEMICOLON) h.0) (omega (arith, read.bounds)) (omega (arith, read.bounds))
     read.bounds.3 c.in_err-symbol.ensures.missing)
     (no_title_end tokens from c.requires few word.stands word.within name.part name.end name.stop read.spells
-    (omega (arith, read.bounds)) read.close (omega (arith, read.bounds)) told c.in_err-symbol.ensures.missing)
+    (omega (arith, read.bounds)) c.in_ok-name.ensures.close (omega (arith, read.bounds)) told c.in_err-symbol.ensures.missing)
 
 pub returns-clause-reads : goal.returns-clause-reads
 returns-clause-reads c =
     let tokens = c.args.tokens.now in
     let from = c.args.from in
     let name = c.in_ok-name.name in
-    let read = c.in_ok-name.ensures in
+    let read = c.in_ok-name.ensures.reads in
     let go = past_only SpellsHead tokens from SpellsOptionalName exit_rest (from + 1) from name.end name.stop
     (name_goes tokens from) (omega (arith, read.bounds)) read.only in
     record {
@@ -73,7 +73,7 @@ returns-clause-reads c =
         refl,
       );
       only = ends SpellsHead tokens from exit_rest name.end name.stop (name.end + 1) (name.end + 1) go
-          (omega (arith, read.close)) (λ others to h. h.1);
+          (omega (arith, c.in_ok-name.ensures.close)) (λ others to h. h.1);
       ahead = (omega (arith, read.bounds), omega arith, omega (arith, c.in_ok-symbol.ensures.within));
       refused = tt;
       least = record { goes = inl refl };

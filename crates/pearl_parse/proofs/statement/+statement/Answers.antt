@@ -17,7 +17,7 @@ use Rattle.pearl_parse.proofs.NestedRests.{closing_rest, otherwise_rest, then_re
 use Rattle.pearl_parse.proofs.StatementLeast.{stmt_kept, branch_kept, branch_read, maybe_branch_read, no_choice_least, choices_read, no_inner, inner_read, some_statement, no_memory, closing_halts, closed_goes, past_statements, past_other, choices_halt, past_choices, inner_halts, past_inner, if_halts, past_condition, case_halts, past_selector, repeat_halts, past_heads, begin_begun}
 use Rattle.pearl_parse.proofs.RepeatedLeast.{none_least, next_least, end_least}
 use Rattle.pearl_parse.proofs.States.{told_none, handed_behind}
-use Rattle.pearl_parse.proofs.Unread.{none_read, unread, no_memory_read}
+use Rattle.pearl_parse.proofs.Unread.{none_read, unread, no_memory_read, unread_behind}
 use Rattle.pearl_parse.proofs.statement.+statement.Goals as goal
 
 pub statements-each-preserved : goal.statements-each-preserved
@@ -429,36 +429,54 @@ begin-returns t c =
       least = closed_goes tokens depth from w.END body.end body.stop at_1 c.max.result c.in_ok-closing.ensures.stands c.in_ok-closing.ensures.within (omega (arith, inner.bounds)) c.max.ensures;
     }
 
-pub body-returns-then-from-tokens-clause-refused : goal.body-returns-then-from-tokens-clause-refused
-body-returns-then-from-tokens-clause-refused t c = no_block c.args.tokens.now c.args.depth c.args.from c.args.least_stop (omega (arith, c.if-from-tokens.true)) c.requires.0 c.requires.1
+pub body-returns-then-from-tokens : goal.body-returns-then-from-tokens
+body-returns-then-from-tokens t c =
+    let few : length c.args.tokens.now < 2 ^ 55 = search rules in
+    record {
+      spells = tt;
+      longest = tt;
+      bounds = tt;
+      refused = no_block c.args.tokens.now c.args.depth c.args.from c.args.least_stop (omega (arith, c.if-from-tokens.true)) c.requires.0 c.requires.1;
+      least = no_inner c.args.tokens.now c.args.depth c.args.from c.args.least_stop (omega (arith, c.requires)) few c.requires.0;
+    }
 
-pub body-returns-in_err-declarations-clause-refused : goal.body-returns-in_err-declarations-clause-refused
-body-returns-in_err-declarations-clause-refused t c =
-    err_told _ _ c.in_err-declarations.field-0.0 c.from_residual.result c.from_residual.ensures (λ e is. is)
+pub body-returns-in_err-declarations : goal.body-returns-in_err-declarations
+body-returns-in_err-declarations t c =
+    unread_behind _ c.in_err-declarations.field-0.0 c.from_residual.result c.from_residual.ensures (λ e is. is)
     (out_of_memory_behind (SpellsBlock c.args.depth) c.args.tokens.now c.args.from c.args.least_stop c.in_err-declarations.field-0.0 c.in_err-declarations.ensures.refused)
+    (no_memory 24 (SpellsInner c.args.depth) c.args.tokens.now c.args.from c.args.least_stop c.in_err-declarations.field-0.0 c.in_err-declarations.ensures.refused)
 
-pub body-returns-in_err-statements-clause-refused : goal.body-returns-in_err-statements-clause-refused
-body-returns-in_err-statements-clause-refused t c =
-    err_told _ _ c.in_err-statements.field-0.0 c.from_residual-in_err-statements.result c.from_residual-in_err-statements.ensures (λ e is. is)
+pub body-returns-in_err-statements : goal.body-returns-in_err-statements
+body-returns-in_err-statements t c =
+    unread_behind _ c.in_err-statements.field-0.0 c.from_residual-in_err-statements.result c.from_residual-in_err-statements.ensures (λ e is. is)
     (out_of_memory_behind (SpellsBlock c.args.depth) c.args.tokens.now c.args.from c.args.least_stop c.in_err-statements.field-0.0 c.in_err-statements.ensures.refused)
+    (no_memory 24 (SpellsInner c.args.depth) c.args.tokens.now c.args.from c.args.least_stop c.in_err-statements.field-0.0 c.in_err-statements.ensures.refused)
 
-pub body-returns-clause-spells : goal.body-returns-clause-spells
-body-returns-clause-spells t c =
+pub body-returns : goal.body-returns
+body-returns t c =
     let tokens = c.args.tokens.now in
-    let declarations = c.in_ok-declarations.declarations in
-    let statements = c.in_ok-statements.statements in (
-      declarations.end,
-      c.place_at.ensures,
-      subst (λ xs. SpellsEach (SpellsBodyDecl tokens) c.args.from xs declarations.end) (sym c.new.ensures) c.in_ok-declarations.ensures.spells,
-      subst (λ xs. SpellsStatements c.args.depth tokens declarations.end xs statements.end) (sym c.new-2.ensures) c.in_ok-statements.ensures.spells,
-    )
-
-pub body-returns-clause-longest : goal.body-returns-clause-longest
-body-returns-clause-longest t c =
+    let from = c.args.from in
+    let depth = c.args.depth in
+    let few : length tokens < 2 ^ 55 = search rules in
     let declarations = c.in_ok-declarations.declarations in
     let statements = c.in_ok-statements.statements in
-    block_is_longest c.args.tokens.now c.args.depth c.args.from declarations.end declarations.stop statements.end statements.stop
-    (omega (arith, c.max-least_stop.ensures, c.in_ok-statements.ensures.bounds)) (omega (arith, c.in_ok-statements.ensures.bounds)) c.in_ok-declarations.ensures.longest c.in_ok-statements.ensures.longest
+    let first = c.in_ok-declarations.ensures in
+    let inner = c.in_ok-statements.ensures in
+    record {
+      spells = (
+        declarations.end,
+        c.place_at.ensures,
+        subst (λ xs. SpellsEach (SpellsBodyDecl tokens) c.args.from xs declarations.end) (sym c.new.ensures) c.in_ok-declarations.ensures.spells,
+        subst (λ xs. SpellsStatements c.args.depth tokens declarations.end xs statements.end) (sym c.new-2.ensures) c.in_ok-statements.ensures.spells,
+      );
+      longest = block_is_longest c.args.tokens.now c.args.depth c.args.from declarations.end declarations.stop statements.end statements.stop
+          (omega (arith, c.max-least_stop.ensures, c.in_ok-statements.ensures.bounds)) (omega (arith, c.in_ok-statements.ensures.bounds)) c.in_ok-declarations.ensures.longest c.in_ok-statements.ensures.longest;
+      bounds = search rules;
+      refused = tt;
+      least = inner_read tokens depth from c.args.least_stop (omega (arith, c.requires)) few declarations.part.items declarations.end declarations.stop c.max-least_stop.result first.spells (omega (arith, first.bounds)) (omega (arith, first.bounds))
+          (omega (arith, first.bounds, c.requires, c.max-least_stop.ensures)) first.least c.max-least_stop.ensures statements.part.items statements.end statements.stop inner.spells (omega (arith, inner.bounds)) (omega (arith, inner.bounds))
+          (omega (arith, inner.bounds)) inner.least;
+    }
 
 pub statement-returns-in-None : goal.statement-returns-in-None
 statement-returns-in-None t c =
@@ -549,35 +567,6 @@ case-returns-in_err-boxed t c =
     let from = c.args.from in
     let depth = c.args.depth in
     no_memory_read 24 (Spelled depth) tokens from _ c.in_err-boxed.field-0.0 c.from_residual-in_err-boxed.result c.from_residual-in_err-boxed.ensures (λ e is. is) c.in_err-boxed.ensures.fault
-
-pub body-returns-then-from-tokens-clause-least : goal.body-returns-then-from-tokens-clause-least
-body-returns-then-from-tokens-clause-least t c =
-    let few : length c.args.tokens.now < 2 ^ 55 = search rules in
-    no_inner c.args.tokens.now c.args.depth c.args.from c.args.least_stop (omega (arith, c.requires)) few c.requires.0
-
-pub body-returns-in_err-declarations-clause-least : goal.body-returns-in_err-declarations-clause-least
-body-returns-in_err-declarations-clause-least t c =
-    handed_behind 24 (SpellsInner c.args.depth) c.args.tokens.now c.args.from c.args.least_stop _ c.in_err-declarations.field-0.0 c.from_residual.result c.from_residual.ensures (λ e is. is)
-    (no_memory 24 (SpellsInner c.args.depth) c.args.tokens.now c.args.from c.args.least_stop c.in_err-declarations.field-0.0 c.in_err-declarations.ensures.refused)
-
-pub body-returns-in_err-statements-clause-least : goal.body-returns-in_err-statements-clause-least
-body-returns-in_err-statements-clause-least t c =
-    handed_behind 24 (SpellsInner c.args.depth) c.args.tokens.now c.args.from c.args.least_stop _ c.in_err-statements.field-0.0 c.from_residual-in_err-statements.result c.from_residual-in_err-statements.ensures (λ e is. is)
-    (no_memory 24 (SpellsInner c.args.depth) c.args.tokens.now c.args.from c.args.least_stop c.in_err-statements.field-0.0 c.in_err-statements.ensures.refused)
-
-pub body-returns-clause-least : goal.body-returns-clause-least
-body-returns-clause-least t c =
-    let tokens = c.args.tokens.now in
-    let from = c.args.from in
-    let depth = c.args.depth in
-    let few : length tokens < 2 ^ 55 = search rules in
-    let declarations = c.in_ok-declarations.declarations in
-    let statements = c.in_ok-statements.statements in
-    let first = c.in_ok-declarations.ensures in
-    let inner = c.in_ok-statements.ensures in
-    inner_read tokens depth from c.args.least_stop (omega (arith, c.requires)) few declarations.part.items declarations.end declarations.stop c.max-least_stop.result first.spells (omega (arith, first.bounds)) (omega (arith, first.bounds))
-    (omega (arith, first.bounds, c.requires, c.max-least_stop.ensures)) first.least c.max-least_stop.ensures statements.part.items statements.end statements.stop inner.spells (omega (arith, inner.bounds)) (omega (arith, inner.bounds))
-    (omega (arith, inner.bounds)) inner.least
 
 pub repeat-returns-in_err-boxed : goal.repeat-returns-in_err-boxed
 repeat-returns-in_err-boxed t c =

@@ -1,19 +1,31 @@
-use Rattle.std.proofs.Common.{◌+◌, arith}
+use Rattle.std.proofs.Common.{rules, ◌+◌, arith}
 use Rattle.pearl_tree.specs.Expressions.{SpellsWhole}
 use Rattle.pearl_tree.specs.Statements.{SpellsAfter}
 use Rattle.pearl_parse.proofs.States.{after_reaches, told_as, halts_behind_as}
 use Rattle.pearl_parse.proofs.step.after.Goals as goal
 
-pub returns-in-Ok-clause-least : goal.returns-in-Ok-clause-least
-returns-in-Ok-clause-least c =
+pub returns-in-Ok : goal.returns-in-Ok
+returns-in-Ok c =
     let tokens = c.args.tokens.now in
     let from = c.args.from in
-    told_as 16 8 SpellsWhole (λ tokens. SpellsAfter tokens c.args.word) tokens from (from + 1) (omega arith) (after_reaches tokens c.args.word from c.requires.word) c.args.least_stop c.in-Ok.read.end c.in-Ok.read.stop
-    (omega (arith, c.in-Ok.ensures.bounds)) c.in-Ok.ensures.least
+    record {
+      spells = search rules;
+      longest = search rules;
+      bounds = search rules;
+      refused = tt;
+      least = told_as 16 8 SpellsWhole (λ tokens. SpellsAfter tokens c.args.word) tokens from (from + 1) (omega arith) (after_reaches tokens c.args.word from c.requires.word) c.args.least_stop c.in-Ok.read.end c.in-Ok.read.stop
+          (omega (arith, c.in-Ok.ensures.bounds)) c.in-Ok.ensures.least;
+    }
 
-pub returns-in-Err-clause-least : goal.returns-in-Err-clause-least
-returns-in-Err-clause-least c =
+pub returns-in-Err : goal.returns-in-Err
+returns-in-Err c =
     let tokens = c.args.tokens.now in
     let from = c.args.from in
-    halts_behind_as 16 8 SpellsWhole (λ tokens. SpellsAfter tokens c.args.word) tokens from (from + 1) (omega arith) (after_reaches tokens c.args.word from c.requires.word) c.args.least_stop c.in-Err.halt
-    c.in-Err.ensures.least
+    record {
+      spells = tt;
+      longest = tt;
+      bounds = tt;
+      refused = search rules;
+      least = halts_behind_as 16 8 SpellsWhole (λ tokens. SpellsAfter tokens c.args.word) tokens from (from + 1) (omega arith) (after_reaches tokens c.args.word from c.requires.word) c.args.least_stop c.in-Err.halt
+          c.in-Err.ensures.least;
+    }

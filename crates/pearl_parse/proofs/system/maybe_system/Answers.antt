@@ -1,4 +1,4 @@
-use Rattle.std.proofs.Common.{sym, inl, refl, arith}
+use Rattle.std.proofs.Common.{rules, sym, inl, refl, arith}
 use Rattle.pearl_tree.specs.Modules.{SpellsSystem}
 use Rattle.pearl_tree.specs.declared.word_code.TheConstants as w
 use Rattle.pearl_parse_expr.specs.Stops.{is_name, is_word}
@@ -9,43 +9,48 @@ use Rattle.pearl_tree.specs.Standing.{SpellsMaybe}
 use Rattle.pearl_parse.proofs.States.{goes_as, halts_as, some_reaches}
 use Rattle.pearl_parse.proofs.system.maybe_system.Goals as goal
 
-pub returns-then-not-is_word-clause-longest : goal.returns-then-not-is_word-clause-longest
-returns-then-not-is_word-clause-longest c =
+pub returns-then-not-is_word : goal.returns-then-not-is_word
+returns-then-not-is_word c =
     let tokens = c.args.tokens.now in
     let from = c.args.from in
-    only_is_longest SpellsOptionalSystem is_name tokens from from from
-    (optional_is_none (is_word w.SYSTEM) SpellsSystem tokens from from (sym c.if-not-is_word.ensures.value)
-    (omega arith) (λ others x to h. system_begins others from x to h))
+    record {
+      spells = search rules;
+      longest = only_is_longest SpellsOptionalSystem is_name tokens from from from
+          (optional_is_none (is_word w.SYSTEM) SpellsSystem tokens from from (sym c.if-not-is_word.ensures.value)
+          (omega arith) (λ others x to h. system_begins others from x to h));
+      bounds = search rules;
+      refused = tt;
+      least = record { goes = inl refl };
+    }
 
-pub returns-in-Ok-clause-longest : goal.returns-in-Ok-clause-longest
-returns-in-Ok-clause-longest c =
-    let read = c.in-Ok.ensures in
-    optional_is_longest (is_word w.SYSTEM) SpellsSystem c.args.tokens.now c.args.from is_name c.in-Ok.devices.end
-    c.in-Ok.devices.stop (sym c.if-not-is_word.ensures.value)
-    (omega (arith, read.ahead)) read.longest
-
-pub returns-in-Err-clause-refused : goal.returns-in-Err-clause-refused
-returns-in-Err-clause-refused c =
-    optional_is_halted (is_word w.SYSTEM) SpellsSystem c.args.tokens.now c.args.from c.in-Err.halt
-    (sym c.if-not-is_word.ensures.value) c.in-Err.ensures.refused
-
-pub returns-then-not-is_word-clause-least : goal.returns-then-not-is_word-clause-least
-returns-then-not-is_word-clause-least c =
-    record { goes = inl refl }
-
-pub returns-in-Ok-clause-least : goal.returns-in-Ok-clause-least
-returns-in-Ok-clause-least c =
+pub returns-in-Ok : goal.returns-in-Ok
+returns-in-Ok c =
     let tokens = c.args.tokens.now in
     let from = c.args.from in
     let read = c.in-Ok.ensures in
-    goes_as 16 16 SpellsSystem (λ tokens. SpellsMaybe (SpellsSystem tokens)) tokens from from (omega arith)
-    (λ stop near r. some_reaches 16 SpellsSystem tokens from stop near r) c.in-Ok.devices.end c.in-Ok.devices.stop
-    (omega (arith, read.ahead)) read.least
+    record {
+      spells = search rules;
+      longest = optional_is_longest (is_word w.SYSTEM) SpellsSystem c.args.tokens.now c.args.from is_name c.in-Ok.devices.end
+          c.in-Ok.devices.stop (sym c.if-not-is_word.ensures.value)
+          (omega (arith, read.ahead)) read.longest;
+      bounds = search rules;
+      refused = tt;
+      least = goes_as 16 16 SpellsSystem (λ tokens. SpellsMaybe (SpellsSystem tokens)) tokens from from (omega arith)
+          (λ stop near r. some_reaches 16 SpellsSystem tokens from stop near r) c.in-Ok.devices.end c.in-Ok.devices.stop
+          (omega (arith, read.ahead)) read.least;
+    }
 
-pub returns-in-Err-clause-least : goal.returns-in-Err-clause-least
-returns-in-Err-clause-least c =
+pub returns-in-Err : goal.returns-in-Err
+returns-in-Err c =
     let tokens = c.args.tokens.now in
     let from = c.args.from in
-    halts_as 16 16 SpellsSystem (λ tokens. SpellsMaybe (SpellsSystem tokens)) tokens from from (omega arith)
-    (λ stop near r. some_reaches 16 SpellsSystem tokens from stop near r) c.in-Err.halt c.in-Err.ensures.refused
-    c.in-Err.ensures.least
+    record {
+      spells = tt;
+      longest = tt;
+      bounds = tt;
+      refused = optional_is_halted (is_word w.SYSTEM) SpellsSystem c.args.tokens.now c.args.from c.in-Err.halt
+          (sym c.if-not-is_word.ensures.value) c.in-Err.ensures.refused;
+      least = halts_as 16 16 SpellsSystem (λ tokens. SpellsMaybe (SpellsSystem tokens)) tokens from from (omega arith)
+          (λ stop near r. some_reaches 16 SpellsSystem tokens from stop near r) c.in-Err.halt c.in-Err.ensures.refused
+          c.in-Err.ensures.least;
+    }

@@ -2,44 +2,39 @@ use Rattle.std.proofs.Common.{◌+◌, ap, ◌<◌, ◌^◌, length, rules, arit
 use Rattle.pearl_tree.specs.Modules.{SpellsSystem}
 use Rattle.pearl_tree.specs.declared.symbol.TheConstants as s
 use Rattle.pearl_parse_expr.specs.Stops.{is_symbol}
-use Rattle.pearl_parse.proofs.Steps.{err_told, missing}
+use Rattle.pearl_parse.proofs.Steps.{missing}
 use Rattle.pearl_parse.proofs.ModuleRests.{devices_rest, devices_go, system_is_longest}
 use Rattle.pearl_parse.proofs.SystemLeast.{no_devices, system_goes}
-use Rattle.pearl_parse.proofs.States.{handed_in}
+use Rattle.pearl_parse.proofs.States.{halts_in}
+use Rattle.pearl_parse.proofs.Unread.{unread_as}
 use Rattle.pearl_parse.proofs.system.system.Goals as goal
 
-pub returns-in_err-symbol-clause-refused : goal.returns-in_err-symbol-clause-refused
-returns-in_err-symbol-clause-refused c =
-    let tokens = c.args.tokens.now in
-    let from = c.args.from in
-    err_told _ _ c.in_err-symbol.field-0.0 c.from_residual.result c.from_residual.ensures (λ e is. is)
-    (missing SpellsSystem tokens from (is_symbol s.SEMICOLON) devices_rest (from + 1) from (from + 1)
-    c.in_err-symbol.field-0.0 (devices_go tokens from)
-    (λ others to h. ap (is_symbol s.SEMICOLON) h.0) (omega arith) (omega (arith, c.requires.within))
-    (omega (arith, c.requires.within)) c.in_err-symbol.ensures.missing)
-
-pub returns-in-Ok-clause-longest : goal.returns-in-Ok-clause-longest
-returns-in-Ok-clause-longest c =
-    system_is_longest c.args.tokens.now c.args.from c.in-Ok.devices.end c.in-Ok.devices.stop c.in-Ok.ensures.longest
-
-pub returns-in_err-symbol-clause-least : goal.returns-in_err-symbol-clause-least
-returns-in_err-symbol-clause-least c =
+pub returns-in_err-symbol : goal.returns-in_err-symbol
+returns-in_err-symbol c =
     let tokens = c.args.tokens.now in
     let from = c.args.from in
     let few : length tokens < 2 ^ 55 = search rules in
-    handed_in 16 SpellsSystem tokens from 0 _ c.in_err-symbol.field-0.0 c.from_residual.result c.from_residual.ensures
-    (λ e is. is) (omega arith)
-    (no_devices tokens from c.requires.word c.requires.within few c.in_err-symbol.field-0.0
-    c.in_err-symbol.ensures.missing)
+    let halt = c.in_err-symbol.field-0.0 in
+    unread_as _ halt c.from_residual.result c.from_residual.ensures (λ e is. is)
+    (missing SpellsSystem tokens from (is_symbol s.SEMICOLON) devices_rest (from + 1) from (from + 1) halt (devices_go tokens from)
+    (λ others to h. ap (is_symbol s.SEMICOLON) h.0) (omega arith) (omega (arith, c.requires.within))
+    (omega (arith, c.requires.within)) c.in_err-symbol.ensures.missing)
+    (halts_in 16 SpellsSystem tokens from 0 (omega arith) halt
+    (no_devices tokens from c.requires.word c.requires.within few halt c.in_err-symbol.ensures.missing))
 
-pub returns-in-Ok-clause-least : goal.returns-in-Ok-clause-least
-returns-in-Ok-clause-least c =
+pub returns-in-Ok : goal.returns-in-Ok
+returns-in-Ok c =
     let tokens = c.args.tokens.now in
     let from = c.args.from in
     let few : length tokens < 2 ^ 55 = search rules in
     let devices = c.in-Ok.devices in
     let read = c.in-Ok.ensures in
-    system_goes tokens from c.requires.word c.requires.within few c.in_ok-symbol.ensures.stands
-    c.in_ok-symbol.ensures.within devices.part.items devices.end devices.stop read.spells
-    (omega (arith, read.bounds)) (omega (arith, read.bounds))
-    (omega (arith, read.bounds)) read.least
+    record {
+      spells = search rules;
+      longest = system_is_longest tokens from devices.end devices.stop read.longest;
+      ahead = search rules;
+      refused = tt;
+      least = system_goes tokens from c.requires.word c.requires.within few c.in_ok-symbol.ensures.stands
+          c.in_ok-symbol.ensures.within devices.part.items devices.end devices.stop read.spells
+          (omega (arith, read.bounds)) (omega (arith, read.bounds)) (omega (arith, read.bounds)) read.least;
+    }

@@ -19,10 +19,10 @@ returns-in-None c =
 
 pub returns-then-is_word : goal.returns-then-is_word
 returns-then-is_word c =
-    let read = c.length_of.ensures in
+    let read = c.length_of.ensures.reads in
     record {
       spells = read.spells;
-      only = read.longest;
+      only = read.only;
       ahead = read.ahead;
       refused = read.refused;
       least = least_wider 16 24 SpellsDecl c.args.tokens.now c.args.from (omega arith) c.length_of.result read.least;
@@ -33,7 +33,7 @@ returns-then-is_word-2 c =
     let read = c.type_of.ensures in
     record {
       spells = read.spells;
-      only = read.longest;
+      only = read.only;
       ahead = read.ahead;
       refused = read.refused;
       least = least_wider 16 24 SpellsDecl c.args.tokens.now c.args.from (omega arith) c.type_of.result read.least;
@@ -44,7 +44,7 @@ returns-then-is_word-3 c =
     let read = c.declare.ensures in
     record {
       spells = read.spells;
-      only = read.longest;
+      only = read.only;
       ahead = read.ahead;
       refused = read.refused;
       least = least_wider 16 24 SpellsDecl c.args.tokens.now c.args.from (omega arith) c.declare.result read.least;
@@ -55,7 +55,7 @@ returns-then-is_word-4 c =
     let read = c.specify.ensures in
     record {
       spells = read.spells;
-      only = read.longest;
+      only = read.only;
       ahead = read.ahead;
       refused = read.refused;
       least = least_wider 16 24 SpellsDecl c.args.tokens.now c.args.from (omega arith) c.specify.result read.least;

@@ -6,8 +6,19 @@ use Rattle.pearl_parse_decl.proofs.Behind.{least_as}
 use Rattle.pearl_parse_decl.proofs.Leaves.{own_ref_reaches}
 use Rattle.pearl_parse_decl.proofs.expression.own_reference.Goals as goal
 
-pub returns-clause-least : goal.returns-clause-least
-returns-clause-least c =
-    least_as (λ tokens. SpellsNamed tokens limit.OWN_BRACKETS_MAX) SpellsOwnRef c.args.tokens.now c.args.from c.reference.result
-    (λ stop within r. own_ref_reaches c.args.tokens.now c.args.from stop (search rules) within r)
-    c.reference.ensures.ahead c.reference.ensures.refused c.reference.ensures.least
+pub returns-clause-reads : goal.returns-clause-reads
+returns-clause-reads c =
+    let read = c.reference.ensures in
+    record {
+      spells = read.spells;
+      longest = search rules;
+      ahead = read.ahead;
+      refused = search rules;
+      least =
+          least_as (λ tokens. SpellsNamed tokens limit.OWN_BRACKETS_MAX) SpellsOwnRef c.args.tokens.now c.args.from c.reference.result
+          (λ stop within r. own_ref_reaches c.args.tokens.now c.args.from stop (search rules) within r)
+          read.ahead read.refused read.least;
+    }
+
+pub returns-clause-named : goal.returns-clause-named
+returns-clause-named c = c.reference.ensures

@@ -19,14 +19,14 @@ returns-in-Err-clause-begun c =
 pub returns-then-not-is_symbol-2-clause-begun : goal.returns-then-not-is_symbol-2-clause-begun
 returns-then-not-is_symbol-2-clause-begun c =
     let basic = c.in-Ok.basic in
-    let read = c.in-Ok.ensures in
+    let read = c.in-Ok.ensures.reads in
     returns_reach c.args.tokens.now c.args.from basic.stop (c.if-not-is_word.ensures.stands refl) (c.if-not-is_symbol.ensures.stands refl) (omega (arith, read.ahead))
     (reach_of SpellsBasic c.args.tokens.now basic_is_local (c.args.from + 2) basic.part basic.end basic.stop read.spells (omega (arith, read.ahead)) (omega (arith, read.ahead)) read.least)
 
 pub returns-clause-least : goal.returns-clause-least
 returns-clause-least c =
     let basic = c.in-Ok.basic in
-    let read = c.in-Ok.ensures in
+    let read = c.in-Ok.ensures.reads in
     goes_max SpellsReturns c.args.tokens.now c.args.from basic.stop (basic.end + 1) c.max.result c.max.ensures
     (returns_reach c.args.tokens.now c.args.from basic.stop (c.if-not-is_word.ensures.stands refl) (c.if-not-is_symbol.ensures.stands refl) (omega (arith, read.ahead))
     (reach_of SpellsBasic c.args.tokens.now basic_is_local (c.args.from + 2) basic.part basic.end basic.stop read.spells (omega (arith, read.ahead)) (omega (arith, read.ahead)) read.least))

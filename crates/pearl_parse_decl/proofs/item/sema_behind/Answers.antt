@@ -8,23 +8,42 @@ use Rattle.pearl_parse_decl.proofs.ListReach.{no_memory_least}
 use Rattle.pearl_parse_decl.proofs.TypeReach.{names_read}
 use Rattle.pearl_parse_decl.proofs.item.sema_behind.Goals as goal
 
-pub returns-then-not-is_word-clause-least : goal.returns-then-not-is_word-clause-least
-returns-then-not-is_word-clause-least c =
-    let names = c.args.names in
-    sema_names c.args.tokens.now c.args.from names.stop (names_read c.args.tokens.now c.args.from names.end names.stop names.part c.requires.spells c.requires.ahead c.requires.least)
+pub returns-then-not-is_word-clause-reads : goal.returns-then-not-is_word-clause-reads
+returns-then-not-is_word-clause-reads c =
+    record {
+      spells = tt;
+      longest = tt;
+      ahead = tt;
+      refused = search rules;
+      least = let names = c.args.names in
+          sema_names c.args.tokens.now c.args.from names.stop (names_read c.args.tokens.now c.args.from names.end names.stop names.part c.requires.names.spells c.requires.names.ahead c.requires.names.least);
+    }
 
-pub returns-in-Err-clause-least : goal.returns-in-Err-clause-least
-returns-in-Err-clause-least c = no_memory_least 16 SpellsSema c.args.tokens.now c.args.from c.in-Err.halt c.in-Err.ensures.refused
+pub returns-in-Err-clause-reads : goal.returns-in-Err-clause-reads
+returns-in-Err-clause-reads c =
+    record {
+      spells = tt;
+      longest = tt;
+      ahead = tt;
+      refused = search rules;
+      least = no_memory_least 16 SpellsSema c.args.tokens.now c.args.from c.in-Err.halt c.in-Err.ensures.refused;
+    }
 
-pub returns-clause-least : goal.returns-clause-least
-returns-clause-least c =
-    let tokens = c.args.tokens.now in
-    let names = c.args.names in
-    let preset = c.in-Ok.preset in
-    let read = c.in-Ok.ensures in
-    goes SpellsSema tokens c.args.from preset.end c.max.result
-    (reaches_max SpellsSema tokens c.args.from preset.stop names.stop c.max.result c.max.ensures
-    (sema_preset tokens c.args.from names.part names.end preset.stop c.requires.spells (c.if-not-is_word.ensures.stands refl) (omega (arith, read.ahead)) (search rules) (omega (arith, read.ahead))
-    (reach_of (λ tokens. SpellsMaybeHeaded tokens w.PRESET (SpellsNumber tokens)) tokens presets_are_local (names.end + 1) preset.part.items preset.end preset.stop read.spells (omega (arith, read.ahead))
-    (omega (arith, read.ahead)) read.least))
-    (sema_names tokens c.args.from names.stop (names_read tokens c.args.from names.end names.stop names.part c.requires.spells c.requires.ahead c.requires.least)))
+pub returns-clause-reads : goal.returns-clause-reads
+returns-clause-reads c =
+    record {
+      spells = search rules;
+      longest = search rules;
+      ahead = search rules;
+      refused = tt;
+      least = let tokens = c.args.tokens.now in
+          let names = c.args.names in
+          let preset = c.in-Ok.preset in
+          let read = c.in-Ok.ensures in
+          goes SpellsSema tokens c.args.from preset.end c.max.result
+          (reaches_max SpellsSema tokens c.args.from preset.stop names.stop c.max.result c.max.ensures
+          (sema_preset tokens c.args.from names.part names.end preset.stop c.requires.names.spells (c.if-not-is_word.ensures.stands refl) (omega (arith, read.ahead)) (search rules) (omega (arith, read.ahead))
+          (reach_of (λ tokens. SpellsMaybeHeaded tokens w.PRESET (SpellsNumber tokens)) tokens presets_are_local (names.end + 1) preset.part.items preset.end preset.stop read.spells (omega (arith, read.ahead))
+          (omega (arith, read.ahead)) read.least))
+          (sema_names tokens c.args.from names.stop (names_read tokens c.args.from names.end names.stop names.part c.requires.names.spells c.requires.names.ahead c.requires.names.least)));
+    }

@@ -10,7 +10,7 @@ pub returns-in-Ok-clause-longest : goal.returns-in-Ok-clause-longest
 returns-in-Ok-clause-longest g c =
     let list = c.in-Ok.list in
     let near : c.args.from ≤ list.stop = omega (arith, c.in-Ok.ensures.ahead) in
-    maybe_is_longest g.P.Readable.spelling g.P.Readable.extends c.args.tokens.now c.args.from list.end list.stop c.in-Ok.ensures.ahead.0 near c.in-Ok.ensures.spells.1 c.in-Ok.ensures.longest
+    maybe_is_longest g.P.Readable.spelling g.P.Readable.extends c.args.tokens.now c.args.from list.end list.stop c.in-Ok.ensures.ahead.0 near c.in-Ok.ensures.spells.1 c.in-Ok.ensures.only
 
 pub returns-in-Refused-clause-longest : goal.returns-in-Refused-clause-longest
 returns-in-Refused-clause-longest g c =

@@ -11,7 +11,7 @@ returns-in-Ok-clause-longest g c =
     let list = c.in-Ok.list in
     let near : c.args.from ≤ list.stop = omega (arith, c.in-Ok.ensures.ahead) in
     let ahead : c.args.from < list.end = omega (arith, c.in-Ok.ensures.ahead) in
-    headed_is_longest g.P.Readable.spelling g.P.Readable.extends c.args.tokens.now c.args.from c.args.word list.end list.stop ahead near (sym c.if-not-is_word.ensures.value) c.in-Ok.ensures.longest
+    headed_is_longest g.P.Readable.spelling g.P.Readable.extends c.args.tokens.now c.args.from c.args.word list.end list.stop ahead near (sym c.if-not-is_word.ensures.value) c.in-Ok.ensures.only
 
 pub returns-in-Refused-clause-longest : goal.returns-in-Refused-clause-longest
 returns-in-Refused-clause-longest g c =

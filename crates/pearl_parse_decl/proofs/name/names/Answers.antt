@@ -8,27 +8,32 @@ use Rattle.pearl_parse_decl.proofs.TypeReach.{names_reach}
 use Rattle.pearl_parse_decl.proofs.Types.{only_several}
 use Rattle.pearl_parse_decl.proofs.name.names.Goals as goal
 
-pub returns-in-Ok-clause-longest : goal.returns-in-Ok-clause-longest
-returns-in-Ok-clause-longest c = λ others agree x to h.
-    let near : c.args.from ≤ c.in-Ok.list.stop = omega (arith, c.in-Ok.ensures.ahead) in
-    let read = only_several others c.args.from (ap is_name (sym (agree c.args.from near)) ∙ c.in-None.ensures.none refl) x to h in
-    c.in-Ok.ensures.longest others agree read.0 to read.1
+pub returns-in-Ok : goal.returns-in-Ok
+returns-in-Ok c =
+    record {
+      spells = search rules;
+      only = λ others agree x to h.
+          let near : c.args.from ≤ c.in-Ok.list.stop = omega (arith, c.in-Ok.ensures.ahead) in
+          let read = only_several others c.args.from (ap is_name (sym (agree c.args.from near)) ∙ c.in-None.ensures.none refl) x to h in
+          c.in-Ok.ensures.only others agree read.0 to read.1;
+      ahead = search rules;
+      refused = tt;
+      least = let list = c.in-Ok.list in
+          goes_as (λ tokens. SpellsBracketed tokens (SpellsName tokens)) SpellsNames c.args.tokens.now c.args.from c.args.from list.end list.stop
+          (λ r. names_reach c.args.tokens.now c.args.from list.stop (search rules) (omega (arith, c.in-Ok.ensures.ahead)) r) c.in-Ok.ensures.least;
+    }
 
-pub returns-in-Err-clause-refused : goal.returns-in-Err-clause-refused
-returns-in-Err-clause-refused c =
-    halted (λ tokens. SpellsBracketed tokens (SpellsName tokens)) SpellsNames c.args.tokens.now c.args.from c.args.from c.in-Err.halt (omega arith)
-    (λ others stop near agree x to h.
-    let read = only_several others c.args.from (ap is_name (sym (agree c.args.from near)) ∙ c.in-None.ensures.none refl) x to h in
-    (read.0, to, read.1))
-    c.in-Err.ensures.refused
-
-pub returns-in-Ok-clause-least : goal.returns-in-Ok-clause-least
-returns-in-Ok-clause-least c =
-    let list = c.in-Ok.list in
-    goes_as (λ tokens. SpellsBracketed tokens (SpellsName tokens)) SpellsNames c.args.tokens.now c.args.from c.args.from list.end list.stop
-    (λ r. names_reach c.args.tokens.now c.args.from list.stop (search rules) (omega (arith, c.in-Ok.ensures.ahead)) r) c.in-Ok.ensures.least
-
-pub returns-in-Err-clause-least : goal.returns-in-Err-clause-least
-returns-in-Err-clause-least c =
-    halts_as (λ tokens. SpellsBracketed tokens (SpellsName tokens)) SpellsNames c.args.tokens.now c.args.from c.args.from c.in-Err.halt
-    (λ stop near within r. names_reach c.args.tokens.now c.args.from stop (search rules) within r) c.in-Err.ensures.refused c.in-Err.ensures.least
+pub returns-in-Err : goal.returns-in-Err
+returns-in-Err c =
+    record {
+      spells = tt;
+      only = tt;
+      ahead = tt;
+      refused = halted (λ tokens. SpellsBracketed tokens (SpellsName tokens)) SpellsNames c.args.tokens.now c.args.from c.args.from c.in-Err.halt (omega arith)
+          (λ others stop near agree x to h.
+          let read = only_several others c.args.from (ap is_name (sym (agree c.args.from near)) ∙ c.in-None.ensures.none refl) x to h in
+          (read.0, to, read.1))
+          c.in-Err.ensures.refused;
+      least = halts_as (λ tokens. SpellsBracketed tokens (SpellsName tokens)) SpellsNames c.args.tokens.now c.args.from c.args.from c.in-Err.halt
+          (λ stop near within r. names_reach c.args.tokens.now c.args.from stop (search rules) within r) c.in-Err.ensures.refused c.in-Err.ensures.least;
+    }

@@ -11,10 +11,10 @@ returns-clause-contained c =
 
 pub returns-clause-reads : goal.returns-clause-reads
 returns-clause-reads c =
-    let read = c.device.ensures in
+    let read = c.device.ensures.reads in
     record {
       spells = read.spells;
-      only = read.longest;
+      only = read.only;
       ahead = read.ahead;
       refused = read.refused;
       least = least_wider 16 24 SpellsDevice c.args.tokens.now c.args.from (omega arith) c.device.result read.least;

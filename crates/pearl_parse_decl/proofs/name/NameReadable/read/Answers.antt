@@ -1,5 +1,9 @@
+use Rattle.pearl_parse_expr.proofs.Readings.{longest_read}
 use Rattle.pearl_parse_decl.proofs.LocalLists.{name_keeps}
 use Rattle.pearl_parse_decl.proofs.name.NameReadable.read.Goals as goal
+
+pub returns-clause-reads : goal.returns-clause-reads
+returns-clause-reads c = longest_read c.name.result c.name.ensures.reads
 
 pub returns-clause-contained : goal.returns-clause-contained
 returns-clause-contained c = name_keeps

@@ -1,5 +1,9 @@
+use Rattle.pearl_parse_expr.proofs.Readings.{longest_read}
 use Rattle.pearl_parse_decl.proofs.LocalLists.{number_keeps}
 use Rattle.pearl_parse_decl.proofs.name.NumberReadable.read.Goals as goal
+
+pub returns-clause-reads : goal.returns-clause-reads
+returns-clause-reads c = longest_read c.number.result c.number.ensures.reads
 
 pub returns-clause-contained : goal.returns-clause-contained
 returns-clause-contained c = number_keeps
