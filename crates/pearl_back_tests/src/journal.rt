@@ -6,16 +6,21 @@ use arrayvec::ArrayVec;
 use pearl_journal::lines::next_line;
 use pearl_journal::reading::{Line, Reading};
 use pearl_rules::entry::Entry;
-use pearl_rules::setup::{Setup, TaskEntry};
+use pearl_rules::setup::{Device, Direction, Setup, TaskEntry};
+use pearl_value::kind::Kind;
 use pearl_value::listing::Listing;
 use std::alloc::{AllocError, Global};
 use std::test::Fail;
 
 // What a line was read as.
 #[derive(Clone, Copy, PartialEq, Eq, Debug)]
-enum Told {
+pub enum Told {
     Blank,
+    Clock(u32),
     Run(u64),
+    Tick(u64),
+    Pass(u64, u64),
+    Irpt(u32),
     Turn(u32),
     State,
     Other,
@@ -25,7 +30,11 @@ enum Told {
 fn as_told(line: &Line) -> Told {
     match line {
         Line::Blank => Told::Blank,
+        Line::Item(Entry::Clock(time)) => Told::Clock(*time),
         Line::Item(Entry::Run(picks)) => Told::Run(*picks),
+        Line::Item(Entry::Tick(milliseconds)) => Told::Tick(*milliseconds),
+        Line::Item(Entry::Pass { times, picks }) => Told::Pass(*times, *picks),
+        Line::Item(Entry::Irpt(device)) => Told::Irpt(*device),
         Line::Item(Entry::Turn(task)) => Told::Turn(*task),
         Line::Item(Entry::State) => Told::State,
         Line::Item(_) => Told::Other,
@@ -43,9 +52,46 @@ fn task(name: &[u8]) -> TaskEntry {
     entry
 }
 
+fn interrupt(number: u8) -> Device {
+    Device::Interrupt { number }
+}
+
+fn terminal(number: u8, direction: Direction) -> Device {
+    Device::Terminal { number, direction }
+}
+
+fn input(number: u8, kind: Kind) -> Device {
+    Device::Input { number, kind }
+}
+
+// Interrupts 3 and 99; terminals, inputs and an output of other numbers.
+fn twelve_devices(alloc: Global) -> Result<Listing<Device>, AllocError>
+    ensures { IfOk result (λ devices. length devices ≡ 12) }
+{
+    let devices = vec![in alloc;
+        interrupt(3),
+        interrupt(99),
+        terminal(1, Direction::InOut),
+        terminal(2, Direction::Out),
+        terminal(3, Direction::In),
+        input(1, Kind::Fixed(15)),
+        input(2, Kind::Bits(9)),
+        input(3, Kind::Chars(5)),
+        input(4, Kind::Clock),
+        input(5, Kind::Span),
+        input(6, Kind::Fixed(63)),
+        Device::Output {
+            number: 7,
+            kind: Kind::Span,
+        },
+    ]?;
+    Ok(Listing::new(devices))
+}
+
 // Five tasks. Two have one name, as an object's may, one the longest name, and one that of a word in small letters.
-fn five_tasks(alloc: Global) -> Result<Setup, AllocError>
-    ensures { IfOk result (λ setup. length setup.tasks ≡ 5) }
+fn tables(alloc: Global) -> Result<Setup, AllocError>
+    ensures tasks { IfOk result (λ setup. length setup.tasks ≡ 5) }
+    ensures devices { IfOk result (λ setup. length setup.devices ≡ 12) }
 {
     let tasks = vec![in alloc;
         task(b"PUMP"),
@@ -58,14 +104,15 @@ fn five_tasks(alloc: Global) -> Result<Setup, AllocError>
         tasks: Listing::new(tasks),
         slots: Listing::new(Vec::new(alloc)),
         semaphores: Listing::new(Vec::new(alloc)),
-        devices: Listing::new(Vec::new(alloc)),
+        devices: twelve_devices(alloc)?,
         formats: Listing::new(Vec::new(alloc)),
     })
 }
 
 // What a line means by itself.
 fn alone(setup: &Setup, line: &[u8]) -> Told
-    requires { length setup.now.tasks < 2 ^ 32 }
+    requires tasks { length setup.now.tasks < 2 ^ 32 }
+    requires devices { length setup.now.devices < 2 ^ 32 }
 {
     as_told(&Reading::new().read(setup, line))
 }
@@ -156,13 +203,78 @@ fn states() -> [(&'static [u8], Told); 8] {
     ]
 }
 
-// Forms that aren't read yet.
-fn later() -> [(&'static [u8], Told); 7] {
+fn clocks() -> [(&'static [u8], Told); 10] {
     [
-        (b"clock 1:00:00", Told::Wrong(1)),
-        (b"tick 5", Told::Wrong(1)),
-        (b"pass 1 1", Told::Wrong(1)),
-        (b"irpt 1", Told::Wrong(1)),
+        (b"clock 0:0:0", Told::Clock(0)),
+        (b" clock\t23:59:59.999 \r", Told::Clock(86_399_999)),
+        (b"clock 001:2:003.5", Told::Clock(3_723_500)),
+        (b"clock", Told::Wrong(1)),
+        (b"clock 1:00", Told::Wrong(1)),
+        (b"clock 24:0:0", Told::Wrong(1)),
+        (b"clock 0:0:60", Told::Wrong(1)),
+        (b"clock 1:0:0.1234", Told::Wrong(1)),
+        (b"clock 1:0: 0", Told::Wrong(1)),
+        (b"clock 1:0:0 1:0:0", Told::Wrong(1)),
+    ]
+}
+
+fn ticks() -> [(&'static [u8], Told); 10] {
+    [
+        (b"tick 0", Told::Tick(0)),
+        (b"\ttick \t5 \r", Told::Tick(5)),
+        (b"tick 1099511627776", Told::Tick(1_099_511_627_776)),
+        (b"tick 1099511627777", Told::Wrong(3)),
+        (b"tick 9223372036854775807", Told::Wrong(3)),
+        (b"tick 9223372036854775808", Told::Wrong(1)),
+        (b"tick", Told::Wrong(1)),
+        (b"tick x", Told::Wrong(1)),
+        (b"tick 1 2", Told::Wrong(1)),
+        (b"ticks 1", Told::Wrong(1)),
+    ]
+}
+
+// That it isn't in the grammar is told before that it would lead too far.
+fn passes() -> [(&'static [u8], Told); 12] {
+    [
+        (b"pass 5 3", Told::Pass(5, 3)),
+        (b"pass\t 0 \t07\t", Told::Pass(0, 7)),
+        (
+            b"pass 1099511627776 9223372036854775807",
+            Told::Pass(1_099_511_627_776, 9_223_372_036_854_775_807),
+        ),
+        (b"pass 1099511627777 0", Told::Wrong(3)),
+        (b"pass 9223372036854775807 1", Told::Wrong(3)),
+        (b"pass 1099511627777 x", Told::Wrong(1)),
+        (b"pass 9223372036854775808 1", Told::Wrong(1)),
+        (b"pass 1 9223372036854775808", Told::Wrong(1)),
+        (b"pass", Told::Wrong(1)),
+        (b"pass 1", Told::Wrong(1)),
+        (b"pass x 1", Told::Wrong(1)),
+        (b"pass 1 2 3", Told::Wrong(1)),
+    ]
+}
+
+fn irpts() -> [(&'static [u8], Told); 12] {
+    [
+        (b"irpt 3", Told::Irpt(0)),
+        (b"irpt 003", Told::Irpt(0)),
+        (b"irpt 99", Told::Irpt(1)),
+        // Numbers that no interrupt has, also where another device has them.
+        (b"irpt 0", Told::Wrong(2)),
+        (b"irpt 1", Told::Wrong(2)),
+        (b"irpt 100", Told::Wrong(2)),
+        (b"irpt 259", Told::Wrong(2)),
+        (b"irpt 9223372036854775807", Told::Wrong(2)),
+        (b"irpt 9223372036854775808", Told::Wrong(1)),
+        (b"irpt", Told::Wrong(1)),
+        (b"irpt -3", Told::Wrong(1)),
+        (b"irpt 3 3", Told::Wrong(1)),
+    ]
+}
+
+// Forms that aren't read yet.
+fn later() -> [(&'static [u8], Told); 3] {
+    [
         (b"chars 1 'x'", Told::Wrong(1)),
         (b"line 1 ''", Told::Wrong(1)),
         (b"value 1 2", Told::Wrong(1)),
@@ -171,7 +283,7 @@ fn later() -> [(&'static [u8], Told); 7] {
 
 #[test]
 fn one_line_each(rt: HostRuntime) -> Result<(), Fail> {
-    let setup = five_tasks(rt.alloc())?;
+    let setup = tables(rt.alloc())?;
     for (line, want) in skipped() {
         assert_eq!(rt; alone(&setup, line), want);
     }
@@ -185,6 +297,24 @@ fn one_line_each(rt: HostRuntime) -> Result<(), Fail> {
         assert_eq!(rt; alone(&setup, line), want);
     }
     for (line, want) in states() {
+        assert_eq!(rt; alone(&setup, line), want);
+    }
+    Ok(())
+}
+
+#[test]
+fn lines_of_time_and_interrupts(rt: HostRuntime) -> Result<(), Fail> {
+    let setup = tables(rt.alloc())?;
+    for (line, want) in clocks() {
+        assert_eq!(rt; alone(&setup, line), want);
+    }
+    for (line, want) in ticks() {
+        assert_eq!(rt; alone(&setup, line), want);
+    }
+    for (line, want) in passes() {
+        assert_eq!(rt; alone(&setup, line), want);
+    }
+    for (line, want) in irpts() {
         assert_eq!(rt; alone(&setup, line), want);
     }
     for (line, want) in later() {
@@ -231,7 +361,7 @@ fn long_lines() -> [(&'static [u8], u8, usize, &'static [u8], Told); 12] {
 #[test]
 fn the_longest_line_and_name(rt: HostRuntime) -> Result<(), Fail> {
     let alloc = rt.alloc();
-    let setup = five_tasks(alloc)?;
+    let setup = tables(alloc)?;
     for (front, byte, count, end, want) in long_lines() {
         let line = padded(alloc, front, byte, count, end)?;
         assert_eq!(rt; alone(&setup, line.as_slice()), want);
@@ -241,7 +371,8 @@ fn the_longest_line_and_name(rt: HostRuntime) -> Result<(), Fail> {
 
 // What the next line means. The journals here have fewer than 100 lines.
 fn next_told(reading: &mut Reading, setup: &Setup, line: &[u8]) -> Told
-    requires { length setup.now.tasks < 2 ^ 32 }
+    requires tasks { length setup.now.tasks < 2 ^ 32 }
+    requires devices { length setup.now.devices < 2 ^ 32 }
 {
     if reading.lines() < 100 {
         as_told(&reading.read(setup, line))
@@ -252,7 +383,8 @@ fn next_told(reading: &mut Reading, setup: &Setup, line: &[u8]) -> Told
 
 // What the lines of a journal mean, one after another, up to the first that is refused, and how many were read.
 fn whole(alloc: Global, setup: &Setup, journal: &[u8]) -> Result<(Vec<Told>, u64), AllocError>
-    requires { length setup.now.tasks < 2 ^ 32 }
+    requires tasks { length setup.now.tasks < 2 ^ 32 }
+    requires devices { length setup.now.devices < 2 ^ 32 }
 {
     let mut reading = Reading::new();
     let mut means = Vec::new(alloc);
@@ -273,7 +405,7 @@ fn whole(alloc: Global, setup: &Setup, journal: &[u8]) -> Result<(Vec<Told>, u64
     Ok((means, reading.lines()))
 }
 
-fn journals() -> [(&'static [u8], &'static [Told], u64); 7] {
+fn journals() -> [(&'static [u8], &'static [Told], u64); 8] {
     [
         (b"", &[Told::Blank], 1),
         (b"\n", &[Told::Blank, Told::Blank], 2),
@@ -300,14 +432,74 @@ fn journals() -> [(&'static [u8], &'static [Told], u64); 7] {
             &[Told::State, Told::Blank, Told::Wrong(1)],
             3,
         ),
+        (
+            b"run 1\r\n# x\n\nrun x",
+            &[Told::Run(1), Told::Blank, Told::Blank, Told::Wrong(1)],
+            4,
+        ),
+    ]
+}
+
+// The clock is set by the first entry alone, and no entry leads past the last moment.
+fn journals_of_time() -> [(&'static [u8], &'static [Told], u64); 6] {
+    [
+        (
+            b"# x\n\n \nclock 1:0:0\nrun 1",
+            &[
+                Told::Blank,
+                Told::Blank,
+                Told::Blank,
+                Told::Clock(3_600_000),
+                Told::Run(1),
+            ],
+            5,
+        ),
+        (
+            b"clock 1:0:0\nclock 1:0:0\n",
+            &[Told::Clock(3_600_000), Told::Wrong(1)],
+            2,
+        ),
+        (b"run 0\nclock 1:0:0\n", &[Told::Run(0), Told::Wrong(1)], 2),
+        (
+            b"clock 1:0:0\nrun 1\nclock x",
+            &[Told::Clock(3_600_000), Told::Run(1), Told::Wrong(1)],
+            3,
+        ),
+        (
+            b"tick 1099511627775\npass 1 5\ntick 0\npass 0 1\nrun 1\nstate\ntick 1",
+            &[
+                Told::Tick(1_099_511_627_775),
+                Told::Pass(1, 5),
+                Told::Tick(0),
+                Told::Pass(0, 1),
+                Told::Run(1),
+                Told::State,
+                Told::Wrong(3),
+            ],
+            7,
+        ),
+        (
+            b"pass 1099511627000 0\ntick 700\npass 77 1",
+            &[
+                Told::Pass(1_099_511_627_000, 0),
+                Told::Tick(700),
+                Told::Wrong(3),
+            ],
+            3,
+        ),
     ]
 }
 
 #[test]
 fn whole_journals(rt: HostRuntime) -> Result<(), Fail> {
     let alloc = rt.alloc();
-    let setup = five_tasks(alloc)?;
+    let setup = tables(alloc)?;
     for (journal, want, count) in journals() {
+        let (means, lines) = whole(alloc, &setup, journal)?;
+        assert_eq!(rt; means.as_slice(), want);
+        assert_eq!(rt; lines, count);
+    }
+    for (journal, want, count) in journals_of_time() {
         let (means, lines) = whole(alloc, &setup, journal)?;
         assert_eq!(rt; means.as_slice(), want);
         assert_eq!(rt; lines, count);

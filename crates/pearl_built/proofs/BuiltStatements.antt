@@ -1,14 +1,13 @@
 -- What statements with no unbuilt form become is built.
 use Rattle.std.proofs.Common.{◌≡◌, ℕ, ◌+◌, Bool, true, false, List, [], ◌∷◌, Option, Some, None, option_map, sym}
 use Rattle.std.proofs.lemmas.Option.{none-some}
-use Rattle.std.specs.Prelude.{if◌then◌else◌, IfSome}
 use Rattle.std.specs.Option.{option_or}
 use Rattle.pearl_tree.specs.declared.name.Name.{Name}
 use Rattle.pearl_tree.specs.declared.statement.TaskWord.TheVariants.{Suspend, Terminate, Prevent}
 use Rattle.pearl_tree.specs.declared.statement.SemaWord.TheVariants.{Request, Release}
+use Rattle.pearl_tree.specs.declared.statement.InterruptWord.TheVariants.{Enable, Disable, Trigger}
 use Rattle.pearl_tree.specs.Names.{names_of}
 use Rattle.pearl_tree.specs.ShownLiterals.{ShownConst}
-use Rattle.pearl_tree.specs.ShownExpressions.{ShownExpr}
 use Rattle.pearl_tree.specs.ShownDeclarations.{ShownItem}
 use Rattle.pearl_tree.specs.ShownStatements as shown
 use Rattle.pearl_tree.specs.ShownStatements.{ShownBodyDecl, ShownStmt, ShownStmts, ShownBranches, ShownOtherwise}
@@ -20,17 +19,9 @@ use Rattle.pearl_resolve.specs.Laying.{leaves_of_sense, left_behind, filled_leav
 use Rattle.pearl_resolve.specs.Numbers.{At, counts, loop_cells, entered, after, after_all, after_branches}
 use Rattle.pearl_resolve.specs.Expressions.{Numbered, Meant, meant, params_of}
 use Rattle.pearl_resolve.specs.Statements.{listed, or_no_params, counter_in, renewals, joined, variable_renewals, slots_of_meant, names_renewals, items_renewals, declared_renewals, value_in, resolve_stmt, resolve_all, resolve_branches, resolve_otherwise}
-use Rattle.pearl_unbuilt.specs.Walk.{in_first, in_expr, in_exprs, in_value, in_ref, in_stmt, in_stmts, in_branches, in_otherwise}
-use Rattle.pearl_built.specs.Built.{IsBuiltCounter, AreBuiltStmts, AreBuiltBranches}
+use Rattle.pearl_unbuilt.specs.Walk.{in_first, in_stmt, in_stmts, in_branches, in_otherwise}
+use Rattle.pearl_built.specs.Built.{AreBuiltStmts, AreBuiltBranches}
 use Rattle.pearl_built.proofs.BuiltParts.{neither, none_of}
-use Rattle.pearl_built.proofs.BuiltExpressions.{expr_built, exprs_built, arguments_built, value_built, variable_built}
-
--- expressions of a statement, as those within an expression
-listed_none : (exprs : List ShownExpr) → in_first in_expr exprs ≡ None → in_exprs (listed exprs) ≡ None
-listed_none [] none = none
-listed_none (e ∷ rest) none =
-    let nones = neither (in_expr e) (in_first in_expr rest) none in
-    none_of (in_expr e) (in_exprs (listed rest)) nones.0 (listed_none rest nones.1)
 
 -- statements of a body, as those within a statement
 pub body_none : (statements : List ShownStmt) → in_first in_stmt statements ≡ None →
@@ -77,71 +68,34 @@ module _ (numbered : Numbered) where
       joined_built (items_renewals numbered scope declaration.items) (declared_renewals numbered scope rest)
       (items_built scope declaration.items) (declared_built scope rest)
 
-  counter_built : (scope : ℕ) (at : At) (control : Option Name) (begin step end : Option ShownExpr) →
-      in_value begin ≡ None → in_value step ≡ None → in_value end ≡ None →
-      IfSome (counter_in numbered scope at control begin step end) IsBuiltCounter
-  counter_built scope at control begin step end no_begin no_step no_end = by (counts control begin step end)
-    where
-      by : (counting : Bool) → IfSome (if counting then Some (record {
-        cell = at.cell;
-        begin = option_map (value_in numbered scope) begin;
-        step = option_map (value_in numbered scope) step;
-        end = option_map (value_in numbered scope) end;
-      }) else None) IsBuiltCounter
-      by true = record {
-        begin = value_built numbered (Within scope) begin no_begin;
-        step = value_built numbered (Within scope) step no_step;
-        end = value_built numbered (Within scope) end no_end;
-      }
-      by false = tt
-
   mutual
     stmt_built : (scope : ℕ) (at : At) (statement : ShownStmt) → in_stmt statement ≡ None →
         AreBuiltStmts (resolve_stmt numbered scope at statement)
     stmt_built scope at (shown.OfEmpty place) none = tt
-    stmt_built scope at (shown.OfAssign target value place) none =
-        let nones = neither (in_ref target) (in_expr value) none in
-        ((variable_built numbered (Within scope) target nones.0, expr_built numbered (Within scope) value nones.1), tt)
-    stmt_built scope at (shown.OfCall call name arguments place) none = (
-      arguments_built numbered (Within scope) (or_no_params (params_of (meant numbered (Within scope) name)))
-          (listed arguments) (listed_none arguments none),
-      tt,
-    )
+    stmt_built scope at (shown.OfAssign target value place) none = (tt, tt)
+    stmt_built scope at (shown.OfCall call name arguments place) none = (tt, tt)
     stmt_built scope at (shown.OfIf condition statements otherwise place) none =
-        let nones = neither (in_expr condition) (option_or (in_stmts statements) (in_otherwise otherwise)) none in
-        let more = neither (in_stmts statements) (in_otherwise otherwise) nones.1 in (
+        let nones = neither (in_stmts statements) (in_otherwise otherwise) none in (
           (
-            expr_built numbered (Within scope) condition nones.0,
-            all_built scope at statements more.0,
-            otherwise_built scope (after_all numbered.table at statements) otherwise more.1,
+            all_built scope at statements nones.0,
+            otherwise_built scope (after_all numbered.table at statements) otherwise nones.1,
           ),
           tt,
         )
     stmt_built scope at (shown.OfCase selector alternatives otherwise place) none =
-        let nones = neither (in_expr selector) (option_or (in_branches alternatives) (in_otherwise otherwise)) none in
-        let more = neither (in_branches alternatives) (in_otherwise otherwise) nones.1 in (
+        let nones = neither (in_branches alternatives) (in_otherwise otherwise) none in (
           (
-            expr_built numbered (Within scope) selector nones.0,
-            branches_built scope at alternatives more.0,
-            otherwise_built scope (after_branches numbered.table at alternatives) otherwise more.1,
+            branches_built scope at alternatives nones.0,
+            otherwise_built scope (after_branches numbered.table at alternatives) otherwise nones.1,
           ),
           tt,
         )
     stmt_built scope at (shown.OfRepeat control begin step end condition declarations statements body_place place)
         none =
-        let inner = option_or (in_value condition) (in_stmts statements) in
-        let one = neither (in_value begin) (option_or (in_value step) (option_or (in_value end) inner)) none in
-        let two = neither (in_value step) (option_or (in_value end) inner) one.1 in
-        let three = neither (in_value end) inner two.1 in
-        let four = neither (in_value condition) (in_stmts statements) three.1 in
         let within = entered numbered.table (loop_cells control begin step end) at in (
-          (
-            counter_built scope at control begin step end one.0 two.0 three.0,
-            value_built numbered (WhileOf at.next) condition four.0,
-            joined_built (declared_renewals numbered at.next declarations)
-                (resolve_all numbered at.next within statements)
-                (declared_built at.next declarations) (all_built at.next within statements four.1),
-          ),
+          joined_built (declared_renewals numbered at.next declarations)
+              (resolve_all numbered at.next within statements)
+              (declared_built at.next declarations) (all_built at.next within statements none),
           tt,
         )
     stmt_built scope at (shown.OfExit place) none = (tt, tt)
@@ -149,21 +103,19 @@ module _ (numbered : Numbered) where
         let within = entered numbered.table 0 at in
         joined_built (declared_renewals numbered at.next declarations) (resolve_all numbered at.next within statements)
         (declared_built at.next declarations) (all_built at.next within statements none)
-    stmt_built scope at (shown.OfReturn value place) none = (value_built numbered (Within scope) value none, tt)
-    stmt_built scope at (shown.OfActivate None task priority place) none =
-        (value_built numbered (Within scope) priority none, tt)
-    stmt_built scope at (shown.OfActivate (Some start) task priority place) none = absurd (none-some place (sym none))
-    stmt_built scope at (shown.OfContinue None task place) none = (tt, tt)
-    stmt_built scope at (shown.OfContinue (Some once) task place) none = absurd (none-some place (sym none))
-    stmt_built scope at (shown.OfResume once place) none = absurd (none-some place (sym none))
+    stmt_built scope at (shown.OfReturn value place) none = (tt, tt)
+    stmt_built scope at (shown.OfActivate start task priority place) none = (tt, tt)
+    stmt_built scope at (shown.OfContinue once task place) none = (tt, tt)
+    stmt_built scope at (shown.OfResume once place) none = (tt, tt)
     stmt_built scope at (shown.OfOnTask Suspend task place) none = (tt, tt)
     stmt_built scope at (shown.OfOnTask Terminate task place) none = (tt, tt)
-    stmt_built scope at (shown.OfOnTask Prevent task place) none = absurd (none-some place (sym none))
+    stmt_built scope at (shown.OfOnTask Prevent task place) none = (tt, tt)
     stmt_built scope at (shown.OfOnSemas Request names place) none = (tt, tt)
     stmt_built scope at (shown.OfOnSemas Release names place) none = (tt, tt)
-    stmt_built scope at (shown.OfOnInterrupt word name place) none = absurd (none-some place (sym none))
-    stmt_built scope at (shown.OfPut values dation formats place) none =
-        (exprs_built numbered (Within scope) (listed values) (listed_none values none), tt)
+    stmt_built scope at (shown.OfOnInterrupt Enable name place) none = (tt, tt)
+    stmt_built scope at (shown.OfOnInterrupt Disable name place) none = (tt, tt)
+    stmt_built scope at (shown.OfOnInterrupt Trigger name place) none = (tt, tt)
+    stmt_built scope at (shown.OfPut values dation formats place) none = (tt, tt)
     stmt_built scope at (shown.OfGet targets dation formats place) none = absurd (none-some place (sym none))
     stmt_built scope at (shown.OfSend value dation place) none = absurd (none-some place (sym none))
     stmt_built scope at (shown.OfTake target dation place) none = absurd (none-some place (sym none))

@@ -13,7 +13,6 @@ use Rattle.pearl_instructions.specs.declared.instr.Instr.{Instr}
 use Rattle.pearl_instructions.specs.declared.instr.Instr.TheVariants as instr
 use Rattle.pearl_meaning.specs.Setting.{params_of}
 use Rattle.pearl_gen_expr.specs.ExprCode.{reading, writing, writing_to, slot_reference, cell_reference, Ends, IsConst, OffsetOf, WayOf, ReadOf, ReferenceOf, ExprAt, AllAt, ArgumentsAt, ArgumentAt, WayAt, CallAt}
-use Rattle.pearl_built.specs.Built.{IsBuiltExpr, IsBuiltVariable, AreBuiltExprs, IsBuiltArgument, AreBuiltArguments}
 use Rattle.pearl_engine.specs.Built.{is_built}
 use Rattle.pearl_built.proofs.Stretches.{BuiltIn, nothing, both, alone, behind}
 
@@ -77,62 +76,57 @@ module _ (code : List Instr) where
 
 module _ (p : PlainProg) (code : List Instr) where
   mutual
-    pub expr_built : (from : ℕ) (e : PlainExpr) (to : ℕ) → ExprAt p code from e to → IsBuiltExpr e →
-        BuiltIn code from to
-    expr_built from (OfLiteral value) to at built = const_built code from value to at.0 at.1
-    expr_built from (OfRead (OfVariable target bounds subscripts)) to at built =
+    pub expr_built : (from : ℕ) (e : PlainExpr) (to : ℕ) → ExprAt p code from e to → BuiltIn code from to
+    expr_built from (OfLiteral value) to at = const_built code from value to at.0 at.1
+    expr_built from (OfRead (OfVariable target bounds subscripts)) to at =
         read_built code from (λ end. AllAt p code from subscripts end)
-        (λ end all. all_built from subscripts end all built)
+        (λ end all. all_built from subscripts end all)
         target bounds to at
-    expr_built from (OfMonadic op operand) to at built =
-        behind code from at.0 (instr.Monadic op) to (expr_built from operand at.0 at.1 built) at.2 at.3 refl
-    expr_built from (OfDyadic op left right) to at built =
+    expr_built from (OfMonadic op operand) to at =
+        behind code from at.0 (instr.Monadic op) to (expr_built from operand at.0 at.1) at.2 at.3 refl
+    expr_built from (OfDyadic op left right) to at =
         behind code from at.1 (instr.Dyadic op) to
-        (both code from at.0 at.1 (expr_built from left at.0 at.2 built.0) (expr_built at.0 right at.1 at.3 built.1))
+        (both code from at.0 at.1 (expr_built from left at.0 at.2) (expr_built at.0 right at.1 at.3))
         at.4 at.5 refl
-    expr_built from (OfCall procedure arguments) to at built =
+    expr_built from (OfCall procedure arguments) to at =
         behind code from at.2 (instr.Call procedure) to
-        (arguments_built from (params_of at.0) arguments at.2 at.3 built)
+        (arguments_built from (params_of at.0) arguments at.2 at.3)
         at.4 at.5 refl
-    expr_built from OfNow to at built = absurd built
-    expr_built from (OfTry semaphore) to at built = alone code from (instr.Try semaphore) to at.0 at.1 refl
+    expr_built from OfNow to at = alone code from instr.Now to at.0 at.1 refl
+    expr_built from (OfTry semaphore) to at = alone code from (instr.Try semaphore) to at.0 at.1 refl
 
-    pub all_built : (from : ℕ) (es : PlainExprs) (to : ℕ) → AllAt p code from es to → AreBuiltExprs es →
-        BuiltIn code from to
-    all_built from NoExprs to at built = nothing code from to at
-    all_built from (MoreExprs e rest) to at built =
-        both code from at.0 to (expr_built from e at.0 at.1 built.0) (all_built at.0 rest to at.2 built.1)
+    pub all_built : (from : ℕ) (es : PlainExprs) (to : ℕ) → AllAt p code from es to → BuiltIn code from to
+    all_built from NoExprs to at = nothing code from to at
+    all_built from (MoreExprs e rest) to at =
+        both code from at.0 to (expr_built from e at.0 at.1) (all_built at.0 rest to at.2)
 
     arguments_built : (from : ℕ) (params : List CellKind) (arguments : PlainArguments) (to : ℕ) →
-        ArgumentsAt p code from params arguments to → AreBuiltArguments arguments → BuiltIn code from to
-    arguments_built from [] NoArguments to at built = nothing code from to at
-    arguments_built from [] (MoreArguments argument rest) to at built = absurd at
-    arguments_built from (param ∷ params) NoArguments to at built = absurd at
-    arguments_built from (param ∷ params) (MoreArguments argument rest) to at built =
-        both code from at.0 to (argument_built from param argument at.0 at.1 built.0)
-        (arguments_built at.0 params rest to at.2 built.1)
+        ArgumentsAt p code from params arguments to → BuiltIn code from to
+    arguments_built from [] NoArguments to at = nothing code from to at
+    arguments_built from [] (MoreArguments argument rest) to at = absurd at
+    arguments_built from (param ∷ params) NoArguments to at = absurd at
+    arguments_built from (param ∷ params) (MoreArguments argument rest) to at =
+        both code from at.0 to (argument_built from param argument at.0 at.1)
+        (arguments_built at.0 params rest to at.2)
 
     argument_built : (from : ℕ) (param : CellKind) (argument : PlainArgument) (to : ℕ) →
-        ArgumentAt p code from param argument to → IsBuiltArgument argument → BuiltIn code from to
-    argument_built from (Plain kind) (OfValue e) to at built =
-        behind code from at.0 (instr.Conv kind) to (expr_built from e at.0 at.1 built) at.2 at.3 refl
-    argument_built from (Plain kind) (OfIdent variable) to at built = absurd at
-    argument_built from (RefTo kind) (OfValue e) to at built = absurd at
-    argument_built from (RefTo kind) (OfIdent (OfVariable target bounds subscripts)) to at built =
+        ArgumentAt p code from param argument to → BuiltIn code from to
+    argument_built from (Plain kind) (OfValue e) to at =
+        behind code from at.0 (instr.Conv kind) to (expr_built from e at.0 at.1) at.2 at.3 refl
+    argument_built from (Plain kind) (OfIdent variable) to at = absurd at
+    argument_built from (RefTo kind) (OfValue e) to at = absurd at
+    argument_built from (RefTo kind) (OfIdent (OfVariable target bounds subscripts)) to at =
         reference_built code from (λ end. AllAt p code from subscripts end)
-        (λ end all. all_built from subscripts end all built)
+        (λ end all. all_built from subscripts end all)
         target bounds to at
 
-  pub variable_built : (from : ℕ) (variable : PlainVariable) (to : ℕ) → WayAt p code from variable to →
-      IsBuiltVariable variable →
-      BuiltIn code from to
-  variable_built from (OfVariable target bounds subscripts) to at built =
-      way_built code from (λ end. AllAt p code from subscripts end) (λ end all. all_built from subscripts end all built)
+  pub variable_built : (from : ℕ) (variable : PlainVariable) (to : ℕ) → WayAt p code from variable to → BuiltIn code from to
+  variable_built from (OfVariable target bounds subscripts) to at =
+      way_built code from (λ end. AllAt p code from subscripts end) (λ end all. all_built from subscripts end all)
       target bounds to at
 
   pub call_built : (from procedure : ℕ) (arguments : PlainArguments) (to : ℕ) →
-      CallAt p code from procedure arguments to →
-      AreBuiltArguments arguments → BuiltIn code from to
-  call_built from procedure arguments to at built =
-      behind code from at.2 (instr.Call procedure) to (arguments_built from (params_of at.0) arguments at.2 at.3 built)
+      CallAt p code from procedure arguments to → BuiltIn code from to
+  call_built from procedure arguments to at =
+      behind code from at.2 (instr.Call procedure) to (arguments_built from (params_of at.0) arguments at.2 at.3)
       at.4 at.5 refl

@@ -1,5 +1,4 @@
 pub mod BuiltParts
-pub mod BuiltExpressions
 pub mod BuiltStatements
 pub mod BuiltModules
 pub mod Stretches

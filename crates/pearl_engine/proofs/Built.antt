@@ -1,24 +1,26 @@
 -- A built instruction offers a built action, or none.
 use Rattle.std.proofs.Common.{◌≡◌, ℕ, zero, suc, ◌+◌, ℤ, pos, negsuc, ◌+ℤ◌, Bool, true, false, List, [], ◌∷◌, Option, Some, None, slice_get, refl, sym, subst}
-use Rattle.std.specs.Prelude.{◌==◌, if◌then◌else◌, ◌&&◌, int_le, nat_lt, nat_le, length, Result, Ok, Err, option_and_then}
+use Rattle.std.specs.Prelude.{◌==◌, if◌then◌else◌, ◌&&◌, int_le, unsigned_abs, nat_lt, nat_le, length, Result, Ok, Err, option_and_then}
 use Rattle.std.specs.List.{AllByRecursion}
 use Rattle.std.specs.Ordering.{int_eq}
 use Rattle.std.proofs.lemmas.Option.{same_Some}
 use Rattle.pearl_value.specs.declared.cell.Cell.{Cell}
-use Rattle.pearl_value.specs.declared.cell.Cell.TheVariants.{Fixed, Bits, Ref}
+use Rattle.pearl_value.specs.declared.cell.Cell.TheVariants.{Fixed, Bits, Clock, Span, Ref}
 use Rattle.pearl_value.specs.declared.cell.Place.TheVariants as place
 use Rattle.pearl_value.specs.declared.kind.Kind.{Kind}
 use Rattle.pearl_value.specs.declared.trap.Trap.{Trap}
-use Rattle.pearl_value.specs.declared.trap.Trap.TheVariants.{Index as IndexTrap}
+use Rattle.pearl_value.specs.declared.trap.Trap.TheVariants.{Index as IndexTrap, Range}
 use Rattle.pearl_value.specs.Conversions.{fits_fixed}
 use Rattle.pearl_stack.specs.Frames.{Frame, cell_at, with_cell}
 use Rattle.pearl_instructions.specs.declared.instr.Instr.{Instr}
-use Rattle.pearl_instructions.specs.declared.instr.Instr.TheVariants.{Const, Load, Store, Fill, Drop, Conv, Index, LoadAt, StoreAt, Read, Write, ReadAt, WriteAt, RefSlot, RefSlotAt, RefCell, RefCellAt, ReadRef, WriteRef, Jump, JumpZero, Case, Turn, Call, Return, End, Trap as TrapOf, Within, Advance, NonZero, Monadic, Dyadic, Request, Release, Try, Activate, Continue, Suspend, Terminate, SuspendOwn, TerminateOwn, Put}
+use Rattle.pearl_instructions.specs.declared.instr.Instr.TheVariants.{Const, Load, Store, Fill, Drop, Conv, Index, LoadAt, StoreAt, Read, Write, ReadAt, WriteAt, RefSlot, RefSlotAt, RefCell, RefCellAt, ReadRef, WriteRef, Jump, JumpZero, Case, Turn, Call, Return, End, Trap as TrapOf, Within, Advance, NonZero, Monadic, Dyadic, Now, Request, Release, Try, Activate, Continue, Resume, Suspend, Terminate, Prevent, SuspendOwn, TerminateOwn, PreventOwn, Enable, Disable, Trigger, Put}
 use Rattle.pearl_instructions.specs.declared.object.Code.{Code}
 use Rattle.pearl_instructions.specs.declared.object.Object.{Object}
 use Rattle.pearl_instructions.specs.Objects.{routines, result_of, items_at}
 use Rattle.pearl_rules.specs.declared.action.Action.TheVariants as action
+use Rattle.pearl_rules.specs.declared.action.Start.{Start}
 use Rattle.pearl_rules.specs.declared.action.Start.TheVariants as start
+use Rattle.pearl_rules.specs.declared.action.Repeat.{Repeat}
 use Rattle.pearl_rules.specs.declared.action.Repeat.TheVariants as repeat
 use Rattle.pearl_instructions.specs.Steps.{value_kind, Step, Silent, Offers, Missing, given, needed, popped, taken, next, leaves, traps, acts, makes, within}
 use Rattle.pearl_value.specs.Rows.{row1, row2}
@@ -27,14 +29,16 @@ use Rattle.pearl_format.specs.Texts.{text_of}
 use Rattle.pearl_instructions.specs.Operators.{suits_kind, numbers_of, number_of, offset_of, index_of}
 use Rattle.pearl_instructions.specs.Cells.{read_reference, write_reference}
 use Rattle.pearl_instructions.specs.Flow.{jump_zero, goes_or_on, target_of, branch, loop_cells, returned, returns}
+use Rattle.pearl_instructions.specs.declared.instr.Activation.{Activation}
+use Rattle.pearl_instructions.specs.declared.instr.Continuation.{Continuation}
 use Rattle.pearl_instructions.specs.declared.schedule.OnceForm.{OnceForm}
 use Rattle.pearl_instructions.specs.declared.schedule.StartForm.{StartForm}
 use Rattle.pearl_instructions.specs.declared.schedule.StartForm.TheVariants as form
 use Rattle.pearl_instructions.specs.declared.schedule.RepeatForm.{RepeatForm}
 use Rattle.pearl_instructions.specs.declared.schedule.RepeatForm.TheVariants as again
-use Rattle.pearl_instructions.specs.Offers.{put_text, value_kinds, items_suit, started, repeated, with_priority, start_or_free, start_kinds, repeat_kinds, activation_count}
+use Rattle.pearl_instructions.specs.Offers.{put_text, value_kinds, items_suit, lasting, started, repeated, with_priority, as_start, start_or_free, start_kinds, activation_count, activate, continue, resume}
 use Rattle.pearl_instructions.specs.Rows.{act, instr_at, row}
-use Rattle.pearl_engine.specs.Built.{IsBuilt, is_free, is_once, is_now, is_built, HasOnlyBuilt}
+use Rattle.pearl_engine.specs.Built.{IsBuilt, is_built, HasOnlyBuilt}
 use Rattle.pearl_engine.specs.Laws.{OffersBuilt}
 
 abbrev Builds : Step → Type 0
@@ -126,24 +130,50 @@ on_put : (device : ℕ) (text : Option (List ℕ)) (f : Frame) (lower : List Fra
 on_put device None f lower left = (record { on = tt })
 on_put device (Some text) f lower left = (record { on = tt })
 
-on_urgent : (task : ℕ) (is_given : Bool) (values left : List Cell) (f : Frame) (lower : List Frame) →
-    On (with_priority is_given values f lower (λ priority. acts (action.Activate task start.Free repeat.Once priority) f lower left))
-on_urgent task false values left f lower = (record { on = tt })
-on_urgent task true (Fixed len value ∷ values) left f lower = on_if (int_le (pos 1) value && int_le value (pos 255)) _ _ (record { on = tt }) (record { on = tt })
-on_urgent task true values left f lower = (record { on = tt })
+on_lasting : (least time : ℤ) (f : Frame) (lower : List Frame) (go : Step) → On go → On (lasting least time f lower go)
+on_lasting least time f lower go h = on_if (int_le least time) go (traps Range f lower) h (record { on = tt })
 
-on_start : (task : ℕ) (when : StartForm) (how : RepeatForm) (is_given : Bool) (values left : List Cell) (f : Frame) (lower : List Frame) →
-    (is_free when && is_once how) ≡ true →
-    On (started when values f lower (λ begin more. repeated how more f lower (λ again rest. with_priority is_given rest f lower
-    (λ priority. acts (action.Activate task begin again priority) f lower left))))
-on_start task form.Free again.Once is_given values left f lower built = on_urgent task is_given values left f lower
-on_start task form.Free how is_given values left f lower built = cc
-on_start task when how is_given values left f lower built = cc
+-- what is offered over a start
+on_started : (when : StartForm) (values : List Cell) (f : Frame) (lower : List Frame) (go : Start → List Cell → Step) →
+    ((begin : Start) (rest : List Cell) → On (go begin rest)) → On (started when values f lower go)
+on_started form.Free values f lower go h = h start.Free values
+on_started form.At (Clock time ∷ values) f lower go h = h (start.At time) values
+on_started form.After (Span time ∷ values) f lower go h = on_lasting (pos 0) time f lower _ (h (start.After time) values)
+on_started (form.When device) values f lower go h = h (start.When device) values
+on_started (form.WhenAfter device) (Span time ∷ values) f lower go h = on_lasting (pos 0) time f lower _ (h (start.WhenAfter device time) values)
+on_started when values f lower go h = (record { on = tt })
 
-on_continue : (task : ℕ) (once : Option OnceForm) (values left : List Cell) (f : Frame) (lower : List Frame) → is_now once ≡ true →
-    On (started (start_or_free once) values f lower (λ when rest. acts (action.Continue task when) f lower left))
-on_continue task None values left f lower built = (record { on = tt })
-on_continue task (Some when) values left f lower built = cc
+on_repeated : (how : RepeatForm) (values : List Cell) (f : Frame) (lower : List Frame) (go : Repeat → List Cell → Step) →
+    ((again : Repeat) (rest : List Cell) → On (go again rest)) → On (repeated how values f lower go)
+on_repeated again.Once values f lower go h = h repeat.Once values
+on_repeated again.All (Span period ∷ values) f lower go h = on_lasting (pos 1) period f lower _ (h (repeat.All period) values)
+on_repeated again.Until (Span period ∷ Clock end ∷ values) f lower go h = on_lasting (pos 1) period f lower _ (h (repeat.Until period end) values)
+on_repeated again.During (Span period ∷ Span time ∷ values) f lower go h =
+    on_lasting (pos 1) period f lower _ (on_lasting (pos 0) time f lower _ (h (repeat.During period time) values))
+on_repeated how values f lower go h = (record { on = tt })
+
+on_urgent : (is_given : Bool) (values : List Cell) (f : Frame) (lower : List Frame) (go : Option ℕ → Step) →
+    ((priority : Option ℕ) → On (go priority)) → On (with_priority is_given values f lower go)
+on_urgent false values f lower go h = h None
+on_urgent true (Fixed len value ∷ values) f lower go h = on_if (int_le (pos 1) value && int_le value (pos 255)) _ _ (h (Some (unsigned_abs value))) (record { on = tt })
+on_urgent true values f lower go h = (record { on = tt })
+
+on_activate : (a : Activation) (f : Frame) (lower : List Frame) → On (activate a f lower)
+on_activate a f lower = on_taken (activation_count a) f.operands _ (λ values left.
+    on_started a.start values f lower (λ when more. repeated a.repeat more f lower (λ how rest. ends left when how rest)) (λ when more.
+    on_repeated a.repeat more f lower (ends left when) (λ how rest.
+    on_urgent a.priority rest f lower (λ priority. acts (action.Activate a.task when how priority) f lower left) (λ priority. record { on = tt }))))
+  where
+    ends : List Cell → Start → Repeat → List Cell → Step
+    ends left when how rest = with_priority a.priority rest f lower (λ priority. acts (action.Activate a.task when how priority) f lower left)
+
+on_continue : (c : Continuation) (f : Frame) (lower : List Frame) → On (continue c f lower)
+on_continue c f lower = on_taken (length (start_kinds (start_or_free c.once))) f.operands _ (λ values left.
+    on_started (start_or_free c.once) values f lower (λ when rest. acts (action.Continue c.task when) f lower left) (λ when rest. record { on = tt }))
+
+on_resume : (once : OnceForm) (f : Frame) (lower : List Frame) → On (resume once f lower)
+on_resume once f lower = on_taken (length (start_kinds (as_start once))) f.operands _ (λ values left.
+    on_started (as_start once) values f lower (λ when rest. acts (action.Resume when) f lower left) (λ when rest. record { on = tt }))
 
 on_act : (o : Object) (instr : Instr) (f : Frame) (lower : List Frame) → is_built instr ≡ true → On (act o instr f lower)
 on_act o (Const x) f lower built = (record { on = tt })
@@ -185,8 +215,15 @@ on_act o (Dyadic op) f lower built =
 on_act o (Request semaphores) f lower built = (record { on = tt })
 on_act o (Release semaphores) f lower built = (record { on = tt })
 on_act o (Try semaphore) f lower built = (record { on = tt })
-on_act o (Activate a) f lower built = on_taken (activation_count a.value) f.operands _ (λ values left. on_start a.value.task a.value.start a.value.repeat a.value.priority values left f lower built)
-on_act o (Continue c) f lower built = on_taken (length (start_kinds (start_or_free c.value.once))) f.operands _ (λ values left. on_continue c.value.task c.value.once values left f lower built)
+on_act o Now f lower built = (record { on = tt })
+on_act o (Activate a) f lower built = on_activate a.value f lower
+on_act o (Continue c) f lower built = on_continue c.value f lower
+on_act o (Resume once) f lower built = on_resume once f lower
+on_act o (Prevent t) f lower built = (record { on = tt })
+on_act o PreventOwn f lower built = (record { on = tt })
+on_act o (Enable d) f lower built = (record { on = tt })
+on_act o (Disable d) f lower built = (record { on = tt })
+on_act o (Trigger d) f lower built = (record { on = tt })
 on_act o (Suspend t) f lower built = (record { on = tt })
 on_act o (Terminate t) f lower built = (record { on = tt })
 on_act o SuspendOwn f lower built = (record { on = tt })

@@ -57,10 +57,10 @@ abbrev pub OffersBuilt : Type 0
 OffersBuilt = (o : Object) (frames : List Frame) (action : Action) (go : Answer → List Frame) → OnlyBuilt o → row o frames ≡ steps.Offers action go →
     IsBuilt action
 
--- such an action fits the tables where it is offered
+-- an action that is offered fits the tables
 abbrev pub FitsTables : Type 0
 FitsTables = (o : Object) (t : ℕ) (frames : List Frame) (action : Action) → IsValid o → IsObject o → StandsIn o t frames →
-    (engine o).step t frames ≡ Offers action → IsBuilt action → rules.Fits (setup_of o) action
+    (engine o).step t frames ≡ Offers action → rules.Fits (setup_of o) action
 
 -- from wherever the code of a task stands it offers an action within as many rows as the object has
 abbrev pub OffersSoon : Type 0

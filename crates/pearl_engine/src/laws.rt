@@ -39,7 +39,7 @@ pub fn answers_lead_to_stacks()
     laws::frames_stay();
 }
 
-/// Where the tables and the rules know an action, an answer that suits it by them suits it by the object.
+/// An answer that suits an action by the rules suits it by the object.
 pub fn answers_suit()
     ensures { HearsWhatSuits }
 {}
@@ -56,7 +56,7 @@ pub fn offers_are_built()
     ensures { OffersBuilt }
 {}
 
-/// An action that is built fits the tables where it is offered.
+/// An action that is offered fits the tables.
 pub fn offers_fit_the_tables()
     ensures { FitsTables }
 {

@@ -20,7 +20,6 @@ use Rattle.pearl_instructions.specs.Lawful.{IsObject}
 use Rattle.pearl_instructions.specs.Valid.{unsound, IsValid}
 use Rattle.pearl_meaning.specs.Programs.{offer}
 use Rattle.pearl_meaning.specs.ProgramRuns.{source_run}
-use Rattle.pearl_engine.specs.Built.{OnlyBuilt}
 use Rattle.pearl_engine.specs.Engines.{machine_run, marked}
 use Rattle.pearl_gen_stmt.specs.Generated.{last_of, IsCode, IsGenerated}
 use Rattle.pearl_faithful.specs.Faithful.{IsFaithfulTo}
@@ -171,12 +170,9 @@ object_valid = record { sound = nowhere }
     nowhere (suc zero) (suc (suc (suc (suc (suc (suc i)))))) = behind (suc (suc (suc (suc (suc (suc i))))) == 5)
     nowhere (suc (suc r)) i = refl
 
-only_built : OnlyBuilt object
-only_built = ((refl, (refl, tt)), ((refl, (refl, (refl, (refl, (refl, tt))))), tt))
-
 -- so the object does what the program means
 runs_as_meant : FaithfulPrograms → IsFaithfulTo program object
-runs_as_meant law = law program object sound generated object_lawful object_valid only_built
+runs_as_meant law = law program object sound generated object_lawful object_valid
 
 abbrev all_told : List (ℕ × Report)
 all_told = (0, Happened (Start 0 255)) ∷ (0, Happened (Ended 0)) ∷ []

@@ -20,7 +20,7 @@ use Rattle.pearl_meaning.specs.ProgramRuns as program
 use Rattle.pearl_meaning.specs.Hearing.{Suits, Heard}
 use Rattle.pearl_engine.specs.Setups.{entry_of, setup_of}
 use Rattle.pearl_engine.specs.Engines.{engine}
-use Rattle.pearl_engine.specs.Laws.{Begins, GoesOn, GoesOnAfter, HearsWhatSuits, OffersWhatIsThere, FitsTables, OffersBuilt, OffersSoon}
+use Rattle.pearl_engine.specs.Laws.{Begins, GoesOn, GoesOnAfter, HearsWhatSuits, OffersWhatIsThere, FitsTables, OffersSoon}
 use Rattle.pearl_engine.proofs.Stands.{silent_is, offers_is}
 use Rattle.pearl_gen_stmt.specs.Generated.{IsGenerated}
 use Rattle.pearl_gen_stmt.specs.Offering.{OffersAfter, TasksOffer}
@@ -83,18 +83,17 @@ module _ (p : PlainProg) (o : Object) (sound : IsSound p) (generated : IsGenerat
             (stands.offers (answer ∷ more) (subst (λ answers. Heard p t answers) (append_assoc heard (answer ∷ []) more) can))));
       }
 
-pub tasks_stand : TasksOffer → Begins → GoesOn → GoesOnAfter → OffersWhatIsThere → HearsWhatSuits → FitsTables → OffersBuilt → TasksStand
-tasks_stand law begin goes_on goes_on_after names hears fit offers_built p o sound generated lawful valid built = record {
+pub tasks_stand : TasksOffer → Begins → GoesOn → GoesOnAfter → OffersWhatIsThere → HearsWhatSuits → FitsTables → TasksStand
+tasks_stand law begin goes_on goes_on_after names hears fit p o sound generated lawful valid = record {
   begins = begins p o sound generated lawful valid law begin;
   goes = goes p o sound generated lawful valid goes_on;
   offers = λ t heard frames action stands e. (offering p o sound generated lawful valid t heard frames action stands e).meant;
-  fits = λ t heard frames action stands e. let at = offering p o sound generated lawful valid t heard frames action stands e in
-      fit o t frames action valid lawful stands.own e (offers_built o frames action at.go built at.here);
+  fits = λ t heard frames action stands e. fit o t frames action valid lawful stands.own e;
   answered = answered p o sound generated lawful valid goes_on_after names hears;
 }
 
 pub tasks_offer_soon : OffersSoon → TasksOfferSoon
-tasks_offer_soon law p o sound generated lawful valid built = let soon = law o valid lawful in record {
+tasks_offer_soon law p o sound generated lawful valid = let soon = law o valid lawful in record {
   bounded = λ t heard frames less stands. soon.bounded t heard frames less stands.own;
   falls = λ t heard frames next less stands e. soon.falls t heard frames next less stands.own e;
 }

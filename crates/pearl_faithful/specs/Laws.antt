@@ -1,6 +1,7 @@
 -- What holds of the runs of a program's object.
 use Rattle.std.specs.Prelude.{◌≡◌, ℕ, List, length}
 use Rattle.pearl_rules.specs.declared.entry.Entry.{Entry}
+use Rattle.pearl_rules.specs.Entries.{AreFitting}
 use Rattle.pearl_rules.specs.Faithful.{Alone, Soon}
 use Rattle.pearl_rules.specs.Laws.{HasEnded}
 use Rattle.pearl_rules.specs.Runs as runs
@@ -13,7 +14,6 @@ use Rattle.pearl_instructions.specs.Valid.{IsValid}
 use Rattle.pearl_meaning.specs.Programs.{offer}
 use Rattle.pearl_meaning.specs.ProgramRuns as program
 use Rattle.pearl_meaning.specs.ProgramRuns.{source_run}
-use Rattle.pearl_engine.specs.Built.{OnlyBuilt}
 use Rattle.pearl_engine.specs.Setups.{setup_of}
 use Rattle.pearl_engine.specs.Engines.{engine, total_rows, machine_run}
 use Rattle.pearl_engine.specs.Owners.{rows_left}
@@ -31,10 +31,10 @@ abbrev pub SameRuns : Type 0
 SameRuns = (p : PlainProg) (o : Object) → HasTables p o → (es : List Entry) (m : ℕ) →
     runs.source_run (offer p) (setup_of o) es m ≡ source_run p es m
 
--- what holds of every object that a sound program becomes, if it is valid and its instructions are built
+-- what holds of every object that a sound program becomes, if it is valid
 abbrev pub OfObjects : (PlainProg → Object → Type 0) → Type 0
 OfObjects Holds =
-    (p : PlainProg) (o : Object) → IsSound p → IsGenerated p o → IsObject o → IsValid o → OnlyBuilt o → Holds p o
+    (p : PlainProg) (o : Object) → IsSound p → IsGenerated p o → IsObject o → IsValid o → Holds p o
 
 -- the code of each task stands where its answers lead, and offers there what the task does next
 abbrev pub TasksStand : Type 0
@@ -49,19 +49,20 @@ TasksOfferSoon = OfObjects (λ p o.
 abbrev pub FaithfulPrograms : Type 0
 FaithfulPrograms = OfObjects IsFaithfulTo
 
--- its run over any entries comes to its end
+-- its run over any entries that fit comes to its end
 abbrev pub ObjectsFinish : Type 0
-ObjectsFinish = OfObjects (λ p o. (es : List Entry) → Finishes p o es)
+ObjectsFinish = OfObjects (λ p o. (es : List Entry) → AreFitting (setup_of o) es → Finishes p o es)
 
--- every variable of the module holds a value of its kind, after any number of steps
+-- every variable of the module holds a value of its kind, and so does every input, after any number of steps
 abbrev pub ObjectsKeepKinds : Type 0
-ObjectsKeepKinds = OfObjects (λ p o. (es : List Entry) (n : ℕ) → HasKinds (setup_of o) (machine_run o es n).core)
+ObjectsKeepKinds = OfObjects (λ p o. (es : List Entry) → AreFitting (setup_of o) es → (n : ℕ) → HasKinds (setup_of o) (machine_run o es n).core)
 
--- an object that does what a program means runs as it does, over any entries and for any number of steps
+-- an object that does what a program means runs as it does, over any entries that fit and for any number of steps
 abbrev pub ObjectsRun : Type 0
-ObjectsRun = (p : PlainProg) (o : Object) → IsFaithfulTo p o → (es : List Entry) (n : ℕ) → RunsAlike p o es n
+ObjectsRun = (p : PlainProg) (o : Object) → IsFaithfulTo p o → (es : List Entry) → AreFitting (setup_of o) es → (n : ℕ) →
+    RunsAlike p o es n
 
 -- and ends as it does
 abbrev pub ObjectsEndAlike : Type 0
-ObjectsEndAlike = (p : PlainProg) (o : Object) → IsFaithfulTo p o → (es : List Entry) (n : ℕ) →
+ObjectsEndAlike = (p : PlainProg) (o : Object) → IsFaithfulTo p o → (es : List Entry) → AreFitting (setup_of o) es → (n : ℕ) →
     HasEnded (engine o) (setup_of o) es n → EndsAlike p o es n

@@ -27,13 +27,12 @@ pub fn tasks_stand()
     laws::answers_suit();
     laws::offers_name_what_is_there();
     laws::offers_fit_the_tables();
-    laws::offers_are_built();
     laws::actions_are_offered_soon();
     tasks_offer();
 }
 
-/// A valid object that a sound program becomes does what the program means, where its instructions are built: for any
-/// tasks and any journal.
+/// A valid object that a sound program becomes does what the program means: for any tasks, and any journal whose
+/// entries fit its tables.
 pub fn faithful_programs()
     ensures { FaithfulPrograms }
 {
@@ -41,7 +40,7 @@ pub fn faithful_programs()
     tasks_stand();
 }
 
-/// The run of such an object over any journal comes to its end, as the program's does, within a bound that the marks,
+/// The run of such an object over any such journal comes to its end, as the program's does, within a bound that the marks,
 /// the tasks and the instructions give.
 pub fn objects_finish()
     ensures { ObjectsFinish }
@@ -50,7 +49,7 @@ pub fn objects_finish()
     tasks_stand();
 }
 
-/// In such a run every variable of the module holds a value of its kind.
+/// In such a run every variable of the module holds a value of its kind, and only such values wait at an input.
 pub fn objects_keep_kinds()
     ensures { ObjectsKeepKinds }
 {

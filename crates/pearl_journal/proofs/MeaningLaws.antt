@@ -3,12 +3,11 @@ use Rattle.std.proofs.Common.{◌≡◌, ◌≢◌, ◌≤◌, ◌<◌, ℕ, Lis
 use Rattle.std.proofs.lemmas.Bool.{ne_eqb, le-leb}
 use Rattle.std.proofs.lemmas.Bool.Decides.{leb_tells}
 use Rattle.std.proofs.lemmas.List.{append_assoc, append-nil}
-use Rattle.std.specs.List.{before_first}
 use Rattle.pearl_rules.specs.declared.setup.Setup.{Setup}
 use Rattle.pearl_journal.specs.declared.limits.TheConstants.{LINE_LIMIT, NO_FORM}
 use Rattle.pearl_journal.specs.declared.reading.Line.TheVariants.{Blank, Wrong}
 use Rattle.pearl_journal.specs.Lines.{without_return}
-use Rattle.pearl_journal.specs.Words.{is_blank, behind_blanks, before_blanks, behind_word}
+use Rattle.pearl_journal.specs.Words.{behind_blanks, before_blanks, behind_word, first_word}
 use Rattle.pearl_journal.specs.Readings.{Reading}
 use Rattle.pearl_journal.specs.Meaning.{entry_of, is_skipped, line_of, meaning, meaning_within, text_meaning}
 use Rattle.pearl_journal.specs.Laws.{EndsInNoReturn, IsBare, IsComment, IsGap, IsWord, SaysWordAndText}
@@ -85,10 +84,10 @@ not_skipped [] rest h = absurd (h.some refl)
 not_skipped (byte ∷ word) rest h = ne_eqb byte 35 (λ e. h.no_comment word (ap (λ b. b ∷ word) e))
 
 -- a text says what its word and the text behind it say
-text_says : (setup : Setup) (reading : Reading) (text word rest : List ℕ) → is_skipped text ≡ false → before_first is_blank text ≡ word → behind_word text ≡ rest →
-    text_meaning setup reading text ≡ line_of (entry_of setup word rest)
+text_says : (setup : Setup) (reading : Reading) (text word rest : List ℕ) → is_skipped text ≡ false → first_word text ≡ word → behind_word text ≡ rest →
+    text_meaning setup reading text ≡ line_of (entry_of setup reading word rest)
 text_says setup reading text word rest skipped front behind =
-    rw (skipped) (ap (λ w. line_of (entry_of setup w (behind_word text))) front ∙ ap (λ r. line_of (entry_of setup word r)) behind)
+    rw (skipped) (ap (λ w. line_of (entry_of setup reading w (behind_word text))) front ∙ ap (λ r. line_of (entry_of setup reading word r)) behind)
 
 stops_at_gap : (gap text : List ℕ) → IsGap gap → gap ≢ [] → StopsWord (gap ++ text)
 stops_at_gap [] text is_gap some byte more e = absurd (some refl)
@@ -98,13 +97,13 @@ behind_gap : (gap text : List ℕ) → IsGap gap → gap ≢ [] → IsBare text 
 behind_gap [] text is_gap some bare = absurd (some refl)
 behind_gap (byte ∷ gap) text is_gap some bare = behind_blanks-gap gap text is_gap.1 ∙ behind_blanks-bare text bare.begins
 
-lone_word_says : (setup : Setup) (reading : Reading) (word : List ℕ) → IsWord word → text_meaning setup reading (word ++ []) ≡ line_of (entry_of setup word [])
+lone_word_says : (setup : Setup) (reading : Reading) (word : List ℕ) → IsWord word → text_meaning setup reading (word ++ []) ≡ line_of (entry_of setup reading word [])
 lone_word_says setup reading word h =
     text_says setup reading (word ++ []) word [] (not_skipped word [] h) (before_first-word word [] h.solid (λ byte more e. cc))
     (ap behind_blanks (after_first-word word [] h.solid (λ byte more e. cc)))
 
 two_say : (setup : Setup) (reading : Reading) (word gap text : List ℕ) → IsWord word → IsGap gap → gap ≢ [] → IsBare text →
-    text_meaning setup reading (word ++ (gap ++ text)) ≡ line_of (entry_of setup word text)
+    text_meaning setup reading (word ++ (gap ++ text)) ≡ line_of (entry_of setup reading word text)
 two_say setup reading word gap text h is_gap some bare =
     text_says setup reading (word ++ (gap ++ text)) word text (not_skipped word (gap ++ text) h)
     (before_first-word word (gap ++ text) h.solid (stops_at_gap gap text is_gap some))
@@ -112,7 +111,7 @@ two_say setup reading word gap text h is_gap some bare =
 
 -- the same with blanks behind
 with_back : (setup : Setup) (reading : Reading) (word gap text back : List ℕ) → IsWord word → IsGap gap → IsGap back → IsBare text → (gap ≡ [] → text ≡ []) →
-    text_meaning setup reading (before_blanks (word ++ (gap ++ (text ++ back)))) ≡ line_of (entry_of setup word text)
+    text_meaning setup reading (before_blanks (word ++ (gap ++ (text ++ back)))) ≡ line_of (entry_of setup reading word text)
 with_back setup reading word gap [] back h is_gap is_back bare parted =
     let ends : before_blanks word ≡ word = before_blanks-behind [] word h.some (λ front byte e. solid_last front byte (subst IsSolid e h.solid)) in
     let text : before_blanks (word ++ (gap ++ back)) ≡ word =
@@ -129,7 +128,7 @@ with_back setup reading word gap (byte ∷ rest) back h is_gap is_back bare part
     ap (text_meaning setup reading) text ∙ two_say setup reading word gap spoken h is_gap some bare
 
 pub blanks_free : (setup : Setup) (reading : Reading) (line word text : List ℕ) → SaysWordAndText line word text → EndsInNoReturn line →
-    length line ≤ LINE_LIMIT → meaning setup reading line ≡ line_of (entry_of setup word text)
+    length line ≤ LINE_LIMIT → meaning setup reading line ≡ line_of (entry_of setup reading word text)
 blanks_free setup reading line word text says h short =
     let inner = word ++ (says.gap ++ (text ++ says.back)) in
     let begins : behind_blanks inner ≡ inner =

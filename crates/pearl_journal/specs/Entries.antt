@@ -2,9 +2,10 @@
 use Rattle.std.specs.Prelude.{ℕ, ◌+◌, List, [], ◌∷◌, false}
 use Rattle.pearl_rules.specs.declared.entry.Entry.{Entry}
 use Rattle.pearl_rules.specs.declared.setup.Setup.{Setup}
+use Rattle.pearl_rules.specs.Entries.{moment_after}
 use Rattle.pearl_journal.specs.declared.reading.Line.{Line}
 use Rattle.pearl_journal.specs.declared.reading.Line.TheVariants.{Blank, Item, Wrong}
-use Rattle.pearl_journal.specs.Readings.{Reading, start, moment_after}
+use Rattle.pearl_journal.specs.Readings.{Reading, start}
 use Rattle.pearl_journal.specs.Meaning.{meaning}
 
 -- what an entry is, if the line is one

@@ -1,7 +1,7 @@
 -- Which words a line has, and which of them are numbers and names.
 use Rattle.std.specs.Prelude.{ℕ, ◌+◌, ◌-◌, ◌*◌, ◌^◌, List, [], ◌∷◌, Bool, Option, Some, None, length, take, drop, nat_lt, ◌==◌, ◌||◌, if◌then◌else◌, bytes_eq}
 use Rattle.std.specs.Char.{digit_value, is_ascii_digit}
-use Rattle.std.specs.List.{prefix_len, suffix_len, after_first, position}
+use Rattle.std.specs.List.{prefix_len, suffix_len, before_first, after_first, position}
 use Rattle.std.specs.Str.{all_ascii_digits}
 use Rattle.std.specs.Str.Parse.{digits_value}
 use Rattle.pearl_rules.specs.declared.setup.TaskEntry.{TaskEntry}
@@ -19,6 +19,9 @@ behind_blanks text = drop (prefix_len is_blank text) text
 -- a text without the blanks at its end
 abbrev pub before_blanks : List ℕ → List ℕ
 before_blanks text = take (length text - suffix_len is_blank text) text
+
+abbrev pub first_word : List ℕ → List ℕ
+first_word text = before_first is_blank text
 
 -- what stands behind the first word of a text and the blanks after it
 abbrev pub behind_word : List ℕ → List ℕ

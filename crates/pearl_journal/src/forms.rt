@@ -1,37 +1,136 @@
-// The forms of lines.
+// The forms of lines, and the entries that they have.
 
-ghost use Rattle.std.specs.Prelude.{◌≡◌, ◌<◌, ◌^◌, length, IfSome};
-ghost use Rattle.std.specs.List.{before_first};
+ghost use Rattle.std.specs.Prelude.{◌≡◌, ◌+◌, ◌<◌, ◌≤◌, ◌^◌, ℕ, length, IfSome};
+ghost use Rattle.pearl_rules.specs.Entries.{moment_after};
 ghost use Rattle.pearl_journal.specs.Meaning as spec;
-ghost use Rattle.pearl_journal.specs.Words.{behind_word, is_blank, task_named};
+ghost use Rattle.pearl_journal.specs.Words.{behind_word, first_word, task_named};
 
-use crate::limits::{NO_FORM, NOT_DECLARED};
+use crate::devices::interrupt_of;
+use crate::limits::{LAST_MOMENT, NO_FORM, NOT_DECLARED, TOO_LATE};
 use crate::words::{is_name, number_of, split_word};
 use pearl_rules::entry::Entry;
 use pearl_rules::setup::{Setup, TaskEntry};
+use pearl_scan::clock::clock_literal;
 
-/// The entry of a text without blanks at its ends, or the code of its refusal.
-pub(crate) fn entry_of(setup: &Setup, text: &[u8]) -> Result<Entry, u8>
-    requires { length setup.now.tasks < 2 ^ 32 }
-    ensures { result ≡ spec.entry_of setup.now (before_first is_blank text.now) (behind_word text.now) }
+/// The entry of a text without blanks at its ends, or the code of its refusal, at a moment and where no entry was
+/// accepted yet or one was.
+pub(crate) fn entry_of(setup: &Setup, is_first: bool, moment: u64, text: &[u8]) -> Result<Entry, u8>
+    requires tasks { length setup.now.tasks < 2 ^ 32 }
+    requires devices { length setup.now.devices < 2 ^ 32 }
+    requires late { moment ≤ LAST_MOMENT }
+    ensures { result ≡ spec.in_time moment (spec.form_of setup.now is_first (first_word text.now) (behind_word text.now)) }
+{
+    let entry = form_of(setup, is_first, text)?;
+    if milliseconds_of(&entry) <= LAST_MOMENT - moment {
+        Ok(entry)
+    } else {
+        Err(TOO_LATE)
+    }
+}
+
+// How many milliseconds an entry leads on.
+fn milliseconds_of(entry: &Entry) -> u64
+    ensures { (moment : ℕ) → moment_after moment entry.now ≡ moment + result }
+{
+    match entry {
+        Entry::Tick(milliseconds) => *milliseconds,
+        Entry::Pass { times, .. } => *times,
+        _ => 0,
+    }
+}
+
+// The form of a text without blanks at its ends.
+fn form_of(setup: &Setup, is_first: bool, text: &[u8]) -> Result<Entry, u8>
+    requires tasks { length setup.now.tasks < 2 ^ 32 }
+    requires devices { length setup.now.devices < 2 ^ 32 }
+    ensures { result ≡ spec.form_of setup.now is_first (first_word text.now) (behind_word text.now) }
 {
     let (word, rest) = split_word(text);
-    match word {
-        b"run" => run_entry(rest),
-        b"turn" => turn_entry(setup, rest),
-        b"state" => state_entry(rest),
-        _ => Err(NO_FORM),
+    if word == b"clock".as_slice() {
+        clock_entry(is_first, rest)
+    } else if word == b"run".as_slice() {
+        run_entry(rest)
+    } else if word == b"tick".as_slice() {
+        tick_entry(rest)
+    } else if word == b"pass".as_slice() {
+        pass_entry(rest)
+    } else {
+        arriving_form(setup, word, rest)
     }
+}
+
+// The form of a line that tells of something that comes in, or one of a task's.
+fn arriving_form(setup: &Setup, word: &[u8], rest: &[u8]) -> Result<Entry, u8>
+    requires tasks { length setup.now.tasks < 2 ^ 32 }
+    requires devices { length setup.now.devices < 2 ^ 32 }
+    ensures { result ≡ spec.arriving_form setup.now word.now rest.now }
+{
+    if word == b"irpt".as_slice() {
+        irpt_entry(setup, rest)
+    } else {
+        task_form(setup, word, rest)
+    }
+}
+
+// The form of a line that tells of tasks.
+fn task_form(setup: &Setup, word: &[u8], rest: &[u8]) -> Result<Entry, u8>
+    requires { length setup.now.tasks < 2 ^ 32 }
+    ensures { result ≡ spec.task_form setup.now word.now rest.now }
+{
+    if word == b"turn".as_slice() {
+        turn_entry(setup, rest)
+    } else if word == b"state".as_slice() {
+        state_entry(rest)
+    } else {
+        Err(NO_FORM)
+    }
+}
+
+// `clock C`, which is only the first entry
+fn clock_entry(is_first: bool, rest: &[u8]) -> Result<Entry, u8>
+    ensures { result ≡ spec.clock_entry is_first rest.now }
+{
+    if !is_first {
+        return Err(NO_FORM);
+    }
+    let time = clock_literal(rest).ok_or(NO_FORM)?;
+    Ok(Entry::Clock(time))
 }
 
 // `run N`
 fn run_entry(rest: &[u8]) -> Result<Entry, u8>
     ensures { result ≡ spec.run_entry rest.now }
 {
-    match number_of(rest) {
-        Some(picks) => Ok(Entry::Run(picks)),
-        None => Err(NO_FORM),
-    }
+    let picks = number_of(rest).ok_or(NO_FORM)?;
+    Ok(Entry::Run(picks))
+}
+
+// `tick N`
+fn tick_entry(rest: &[u8]) -> Result<Entry, u8>
+    ensures { result ≡ spec.tick_entry rest.now }
+{
+    let milliseconds = number_of(rest).ok_or(NO_FORM)?;
+    Ok(Entry::Tick(milliseconds))
+}
+
+// `pass D N`
+fn pass_entry(rest: &[u8]) -> Result<Entry, u8>
+    ensures { result ≡ spec.pass_entry rest.now }
+{
+    let (times, picks) = split_word(rest);
+    let times = number_of(times).ok_or(NO_FORM)?;
+    let picks = number_of(picks).ok_or(NO_FORM)?;
+    Ok(Entry::Pass { times, picks })
+}
+
+// `irpt K`
+fn irpt_entry(setup: &Setup, rest: &[u8]) -> Result<Entry, u8>
+    requires { length setup.now.devices < 2 ^ 32 }
+    ensures { result ≡ spec.irpt_entry setup.now rest.now }
+{
+    let number = number_of(rest).ok_or(NO_FORM)?;
+    let device = interrupt_of(setup.devices.as_slice(), number).ok_or(NOT_DECLARED)?;
+    Ok(Entry::Irpt(device))
 }
 
 // `turn NAME`
@@ -42,10 +141,8 @@ fn turn_entry(setup: &Setup, rest: &[u8]) -> Result<Entry, u8>
     if !is_name(rest) {
         return Err(NO_FORM);
     }
-    match task_of(setup, rest) {
-        Some(task) => Ok(Entry::Turn(task)),
-        None => Err(NOT_DECLARED),
-    }
+    let task = task_of(setup, rest).ok_or(NOT_DECLARED)?;
+    Ok(Entry::Turn(task))
 }
 
 // The first of the tasks that has this name.

@@ -13,7 +13,7 @@ ghost use Rattle.pearl_journal.specs.Readings.{Reading};
 pub fn blanks_are_free()
     ensures { (setup : Setup) (reading : Reading) (line word text : List ℕ) → SaysWordAndText line word text →
         EndsInNoReturn line → length line ≤ LINE_LIMIT →
-        meaning setup reading line ≡ line_of (entry_of setup word text) }
+        meaning setup reading line ≡ line_of (entry_of setup reading word text) }
 {}
 
 /// A byte 13 behind a line changes nothing.

@@ -3,6 +3,7 @@
 //! [`lines::next_line`] cuts the next line off, and [`reading::Reading::read`] tells what it means after all before.
 #![tactic(auto)]
 
+mod devices;
 mod forms;
 pub mod laws;
 mod limits;

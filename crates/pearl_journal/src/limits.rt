@@ -14,3 +14,6 @@ pub const NO_FORM: u8 = 1;
 
 /// What a line names is not declared.
 pub const NOT_DECLARED: u8 = 2;
+
+/// It would lead past the last moment.
+pub const TOO_LATE: u8 = 3;

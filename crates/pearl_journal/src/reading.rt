@@ -3,7 +3,8 @@
 ghost use Rattle.std.specs.Prelude.{◌≡◌, ◌+◌, ◌<◌, ◌^◌, ◌≤◌, length};
 ghost use Rattle.pearl_journal.specs.Entries.{IfItem, after};
 ghost use Rattle.pearl_journal.specs.Meaning.{is_skipped as is_skipped_text, meaning, text_meaning};
-ghost use Rattle.pearl_journal.specs.Readings.{EntryFits, moment_after as moment_after_entry, start};
+ghost use Rattle.pearl_rules.specs.Entries.{EntryFits, moment_after as moment_after_entry};
+ghost use Rattle.pearl_journal.specs.Readings.{start};
 
 use crate::forms::entry_of;
 use crate::limits::{LINE_LIMIT, NO_FORM};
@@ -65,7 +66,8 @@ impl Reading {
     /// Reads the next line, and tells what it means after those before. Nothing more is to be read where it is refused.
     pub fn read(&mut self, setup: &Setup, line: &[u8]) -> Line
         requires counted { self.old.lines + 1 < 2 ^ 64 }
-        requires few { length setup.now.tasks < 2 ^ 32 }
+        requires few_tasks { length setup.now.tasks < 2 ^ 32 }
+        requires few_devices { length setup.now.devices < 2 ^ 32 }
         ensures meaning { result ≡ meaning setup.now self.old line.now }
         ensures after { self.new ≡ after self.old result }
         ensures fits { IfItem result (EntryFits setup.now self.old.moment) }
@@ -81,7 +83,8 @@ impl Reading {
 
     // What the next line means.
     fn meaning_of(&self, setup: &Setup, line: &[u8]) -> Line
-        requires { length setup.now.tasks < 2 ^ 32 }
+        requires few_tasks { length setup.now.tasks < 2 ^ 32 }
+        requires few_devices { length setup.now.devices < 2 ^ 32 }
         ensures meaning { result ≡ meaning setup.now self.now line.now }
         ensures fits { IfItem result (EntryFits setup.now self.now.moment) }
     {
@@ -94,13 +97,14 @@ impl Reading {
 
     // What a text without blanks at its ends means.
     fn meaning_of_text(&self, setup: &Setup, text: &[u8]) -> Line
-        requires { length setup.now.tasks < 2 ^ 32 }
+        requires few_tasks { length setup.now.tasks < 2 ^ 32 }
+        requires few_devices { length setup.now.devices < 2 ^ 32 }
         ensures { result ≡ text_meaning setup.now self.now text.now }
     {
         if is_skipped(text) {
             return Line::Blank;
         }
-        match entry_of(setup, text) {
+        match entry_of(setup, self.is_first, self.moment, text) {
             Ok(entry) => Line::Item(entry),
             Err(code) => Line::Wrong(code),
         }

@@ -2,7 +2,7 @@
 
 ghost use Rattle.std.specs.Prelude.{◌≡◌, ◌<◌, ◌≤◌, ◌^◌, length, slice_index};
 ghost use Rattle.std.specs.Char.{is_ascii_alphabetic};
-ghost use Rattle.std.specs.List.{before_first, list_all, position_or_len};
+ghost use Rattle.std.specs.List.{list_all, position_or_len};
 ghost use Rattle.pearl_rules.specs.Tables.{is_id, is_name_byte as is_id_byte};
 ghost use Rattle.pearl_journal.specs.Words as spec;
 
@@ -57,7 +57,7 @@ fn word_length(text: &[u8]) -> usize
 
 /// The first word of a text, and what stands behind it and the blanks after it.
 pub(crate) fn split_word(text: &[u8]) -> (&[u8], &[u8])
-    ensures word { result.0.now ≡ before_first spec.is_blank text.now }
+    ensures word { result.0.now ≡ spec.first_word text.now }
     ensures rest { result.1.now ≡ spec.behind_word text.now }
 {
     let end = word_length(text);

@@ -1,15 +1,10 @@
 -- The picked task acts.
-use Rattle.std.proofs.Common.{◌≡◌, ◌≢◌, ℕ, ◌<◌, ◌≤◌, ◌⊎◌, inl, inr, suc, ◌+◌, List, [], ◌∷◌, ◌++◌, Bool, true, false}
+use Rattle.std.proofs.Common.{◌≡◌, ◌≢◌, ℕ, ◌<◌, ◌≤◌, ◌⊎◌, inl, inr, ◌+◌, List, Bool, true, false}
 use Rattle.std.proofs.Common.{Option, Some, None, length, slice_get, slice_set, refl, sym, ap, subst, ◌∙◌, length-set}
 use Rattle.std.proofs.Common.{arith}
-use Rattle.std.specs.List.{AllByRecursion, AllZip, IsDistinct}
 use Rattle.std.proofs.lemmas.Bool.{true≢false}
 use Rattle.std.proofs.lemmas.Option.{none-some, same_Some}
-use Rattle.pearl_value.specs.declared.cell.Cell.{Cell}
 use Rattle.pearl_rules.specs.declared.action.Action.{Action}
-use Rattle.pearl_rules.specs.declared.action.Action.TheVariants as action
-use Rattle.pearl_rules.specs.declared.action.Start.TheVariants.{Free}
-use Rattle.pearl_rules.specs.declared.action.Repeat.TheVariants.{Once}
 use Rattle.pearl_rules.specs.declared.row.Mode.{Mode}
 use Rattle.pearl_rules.specs.declared.row.Mode.TheVariants.{Dormant, Active}
 use Rattle.pearl_rules.specs.declared.row.TaskRow.{TaskRow}
@@ -17,20 +12,17 @@ use Rattle.pearl_rules.specs.declared.setup.Setup.{Setup}
 use Rattle.pearl_rules.specs.Core.{Core, Report, row_of}
 use Rattle.pearl_rules.specs.Effect.{effect}
 use Rattle.pearl_rules.specs.Pick.{guard, is_possible, is_ready, is_ready_row, pick}
-use Rattle.pearl_rules.specs.Runs.{dropped}
-use Rattle.pearl_rules.specs.Slots.{Fits, IsLike}
+use Rattle.pearl_rules.specs.Runs.{dropped, kept_at}
+use Rattle.pearl_rules.specs.Slots.{Fits}
 use Rattle.pearl_rules.proofs.PickLaws.{picked}
-use Rattle.pearl_rules.proofs.EffectLaws.{leaves, effect-length}
-use Rattle.pearl_sema.specs.Waiting.{AreThere}
 use Rattle.pearl_kernel.specs.Kept.{Kept, offered, done, IsLawful}
-use Rattle.pearl_kernel.specs.Names.{Names, NamesAll}
 use Rattle.pearl_kernel.specs.Whole.{IsWhole}
-use Rattle.pearl_kernel.specs.Eligible.{entry}
+use Rattle.pearl_kernel.specs.Eligible.{entry, IsSetOf}
 use Rattle.pearl_kernel.specs.declared.standing.Touched.{Touched}
 use Rattle.pearl_kernel.specs.declared.standing.Touched.TheVariants.{Own, Other, All}
 use Rattle.pearl_kernel.specs.Touched.{IsUntouched, Leaves, IsThere, IsRenewed}
-use Rattle.pearl_kernel.proofs.Places.{some-before, some-dropped, dropped-length, by_task, get-same, get-other}
-use Rattle.pearl_kernel.proofs.Entries.{entry-same}
+use Rattle.pearl_kernel.proofs.Places.{by_task, get-same, get-other}
+use Rattle.pearl_kernel.proofs.Entries.{Alike, entry-same}
 
 -- WHAT IS PICKED CAN BE DONE
 
@@ -64,100 +56,22 @@ pub picked-able : (k : Kept) (t : ℕ) (a : Action) → pick k.core (offered k) 
     guard k.core a ≡ true
 picked-able k t a e is = let b = able k t e in ap (guard k.core) (same_Some a b.action (sym is ∙ b.is)) ∙ b.able
 
--- WHAT IS NAMED IS THERE
-
-are_there : (counts others list : List ℕ) → length others ≡ length counts → AreThere counts list → AreThere others list
-are_there counts others list same there =
-    record {
-      there = subst (λ n. AllByRecursion (λ semaphore. semaphore < n) list)
-          (sym same) there.there;
-      distinct = there.distinct;
-    }
-
--- a list of one
-pub one-there : (counts empty list : List ℕ) (semaphore : ℕ) → semaphore < length counts → empty ≡ [] →
-    list ≡ empty ++ semaphore ∷ [] → AreThere counts list
-unfolding IsDistinct
-one-there counts empty list semaphore there none is =
-    subst (λ xs. AreThere counts xs) (sym (is ∙ ap (λ xs. xs ++ semaphore ∷ []) none))
-    (record { there = (there, tt); distinct = (tt, tt) })
-
--- as long as there is as much
-pub names-same : (core after : Core) (a : Action) → length after.tasks ≡ length core.tasks →
-    length after.slots ≡ length core.slots →
-    length after.counts ≡ length core.counts → Names core a → Names after a
-names-same core after (action.Read slot) tasks slots counts h = subst (λ n. slot < n) (sym slots) h
-names-same core after (action.Write slot value) tasks slots counts h = subst (λ n. slot < n) (sym slots) h
-names-same core after action.Turn tasks slots counts h = h
-names-same core after action.Enter tasks slots counts h = h
-names-same core after (action.Request list) tasks slots counts h =
-    are_there core.counts after.counts list.items counts h
-names-same core after (action.Release list) tasks slots counts h =
-    are_there core.counts after.counts list.items counts h
-names-same core after (action.Try semaphore) tasks slots counts h = subst (λ n. semaphore < n) (sym counts) h
-names-same core after (action.Activate u Free Once priority) tasks slots counts h = subst (λ n. u < n) (sym tasks) h
-names-same core after (action.Continue u Free) tasks slots counts h = subst (λ n. u < n) (sym tasks) h
-names-same core after (action.Suspend u) tasks slots counts h = subst (λ n. u < n) (sym tasks) h
-names-same core after (action.Terminate u) tasks slots counts h = subst (λ n. u < n) (sym tasks) h
-names-same core after (action.Put device text) tasks slots counts h = h
-names-same core after action.End tasks slots counts h = h
-names-same core after (action.Trap trap) tasks slots counts h = h
-names-same core after a tasks slots counts h = absurd h
-
-slots_length : (setup : Setup) (k : Kept) → IsLawful setup k → length k.core.slots ≡ length setup.slots
-slots_length setup k lawful = all_length setup.slots k.core.slots lawful.kinds
-  where
-    all_length : (first now : List Cell) → AllZip IsLike first now → length now ≡ length first
-    all_length [] [] all = refl
-    all_length [] (x ∷ now) all = absurd all
-    all_length (f ∷ first) [] all = absurd all
-    all_length (f ∷ first) (x ∷ now) all = ap suc (all_length first now all.1)
-
--- an action that fits the tables names what is there
-pub fits-names : (setup : Setup) (k : Kept) (a : Action) → IsLawful setup k → Fits setup a → Names k.core a
-fits-names setup k (action.Read slot) lawful h = subst (λ n. slot < n) (sym (slots_length setup k lawful)) h
-fits-names setup k (action.Write slot value) lawful h = subst (λ n. slot < n) (sym (slots_length setup k lawful)) h.0
-fits-names setup k action.Turn lawful h = tt
-fits-names setup k action.Enter lawful h = tt
-fits-names setup k (action.Request list) lawful h = are_there setup.semaphores k.core.counts list.items lawful.counts
-    (record { there = h.there; distinct = h.distinct })
-fits-names setup k (action.Release list) lawful h = are_there setup.semaphores k.core.counts list.items lawful.counts
-    (record { there = h.there; distinct = h.distinct })
-fits-names setup k (action.Try semaphore) lawful h = subst (λ n. semaphore < n) (sym lawful.counts) h
-fits-names setup k (action.Activate u Free Once priority) lawful h = subst (λ n. u < n) (sym lawful.tasks) h.0
-fits-names setup k (action.Continue u Free) lawful h = subst (λ n. u < n) (sym lawful.tasks) h
-fits-names setup k (action.Suspend u) lawful h = subst (λ n. u < n) (sym lawful.tasks) h
-fits-names setup k (action.Terminate u) lawful h = subst (λ n. u < n) (sym lawful.tasks) h
-fits-names setup k (action.Put device text) lawful h = tt
-fits-names setup k action.End lawful h = tt
-fits-names setup k (action.Trap trap) lawful h = tt
-fits-names setup k a lawful h = absurd h
-
 -- AFTER AN ACTION
 
-pub names-after : (k : Kept) (own : ℕ) (a : Action) → NamesAll k → NamesAll (done k own a)
-names-after k own a names t b e =
-    let after = leaves k.core own a in
-    names-same k.core (effect k.core own a).core b (effect-length k.core own a) after.slots after.counts
-    (names t b (some-before k.offers own t b
-    (some-dropped (effect k.core own a).ended (slice_set k.offers own None) t b e)))
+pub there-after : (k new : Kept) (touched : Touched) → length new.core.tasks ≡ length k.core.tasks →
+    IsThere k.core touched → IsThere new.core touched
+there-after k new Own same there = tt
+there-after k new (Other u) same there = subst (λ n. u < n) (sym same) there
+there-after k new All same there = tt
 
-pub there-after : (k : Kept) (own : ℕ) (a : Action) (touched : Touched) → IsThere k.core touched →
-    IsThere (done k own a).core touched
-there-after k own a Own there = tt
-there-after k own a (Other u) there = subst (λ n. u < n) (sym (effect-length k.core own a)) there
-there-after k own a All there = tt
-
-pub kept-after : (k : Kept) (set after : List (Option ℕ)) (own : ℕ) (a : Action) (touched : Touched) → IsWhole k set →
-    Leaves a touched →
+pub kept-after : (setup : Setup) (k : Kept) (set after : List (Option ℕ)) (own : ℕ) (a : Action) (touched : Touched) →
+    IsLawful setup k → IsLawful setup (done k own a) → Fits setup a → IsWhole k set → Leaves a touched →
     IsRenewed (done k own a) own touched set after → IsWhole (done k own a) after
-kept-after k set after own a touched kept leaving renewed =
-    let size = effect-length k.core own a in
+kept-after setup k set after own a touched before lawful fits kept leaving renewed =
+    let size : length (done k own a).core.tasks ≡ length k.core.tasks = lawful.tasks ∙ sym before.tasks in
     record {
       few = subst (λ n. n ≤ 200) (sym size) kept.few;
-      same = dropped-length (effect k.core own a).ended (slice_set k.offers own None) ∙ length-set k.offers own None
-          ∙ kept.same ∙ sym size;
-      names = names-after k own a kept.names;
+      lawful = (setup, lawful);
       ready = record {
         size = renewed.size ∙ kept.ready.size ∙ sym size;
         each = λ t there. by_each t (subst (λ n. t < n) size there) (renewed.each t there);
@@ -170,7 +84,7 @@ kept-after k set after own a touched kept leaving renewed =
         slice_get after t ≡ Some (entry (done k own a) t)
     by_each t there (inl e) = e
     by_each t there (inr same) = same.2 ∙ kept.ready.each t there
-        ∙ ap (λ e. Some e) (sym (leaving k own t same.0 same.1))
+        ∙ ap (λ e. Some e) (sym (leaving setup k own t before fits same.0 same.1))
 
 -- what became of the offers and then of the core
 pub done-is : (k mid new : Kept) (own : ℕ) (a : Action) →
@@ -184,35 +98,59 @@ done-is k mid new own a m n = n ∙ ap then m
 
 -- WHAT CHANGES NO TASK
 
-pub kept-last : (k : Kept) (set : List (Option ℕ)) (last : Option ℕ) → IsWhole k set →
-    IsWhole (record k { core = record k.core { last = last } }) set
-kept-last k set last kept =
-    let new : Kept = record k { core = record k.core { last = last } } in
+-- the same rows and offers, and guards look at the same
+pub kept-same : (setup : Setup) (k new : Kept) (set : List (Option ℕ)) → IsLawful setup new →
+    new.core.tasks ≡ k.core.tasks → new.offers ≡ k.offers → Alike k.core new.core → IsWhole k set → IsWhole new set
+kept-same setup k new set lawful tasks offers same kept =
+    let size : length new.core.tasks ≡ length k.core.tasks = ap (λ rows. length rows) tasks in
     record {
-      few = kept.few;
-      same = kept.same;
-      names = λ t a e. names-same k.core new.core a refl refl refl (kept.names t a e);
+      few = subst (λ n. n ≤ 200) (sym size) kept.few;
+      lawful = (setup, lawful);
       ready = record {
-        size = kept.ready.size;
-        each = λ t there. kept.ready.each t there
-            ∙ ap (λ e. Some e) (sym (entry-same k new t refl refl refl));
+        size = kept.ready.size ∙ sym size;
+        each = λ t there. kept.ready.each t (subst (λ n. t < n) size there)
+            ∙ ap (λ e. Some e) (sym (entry-same k new t (ap (λ rows. slice_get rows t) tasks)
+            (ap (λ xs. kept_at xs t) offers) same));
       };
     }
 
-pub kept-told : (k : Kept) (set : List (Option ℕ)) (told : List (ℕ × Report)) → IsWhole k set →
+pub kept-last : (setup : Setup) (k : Kept) (set : List (Option ℕ)) (last : Option ℕ) →
+    IsLawful setup (record k { core = record k.core { last = last } }) → IsWhole k set →
+    IsWhole (record k { core = record k.core { last = last } }) set
+kept-last setup k set last lawful kept =
+    kept-same setup k (record k { core = record k.core { last = last } }) set lawful refl refl
+    (record { counts = refl; bytes = λ d. refl; values = λ d. refl; formats = refl }) kept
+
+pub kept-told : (setup : Setup) (k : Kept) (set : List (Option ℕ)) (told : List (ℕ × Report)) →
+    IsLawful setup (record k { core = record k.core { told = told } }) → IsWhole k set →
     IsWhole (record k { core = record k.core { told = told } }) set
-kept-told k set told kept =
-    let new : Kept = record k { core = record k.core { told = told } } in
-    record {
-      few = kept.few;
-      same = kept.same;
-      names = λ t a e. names-same k.core new.core a refl refl refl (kept.names t a e);
-      ready = record {
-        size = kept.ready.size;
-        each = λ t there. kept.ready.each t there
-            ∙ ap (λ e. Some e) (sym (entry-same k new t refl refl refl));
-      };
-    }
+kept-told setup k set told lawful kept =
+    kept-same setup k (record k { core = record k.core { told = told } }) set lawful refl refl
+    (record { counts = refl; bytes = λ d. refl; values = λ d. refl; formats = refl }) kept
+
+pub kept-moment : (setup : Setup) (k : Kept) (set : List (Option ℕ)) (moment : ℕ) →
+    IsLawful setup (record k { core = record k.core { moment = moment } }) → IsWhole k set →
+    IsWhole (record k { core = record k.core { moment = moment } }) set
+kept-moment setup k set moment lawful kept =
+    kept-same setup k (record k { core = record k.core { moment = moment } }) set lawful refl refl
+    (record { counts = refl; bytes = λ d. refl; values = λ d. refl; formats = refl }) kept
+
+pub kept-clock : (setup : Setup) (k : Kept) (set : List (Option ℕ)) (time : ℕ) →
+    IsLawful setup (record k { core = record k.core { clock = time } }) → IsWhole k set →
+    IsWhole (record k { core = record k.core { clock = time } }) set
+kept-clock setup k set time lawful kept =
+    kept-same setup k (record k { core = record k.core { clock = time } }) set lawful refl refl
+    (record { counts = refl; bytes = λ d. refl; values = λ d. refl; formats = refl }) kept
+
+-- WHAT MAY CHANGE ALL TASKS
+
+pub kept-all : (setup : Setup) (k new : Kept) (set after : List (Option ℕ)) → IsLawful setup k → IsLawful setup new →
+    IsWhole k set → IsSetOf new after → IsWhole new after
+kept-all setup k new set after before lawful kept ready = record {
+  few = subst (λ n. n ≤ 200) (before.tasks ∙ sym lawful.tasks) kept.few;
+  lawful = (setup, lawful);
+  ready = ready;
+}
 
 -- THE SET AFTER AN ACTION
 
@@ -259,3 +197,8 @@ renewed-next k set new u there size before e t within =
     subst (λ n. slice_get n t ≡ Some (entry k t)) (sym e)
     (by_task t u _ (λ same. refreshed-at k set u t same (subst (λ n. u < n) (sym size) there))
     (λ other. get-other set u t (entry k u) other ∙ before t (omega (arith, other))))
+
+-- where all are touched, the set of all tasks that can act is renewed
+pub renewed-all : (k : Kept) (own : ℕ) (set new : List (Option ℕ)) → length set ≡ length k.core.tasks → IsSetOf k new →
+    IsRenewed k own All set new
+renewed-all k own set new size is = record { size = is.size ∙ sym size; each = λ t within. inl (is.each t within) }

@@ -10,13 +10,14 @@ use Rattle.pearl_rules.specs.declared.row.Mode.TheVariants.{Dormant, Active}
 use Rattle.pearl_rules.specs.declared.row.TaskRow.{TaskRow}
 use Rattle.pearl_rules.specs.declared.setup.TaskEntry.{TaskEntry}
 use Rattle.pearl_rules.specs.declared.setup.Setup.{Setup}
-use Rattle.pearl_rules.specs.Core.{opening, row_of, first_row, first_mode, first_events, first_events_if}
+use Rattle.pearl_rules.specs.Core.{opening, row_of, first_row, first_events, first_events_if}
 use Rattle.pearl_rules.specs.Pick.{is_ready, is_ready_row, is_possible, priority_of}
 use Rattle.pearl_rules.specs.Runs.{kept_at}
-use Rattle.pearl_rules.specs.Slots.{IsUrgency}
+use Rattle.pearl_rules.specs.Slots.{IsPlannedRow, HasPlans}
 use Rattle.pearl_rules.specs.Tables.{IsTaskEntry, IsSetup}
 use Rattle.pearl_rules.proofs.EffectLaws.{opening-kinds}
-use Rattle.pearl_kernel.specs.Kept.{Kept, at_start, IsUrgent, IsUrgentMode, IsReportOf, IsLawful}
+use Rattle.pearl_rules.proofs.UrgencyLaws.{opening-urgencies}
+use Rattle.pearl_kernel.specs.Kept.{Kept, at_start, IsReportOf, IsLawful}
 use Rattle.pearl_kernel.specs.Whole.{IsWhole}
 use Rattle.pearl_kernel.specs.Eligible.{entry, number_if}
 
@@ -47,14 +48,9 @@ no-entry setup t =
     (priority_of (opening setup) t)) (none-offered (length setup.tasks) t)
     ∙ ap (λ b. number_if b (priority_of (opening setup) t)) (cannot-act (row_of (opening setup) t))
 
-first-urgent : (main : Bool) (priority : ℕ) → IsUrgency priority → IsUrgentMode (first_mode main priority)
-first-urgent true priority is = is
-first-urgent false priority is = tt
-
-all-urgent : (tasks : List TaskEntry) → AllByRecursion IsTaskEntry tasks → AllByRecursion IsUrgent (map first_row tasks)
-all-urgent [] all = tt
-all-urgent (task ∷ tasks) all =
-    ((all.0.urgent, first-urgent task.main task.priority all.0.urgent), all-urgent tasks all.1)
+no-plans : (setup : Setup) (tasks : List TaskEntry) → AllByRecursion (IsPlannedRow setup) (map first_row tasks)
+no-plans setup [] = tt
+no-plans setup (task ∷ tasks) = ((tt, tt), no-plans setup tasks)
 
 -- the starts that are told name tasks that are there
 first-reports : (setup : Setup) (n : ℕ) (tasks : List TaskEntry) → n + length tasks ≡ length setup.tasks →
@@ -72,11 +68,14 @@ lawful-opening setup is = record {
   tasks = length-map setup.tasks first_row;
   counts = refl;
   counted = is.semaphores;
-  kinds = opening-kinds setup.slots is.slots;
-  urgent = all-urgent setup.tasks is.tasks;
+  kinds = opening-kinds setup is.slots is.devices;
+  urgent = opening-urgencies setup.tasks is.tasks;
+  plans = record { plans = no-plans setup setup.tasks; clock = omega arith };
+  moment = omega arith;
   same = length-replicate (length setup.tasks) None ∙ sym (length-map setup.tasks first_row);
   quiet = λ t e. none-offered (length setup.tasks) t;
   fits = λ t a e. absurd (none-some a (sym (none-offered (length setup.tasks) t) ∙ e));
+  carried = λ t a e. absurd (none-some a (sym (none-offered (length setup.tasks) t) ∙ e));
   told = first-reports setup 0 setup.tasks (omega arith);
 }
 
@@ -85,8 +84,7 @@ kept-opening setup is =
     let size = length-map setup.tasks first_row in
     record {
       few = subst (λ n. n ≤ 200) (sym size) is.few_tasks;
-      same = length-replicate (length setup.tasks) None ∙ sym size;
-      names = λ t a e. absurd (none-some a (sym (none-offered (length setup.tasks) t) ∙ e));
+      lawful = (setup, lawful-opening setup is);
       ready = record {
         size = length-replicate (length setup.tasks) None ∙ sym size;
         each = λ t within. get-none (length setup.tasks) t (subst (λ n. t < n) size within)

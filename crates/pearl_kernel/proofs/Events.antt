@@ -24,3 +24,8 @@ noted moment events event room less =
     let all : keep_last room (events ++ event ∷ []) ≡ events ++ event ∷ [] = grind
     (arith, length-append events (event ∷ [])) in
     ap (stamped moment) all ∙ stamped-append moment events event
+
+-- where nothing is told, nothing is at another moment
+pub stamped-none : (moment other : ℕ) (events : List Event) → stamped moment events ≡ [] → stamped other events ≡ []
+stamped-none moment other [] none = refl
+stamped-none moment other (event ∷ events) none = absurd cc

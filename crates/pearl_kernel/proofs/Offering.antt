@@ -8,12 +8,11 @@ use Rattle.pearl_rules.specs.declared.row.TaskRow.{TaskRow}
 use Rattle.pearl_rules.specs.declared.setup.Setup.{Setup}
 use Rattle.pearl_rules.specs.Core.{row_of, is_active, is_active_row}
 use Rattle.pearl_rules.specs.Slots.{Fits}
-use Rattle.pearl_kernel.specs.Kept.{Kept, offered, is_silent, is_unsettled, IsLawful}
-use Rattle.pearl_kernel.specs.Names.{Names, NamesAll}
+use Rattle.pearl_kernel.specs.Kept.{Kept, offered, is_silent, is_unsettled, IsCarriedOut, IsLawful}
 use Rattle.pearl_kernel.specs.Whole.{IsWhole}
 use Rattle.pearl_kernel.specs.Eligible.{entry}
 use Rattle.pearl_kernel.proofs.Places.{by_task, kept-other, kept-set, get-same, get-other}
-use Rattle.pearl_kernel.proofs.Entries.{entry-same}
+use Rattle.pearl_kernel.proofs.Entries.{alike, entry-same}
 
 abbrev offering : Kept → ℕ → Action → Kept
 offering k task a = record k { offers = slice_set k.offers task (Some a) }
@@ -42,42 +41,40 @@ unsettled-there k task e = by_row (row_of k.core task) refl (active k task e)
     by_row None same is = absurd (true≢false (sym is))
     by_row (Some row) same is = slice_get_within k.core.tasks task row same
 
-pub names-offering : (k : Kept) (task : ℕ) (a : Action) → NamesAll k → Names k.core a → NamesAll (offering k task a)
-names-offering k task a names new t b e = offer-is k task a (Names k.core) new names t b e
-
 pub lawful-offering : (setup : Setup) (k : Kept) (task : ℕ) (a : Action) → is_unsettled k task ≡ true → Fits setup a →
-    IsLawful setup k →
-    IsLawful setup (offering k task a)
-lawful-offering setup k task a unsettled fits lawful = record {
+    IsCarriedOut a → IsLawful setup k → IsLawful setup (offering k task a)
+lawful-offering setup k task a unsettled fits carried lawful = record {
   tasks = lawful.tasks;
   counts = lawful.counts;
   counted = lawful.counted;
   kinds = lawful.kinds;
   urgent = lawful.urgent;
+  plans = lawful.plans;
+  moment = lawful.moment;
   same = length-set k.offers task (Some a) ∙ lawful.same;
   quiet = λ t e. by_task t task (offered (offering k task a) t ≡ None)
       (λ same. absurd (true≢false (sym (subst (λ u. is_active k.core u ≡ true) (sym same) (active k task unsettled))
       ∙ e)))
       (λ other. kept-other k.offers task t (Some a) other ∙ lawful.quiet t e);
   fits = λ t b e. offer-is k task a (Fits setup) fits lawful.fits t b e;
+  carried = λ t b e. offer-is k task a IsCarriedOut carried lawful.carried t b e;
   told = lawful.told;
 }
 
-pub kept-offering : (k : Kept) (set : List (Option ℕ)) (task : ℕ) (a : Action) → task < length k.core.tasks →
-    Names k.core a → IsWhole k set →
+pub kept-offering : (setup : Setup) (k : Kept) (set : List (Option ℕ)) (task : ℕ) (a : Action) → task < length k.core.tasks →
+    IsLawful setup (offering k task a) → IsWhole k set →
     IsWhole (offering k task a) (slice_set set task (entry (offering k task a) task))
-kept-offering k set task a there names kept =
+kept-offering setup k set task a there lawful kept =
     let new : Kept = offering k task a in
     record {
       few = kept.few;
-      same = length-set k.offers task (Some a) ∙ kept.same;
-      names = names-offering k task a kept.names names;
+      lawful = (setup, lawful);
       ready = record {
         size = length-set set task (entry new task) ∙ kept.ready.size;
         each = λ t within. by_task t task (slice_get (slice_set set task (entry new task)) t ≡ Some (entry new t))
             (λ same. subst (λ u. slice_get (slice_set set task (entry new task)) u ≡ Some (entry new u)) (sym same)
             (get-same set task (entry new task) (subst (λ n. task < n) (sym kept.ready.size) there)))
             (λ other. get-other set task t (entry new task) other ∙ kept.ready.each t within
-            ∙ ap (λ e. Some e) (sym (entry-same k new t refl (kept-other k.offers task t (Some a) other) refl)));
+            ∙ ap (λ e. Some e) (sym (entry-same k new t refl (kept-other k.offers task t (Some a) other) (alike k.core))));
       };
     }

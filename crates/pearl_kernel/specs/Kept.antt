@@ -1,19 +1,18 @@
 -- What contracts see of a kernel, when it is lawful, and what its calls do.
-use Rattle.std.specs.Prelude.{◌≡◌, ℕ, ◌<◌, List, Bool, true, false, ◌&&◌, Option, Some, None, length, slice_set, map}
+use Rattle.std.specs.Prelude.{◌≡◌, ℕ, ◌<◌, ◌≤◌, List, Bool, true, false, ◌&&◌, Option, Some, None, length, slice_set, map}
 use Rattle.std.specs.Prelude.{replicate}
 use Rattle.std.specs.List.{AllByRecursion}
 use Rattle.pearl_rules.specs.declared.action.Action.{Action}
+use Rattle.pearl_rules.specs.declared.action.Action.TheVariants as action
 use Rattle.pearl_rules.specs.declared.event.Event.{Event}
 use Rattle.pearl_rules.specs.declared.event.Event.TheVariants as event
-use Rattle.pearl_rules.specs.declared.row.Mode.{Mode}
-use Rattle.pearl_rules.specs.declared.row.Mode.TheVariants.{Dormant, Active}
-use Rattle.pearl_rules.specs.declared.row.TaskRow.{TaskRow}
 use Rattle.pearl_rules.specs.declared.setup.Setup.{Setup}
 use Rattle.pearl_rules.specs.Core.{Core, Report, Happened, Shows, is_active, opening}
 use Rattle.pearl_rules.specs.Effect.{Effect, Reply, Hears, Ends, effect}
 use Rattle.pearl_rules.specs.Pick.{Offered, pick}
 use Rattle.pearl_rules.specs.Runs.{dropped, kept_at}
-use Rattle.pearl_rules.specs.Slots.{Fits, HasKinds, IsUrgency}
+use Rattle.pearl_rules.specs.Entries.{last_moment_of_all}
+use Rattle.pearl_rules.specs.Slots.{Fits, HasKinds, HasUrgencies, HasPlans}
 use Rattle.pearl_rules.specs.Tables.{IsPreset}
 use Rattle.pearl_kernel.specs.declared.kernel.Acted.{Acted}
 use Rattle.pearl_kernel.specs.declared.kernel.Acted.TheVariants.{Idle, Went, Ended}
@@ -36,13 +35,12 @@ stamped moment events = map {B = ℕ × Report} (λ event. (moment, Happened eve
 
 -- LAWFUL KERNELS
 
-abbrev pub IsUrgentMode : Mode → Type 0
-IsUrgentMode Dormant = Unit {0}
-IsUrgentMode (Active priority suspended) = IsUrgency priority
-
--- its declared priority and, where it is active, its own one
-abbrev pub IsUrgent : TaskRow → Type 0
-IsUrgent row = IsUrgency row.declared × IsUrgentMode row.mode
+-- the actions that a kernel carries out
+abbrev pub IsCarriedOut : Action → Type 0
+IsCarriedOut (action.Get device format kinds) = ⊥
+IsCarriedOut (action.Take device) = ⊥
+IsCarriedOut (action.Send device value) = ⊥
+IsCarriedOut other = Unit {0}
 
 -- an event names a task or a device that is there; no task sends yet
 abbrev pub NamesWhatIsThere : Setup → Event → Type 0
@@ -60,18 +58,22 @@ abbrev pub IsReportOf : Setup → ℕ × Report → Type 0
 IsReportOf setup (moment, Happened event) = NamesWhatIsThere setup event
 IsReportOf setup (moment, Shows task shown) = ⊥
 
--- The kernel is one of these tables: it has their tasks, slots and semaphores. No count is above the greatest one, each
--- slot holds a value of its kind, and priorities are from 1 to 255. A task that isn't active has offered nothing, and
--- what is offered fits the tables. What is still to be told happened, and names what is there.
+-- The kernel is one of these tables: it has their tasks, slots, semaphores and devices, and its moment is one that there
+-- is. No count is above the greatest one, each slot and each input holds values of its kind, priorities are from 1 to 255,
+-- and plans are lawful. A task that isn't active has offered nothing, and what is offered fits the tables and can be
+-- carried out. What is still to be told happened, and names what is there.
 pub record IsLawful (setup : Setup) (k : Kept) : Type 0 where
   pub tasks : length k.core.tasks ≡ length setup.tasks
   pub counts : length k.core.counts ≡ length setup.semaphores
   pub counted : AllByRecursion IsPreset k.core.counts
   pub kinds : HasKinds setup k.core
-  pub urgent : AllByRecursion IsUrgent k.core.tasks
+  pub urgent : HasUrgencies k.core
+  pub plans : HasPlans setup k.core
+  pub moment : k.core.moment ≤ last_moment_of_all
   pub same : length k.offers ≡ length k.core.tasks
   pub quiet : (t : ℕ) → is_active k.core t ≡ false → offered k t ≡ None
   pub fits : (t : ℕ) (action : Action) → offered k t ≡ Some action → Fits setup action
+  pub carried : (t : ℕ) (action : Action) → offered k t ≡ Some action → IsCarriedOut action
   pub told : AllByRecursion (IsReportOf setup) k.core.told
 
 -- WHAT IS UNSETTLED

@@ -1,5 +1,9 @@
 -- what contracts see of a kernel, when it is lawful, and what its calls do
 pub mod Kept
+-- how a device stands in the rules' core
+pub mod Channels
+-- when plans fire, and how far in time a kernel can be
+pub mod Timing
 -- when an action names what is there
 pub mod Names
 -- the set of the tasks that can act

@@ -1,16 +1,23 @@
 // The core's steps, one call for each.
 
-ghost use Rattle.std.specs.Prelude.{◌≡◌, ◌<◌, [], ◌∷◌, Some, None, true};
-ghost use Rattle.std.specs.Prelude.{IfOk, IfSome, MatchOption, length, slice_set};
+ghost use Rattle.std.specs.Prelude.{◌≡◌, ◌<◌, ◌≤◌, ◌+◌, [], ◌∷◌, Some, None, true};
+ghost use Rattle.std.specs.Prelude.{IfOk, IfSome, MatchOption, length, slice_get, slice_set};
 ghost use Rattle.pearl_rules.specs.declared.setup.Setup as Tables;
+ghost use Rattle.pearl_timer.specs.Series.{IsNext, NoneIsNext};
+ghost use Rattle.pearl_timer.specs.Timetable.{IsDue};
+ghost use Rattle.pearl_rules.specs.declared.entry.Entry.TheVariants.{Clock, Irpt};
 ghost use Rattle.pearl_rules.specs.Core.{Happened};
+ghost use Rattle.pearl_rules.specs.Devices.{arrived};
+ghost use Rattle.pearl_rules.specs.Entries.{last_moment_of_all};
+ghost use Rattle.pearl_rules.specs.Plans.{millisecond};
 ghost use Rattle.pearl_rules.specs.Pick.{pick, turned, can_turn as can_turn_in, shown_of};
 ghost use Rattle.pearl_rules.specs.Slots.{Fits};
-ghost use Rattle.pearl_rules.specs.Tables.{IsSetup};
-ghost use Rattle.pearl_kernel.specs.Kept.{at_start, offered as offered_of, IsLawful, Marks, NamesWhatIsThere};
+ghost use Rattle.pearl_rules.specs.Tables.{IsSetup, IsInterrupt};
+ghost use Rattle.pearl_kernel.specs.Kept.{at_start, offered as offered_of, IsCarriedOut, IsLawful, Marks, NamesWhatIsThere};
 ghost use Rattle.pearl_kernel.specs.Kept.{is_unsettled as is_unsettled_in, IsFirst, AllSettled};
+ghost use Rattle.pearl_kernel.specs.Timing.{timetable, passed, IsQuiet};
 
-use crate::standing::{refresh, renew, touched_by};
+use crate::standing::{refresh, renew, renew_all, touched_by};
 use crate::state::State;
 use pearl_ready::ready::Ready;
 use pearl_rules::action::{Action, Answer};
@@ -78,7 +85,7 @@ impl Kernel {
     /// A task offers its next action.
     pub fn offered(&mut self, task: u32, action: Action)
         requires unsettled { is_unsettled_in self.old task ≡ true }
-        requires fits { (setup : Tables.Setup) × IsLawful setup self.old × Fits setup action }
+        requires fits { (setup : Tables.Setup) × IsLawful setup self.old × Fits setup action × IsCarriedOut action }
         ensures offers { self.new ≡ record self.old { offers = slice_set self.old.offers task (Some action) } }
         ensures lawful { (setup : Tables.Setup) → IsLawful setup self.old → Fits setup action →
             IsLawful setup self.new }
@@ -106,8 +113,8 @@ impl Kernel {
         acted
     }
 
-    // The task that acts next.
-    fn picked(&self) -> Option<u32>
+    /// The task that acts next.
+    pub fn picked(&self) -> Option<u32>
         ensures picked { result ≡ pick self.now.core (offered_of self.now) }
         ensures there { IfSome result (λ t. t < length self.now.core.tasks) }
     {
@@ -135,6 +142,58 @@ impl Kernel {
             None => false,
             entry => entry == self.state.entry(best),
         }
+    }
+
+    /// The time of day at the start is this one, in milliseconds since midnight.
+    pub fn clock(&mut self, time: u32)
+        requires { time < 86400000 }
+        ensures set { self.new ≡ record self.old { core = arrived self.old.core (Clock time) } }
+        ensures lawful { (setup : Tables.Setup) → IsLawful setup self.old → IsLawful setup self.new }
+    {
+        self.state.set_clock(time);
+    }
+
+    /// An interrupt occurs, which is named by its device's number.
+    pub fn interrupt(&mut self, device: u32)
+        requires told { self.old.core.told ≡ [] }
+        requires there { (setup : Tables.Setup) × IsLawful setup self.old × IsInterrupt (slice_get setup.devices device) }
+        ensures arrived { self.new ≡ record self.old { core = arrived self.old.core (Irpt device) } }
+        ensures lawful { (setup : Tables.Setup) → IsLawful setup self.old → IsLawful setup self.new }
+    {
+        self.state.interrupted(device);
+        renew_all(&self.state, &mut self.ready);
+    }
+
+    /// A millisecond passes.
+    pub fn tick(&mut self)
+        requires told { self.old.core.told ≡ [] }
+        requires later { self.old.core.moment + 1 ≤ last_moment_of_all }
+        ensures passed { self.new ≡ record self.old { core = millisecond self.old.core } }
+        ensures lawful { (setup : Tables.Setup) → IsLawful setup self.old → IsLawful setup self.new }
+    {
+        self.state.millisecond();
+        renew_all(&self.state, &mut self.ready);
+    }
+
+    /// So many milliseconds pass, in which no plan fires.
+    pub fn skip(&mut self, n: u64)
+        requires told { self.old.core.told ≡ [] }
+        requires later { self.old.core.moment + n ≤ last_moment_of_all }
+        requires quiet { IsQuiet self.old.core n }
+        ensures passed { self.new ≡ record self.old { core = passed n self.old.core } }
+        ensures lawful { (setup : Tables.Setup) → IsLawful setup self.old → IsLawful setup self.new }
+    {
+        self.state.skip(n);
+    }
+
+    /// The least later moment at which a plan fires.
+    pub fn next_due(&mut self) -> Option<u64>
+        ensures next { MatchOption result
+            (NoneIsNext (IsDue (timetable self.old.core.tasks)) self.old.core.moment)
+            (IsNext (IsDue (timetable self.old.core.tasks)) self.old.core.moment) }
+        ensures same { self.new ≡ self.old }
+    {
+        self.state.next_due()
     }
 
     /// How a task stands; a number that names none is told to be dormant.

@@ -3,13 +3,18 @@
 //!
 //! [`Kernel::new`] takes all the memory that a run needs. Each task that is active offers its next action
 //! ([`Kernel::unsettled`], [`Kernel::offered`]); then [`Kernel::act`] does the action of the one whose turn it is, and
-//! [`Kernel::next_event`] hands out what it told.
+//! [`Kernel::next_event`] hands out what it told. Between actions milliseconds pass ([`Kernel::tick`], [`Kernel::skip`])
+//! and interrupts occur ([`Kernel::interrupt`]); the plans that fire then serve.
 #![tactic(auto)]
 
+mod channel;
 mod kernel;
+mod mirror;
 mod opening;
 mod perform;
+mod plans;
 mod standing;
 mod state;
+mod timing;
 
 pub use kernel::{Acted, Kernel};

@@ -1,15 +1,19 @@
 // What a state begins with.
 
 ghost use Rattle.std.specs.Prelude.{◌≡◌, ◌≤◌, [], None, IfOk, length, map, replicate};
-ghost use Rattle.pearl_rules.specs.Core.{first_row as first_row_of, first_events};
+ghost use Rattle.pearl_rules.specs.Core.{first_row as first_row_of, first_channel as first_channel_of, first_events};
+ghost use Rattle.pearl_kernel.specs.Channels.{standing};
 ghost use Rattle.pearl_kernel.specs.Kept.{stamped};
 
+use crate::channel::Channel;
 use circular_buffer::HeapCircularBuffer;
+use pearl_format::item::Item;
 use pearl_rules::action::Action;
 use pearl_rules::event::Event;
 use pearl_rules::row::{Mode, TaskRow};
-use pearl_rules::setup::TaskEntry;
+use pearl_rules::setup::{Device, TaskEntry};
 use pearl_value::cell::{Cell, copy_of};
+use pearl_value::listing::Listing;
 use std::alloc::{AllocError, Global};
 
 fn first_row(task: &TaskEntry) -> TaskRow
@@ -26,6 +30,8 @@ fn first_row(task: &TaskEntry) -> TaskRow
     TaskRow {
         mode,
         declared: task.priority,
+        continuation: None,
+        activation: None,
     }
 }
 
@@ -60,6 +66,52 @@ pub fn first_values(alloc: Global, first: &[Cell]) -> Result<Vec<Cell>, AllocErr
         slots.push(copy_of(value))?;
     }
     Ok(slots)
+}
+
+fn first_channel(device: &Device) -> Channel
+    ensures { standing result ≡ first_channel_of device.now }
+{
+    match device {
+        Device::Interrupt { .. } => Channel::Switch(false),
+        Device::Terminal { .. } => Channel::Terminal,
+        Device::Input { kind, .. } => Channel::Input(*kind),
+        Device::Output { .. } => Channel::Output,
+    }
+}
+
+/// How each device stands at the start.
+pub fn first_channels(alloc: Global, devices: &[Device]) -> Result<Vec<Channel>, AllocError>
+    ensures { IfOk result (λ channels. map standing channels.items ≡ map first_channel_of devices.now) }
+{
+    let mut channels = Vec::with_capacity(alloc, devices.len())?;
+    for device in devices {
+        channels.push(first_channel(device))?;
+    }
+    Ok(channels)
+}
+
+fn copied_format(alloc: Global, format: &[Item]) -> Result<Listing<Item>, AllocError>
+    ensures { IfOk result (λ items. items ≡ format.now) }
+{
+    let mut items = Vec::with_capacity(alloc, format.len())?;
+    for item in format {
+        items.push(*item)?;
+    }
+    Ok(Listing::new(items))
+}
+
+/// The formats of the tables.
+pub fn copied_formats(
+    alloc: Global,
+    formats: &[Listing<Item>],
+) -> Result<Vec<Listing<Item>>, AllocError>
+    ensures { IfOk result (λ copied. copied.items ≡ formats.now) }
+{
+    let mut copied = Vec::with_capacity(alloc, formats.len())?;
+    for format in formats {
+        copied.push(copied_format(alloc, format.as_slice())?)?;
+    }
+    Ok(copied)
 }
 
 /// Tells the starts of the MAIN tasks.

@@ -1,14 +1,14 @@
 // What an action does.
 
 ghost use Rattle.std.specs.Prelude.{◌≡◌, ◌<◌, [], ◌∷◌, IsTrue, true, length, nat_lt};
-ghost use Rattle.pearl_rules.specs.Core.{mode_of};
 ghost use Rattle.pearl_rules.specs.Counts.{all_below_most, count_at};
-ghost use Rattle.pearl_rules.specs.Effect.{effect, effect_of, ending, started, priority_or_declared};
-ghost use Rattle.pearl_rules.specs.Effect.{stopping, releasing, trying, with_mark};
+ghost use Rattle.pearl_rules.specs.Effect.{effect, effect_of, ending, activated, priority_or_declared, is_at_once};
+ghost use Rattle.pearl_rules.specs.Effect.{continues, resuming, prevented, stopping, releasing, trying};
 ghost use Rattle.pearl_rules.specs.Pick.{guard};
 ghost use Rattle.pearl_sema.specs.Waiting.{AreThere};
 ghost use Rattle.pearl_kernel.specs.Kept.{after, Replied};
 ghost use Rattle.pearl_kernel.specs.Names.{Names};
+ghost use Rattle.pearl_kernel.specs.Timing.{IsTimely, IsTimelyStart, IsTimelyRepeat};
 ghost use Rattle.pearl_kernel.specs.Whole.{HasRoom};
 
 use crate::kernel::Acted;
@@ -16,7 +16,7 @@ use crate::state::State;
 use arrayvec::ArrayVec;
 use pearl_rules::action::{Action, Answer, Repeat, Start};
 use pearl_rules::event::Event;
-use pearl_rules::row::Mode;
+use pearl_rules::row::{Activation, Mode};
 use pearl_value::cell::Cell;
 use pearl_value::trap::Trap;
 
@@ -46,36 +46,32 @@ impl State {
             Action::Read(slot) => return Acted::Went(own, Answer::One(self.slot(slot))),
             Action::Write(slot, value) => self.set_slot(slot, value),
             Action::Turn | Action::Enter => {}
+            Action::Now => {
+                let time = self.time_at(self.now());
+                return Acted::Went(own, Answer::One(Cell::Clock(time)));
+            }
             Action::Request(list) => self.lower(&list),
             Action::Release(list) => return self.release(own, &list),
             Action::Try(semaphore) => return self.attempt(own, semaphore),
             Action::Activate {
                 task,
-                start: Start::Free,
-                repeat: Repeat::Once,
+                start,
+                repeat,
                 priority,
-            } => self.activate(task, priority),
-            Action::Continue {
-                task,
-                start: Start::Free,
-            } => self.mark(task, false),
+            } => self.activate(task, start, repeat, priority),
+            Action::Continue { task, start } => self.continue_task(task, start),
+            Action::Resume(start) => self.resume(own, start),
             Action::Suspend(task) => self.mark(task, true),
             Action::Terminate(task) => return self.stop(own, task),
+            Action::Prevent(task) => self.prevent(task),
+            Action::Enable(device) => self.set_switch(device, true),
+            Action::Disable(device) => self.set_switch(device, false),
+            Action::Trigger(device) => self.interrupted(device),
             Action::Put { device, text } => self.note(Event::Out { device, text }),
             Action::End => return self.end(own, Event::End(own)),
             Action::Trap(trap) => return self.end(own, Event::Trap { task: own, trap }),
             // These aren't built yet: no task offers them.
-            Action::Now
-            | Action::Activate { .. }
-            | Action::Continue { .. }
-            | Action::Resume(_)
-            | Action::Prevent(_)
-            | Action::Enable(_)
-            | Action::Disable(_)
-            | Action::Trigger(_)
-            | Action::Get { .. }
-            | Action::Take(_)
-            | Action::Send(..) => unreachable!(),
+            Action::Get { .. } | Action::Take(_) | Action::Send(..) => unreachable!(),
         }
         Acted::Went(own, Answer::Nothing)
     }
@@ -90,64 +86,76 @@ impl State {
         Acted::Ended(own)
     }
 
-    // A task becomes dormant, and its offer is gone.
+    // A task becomes dormant, and its offer and the plan by which it goes on are gone.
     fn finish(&mut self, task: u32, event: Event)
         requires { HasRoom self.old task }
         ensures { self.new ≡ after self.old (ending self.old.core task event) }
     {
         self.set_offer(task, None);
-        self.set_mode(task, Mode::Dormant);
+        let mut row = self.row(task);
+        row.mode = Mode::Dormant;
+        row.continuation = None;
+        self.set_row(task, row);
         self.note(event);
     }
 
-    // A start of a task, with this priority or with the declared one.
-    fn activate(&mut self, task: u32, priority: Option<u8>)
+    // A start of a task, now or by a plan, with this priority or with the declared one.
+    fn activate(&mut self, task: u32, start: Start, repeat: Repeat, priority: Option<u8>)
         requires task { task < length self.old.core.tasks }
-        requires room { length self.old.core.told < 200 }
+        requires room { self.old.core.told ≡ [] }
+        requires timely { IsTimely self.old.core }
+        requires plan { IsTimelyStart start × IsTimelyRepeat repeat }
         ensures { let core = self.old.core in
-            self.new ≡ record self.old { core = started core task (priority_or_declared core task priority) } }
+            self.new ≡ record self.old { core = activated core task start repeat (priority_or_declared core task priority) } }
     {
         let priority = match priority {
-            None => self.declared(task),
+            None => self.row(task).declared,
             Some(priority) => priority,
         };
-        self.start(task, priority);
-    }
-
-    fn start(&mut self, task: u32, priority: u8)
-        requires task { task < length self.old.core.tasks }
-        requires room { length self.old.core.told < 200 }
-        ensures { self.new ≡ record self.old { core = started self.old.core task priority } }
-    {
-        match self.mode(task) {
-            Mode::Dormant => {
-                let suspended = false;
-                self.set_mode(
-                    task,
-                    Mode::Active {
-                        priority,
-                        suspended,
-                    },
-                );
-                self.note(Event::Start { task, priority });
-            }
-            Mode::Active { .. } => self.note(Event::Overrun(task)),
+        if is_at_once(start, repeat) {
+            self.start(task, priority);
+        } else {
+            let plan = self.planned(start, repeat);
+            self.plan_activation(task, Activation { plan, priority });
         }
     }
 
-    // An active task has this mark of suspension from now on.
-    fn mark(&mut self, task: u32, suspended: bool)
-        requires { task < length self.old.core.tasks }
-        ensures { self.new ≡ record self.old { core = with_mark self.old.core task suspended } }
+    // A suspended task goes on, now or by a plan.
+    fn continue_task(&mut self, task: u32, start: Start)
+        requires task { task < length self.old.core.tasks }
+        requires timely { IsTimely self.old.core }
+        requires plan { IsTimelyStart start }
+        ensures { self.new ≡ record self.old { core = continues self.old.core task start } }
     {
-        let mode = match self.mode(task) {
-            Mode::Dormant => Mode::Dormant,
-            Mode::Active { priority, .. } => Mode::Active {
-                priority,
-                suspended,
-            },
-        };
-        self.set_mode(task, mode);
+        if is_at_once(start, Repeat::Once) {
+            self.mark(task, false);
+        } else if self.is_active(task) {
+            let plan = self.planned(start, Repeat::Once);
+            self.plan_continuation(task, plan);
+        }
+    }
+
+    // A task suspends itself, and goes on by a plan.
+    fn resume(&mut self, own: u32, start: Start)
+        requires task { own < length self.old.core.tasks }
+        requires timely { IsTimely self.old.core }
+        requires plan { IsTimelyStart start }
+        ensures { self.new ≡ record self.old { core = resuming self.old.core own start } }
+    {
+        let plan = self.planned(start, Repeat::Once);
+        self.mark(own, true);
+        self.plan_continuation(own, plan);
+    }
+
+    // Both plans of a task are gone.
+    fn prevent(&mut self, task: u32)
+        requires { task < length self.old.core.tasks }
+        ensures { self.new ≡ record self.old { core = prevented self.old.core task } }
+    {
+        let mut row = self.row(task);
+        row.continuation = None;
+        row.activation = None;
+        self.set_row(task, row);
     }
 
     // An end from outside.
@@ -199,5 +207,15 @@ impl State {
         }
         let value = u64::from(free);
         Acted::Went(own, Answer::One(Cell::Bits { len: 1, value }))
+    }
+}
+
+// Whether what is written so is done now, and isn't a plan.
+fn is_at_once(start: Start, repeat: Repeat) -> bool
+    ensures { result ≡ is_at_once start repeat }
+{
+    match (start, repeat) {
+        (Start::Free, Repeat::Once) => true,
+        _ => false,
     }
 }

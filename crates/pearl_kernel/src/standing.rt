@@ -3,7 +3,7 @@
 ghost use Rattle.std.specs.Prelude.{◌≡◌, ◌<◌, ◌≤◌, length, slice_set};
 ghost use Rattle.pearl_rules.specs.Core.{Core};
 ghost use Rattle.pearl_kernel.specs.Names.{Names, NamesAll};
-ghost use Rattle.pearl_kernel.specs.Eligible.{entry};
+ghost use Rattle.pearl_kernel.specs.Eligible.{entry, IsSetOf};
 ghost use Rattle.pearl_kernel.specs.Touched.{Leaves, IsThere, IsRenewed};
 
 use crate::state::State;
@@ -24,8 +24,11 @@ pub fn touched_by(action: &Action) -> Touched
 {
     match action {
         Action::Request(_) | Action::Release(_) | Action::Try(_) => Touched::All,
+        Action::Trigger(_) | Action::Get { .. } | Action::Take(_) => Touched::All,
         Action::Activate { task, .. } | Action::Continue { task, .. } => Touched::Other(*task),
-        Action::Suspend(task) | Action::Terminate(task) => Touched::Other(*task),
+        Action::Suspend(task) | Action::Terminate(task) | Action::Prevent(task) => Touched::Other(
+            *task,
+        ),
         _ => Touched::Own,
     }
 }
@@ -57,11 +60,19 @@ pub fn renew(state: &State, ready: &mut Ready, own: u32, touched: Touched)
             refresh(state, ready, task);
             refresh(state, ready, own);
         }
-        Touched::All => {
-            let count = state.tasks() as u32;
-            for task in 0..count {
-                refresh(state, ready, task);
-            }
-        }
+        Touched::All => renew_all(state, ready),
+    }
+}
+
+/// The set has each task that can act.
+pub fn renew_all(state: &State, ready: &mut Ready)
+    requires few { length state.now.core.tasks ≤ 200 }
+    requires size { length ready.old ≡ length state.now.core.tasks }
+    requires names { NamesAll state.now }
+    ensures { IsSetOf state.now ready.new }
+{
+    let count = state.tasks() as u32;
+    for task in 0..count {
+        refresh(state, ready, task);
     }
 }

@@ -4,26 +4,38 @@ ghost use Rattle.std.specs.Prelude.{◌≡◌, ◌<◌, ◌≤◌, [], ◌∷◌
 ghost use Rattle.std.specs.Prelude.{IsTrue, IfOk, MatchOption, length, slice_set};
 ghost use Rattle.std.specs.List.{AllByRecursion};
 ghost use Rattle.pearl_rules.specs.declared.action.Action as Acting;
+ghost use Rattle.pearl_timer.specs.Series.{IsNext, NoneIsNext};
+ghost use Rattle.pearl_timer.specs.Timetable.{IsDue};
 ghost use Rattle.pearl_rules.specs.Core.{Happened, note as noted, is_active as is_active_in, mode_of, row_of, value_at};
+ghost use Rattle.pearl_rules.specs.Core.{Switch, with_row};
 ghost use Rattle.pearl_rules.specs.Counts.{all_free, all_below_most, lowered, raised};
-ghost use Rattle.pearl_rules.specs.Effect.{with_mode, declared_or_zero};
+ghost use Rattle.pearl_rules.specs.Devices.{is_enabled as is_enabled_in, with_channel};
+ghost use Rattle.pearl_rules.specs.Plans.{with_mode};
 ghost use Rattle.pearl_rules.specs.Pick.{is_possible as is_possible_in, guard};
 ghost use Rattle.pearl_rules.specs.Tables.{IsPreset};
 ghost use Rattle.pearl_sema.specs.Waiting.{AreThere};
 ghost use Rattle.pearl_kernel.specs.Kept.{at_start, offered as offered_of};
 ghost use Rattle.pearl_kernel.specs.Kept.{is_silent as is_silent_in, is_unsettled as is_unsettled_in};
 ghost use Rattle.pearl_kernel.specs.Names.{Names};
+ghost use Rattle.pearl_kernel.specs.Timing.{timetable};
 ghost use Rattle.pearl_kernel.specs.Eligible.{entry};
 
-use crate::opening::{first_rows, first_values, no_offers, tell_starts};
+use crate::channel::Channel;
+use crate::mirror::keep_row;
+use crate::opening::{
+    copied_formats, first_channels, first_rows, first_values, no_offers, tell_starts,
+};
 use arrayvec::ArrayVec;
 use circular_buffer::HeapCircularBuffer;
+use pearl_format::item::Item;
 use pearl_rules::action::Action;
 use pearl_rules::event::Event;
 use pearl_rules::row::{Mode, TaskRow};
 use pearl_rules::setup::Setup;
 use pearl_sema::semas::Semas;
+use pearl_timer::timer::Timer;
 use pearl_value::cell::{Cell, copy_of};
+use pearl_value::listing::Listing;
 use std::alloc::{AllocError, Global};
 use std::marker::Model;
 
@@ -31,34 +43,44 @@ use std::marker::Model;
 #[derive(Drop)]
 pub struct State {
     rows: Vec<TaskRow>,
+    // The series of the rows' plans.
+    timer: Timer,
     offers: Vec<Option<Action>>,
     slots: Vec<Cell>,
     semas: Semas,
+    channels: Vec<Channel>,
+    formats: Vec<Listing<Item>>,
     last: Option<usize>,
     moment: u64,
+    clock: u32,
     // What was told and not taken yet.
     events: HeapCircularBuffer<Event>,
 }
 
 impl Model for State {
-    ghost use Rattle.std.specs.Prelude.{◌≡◌};
+    ghost use Rattle.std.specs.Prelude.{◌≡◌, map};
+    ghost use Rattle.pearl_kernel.specs.Channels.{standing};
     ghost use Rattle.pearl_kernel.specs.Kept.{Kept, stamped};
+    ghost use Rattle.pearl_kernel.specs.Timing.{timetable};
 
     ghost Value = { Kept };
 
     ghost view = { λ s. record {
       core = record {
         moment = s.moment;
+        clock = s.clock;
         tasks = s.rows.items;
         slots = s.slots.items;
         counts = s.semas.counts;
+        channels = map standing s.channels.items;
+        formats = s.formats.items;
         last = s.last;
         told = stamped s.moment s.events.items;
       };
       offers = s.offers.items;
     } };
 
-    ghost invariant = { λ s. s.events.capacity ≡ 200 };
+    ghost invariant = { λ s. (s.events.capacity ≡ 200) × (s.timer ≡ timetable s.rows.items) };
 }
 
 impl State {
@@ -70,18 +92,25 @@ impl State {
     {
         let tasks = setup.tasks.as_slice();
         let rows = first_rows(alloc, tasks)?;
+        let timer = Timer::new(alloc, tasks.len())?;
         let offers = no_offers(alloc, tasks.len())?;
         let slots = first_values(alloc, setup.slots.as_slice())?;
         let semas = Semas::new(alloc, setup.semaphores.as_slice(), tasks.len())?;
+        let channels = first_channels(alloc, setup.devices.as_slice())?;
+        let formats = copied_formats(alloc, setup.formats.as_slice())?;
         let mut events = HeapCircularBuffer::with_capacity(alloc, 200)?;
         tell_starts(tasks, &mut events);
         Ok(State {
             rows,
+            timer,
             offers,
             slots,
             semas,
+            channels,
+            formats,
             last: None,
             moment: 0,
+            clock: 0,
             events,
         })
     }
@@ -103,7 +132,8 @@ impl State {
         }
     }
 
-    fn is_active(&self, task: u32) -> bool
+    /// Whether a task is active.
+    pub fn is_active(&self, task: u32) -> bool
         ensures { result ≡ is_active_in self.now.core task }
     {
         match self.rows.get(task as usize) {
@@ -128,20 +158,41 @@ impl State {
         }
     }
 
-    /// The priority that a start of a task has where it names none.
-    pub fn declared(&self, task: u32) -> u8
+    /// A task's row.
+    pub fn row(&self, task: u32) -> TaskRow
         requires { task < length self.now.core.tasks }
-        ensures { result ≡ declared_or_zero (row_of self.now.core task) }
+        ensures { row_of self.now.core task ≡ Some result }
     {
-        self.rows[task as usize].declared
+        self.rows[task as usize]
     }
 
-    /// The task stands so from now on.
+    /// A task has this row from now on.
+    pub fn set_row(&mut self, task: u32, row: TaskRow)
+        requires { task < length self.old.core.tasks }
+        ensures { self.new ≡ record self.old { core = with_row self.old.core task row } }
+    {
+        keep_row(&mut self.timer, task as usize, &row);
+        self.rows[task as usize] = row;
+    }
+
+    /// A task stands so from now on.
     pub fn set_mode(&mut self, task: u32, mode: Mode)
         requires { task < length self.old.core.tasks }
         ensures { self.new ≡ record self.old { core = with_mode self.old.core task mode } }
     {
-        self.rows[task as usize].mode = mode;
+        let mut row = self.row(task);
+        row.mode = mode;
+        self.set_row(task, row);
+    }
+
+    /// The least later moment at which a plan fires.
+    pub fn next_due(&mut self) -> Option<u64>
+        ensures next { MatchOption result
+            (NoneIsNext (IsDue (timetable self.old.core.tasks)) self.old.core.moment)
+            (IsNext (IsDue (timetable self.old.core.tasks)) self.old.core.moment) }
+        ensures same { self.new ≡ self.old }
+    {
+        self.timer.next_due(self.moment)
     }
 
     /// One more event.
@@ -273,6 +324,45 @@ impl State {
         ensures { result ≡ self.now.core.moment }
     {
         self.moment
+    }
+
+    /// The time of day at the start, in milliseconds since midnight.
+    pub fn clock(&self) -> u32
+        ensures { result ≡ self.now.core.clock }
+    {
+        self.clock
+    }
+
+    pub fn set_clock(&mut self, time: u32)
+        ensures { self.new ≡ record self.old { core = record self.old.core { clock = time } } }
+    {
+        self.clock = time;
+    }
+
+    /// Another moment, where nothing is to be told that happened before.
+    pub fn set_moment(&mut self, moment: u64)
+        requires { self.old.core.told ≡ [] }
+        ensures { self.new ≡ record self.old { core = record self.old.core { moment = moment } } }
+    {
+        self.moment = moment;
+    }
+
+    /// Whether an interrupt is let through.
+    pub fn is_enabled(&self, device: u32) -> bool
+        ensures { result ≡ is_enabled_in self.now.core device }
+    {
+        match self.channels.get(device as usize) {
+            Some(Channel::Switch(enabled)) => *enabled,
+            _ => false,
+        }
+    }
+
+    /// An interrupt is let through or masked from now on.
+    pub fn set_switch(&mut self, device: u32, enabled: bool)
+        requires { device < length self.old.core.channels }
+        ensures { self.new ≡ record self.old { core = with_channel self.old.core device (Switch enabled) } }
+    {
+        self.channels[device as usize] = Channel::Switch(enabled);
     }
 
     /// The task that acted last.

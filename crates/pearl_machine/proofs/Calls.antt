@@ -1,27 +1,34 @@
 -- What a call does, from what is seen of the machine at the call.
 use Rattle.std.specs.Prelude.{is_some, IsSome, MatchOption}
-use Rattle.std.proofs.Common.{◌≡◌, ℕ, ◌+◌, ◌<◌, ◌≤◌, List, [], ◌∷◌, ◌++◌, Option, Some, None, length, drop, slice_get, refl, sym, ap, subst, ◌∙◌}
+use Rattle.std.proofs.Common.{◌≡◌, ℕ, ◌+◌, ◌<◌, ◌≤◌, List, [], ◌∷◌, ◌++◌, Bool, false, Option, Some, None, length, drop, slice_get, refl, sym, ap, subst, ◌∙◌}
 use Rattle.pearl_rules.specs.declared.action.Action.{Action}
 use Rattle.pearl_rules.specs.declared.event.Event.{Event}
 use Rattle.pearl_rules.specs.declared.setup.Setup.{Setup}
-use Rattle.pearl_rules.specs.Core.{Report, Happened, Shows}
+use Rattle.pearl_rules.specs.declared.entry.Entry.{Entry}
+use Rattle.pearl_rules.specs.Core.{Core, Report, Happened, Shows}
+use Rattle.pearl_rules.specs.Devices.{arrived}
+use Rattle.pearl_rules.specs.Plans.{millisecond}
 use Rattle.pearl_rules.specs.Effect.{Reply}
 use Rattle.pearl_rules.specs.Pick.{pick, turned, states, shown_of}
-use Rattle.pearl_rules.specs.Runs.{Turns, Tells, machine_offers, machine_step, unsettled}
+use Rattle.pearl_rules.specs.Runs.{Turns, Tells, Passes, Arrives, machine_offers, machine_step, unsettled}
 use Rattle.pearl_rules.proofs.PickLaws.{states-offers}
+use Rattle.pearl_rules.proofs.EffectLaws.{millisecond-length, arrived-length}
+use Rattle.pearl_rules.proofs.ToldLaws.{millisecond-told_before, arrived-told_before}
 use Rattle.pearl_instructions.specs.declared.object.Object.{Object}
 use Rattle.pearl_engine.specs.Engines.{engine}
 use Rattle.pearl_engine.specs.Setups.{setup_of}
 use Rattle.pearl_script.specs.Lines.{event_line, state_line, report_line}
 use Rattle.pearl_script.specs.Words.{task_name}
 use Rattle.pearl_kernel.specs.Kept as kernel
+use Rattle.pearl_kernel.specs.Timing.{IsQuiet, passed}
+use Rattle.pearl_kernel.proofs.Passing.{passed-quiet}
 use Rattle.pearl_kernel.specs.Kept.{Kept, IsLawful, AllSettled, IsFirst, offered}
-use Rattle.pearl_machine.specs.Parts.{going_frames, start_of, running_of, StepsPart, SettlesPart}
+use Rattle.pearl_machine.specs.Parts.{going_frames, is_going, start_of, running_of, StepsPart, SettlesPart}
 use Rattle.pearl_machine.specs.Ready.{IsReady, untold, seen_of}
-use Rattle.pearl_machine.specs.Seen.{Seen, SettlesFirst, ActsFirst, Makes, retold, picked}
+use Rattle.pearl_machine.specs.Seen.{Seen, SettlesFirst, ActsFirst, Makes, Skips, retold, picked}
 use Rattle.pearl_machine.specs.Known.{Known}
 use Rattle.pearl_machine.specs.declared.part.Part.{Part}
-use Rattle.pearl_machine.proofs.ReadyLaws.{first_seen, settles_first, with_offer, kernel_settled, taken_events, taken_states}
+use Rattle.pearl_machine.proofs.ReadyLaws.{all_still, first_seen, settles_first, with_offer, kernel_settled, taken_events, taken_states}
 use Rattle.pearl_machine.proofs.Places.{none_here, offered_by}
 use Rattle.pearl_machine.proofs.Steps.{first_unsettled}
 use Rattle.pearl_machine.proofs.Taken.{state_next, no_state}
@@ -29,6 +36,7 @@ use Rattle.pearl_machine.proofs.Marking.{parts_after}
 use Rattle.pearl_machine.proofs.Making.{picked_here, tells_here, shows_here, turns_here}
 use Rattle.pearl_machine.proofs.Acting.{turned_taken, acts_seen}
 use Rattle.pearl_machine.proofs.Entering.{steps_silent, steps_offers}
+use Rattle.pearl_machine.proofs.Passing.{makes_of, skips_here, ready_changed}
 
 -- a task that was found
 pub first_of : (k : Kept) (found : Option ℕ) (t : ℕ) → MatchOption found (AllSettled k) (IsFirst k) → found ≡ Some t → IsFirst k t
@@ -111,12 +119,61 @@ module _ (o : Object) (setup : Setup) (k : Kept) (parts : List Part) (due : ℕ)
       subst (λ (x : Seen). seen_of o k parts 0 ≡ retold x (states x.state.core (machine_offers x.state))) is
       (shows_here o k parts r.lawful.quiet due (no_event taken))
 
+  -- MILLISECONDS, AND WHAT COMES FROM OUTSIDE
+
+  still : AllSettled k → (i : ℕ) → is_going (slice_get parts i) ≡ false
+  still all = all_still k parts r.going all
+
+  pub moment_call : s.state.core.moment ≡ k.core.moment
+  moment_call = ap (λ (x : Seen). x.state.core.moment) (sym is)
+
+  pub picked_call : picked s ≡ pick k.core (offered k)
+  picked_call = ap picked (sym is) ∙ picked_here o k parts r.lawful.quiet (untold k due)
+
+  pub quiet_call : (n : ℕ) → IsQuiet k.core n → IsQuiet s.state.core n
+  quiet_call n quiet = subst (λ (x : Seen). IsQuiet x.state.core n) is quiet
+
+  pub quiet_back : (n : ℕ) → IsQuiet s.state.core n → IsQuiet k.core n
+  quiet_back n quiet = subst (λ (x : Seen). IsQuiet x.state.core n) (sym is) quiet
+
+  pub skips_call : (k2 : Kept) (n : ℕ) → unsettled s.state ≡ None → s.state.core.told ≡ [] → IsQuiet s.state.core n →
+      k2 ≡ record k { core = passed n k.core } → Skips s n (seen_of o k2 parts due)
+  skips_call k2 n settled taken quiet same =
+      let silent = quiet_back n quiet in
+      let moved : k2 ≡ record k { core = record k.core { moment = k.core.moment + n } } =
+      same ∙ ap (λ c. let x : Kept = record k { core = c } in x) (passed-quiet n k.core silent) in
+      subst (λ x. Skips x n (seen_of o k2 parts due)) is
+      (subst (λ x. Skips (seen_of o k parts due) n (seen_of o x parts due)) (sym moved)
+      (skips_here o k parts r.lawful.quiet (still (all_settled settled)) due (no_event taken) (none_due taken) n silent))
+
+  pub passes_call : (k2 : Kept) → unsettled s.state ≡ None → s.state.core.told ≡ [] → k2 ≡ record k { core = millisecond k.core } →
+      Makes s Passes (seen_of o k2 parts due)
+  passes_call k2 settled taken same =
+      subst (λ x. Makes x Passes (seen_of o k2 parts due)) is
+      (subst (λ x. Makes (seen_of o k parts due) Passes (seen_of o x parts due)) (sym same)
+      (makes_of o k parts r.lawful.quiet (still (all_settled settled)) millisecond Passes due (no_event taken) (none_due taken)
+      (millisecond-length k.core) (λ before. millisecond-told_before before k.core) (λ m rest. refl)))
+
+  pub arrives_call : (k2 : Kept) (entry : Entry) → unsettled s.state ≡ None → s.state.core.told ≡ [] → k2 ≡ record k { core = arrived k.core entry } →
+      Makes s (Arrives entry) (seen_of o k2 parts due)
+  arrives_call k2 entry settled taken same =
+      subst (λ x. Makes x (Arrives entry) (seen_of o k2 parts due)) is
+      (subst (λ x. Makes (seen_of o k parts due) (Arrives entry) (seen_of o x parts due)) (sym same)
+      (makes_of o k parts r.lawful.quiet (still (all_settled settled)) (λ core. arrived core entry) (Arrives entry) due (no_event taken) (none_due taken)
+      (arrived-length k.core entry) (λ before. arrived-told_before before k.core entry) (λ m rest. refl)))
+
+  -- the machine where the core alone changed
+  pub changed_call : (k2 : Kept) (core : Core) → Known → unsettled s.state ≡ None → s.state.core.told ≡ [] → length core.tasks ≡ length k.core.tasks →
+      k2 ≡ record k { core = core } → IsLawful (setup_of o) k2 → IsReady o setup k2 parts due
+  changed_call k2 core known settled taken size same lawful =
+      ready_changed o setup k k2 parts due core r (all_settled settled) known (none_due taken) size same lawful
+
   -- WHAT IS TOLD NEXT
 
   states_same : (k2 : Kept) → k2 ≡ record k { core = record k.core { told = k2.core.told } } → states k2.core (offered k2) ≡ states k.core (offered k)
   states_same k2 same =
       ap (λ (n : Kept). states n.core (offered n)) same
-      ∙ states-offers (record k.core { told = k2.core.told }) k.core (offered k) (offered k) refl refl refl refl (λ t. refl)
+      ∙ states-offers (record k.core { told = k2.core.told }) k.core (offered k) (offered k) refl refl refl refl refl refl (λ t. refl)
 
   -- an event
   pub event_call : (k2 : Kept) (e : Event) (moment : ℕ) (line : List ℕ) → k.core.told ≡ (k.core.moment, Happened e) ∷ k2.core.told →

@@ -1,15 +1,15 @@
 -- Parts of an entry, one after the other.
 use Rattle.std.specs.Prelude.{Result, Ok, Err, OnOk, OnErr}
-use Rattle.std.proofs.Common.{◌≡◌, ℕ, zero, suc, ◌+◌, ◌-◌, ◌<◌, List, [], ◌∷◌, ◌++◌, Option, Some, None, slice_set, slice_get, refl, sym, ap, ap₂, subst, ◌∙◌, arith}
+use Rattle.std.proofs.Common.{◌≡◌, ℕ, zero, suc, ◌+◌, ◌-◌, ◌<◌, ◌≤◌, ◌⊎◌, inl, inr, List, [], ◌∷◌, ◌++◌, Option, Some, None, slice_set, slice_get, refl, sym, ap, ap₂, subst, ◌∙◌, arith}
 use Rattle.std.proofs.lemmas.Option.{none-some}
 use Rattle.pearl_rules.specs.declared.action.Action.{Action}
 use Rattle.pearl_rules.specs.declared.entry.Entry.{Entry}
-use Rattle.pearl_rules.specs.declared.entry.Entry.TheVariants.{Run, Turn, State}
+use Rattle.pearl_rules.specs.declared.entry.Entry.TheVariants.{Run, Tick, Pass, Turn, State}
 use Rattle.pearl_rules.specs.declared.setup.Setup.{Setup}
 use Rattle.pearl_rules.specs.Core.{Report}
 use Rattle.pearl_rules.specs.Pick.{states}
 use Rattle.pearl_rules.proofs.PickLaws.{states-offers}
-use Rattle.pearl_rules.specs.Runs.{Turns, Tells, machine_offers, Running, kept_at, stepped, unsettled, machine_step}
+use Rattle.pearl_rules.specs.Runs.{Turns, Tells, Arrives, next_mark, machine_offers, Running, kept_at, stepped, unsettled, machine_step}
 use Rattle.pearl_io.specs.Outside.{Takes}
 use Rattle.pearl_stack.specs.Frames.{Frame}
 use Rattle.pearl_instructions.specs.declared.object.Object.{Object}
@@ -20,10 +20,10 @@ use Rattle.pearl_script.specs.Lines.{lines_of}
 use Rattle.pearl_kernel.specs.Kept.{Kept, IsLawful, IsFirst}
 use Rattle.pearl_machine.specs.Parts.{start_of, going_frames, running_of, StepsPart, HasMemories}
 use Rattle.pearl_machine.specs.Ready.{IsReady, untold, seen_of}
-use Rattle.pearl_machine.specs.Seen.{Seen, retold, Handles, SettlesFirst, ActsFirst, Makes}
+use Rattle.pearl_machine.specs.Seen.{Seen, retold, NobodyActs, Handles, SettlesFirst, ActsFirst, Makes, PassesSome}
 use Rattle.pearl_machine.specs.Told.{IsCutOff}
 use Rattle.pearl_machine.specs.declared.part.Part.{Part}
-use Rattle.pearl_machine.proofs.Going.{IsMarked, handles_then, handles_retold, handles_pick, handles_turn, handles_state, handles_other}
+use Rattle.pearl_machine.proofs.Going.{handles_then, handles_retold, handles_pick, handles_turn, handles_state, handles_arrival}
 use Rattle.pearl_machine.proofs.Places.{offered_by, offers_here, goes_here}
 use Rattle.pearl_machine.proofs.ReadyLaws.{first_seen, first_active, first_silent, none_due, told_past, with_offer, ready_offers, ready_goes}
 use Rattle.pearl_machine.proofs.Steps.{first_step}
@@ -103,6 +103,9 @@ owing_less a b s =
 pub settled_object : (a b : Seen) → SettlesFirst a b → b.object ≡ a.object
 settled_object a b s = ap (λ (n : Seen). n.object) s.same
 
+pub settled_moment : (a b : Seen) → SettlesFirst a b → b.state.core.moment ≡ a.state.core.moment
+settled_moment a b s = ap (λ (n : Seen). n.state.core.moment) s.same
+
 pub settled_told : (a b : Seen) → SettlesFirst a b → b.state.core.told ≡ a.state.core.told
 settled_told a b s = ap (λ (n : Seen). n.state.core.told) s.same
 
@@ -177,16 +180,50 @@ pub cut_state : (b s w : Seen) (old new : Option (List ℕ)) → unsettled b.sta
 cut_state b s w old new settled object makes same cut =
     (s.state.core.told, [], handled_state b s w settled makes same, subst (λ o. IsCutOff (setup_of o) old new s.state.core.told w.state.core.told) object cut)
 
--- an entry of which no mark comes
-pub entered_other : (a b : Seen) (entry : Entry) (old : Option (List ℕ)) → ((from : List Entry) → Handles a from from b []) → (IsMarked entry → ⊥) →
-    Entered a entry b old old
-entered_other a b entry old settles other = ([], handles_other a b entry other (settles (entry ∷ [])), takes_nothing old)
+-- what came from outside, and its lines were written
+pub entered_arrival : (b m w : Seen) (entry : Entry) (old new : Option (List ℕ)) → unsettled b.state ≡ None → m.object ≡ b.object →
+    ((p : Option ℕ) (rest : List Entry) → next_mark p (entry ∷ rest) ≡ Some (record { mark = Arrives entry; rest = rest })) → Makes b (Arrives entry) m →
+    (Handles b (entry ∷ []) [] m m.state.core.told → Handles b (entry ∷ []) [] w m.state.core.told) →
+    Takes old new (lines_of (setup_of m.object) m.state.core.told) → Entered b entry w old new
+entered_arrival b m w entry old new settled object comes makes finish takes =
+    (m.state.core.told, finish (handles_arrival b m entry comes settled makes), subst (λ o. Takes old new (lines_of (setup_of o) m.state.core.told)) object takes)
 
-pub not_marked : (entry : Entry) → ((n : ℕ) → entry ≡ Run n → ⊥) → ((t : ℕ) → entry ≡ Turn t → ⊥) → (entry ≡ State → ⊥) → IsMarked entry → ⊥
-not_marked (Run n) run turn state marked = run n refl
-not_marked (Turn t) run turn state marked = turn t refl
-not_marked State run turn state marked = state refl
-not_marked entry run turn state marked = marked
+pub cut_arrival : (b m w : Seen) (entry : Entry) (old new : Option (List ℕ)) → unsettled b.state ≡ None → m.object ≡ b.object →
+    ((p : Option ℕ) (rest : List Entry) → next_mark p (entry ∷ rest) ≡ Some (record { mark = Arrives entry; rest = rest })) → Makes b (Arrives entry) m →
+    (Handles b (entry ∷ []) [] m m.state.core.told → Handles b (entry ∷ []) [] w m.state.core.told) →
+    IsCutOff (setup_of m.object) old new m.state.core.told w.state.core.told → CutShort b entry w old new
+cut_arrival b m w entry old new settled object comes makes finish cut = (
+  m.state.core.told,
+  [],
+  finish (handles_arrival b m entry comes settled makes),
+  subst (λ o. IsCutOff (setup_of o) old new m.state.core.told w.state.core.told) object cut,
+)
+
+-- WHILE MILLISECONDS PASS
+
+-- lines that are written change nothing
+pub handles_written : (a b w : Seen) (from left : List Entry) (told : List (ℕ × Report)) → w ≡ retold b w.state.core.told → Handles a from left b told →
+    Handles a from left w told
+handles_written a b w from left told same handles =
+    subst (λ n. Handles a from left n told) (sym same) (handles_retold a b from left told w.state.core.told handles)
+
+pub tick_on : (a l m : Seen) (count left n : ℕ) (told : List (ℕ × Report)) → l.object ≡ a.object → n ≤ left →
+    Handles a (Tick count ∷ []) (Tick left ∷ []) l told → PassesSome l n m →
+    Handles a (Tick count ∷ []) (Tick (left - n) ∷ []) m (told ++ m.state.core.told)
+tick_on a l m count left n told object within goes passes =
+    handles_then a l m (Tick count ∷ []) (Tick left ∷ []) (Tick (left - n) ∷ []) told m.state.core.told object goes (passes.ticks left within)
+
+pub pass_on : (a l m : Seen) (times picks left n : ℕ) (told : List (ℕ × Report)) → l.object ≡ a.object → n ≤ left → (n ≡ 1) ⊎ NobodyActs l picks →
+    Handles a (Pass times picks ∷ []) (Pass left picks ∷ []) l told → PassesSome l n m →
+    Handles a (Pass times picks ∷ []) (Run picks ∷ Pass (left - n) picks ∷ []) m (told ++ m.state.core.told)
+pass_on a l m times picks left n told object within free goes passes =
+    handles_then a l m (Pass times picks ∷ []) (Pass left picks ∷ []) (Run picks ∷ Pass (left - n) picks ∷ []) told m.state.core.told object goes
+    (passes.passes left picks within free)
+
+-- as many as pass at once are one, or nobody acts
+pub at_once_free : (l : Seen) (picks n most : ℕ) → 0 < n → n ≤ most → (most ≡ 1) ⊎ NobodyActs l picks → (n ≡ 1) ⊎ NobodyActs l picks
+at_once_free l picks n most some few (inl one) = inl (omega arith)
+at_once_free l picks n most some few (inr idle) = inr idle
 
 -- WHAT CLOSES A RUN
 
@@ -196,7 +233,7 @@ pub shown_states : (b s w : Seen) → s ≡ retold b (states b.state.core (machi
 shown_states b s w shown written =
     ap (λ (x : Seen). x.state.core.told) shown
     ∙ sym (ap (λ (x : Seen). states x.state.core (machine_offers x.state)) (written ∙ ap (λ (x : Seen). retold x w.state.core.told) shown)
-    ∙ states-offers (retold b w.state.core.told).state.core b.state.core (machine_offers b.state) (machine_offers b.state) refl refl refl refl (λ t. refl))
+    ∙ states-offers (retold b w.state.core.told).state.core b.state.core (machine_offers b.state) (machine_offers b.state) refl refl refl refl refl refl (λ t. refl))
 
 pub closes_from : (a b s w : Seen) → b.object ≡ a.object → ((from : List Entry) → Handles a from from b []) →
     s ≡ retold b (states b.state.core (machine_offers b.state)) → w ≡ retold s w.state.core.told → (from : List Entry) → Handles a from from w []

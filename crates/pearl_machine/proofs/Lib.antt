@@ -10,6 +10,8 @@ pub mod LastValue
 pub mod Going
 pub mod Making
 pub mod Acting
+pub mod Passing
 pub mod Loading
 pub mod Entering
 pub mod Calls
+pub mod Moments

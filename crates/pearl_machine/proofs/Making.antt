@@ -30,12 +30,12 @@ module _ (o : Object) (k : Kept) (parts : List Part) (quiet : (t : ℕ) → is_a
 
   pub picked_here : (told : List (ℕ × Report)) → pick (record k.core { told = told }) (λ t. offer_of (kept_at running t)) ≡ pick k.core (offered k)
   picked_here told =
-      pick-offers (record k.core { told = told }) k.core (λ t. offer_of (kept_at running t)) (offered k) refl refl refl
+      pick-offers (record k.core { told = told }) k.core (λ t. offer_of (kept_at running t)) (offered k) refl refl refl refl refl
       (offers_at o k.core k.offers parts quiet)
 
   pub states_here : (told : List (ℕ × Report)) → states (record k.core { told = told }) (λ t. offer_of (kept_at running t)) ≡ states k.core (offered k)
   states_here told =
-      states-offers (record k.core { told = told }) k.core (λ t. offer_of (kept_at running t)) (offered k) refl refl refl refl
+      states-offers (record k.core { told = told }) k.core (λ t. offer_of (kept_at running t)) (offered k) refl refl refl refl refl refl
       (offers_at o k.core k.offers parts quiet)
 
   -- THE TASKS' STATES

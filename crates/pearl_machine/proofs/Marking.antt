@@ -15,7 +15,7 @@ use Rattle.pearl_machine.proofs.Listed.{get_here, get_elsewhere, kept_here, kept
 use Rattle.pearl_machine.proofs.Rows.{table_alike, table-length, table_refreshed}
 use Rattle.pearl_machine.proofs.Places.{running_at}
 
-abbrev starting : List Frame → Running (List Frame)
+abbrev pub starting : List Frame → Running (List Frame)
 starting start = record { stack = start; offer = None }
 
 -- a task that isn't under way stands at its beginning, where it has offered nothing
@@ -23,7 +23,7 @@ still_starts : (start : List Frame) (p : Option Part) → is_going p ≡ false �
 still_starts start p still = ap (λ going. frames_if going start (stack_in p).frames) still
 
 -- where it becomes active it begins afresh, and where it is active it stands as before
-fits_now : (active : Bool) (start : List Frame) (offer : Option Action) (p : Option Part) → (active ≡ false → offer ≡ None) → is_going p ≡ false →
+pub fits_now : (active : Bool) (start : List Frame) (offer : Option Action) (p : Option Part) → (active ≡ false → offer ≡ None) → is_going p ≡ false →
     kept true (starting start) (shown active start offer p) ≡ shown true start offer p
 fits_now true start None p quiet still = refl
 fits_now true start (Some action) p quiet still = refl
@@ -64,7 +64,7 @@ dropped_none (u ∷ ended) xs i e = dropped_none ended (slice_set xs u None) i (
     by_place false differ = kept_elsewhere xs u i None (eqb-false u i differ) ∙ e
     by_place true is = ap (λ n. kept_at (slice_set xs n None) i) (eqb-true u i is) ∙ kept_gone xs i
 
-fits_active : (active : Bool) (start : List Frame) (x : Option (Running (List Frame))) (offer : Option Action) (p : Option Part) →
+pub fits_active : (active : Bool) (start : List Frame) (x : Option (Running (List Frame))) (offer : Option Action) (p : Option Part) →
     kept true (starting start) x ≡ shown true start offer p → kept active (starting start) x ≡ shown active start offer p
 fits_active false start x offer p e = refl
 fits_active true start x offer p e = e

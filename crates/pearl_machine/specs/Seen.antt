@@ -1,12 +1,11 @@
 -- What contracts see of a machine, and where a run goes on from there.
-use Rattle.std.specs.Prelude.{◌≡◌, ℕ, ◌<◌, List, [], ◌∷◌, ◌++◌, Bool, true, false, Option, Some, None, length, slice_set}
+use Rattle.std.specs.Prelude.{◌≡◌, ◌⊎◌, ℕ, suc, ◌+◌, ◌-◌, ◌<◌, ◌≤◌, List, [], ◌∷◌, ◌++◌, Bool, true, false, Option, Some, None, slice_set}
 use Rattle.pearl_rules.specs.declared.action.Action.{Action}
 use Rattle.pearl_rules.specs.declared.entry.Entry.{Entry}
-use Rattle.pearl_rules.specs.declared.entry.Entry.TheVariants.{Turn}
-use Rattle.pearl_rules.specs.declared.setup.Setup.{Setup}
+use Rattle.pearl_rules.specs.declared.entry.Entry.TheVariants.{Run, Tick, Pass, Chars, Line, Value}
 use Rattle.pearl_rules.specs.Core.{Report}
 use Rattle.pearl_rules.specs.Pick.{pick}
-use Rattle.pearl_rules.specs.Runs.{Running, Machine, Mark, Acts, kept_at, machine_offers, machine_mark, machine_after, next_mark, unsettled}
+use Rattle.pearl_rules.specs.Runs.{Running, Machine, Mark, Acts, Passes, kept_at, machine_offers, machine_mark, machine_after, next_mark, unsettled}
 use Rattle.pearl_stack.specs.Frames.{Frame}
 use Rattle.pearl_instructions.specs.declared.object.Object.{Object}
 use Rattle.pearl_engine.specs.Engines.{engine}
@@ -51,10 +50,12 @@ abbrev pub Handles : Seen → List Entry → List Entry → Seen → List (ℕ �
 Handles old from left new told = (before : List (ℕ × Report)) (entries rest : List Entry) → SameNext old entries (from ++ rest) →
     Goes old before entries (left ++ rest) new told
 
--- the task that an entry names is there
-abbrev pub IsEntryOf : Setup → Entry → Type 0
-IsEntryOf setup (Turn t) = t < length setup.tasks
-IsEntryOf setup entry = Unit {0}
+-- the entries that a machine carries out; what comes in at terminals and inputs isn't built yet
+abbrev pub IsCarriedOutEntry : Entry → Type 0
+IsCarriedOutEntry (Chars device text) = ⊥
+IsCarriedOutEntry (Line device text) = ⊥
+IsCarriedOutEntry (Value device x) = ⊥
+IsCarriedOutEntry entry = Unit {0}
 
 -- ONE PART OF AN ENTRY
 
@@ -93,6 +94,30 @@ pub record ActsFirst (old new : Seen) : Type 0 where
 abbrev pub ActedBy : Seen → Seen → Bool → Type 0
 ActedBy old new true = ActsFirst old new
 ActedBy old new false = (picked old ≡ None) × (new ≡ old)
+
+-- MILLISECONDS
+
+-- the moment is so much later
+abbrev pub later : ℕ → Seen → Seen
+later n seen = record seen { state = record seen.state { core = record seen.state.core { moment = seen.state.core.moment + n } } }
+
+-- nobody acts in so many picks
+abbrev pub NobodyActs : Seen → (picks : ℕ) → Type 0
+NobodyActs seen picks = (picked seen ≡ None) ⊎ (picks ≡ 0)
+
+-- so many milliseconds passed, and nothing else is otherwise
+pub record Skips (old : Seen) (n : ℕ) (new : Seen) : Type 0 where
+  pub same : new ≡ later n old
+  pub makes : (j : ℕ) → j < n → Makes (later j old) Passes (later (suc j) old)
+
+-- So many milliseconds passed: a `tick` has so many fewer left, and likewise a `pass`, where it was one or nobody acts.
+pub record PassesSome (old : Seen) (n : ℕ) (new : Seen) : Type 0 where
+  pub some : 0 < n
+  pub object : new.object ≡ old.object
+  pub moment : new.state.core.moment ≡ old.state.core.moment + n
+  pub ticks : (left : ℕ) → n ≤ left → Handles old (Tick left ∷ []) (Tick (left - n) ∷ []) new new.state.core.told
+  pub passes : (left picks : ℕ) → n ≤ left → (n ≡ 1) ⊎ NobodyActs old picks →
+      Handles old (Pass left picks ∷ []) (Run picks ∷ Pass (left - n) picks ∷ []) new new.state.core.told
 
 -- this is the line of what is told next, and what is told later is left; or nothing is left
 abbrev pub TakesNext : Seen → Seen → List ℕ → Bool → Type 0

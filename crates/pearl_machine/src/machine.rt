@@ -1,17 +1,22 @@
 //! The machine, from the start of a run to its end.
 
-ghost use Rattle.std.specs.Prelude.{◌≡◌, ◌≢◌, ℕ, ◌≤◌, List, [], ◌∷◌, ◌++◌, None, IfOk, OnOk, OnErr, is_some, length};
+ghost use Rattle.std.specs.Prelude.{◌≡◌, ◌≢◌, ◌⊎◌, ℕ, ◌+◌, ◌<◌, ◌≤◌, List, [], ◌∷◌, ◌++◌, None};
+ghost use Rattle.std.specs.Prelude.{IfOk, OnOk, OnErr, is_some, length, slice_get};
 ghost use Rattle.pearl_rules.specs.Core.{Report};
 ghost use Rattle.pearl_rules.specs.Pick.{states};
 ghost use Rattle.pearl_rules.specs.declared.entry.Entry.{Entry};
-ghost use Rattle.pearl_rules.specs.declared.entry.Entry.TheVariants.{Run};
-ghost use Rattle.pearl_rules.specs.Runs.{machine_start, machine_step, machine_offers, unsettled, Tells, Turns};
+ghost use Rattle.pearl_rules.specs.declared.entry.Entry.TheVariants.{Run, Tick, Pass, Clock, Irpt};
+ghost use Rattle.pearl_rules.specs.Entries.{last_moment_of_all, moment_after, EntryFits};
+ghost use Rattle.pearl_rules.specs.Runs.{machine_start, machine_step, machine_offers, unsettled, Tells, Turns, Passes, Arrives};
+ghost use Rattle.pearl_rules.specs.Tables.{IsInterrupt};
 ghost use Rattle.pearl_engine.specs.Built.{OnlyBuilt};
 ghost use Rattle.pearl_engine.specs.Engines.{engine};
 ghost use Rattle.pearl_engine.specs.Setups.{setup_of};
 ghost use Rattle.pearl_io.specs.Outside.{Takes, TakesFront, WriteFailed};
 ghost use Rattle.pearl_script.specs.Lines.{close_line as line_of_close, lines_of};
-ghost use Rattle.pearl_machine.specs.Seen.{Seen, Handles, IsEntryOf, SettledBy, ActedBy, Makes, TakesNext, retold};
+ghost use Rattle.pearl_kernel.specs.Timing.{IsQuiet};
+ghost use Rattle.pearl_machine.specs.Seen.{Seen, Handles, IsCarriedOutEntry, SettledBy, ActedBy, Makes, TakesNext};
+ghost use Rattle.pearl_machine.specs.Seen.{NobodyActs, Skips, PassesSome, retold};
 ghost use Rattle.pearl_machine.specs.Told.{IsCutOff};
 
 use crate::known::laws_hold;
@@ -76,6 +81,7 @@ impl Machine {
     pub fn setup(&self) -> &Setup
         ensures value { result.now ≡ setup_of self.now.object }
         ensures few { length result.now.tasks ≤ 200 }
+        ensures few_devices { length result.now.devices ≤ 396 }
     {
         &self.setup
     }
@@ -124,12 +130,15 @@ impl Machine {
     /// After [`WriteFault`] the machine stands after the mark whose lines were not taken whole.
     pub fn entry<K: Sink>(&mut self, entry: &Entry, sink: &mut K) -> Result<(), WriteFault>
         requires taken { self.old.state.core.told ≡ [] }
-        requires named { IsEntryOf (setup_of self.old.object) entry.now }
+        requires fits { EntryFits (setup_of self.old.object) self.old.state.core.moment entry.now }
+        requires carried { IsCarriedOutEntry entry.now }
         ensures object { self.new.object ≡ self.old.object }
         ensures ok { OnOk result ((told : List (ℕ × Report)) × Handles self.old (entry.now ∷ []) [] self.new told
             × Takes (K.taken sink.old) (K.taken sink.new) (lines_of (setup_of self.old.object) told)) }
         ensures settled { OnOk result (unsettled self.new.state ≡ None) }
         ensures all { OnOk result (self.new.state.core.told ≡ []) }
+        ensures moment { OnOk result
+            (self.new.state.core.moment ≡ moment_after self.old.state.core.moment entry.now) }
         ensures err { OnErr result ((told : List (ℕ × Report)) × (left : List Entry)
             × Handles self.old (entry.now ∷ []) left self.new told
             × IsCutOff (setup_of self.old.object) (K.taken sink.old) (K.taken sink.new) told self.new.state.core.told) }
@@ -139,6 +148,8 @@ impl Machine {
         self.settle();
         match entry {
             Entry::Run(count) => self.run(*count, sink),
+            Entry::Tick(count) => self.tick(*count, sink),
+            Entry::Pass { times, picks } => self.pass(*times, *picks, sink),
             Entry::Turn(task) => {
                 self.turn(*task);
                 Ok(())
@@ -147,8 +158,16 @@ impl Machine {
                 self.show();
                 self.tell(sink)
             }
-            // The others aren't built yet: no mark comes of them.
-            _ => Ok(()),
+            Entry::Clock(time) => {
+                self.set_clock(*time);
+                self.finish(sink)
+            }
+            Entry::Irpt(device) => {
+                self.interrupt(*device);
+                self.finish(sink)
+            }
+            // What comes in at terminals and inputs isn't built yet.
+            Entry::Chars { .. } | Entry::Line { .. } | Entry::Value { .. } => unreachable!(),
         }
     }
 
@@ -193,6 +212,7 @@ impl Machine {
     fn settle(&mut self)
         ensures object { self.new.object ≡ self.old.object }
         ensures told { self.new.state.core.told ≡ self.old.state.core.told }
+        ensures moment { self.new.state.core.moment ≡ self.old.state.core.moment }
         ensures settled { unsettled self.new.state ≡ None }
         ensures handles { (from : List Entry) → Handles self.old from from self.new [] }
     {
@@ -204,6 +224,7 @@ impl Machine {
         requires settled { unsettled self.old.state ≡ None }
         requires taken { self.old.state.core.told ≡ [] }
         ensures object { self.new.object ≡ self.old.object }
+        ensures moment { self.new.state.core.moment ≡ self.old.state.core.moment }
         ensures acted { ActedBy self.old self.new result }
     {
         laws_hold(&self.code);
@@ -226,6 +247,7 @@ impl Machine {
             × Takes (K.taken sink.old) (K.taken sink.new) (lines_of (setup_of self.old.object) told)) }
         ensures settled { OnOk result (unsettled self.new.state ≡ None) }
         ensures all { OnOk result (self.new.state.core.told ≡ []) }
+        ensures moment { OnOk result (self.new.state.core.moment ≡ self.old.state.core.moment) }
         ensures err { OnErr result ((told : List (ℕ × Report)) × (left : List Entry)
             × Handles self.old (Run count ∷ []) left self.new told
             × IsCutOff (setup_of self.old.object) (K.taken sink.old) (K.taken sink.new) told self.new.state.core.told) }
@@ -244,6 +266,174 @@ impl Machine {
         Ok(())
     }
 
+    // So many milliseconds, with the lines of each; nobody acts.
+    fn tick<K: Sink>(&mut self, count: u64, sink: &mut K) -> Result<(), WriteFault>
+        requires settled { unsettled self.old.state ≡ None }
+        requires taken { self.old.state.core.told ≡ [] }
+        requires later { self.old.state.core.moment + count ≤ last_moment_of_all }
+        ensures object { self.new.object ≡ self.old.object }
+        ensures ok { OnOk result ((told : List (ℕ × Report)) × Handles self.old (Tick count ∷ []) [] self.new told
+            × Takes (K.taken sink.old) (K.taken sink.new) (lines_of (setup_of self.old.object) told)) }
+        ensures settled { OnOk result (unsettled self.new.state ≡ None) }
+        ensures all { OnOk result (self.new.state.core.told ≡ []) }
+        ensures moment { OnOk result (self.new.state.core.moment ≡ self.old.state.core.moment + count) }
+        ensures err { OnErr result ((told : List (ℕ × Report)) × (left : List Entry)
+            × Handles self.old (Tick count ∷ []) left self.new told
+            × IsCutOff (setup_of self.old.object) (K.taken sink.old) (K.taken sink.new) told self.new.state.core.told) }
+        ensures cause { OnErr result (WriteFailed (K.faults sink.old) (K.faults sink.new) (K.full sink.new)) }
+        ensures later { K.faults sink.old ≤ K.faults sink.new }
+    {
+        let mut left = count;
+        while left > 0 {
+            left -= self.pass_some(left);
+            self.finish(sink)?;
+        }
+        Ok(())
+    }
+
+    // So many times a millisecond and then up to so many picks, with the lines of each.
+    fn pass<K: Sink>(&mut self, times: u64, picks: u64, sink: &mut K) -> Result<(), WriteFault>
+        requires settled { unsettled self.old.state ≡ None }
+        requires taken { self.old.state.core.told ≡ [] }
+        requires later { self.old.state.core.moment + times ≤ last_moment_of_all }
+        ensures object { self.new.object ≡ self.old.object }
+        ensures ok { OnOk result ((told : List (ℕ × Report)) × Handles self.old (Pass times picks ∷ []) [] self.new told
+            × Takes (K.taken sink.old) (K.taken sink.new) (lines_of (setup_of self.old.object) told)) }
+        ensures settled { OnOk result (unsettled self.new.state ≡ None) }
+        ensures all { OnOk result (self.new.state.core.told ≡ []) }
+        ensures moment { OnOk result (self.new.state.core.moment ≡ self.old.state.core.moment + times) }
+        ensures err { OnErr result ((told : List (ℕ × Report)) × (left : List Entry)
+            × Handles self.old (Pass times picks ∷ []) left self.new told
+            × IsCutOff (setup_of self.old.object) (K.taken sink.old) (K.taken sink.new) told self.new.state.core.told) }
+        ensures cause { OnErr result (WriteFailed (K.faults sink.old) (K.faults sink.new) (K.full sink.new)) }
+        ensures later { K.faults sink.old ≤ K.faults sink.new }
+    {
+        let mut left = times;
+        while left > 0 {
+            left -= self.pass_some(self.at_once(left, picks));
+            self.finish(sink)?;
+            self.run(picks, sink)?;
+        }
+        Ok(())
+    }
+
+    // How many of the milliseconds that are left may pass at once: all where nobody acts in so many picks, and else one.
+    fn at_once(&self, left: u64, picks: u64) -> u64
+        requires { 0 < left }
+        ensures some { 0 < result }
+        ensures few { result ≤ left }
+        ensures free { (result ≡ 1) ⊎ NobodyActs self.now picks }
+    {
+        if picks == 0 {
+            return left;
+        }
+        match self.kernel.picked() {
+            None => left,
+            Some(_) => 1,
+        }
+    }
+
+    // Up to so many milliseconds pass: those in which no plan fires, or else the next one.
+    fn pass_some(&mut self, most: u64) -> u64
+        requires some { 0 < most }
+        requires settled { unsettled self.old.state ≡ None }
+        requires taken { self.old.state.core.told ≡ [] }
+        requires later { self.old.state.core.moment + most ≤ last_moment_of_all }
+        ensures few { result ≤ most }
+        ensures passes { PassesSome self.old result self.new }
+    {
+        let quiet = self.quiet(most);
+        if quiet > 0 {
+            self.skip(quiet);
+            return quiet;
+        }
+        self.millisecond();
+        1
+    }
+
+    // In how many of the next milliseconds no plan fires, up to so many.
+    fn quiet(&mut self, most: u64) -> u64
+        ensures same { self.new ≡ self.old }
+        ensures few { result ≤ most }
+        ensures quiet { IsQuiet self.old.state.core result }
+    {
+        match self.kernel.next_due() {
+            None => most,
+            Some(moment) => most.min(moment - self.kernel.now() - 1),
+        }
+    }
+
+    // So many milliseconds pass, in which no plan fires.
+    fn skip(&mut self, n: u64)
+        requires settled { unsettled self.old.state ≡ None }
+        requires taken { self.old.state.core.told ≡ [] }
+        requires later { self.old.state.core.moment + n ≤ last_moment_of_all }
+        requires quiet { IsQuiet self.old.state.core n }
+        ensures { Skips self.old n self.new }
+    {
+        laws_hold(&self.code);
+        self.kernel.skip(n);
+    }
+
+    // A millisecond passes.
+    fn millisecond(&mut self)
+        requires settled { unsettled self.old.state ≡ None }
+        requires taken { self.old.state.core.told ≡ [] }
+        requires later { self.old.state.core.moment + 1 ≤ last_moment_of_all }
+        ensures object { self.new.object ≡ self.old.object }
+        ensures moment { self.new.state.core.moment ≡ self.old.state.core.moment + 1 }
+        ensures passes { Makes self.old Passes self.new }
+    {
+        laws_hold(&self.code);
+        self.kernel.tick();
+    }
+
+    // The time of day at the start is set.
+    fn set_clock(&mut self, time: u32)
+        requires settled { unsettled self.old.state ≡ None }
+        requires taken { self.old.state.core.told ≡ [] }
+        requires time { time < 86400000 }
+        ensures object { self.new.object ≡ self.old.object }
+        ensures moment { self.new.state.core.moment ≡ self.old.state.core.moment }
+        ensures arrives { Makes self.old (Arrives (Clock time)) self.new }
+    {
+        laws_hold(&self.code);
+        self.kernel.clock(time);
+    }
+
+    // An interrupt occurs.
+    fn interrupt(&mut self, device: u32)
+        requires settled { unsettled self.old.state ≡ None }
+        requires taken { self.old.state.core.told ≡ [] }
+        requires there { IsInterrupt (slice_get (setup_of self.old.object).devices device) }
+        ensures object { self.new.object ≡ self.old.object }
+        ensures moment { self.new.state.core.moment ≡ self.old.state.core.moment }
+        ensures arrives { Makes self.old (Arrives (Irpt device)) self.new }
+    {
+        laws_hold(&self.code);
+        self.kernel.interrupt(device);
+    }
+
+    // Hands the sink the lines of a mark; then every active task goes on to its next action.
+    fn finish<K: Sink>(&mut self, sink: &mut K) -> Result<(), WriteFault>
+        ensures object { self.new.object ≡ self.old.object }
+        ensures moment { self.new.state.core.moment ≡ self.old.state.core.moment }
+        ensures ok { OnOk result (Takes (K.taken sink.old) (K.taken sink.new)
+            (lines_of (setup_of self.old.object) self.old.state.core.told)) }
+        ensures settled { OnOk result (unsettled self.new.state ≡ None) }
+        ensures all { OnOk result (self.new.state.core.told ≡ []) }
+        ensures handles { (a : Seen) (from left : List Entry) (told : List (ℕ × Report)) →
+            self.old.object ≡ a.object → Handles a from left self.old told → Handles a from left self.new told }
+        ensures err { OnErr result (IsCutOff (setup_of self.old.object) (K.taken sink.old) (K.taken sink.new)
+            self.old.state.core.told self.new.state.core.told) }
+        ensures cause { OnErr result (WriteFailed (K.faults sink.old) (K.faults sink.new) (K.full sink.new)) }
+        ensures later { K.faults sink.old ≤ K.faults sink.new }
+    {
+        self.tell(sink)?;
+        self.settle();
+        Ok(())
+    }
+
     // It becomes a task's turn, where it can.
     fn turn(&mut self, task: u32)
         requires settled { unsettled self.old.state ≡ None }
@@ -251,6 +441,7 @@ impl Machine {
         ensures object { self.new.object ≡ self.old.object }
         ensures settled { unsettled self.new.state ≡ None }
         ensures taken { self.new.state.core.told ≡ [] }
+        ensures moment { self.new.state.core.moment ≡ self.old.state.core.moment }
         ensures turns { Makes self.old (Turns task) self.new }
     {
         self.kernel.turn(task);

@@ -2,6 +2,7 @@
 use Rattle.std.specs.Prelude.{ℕ, ◌<◌, List, ◌++◌, length, codes}
 use Rattle.std.specs.Fmt.{decimal}
 use Rattle.std.specs.List.{flat_map}
+use Rattle.pearl_value.specs.WellFormed.{IsValue}
 use Rattle.pearl_rules.specs.declared.event.Event.{Event}
 use Rattle.pearl_rules.specs.declared.event.Event.TheVariants.{Start, End, Stop, Trap, Overrun, Masked, Lost, Out, Send}
 use Rattle.pearl_rules.specs.declared.event.Shown.{Shown}
@@ -11,7 +12,7 @@ use Rattle.pearl_rules.specs.Core.{Report, Happened, Shows}
 use Rattle.pearl_script.specs.Words.{trap_word, task_name, device_number, sort_word, spelled}
 use Rattle.pearl_script.specs.Literals.{literal}
 
--- the numbers in the event name what is there; SEND isn't built yet
+-- the numbers in the event name what is there, and what is sent is a value
 abbrev pub IsEventOf : Setup → Event → Type 0
 IsEventOf setup (Start task priority) = task < length setup.tasks
 IsEventOf setup (End task) = task < length setup.tasks
@@ -21,7 +22,7 @@ IsEventOf setup (Overrun task) = task < length setup.tasks
 IsEventOf setup (Masked device) = device < length setup.devices
 IsEventOf setup (Lost device) = device < length setup.devices
 IsEventOf setup (Out device text) = device < length setup.devices
-IsEventOf setup (Send device value) = ⊥
+IsEventOf setup (Send device value) = (device < length setup.devices) × IsValue value
 
 -- that something happened
 abbrev pub event_line : ℕ → Event → Setup → List ℕ

@@ -5,6 +5,7 @@ ghost use Rattle.std.specs.Fmt.{decimal};
 ghost use Rattle.pearl_script.specs.Lines.{IsEventOf, close_line, event_line, state_line};
 ghost use Rattle.pearl_script.specs.Words.{device_number, sort_word, task_name, trap_word};
 
+use crate::literal::push_literal;
 use crate::piece::{push_bytes, push_number, push_spelled};
 use arrayvec::ArrayVec;
 use pearl_rules::event::{Event, Shown};
@@ -48,7 +49,13 @@ pub fn event_line(moment: u64, event: &Event, setup: &Setup, into: &mut ArrayVec
             push_spelled(text.as_slice(), into);
             push_bytes(b"'\n", into);
         }
-        Event::Send { .. } => unreachable!(),
+        Event::Send { device, value } => {
+            begin(moment, b" send ", into);
+            push_number(u64::from(number_at(setup, *device)), into);
+            push_bytes(b" ", into);
+            push_literal(value, into);
+            push_bytes(b"\n", into);
+        }
     }
 }
 

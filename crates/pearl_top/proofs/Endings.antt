@@ -1,6 +1,7 @@
 -- What closes a transcript, written by a machine that has come to the end of its entries.
 use Rattle.std.proofs.Common.{◌≡◌, ℕ, List, [], ◌++◌, None, refl, ap, sym, ◌∙◌, subst, append_assoc}
 use Rattle.pearl_rules.specs.declared.entry.Entry.{Entry}
+use Rattle.pearl_rules.specs.Entries.{AreFitting}
 use Rattle.pearl_rules.specs.Core.{Report, first_events}
 use Rattle.pearl_rules.specs.Pick.{pick, states}
 use Rattle.pearl_rules.specs.Runs.{Machine, machine_after, machine_next, machine_offers, unsettled}
@@ -25,13 +26,13 @@ use Rattle.pearl_top.proofs.TranscriptLaws.{lines_of-append, machine_closing, cl
 -- who acts next, whatever was told
 picked_at : (seen : Seen) (told : List (ℕ × Report)) (left : List Entry) → pick (at seen told left).core (machine_offers (at seen told left)) ≡ picked seen
 picked_at seen told left =
-    pick-offers (at seen told left).core seen.state.core (machine_offers (at seen told left)) (machine_offers seen.state) refl refl refl (λ t. refl)
+    pick-offers (at seen told left).core seen.state.core (machine_offers (at seen told left)) (machine_offers seen.state) refl refl refl refl refl (λ t. refl)
 
 -- how the tasks stand, whatever was told
 states_at : (seen : Seen) (told : List (ℕ × Report)) (left : List Entry) →
     states (at seen told left).core (machine_offers (at seen told left)) ≡ states seen.state.core (machine_offers seen.state)
 states_at seen told left =
-    states-offers (at seen told left).core seen.state.core (machine_offers (at seen told left)) (machine_offers seen.state) refl refl refl refl (λ t. refl)
+    states-offers (at seen told left).core seen.state.core (machine_offers (at seen told left)) (machine_offers seen.state) refl refl refl refl refl refl (λ t. refl)
 
 -- no mark comes any more
 is_done : (seen : Seen) (told : List (ℕ × Report)) (left : List Entry) → SameNext seen left [] → IsDone (at seen told left)
@@ -48,10 +49,10 @@ regroup : (a b c : List ℕ) (all : List ℕ) → all ≡ a ++ b → all ++ c �
 regroup a b c all e = ap (λ x. x ++ c) e ∙ append_assoc a b c
 
 -- the whole transcript, behind the opening lines, where the machine is settled
-pub closes : (p : PlainProg) (o : Object) (es : List Entry) (seen : Seen) (told : List (ℕ × Report)) → IsFaithfulTo p o → Advances (started o) seen es told →
+pub closes : (p : PlainProg) (o : Object) (es : List Entry) (seen : Seen) (told : List (ℕ × Report)) → IsFaithfulTo p o → AreFitting (setup_of o) es → Advances (started o) seen es told →
     unsettled seen.state ≡ None →
     IsTranscript p es Closed (opening_lines p ++ (lines_of (setup_of o) told ++ machine_closing (setup_of o) seen.state))
-closes p o es seen told faithful ran settled =
+closes p o es seen told faithful fit ran settled =
     let end : Goes (started o) (opening o) es [] seen told = stands o es [] seen told ran.handles in
     let there : Machine (List Frame) = at seen (opening o ++ told) end.left in
     let m : Machine (List Frame) = machine_after (engine o) (start_of o es) end.steps in
@@ -62,29 +63,29 @@ closes p o es seen told faithful ran settled =
     (subst (IsTranscript p es Closed)
     (regroup (opening_lines p) (lines_of (setup_of o) told) (machine_closing (setup_of o) m) (lines_of (setup_of o) m.core.told)
     (ap (λ x. lines_of (setup_of o) x.core.told) end.is ∙ told_lines p o told faithful.tables))
-    (closed_text p o es end.steps faithful (ap unsettled end.is ∙ settled)
+    (closed_text p o es end.steps faithful fit (ap unsettled end.is ∙ settled)
     (ap machine_next end.is ∙ done (pick there.core (machine_offers there)) (λ known. refl))))
 
 -- the transcript that a refusal cuts short
-pub cuts : (p : PlainProg) (o : Object) (es : List Entry) (seen : Seen) (told : List (ℕ × Report)) (refusal : Refusal) → IsFaithfulTo p o → Advances (started o) seen es told →
+pub cuts : (p : PlainProg) (o : Object) (es : List Entry) (seen : Seen) (told : List (ℕ × Report)) (refusal : Refusal) → IsFaithfulTo p o → AreFitting (setup_of o) es → Advances (started o) seen es told →
     IsTranscript p es (Cut refusal) (opening_lines p ++ (lines_of (setup_of o) told ++ refusal_line refusal))
-cuts p o es seen told refusal faithful ran =
+cuts p o es seen told refusal faithful fit ran =
     let end : Goes (started o) (opening o) es [] seen told = stands o es [] seen told ran.handles in
     let m : Machine (List Frame) = machine_after (engine o) (start_of o es) end.steps in
     subst (IsTranscript p es (Cut refusal))
     (regroup (opening_lines p) (lines_of (setup_of o) told) (refusal_line refusal) (lines_of (setup_of o) m.core.told)
     (ap (λ x. lines_of (setup_of o) x.core.told) end.is ∙ told_lines p o told faithful.tables))
-    (cut_text p o es end.steps refusal faithful (subst IsDone (sym end.is) (is_done seen (opening o ++ told) end.left end.same)))
+    (cut_text p o es end.steps refusal faithful fit (subst IsDone (sym end.is) (is_done seen (opening o ++ told) end.left end.same)))
 
 -- what was told so far, and what follows it
 pub record Follows (p : PlainProg) (es : List Entry) (close : Close) (bytes : List ℕ) : Type 0 where
   pub rest : List ℕ
   pub whole : IsTranscript p es close (opening_lines p ++ (bytes ++ rest))
 
-pub breaks_off : (p : PlainProg) (o : Object) (es : List Entry) (told : List (ℕ × Report)) (close : Close) → IsFaithfulTo p o → Breaks (started o) es told →
+pub breaks_off : (p : PlainProg) (o : Object) (es : List Entry) (told : List (ℕ × Report)) (close : Close) → IsFaithfulTo p o → AreFitting (setup_of o) es → Breaks (started o) es told →
     Follows p es close (lines_of (setup_of o) told)
-breaks_off p o es told close faithful breaks =
-    let front : HasRest p es close (lines_of (setup_of o) (opening o ++ told)) = front_text p o es told close faithful breaks in record {
+breaks_off p o es told close faithful fit breaks =
+    let front : HasRest p es close (lines_of (setup_of o) (opening o ++ told)) = front_text p o es told close faithful fit breaks in record {
       rest = front.rest;
       whole = subst (IsTranscript p es close)
           (regroup (opening_lines p) (lines_of (setup_of o) told) front.rest _ (told_lines p o told faithful.tables)) front.whole;

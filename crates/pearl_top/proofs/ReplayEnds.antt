@@ -4,6 +4,7 @@ use Rattle.pearl_io.specs.Outside.{Takes, TakesFront}
 use Rattle.pearl_io.proofs.Pieces.{takes_more}
 use Rattle.pearl_rules.specs.declared.entry.Entry.{Entry}
 use Rattle.pearl_rules.specs.declared.setup.Setup.{Setup}
+use Rattle.pearl_rules.specs.Entries.{AreFitting}
 use Rattle.pearl_rules.specs.Core.{Report, first_events}
 use Rattle.pearl_rules.specs.Runs.{unsettled}
 use Rattle.pearl_program.specs.PlainPrograms.{PlainProg}
@@ -23,6 +24,8 @@ use Rattle.pearl_top.specs.declared.status.Status.{Status}
 use Rattle.pearl_top.specs.declared.status.Status.TheVariants as statuses
 use Rattle.pearl_top.specs.Status.{status_of}
 use Rattle.pearl_journal.specs.Entries.{Ending, Entries, All, Bad, entries}
+use Rattle.pearl_journal.specs.Readings as readings
+use Rattle.pearl_journal.proofs.FitLaws.{entries-fit}
 use Rattle.pearl_top.specs.JournalDue.{opening_lines, IsRun, JournalDue}
 use Rattle.pearl_top.specs.Transcript.{Close, Closed, Cut, IsTranscript}
 use Rattle.pearl_top.specs.Taken.{Finishes, Leaves, Stops}
@@ -72,6 +75,13 @@ pub record Reached (p : PlainProg) (o : Object) (lines : List (List ℕ)) (endin
 read_as : (p : PlainProg) (setup : Setup) (lines : List (List ℕ)) (found : Entries) → setup ≡ tables_of p → entries setup lines ≡ found → entries (tables_of p) lines ≡ found
 read_as p setup lines found same read = subst (λ tables. entries tables lines ≡ found) same read
 
+-- what was read of the lines fits
+read_fits : (p : PlainProg) (o : Object) (lines : List (List ℕ)) (es : List Entry) (ending : Ending) → IsFaithfulTo p o →
+    entries (tables_of p) lines ≡ record { accepted = es; ending = ending } → AreFitting (setup_of o) es
+read_fits p o lines es ending faithful read =
+    subst (λ setup. AreFitting setup es) (sym faithful.tables)
+    (subst (λ found. AreFitting (tables_of p) found.accepted) read (entries-fit (tables_of p) readings.start lines))
+
 pub reached : (p : PlainProg) (o : Object) (lines : List (List ℕ)) (ending : Ending) (opened after : Seen) (old mid new : Option (List ℕ)) → Begun p o opened old mid →
     LinesDone (setup_of opened.object) lines ending opened after mid new → Reached p o lines ending after old new
 reached p o lines ending opened after old mid new start done =
@@ -112,7 +122,7 @@ leaves_cut p o lines ending seen old new why due there is_due =
         es = there.es;
         read = there.read;
         written = subst (IsTranscript p there.es (Cut why)) (sym (append_assoc (opening_lines p) told (refusal_line why)))
-            (cuts p o there.es seen there.told why there.faithful there.comes);
+            (cuts p o there.es seen there.told why there.faithful (read_fits p o lines there.es ending there.faithful there.read) there.comes);
       });
       taken = there.taken;
     }
@@ -125,7 +135,7 @@ closed_run p o lines seen old new there settled = record {
   es = there.es;
   read = there.read;
   written = subst (IsTranscript p there.es Closed) (sym (append_assoc (opening_lines p) (lines_of (setup_of o) there.told) _))
-      (closes p o there.es seen there.told there.faithful there.comes settled);
+      (closes p o there.es seen there.told there.faithful (read_fits p o lines there.es All there.faithful there.read) there.comes settled);
 }
 
 -- the tasks' states and the closing line were taken
@@ -193,9 +203,11 @@ leaves_broken p o journal rose lines status last opened old mid new start covers
     let broken : LinesBroken (setup_of o) lines opened mid new = subst (λ held. LinesBroken (setup_of held) lines opened mid new) start.opens.object at_lines in
     let breaks : Breaks (started o) broken.es broken.told = breaks-then (started o) opened [] broken.es [] broken.told start.opens broken.breaks in
     let told : List ℕ = lines_of (setup_of o) broken.told in
+    let read = read_as p (setup_of o) lines _ start.faithful.tables broken.read in
+    let fit = read_fits p o lines broken.es broken.ending start.faithful read in
     let due : (s : Status) × (rest : List ℕ) × JournalDue p journal rose s (opening_lines p ++ (told ++ rest)) =
-    broken_at p journal rose lines status last broken.es broken.ending told covers (read_as p (setup_of o) lines _ start.faithful.tables broken.read)
-    (λ end. let front : Follows p broken.es end told = breaks_off p o broken.es broken.told end start.faithful breaks in (front.rest, front.whole)) in
+    broken_at p journal rose lines status last broken.es broken.ending told covers read
+    (λ end. let front : Follows p broken.es end told = breaks_off p o broken.es broken.told end start.faithful fit breaks in (front.rest, front.whole)) in
     stops_in old mid new (JournalDue p journal rose) due.0 (opening_lines p) told due.1 due.2 start.taken broken.taken
 
 -- the lines failed

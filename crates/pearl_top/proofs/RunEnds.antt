@@ -2,6 +2,7 @@
 use Rattle.std.proofs.Common.{◌≡◌, ℕ, List, [], ◌++◌, Option, Some, None, refl, ap, sym, ◌∙◌, subst, append-nil}
 use Rattle.std.proofs.lemmas.Option.{none-some}
 use Rattle.pearl_rules.specs.declared.entry.Entry.{Entry}
+use Rattle.pearl_rules.specs.Entries.{AreFitting}
 use Rattle.pearl_rules.specs.Core.{Report, first_events}
 use Rattle.pearl_rules.specs.Pick.{pick, states}
 use Rattle.pearl_rules.specs.Runs.{Source, source_next, source_offers, Machine, machine_after, machine_offers, machine_next, next_mark, unsettled, marked}
@@ -48,21 +49,21 @@ same_tasks : (p : PlainProg) (o : Object) (es : List Entry) (k : ℕ) → IsFait
 same_tasks p o es k faithful = ap (λ setup. runs.source_run (offer p) setup es k) faithful.tables
 
 -- where nothing is unsettled and no entry is left, the source's run has ended alike
-pub ends_as_source : (p : PlainProg) (o : Object) (es : List Entry) (n : ℕ) → IsFaithfulTo p o →
+pub ends_as_source : (p : PlainProg) (o : Object) (es : List Entry) (n : ℕ) → IsFaithfulTo p o → AreFitting (setup_of o) es →
     unsettled (machine_after (engine o) (start_of o es) n) ≡ None → machine_next (machine_after (engine o) (start_of o es) n) ≡ None →
     EndsAs p es (machine_after (engine o) (start_of o es) n)
-ends_as_source p o es n faithful settled no_mark =
+ends_as_source p o es n faithful fit settled no_mark =
     let k = marked (engine o) (setup_of o) es n in
     let e : runs.source_run (offer p) (setup_of o) es k ≡ source_run p es k = same_tasks p o es k faithful in
-    let alike : EndsAlike (offer p) (engine o) (setup_of o) es n = ends_alike (offer p) (engine o) (setup_of o) _ _ faithful.runs es n (record { settled = settled; no_mark = no_mark }) in
-    let same : (machine_after (engine o) (start_of o es) n).core ≡ (source_run p es k).core = faithful.runs.same_core es n ∙ ap (λ s. s.core) e in record {
+    let alike : EndsAlike (offer p) (engine o) (setup_of o) es n = ends_alike (offer p) (engine o) (setup_of o) _ _ faithful.runs es fit n (record { settled = settled; no_mark = no_mark }) in
+    let same : (machine_after (engine o) (start_of o es) n).core ≡ (source_run p es k).core = faithful.runs.same_core es fit n ∙ ap (λ s. s.core) e in record {
       marks = k;
       no_mark = subst (λ s. source_next (offer p) s ≡ None) e alike.ended;
       core = same;
       states_alike = states-offers (machine_after (engine o) (start_of o es) n).core (source_run p es k).core
           (machine_offers (machine_after (engine o) (start_of o es) n)) (source_offers (offer p) (source_run p es k)) (ap (λ c. c.moment) same) (ap (λ c. c.tasks) same) (ap (λ c. c.last) same)
-          (ap (λ c. c.counts) same)
-          (λ t. faithful.runs.all_offers es n settled t ∙ ap (λ s. source_offers (offer p) s t) e);
+          (ap (λ c. c.counts) same) (ap (λ c. c.channels) same) (ap (λ c. c.formats) same)
+          (λ t. faithful.runs.all_offers es fit n settled t ∙ ap (λ s. source_offers (offer p) s t) e);
     }
 
 -- no mark comes any more of the entries that are left, whoever acts next, as far as that is known
@@ -70,14 +71,14 @@ abbrev pub IsDone : Machine (List Frame) → Type 0
 IsDone m = (q : Option ℕ) → (unsettled m ≡ None → q ≡ pick m.core (machine_offers m)) → next_mark q m.entries ≡ None
 
 -- where the machine is done, also while it isn't settled, the source's run has ended with the same core
-pub ends_at_source : (p : PlainProg) (o : Object) (es : List Entry) (n : ℕ) → IsFaithfulTo p o → IsDone (machine_after (engine o) (start_of o es) n) →
+pub ends_at_source : (p : PlainProg) (o : Object) (es : List Entry) (n : ℕ) → IsFaithfulTo p o → AreFitting (setup_of o) es → IsDone (machine_after (engine o) (start_of o es) n) →
     EndsAt p es (machine_after (engine o) (start_of o es) n)
-ends_at_source p o es n faithful done =
+ends_at_source p o es n faithful fit done =
     let k = marked (engine o) (setup_of o) es n in
     let e : runs.source_run (offer p) (setup_of o) es k ≡ source_run p es k = same_tasks p o es k faithful in record {
       marks = k;
       no_mark = subst (λ s. source_next (offer p) s ≡ None) e (by_unsettled (unsettled m) refl);
-      core = faithful.runs.same_core es n ∙ ap (λ s. s.core) e;
+      core = faithful.runs.same_core es fit n ∙ ap (λ s. s.core) e;
     }
   where
     m : Machine (List Frame)
@@ -87,14 +88,14 @@ ends_at_source p o es n faithful done =
     source = runs.source_run (offer p) (setup_of o) es (marked (engine o) (setup_of o) es n)
 
     same_next : (q : Option ℕ) → next_mark q source.entries ≡ next_mark q m.entries
-    same_next q = ap (next_mark q) (sym (faithful.runs.same_entries es n))
+    same_next q = ap (next_mark q) (sym (faithful.runs.same_entries es fit n))
 
     by_unsettled : (found : Option (ℕ × List Frame)) → unsettled m ≡ found → source_next (offer p) source ≡ None
     by_unsettled None is =
-        let core : m.core ≡ source.core = faithful.runs.same_core es n in
+        let core : m.core ≡ source.core = faithful.runs.same_core es fit n in
         let picks : pick source.core (source_offers (offer p) source) ≡ pick m.core (machine_offers m) =
         sym (pick-offers m.core source.core (machine_offers m) (source_offers (offer p) source) (ap (λ c. c.tasks) core) (ap (λ c. c.last) core)
-        (ap (λ c. c.counts) core) (faithful.runs.all_offers es n is)) in
+        (ap (λ c. c.counts) core) (ap (λ c. c.channels) core) (ap (λ c. c.formats) core) (faithful.runs.all_offers es fit n is)) in
         same_next (pick source.core (source_offers (offer p) source)) ∙ done (pick source.core (source_offers (offer p) source)) (λ settled. picks)
     by_unsettled (Some x) is =
         same_next (pick source.core (source_offers (offer p) source))
@@ -107,9 +108,9 @@ pub record EndsBehind (p : PlainProg) (es : List Entry) (told : List (ℕ × Rep
   pub more : List (ℕ × Report)
   pub says : (source_run p es marks).core.told ≡ told ++ more
 
-pub ends_behind : (p : PlainProg) (o : Object) (es : List Entry) (told : List (ℕ × Report)) → IsFaithfulTo p o → Breaks (started o) es told →
+pub ends_behind : (p : PlainProg) (o : Object) (es : List Entry) (told : List (ℕ × Report)) → IsFaithfulTo p o → AreFitting (setup_of o) es → Breaks (started o) es told →
     EndsBehind p es (opening o ++ told)
-ends_behind p o es told faithful breaks =
+ends_behind p o es told faithful fit breaks =
     let goes : Goes (started o) (opening o) es (breaks.left ++ []) breaks.after told = stands o es breaks.left breaks.after told breaks.handles in
     let says : (machine_after (engine o) (start_of o es) goes.steps).core.told ≡ opening o ++ told = ap (λ m. m.core.told) goes.is in
     let k = marked (engine o) (setup_of o) es goes.steps in
@@ -118,5 +119,5 @@ ends_behind p o es told faithful breaks =
       marks = ends.last;
       no_mark = subst (λ s. source_next (offer p) s ≡ None) e ends.no_mark;
       more = ends.more;
-      says = ap (λ s. s.core.told) (sym e) ∙ ends.told ∙ ap (λ x. x ++ ends.more) (ap (λ c. c.told) (sym (faithful.runs.same_core es goes.steps)) ∙ says);
+      says = ap (λ s. s.core.told) (sym e) ∙ ends.told ∙ ap (λ x. x ++ ends.more) (ap (λ c. c.told) (sym (faithful.runs.same_core es fit goes.steps)) ∙ says);
     }

@@ -1,6 +1,7 @@
 -- What a faithful machine has told makes the transcript of the source's task rules.
 use Rattle.std.proofs.Common.{◌≡◌, ℕ, List, [], ◌∷◌, ◌++◌, None, refl, ap, sym, ◌∙◌, append_assoc}
 use Rattle.pearl_rules.specs.declared.entry.Entry.{Entry}
+use Rattle.pearl_rules.specs.Entries.{AreFitting}
 use Rattle.pearl_rules.specs.declared.setup.Setup.{Setup}
 use Rattle.pearl_rules.specs.Core.{Core, Report}
 use Rattle.pearl_rules.specs.Pick.{states}
@@ -40,21 +41,21 @@ front_same : (s t : Setup) (told more all : List (ℕ × Report)) (end : List �
 front_same s t told more all end e f = rw (e, f, lines_of-append t told more) (sym (append_assoc (lines_of t told) (lines_of t more) end))
 
 -- the whole of a run
-pub closed_text : (p : PlainProg) (o : Object) (es : List Entry) (n : ℕ) → IsFaithfulTo p o →
+pub closed_text : (p : PlainProg) (o : Object) (es : List Entry) (n : ℕ) → IsFaithfulTo p o → AreFitting (setup_of o) es →
     unsettled (machine_after (engine o) (start_of o es) n) ≡ None → machine_next (machine_after (engine o) (start_of o es) n) ≡ None →
     IsTranscript p es Closed (lines_of (setup_of o) (machine_after (engine o) (start_of o es) n).core.told ++ machine_closing (setup_of o) (machine_after (engine o) (start_of o es) n))
-closed_text p o es n faithful settled no_mark =
-    let ends : EndsAs p es (machine_after (engine o) (start_of o es) n) = ends_as_source p o es n faithful settled no_mark in record {
+closed_text p o es n faithful fit settled no_mark =
+    let ends : EndsAs p es (machine_after (engine o) (start_of o es) n) = ends_as_source p o es n faithful fit settled no_mark in record {
       last = source_run p es ends.marks;
       ends = record { marks = ends.marks; reached = refl; no_mark = ends.no_mark };
       text = closed_same (setup_of o) (tables_of p) _ _ _ _ faithful.tables ends.core ends.states_alike;
     }
 
 -- a run that a refusal cuts short
-pub cut_text : (p : PlainProg) (o : Object) (es : List Entry) (n : ℕ) (refusal : Refusal) → IsFaithfulTo p o → IsDone (machine_after (engine o) (start_of o es) n) →
+pub cut_text : (p : PlainProg) (o : Object) (es : List Entry) (n : ℕ) (refusal : Refusal) → IsFaithfulTo p o → AreFitting (setup_of o) es → IsDone (machine_after (engine o) (start_of o es) n) →
     IsTranscript p es (Cut refusal) (lines_of (setup_of o) (machine_after (engine o) (start_of o es) n).core.told ++ refusal_line refusal)
-cut_text p o es n refusal faithful done =
-    let ends : EndsAt p es (machine_after (engine o) (start_of o es) n) = ends_at_source p o es n faithful done in record {
+cut_text p o es n refusal faithful fit done =
+    let ends : EndsAt p es (machine_after (engine o) (start_of o es) n) = ends_at_source p o es n faithful fit done in record {
       last = source_run p es ends.marks;
       ends = record { marks = ends.marks; reached = refl; no_mark = ends.no_mark };
       text = cut_same (setup_of o) (tables_of p) _ _ (refusal_line refusal) faithful.tables ends.core;
@@ -66,10 +67,10 @@ pub record HasRest (p : PlainProg) (es : List Entry) (close : Close) (bytes : Li
   pub whole : IsTranscript p es close (bytes ++ rest)
 
 -- the lines of what was told are a front of the transcript
-pub front_text : (p : PlainProg) (o : Object) (es : List Entry) (told : List (ℕ × Report)) (close : Close) → IsFaithfulTo p o → Breaks (started o) es told →
+pub front_text : (p : PlainProg) (o : Object) (es : List Entry) (told : List (ℕ × Report)) (close : Close) → IsFaithfulTo p o → AreFitting (setup_of o) es → Breaks (started o) es told →
     HasRest p es close (lines_of (setup_of o) (opening o ++ told))
-front_text p o es told close faithful breaks =
-    let ends : EndsBehind p es (opening o ++ told) = ends_behind p o es told faithful breaks in
+front_text p o es told close faithful fit breaks =
+    let ends : EndsBehind p es (opening o ++ told) = ends_behind p o es told faithful fit breaks in
     let last = source_run p es ends.marks in record {
       rest = lines_of (tables_of p) ends.more ++ closing p last close;
       whole = record {

@@ -38,6 +38,7 @@ pub fn replay<S: Shelf, K: Sink>(
     shelf: &mut S,
     sink: &mut K,
 ) -> Result<(), Failure>
+    requires { machine.old.state.core.moment ≡ 0 }
     ensures ends { let rose = CountRose (S.faults shelf.old journal.now) (S.faults shelf.new journal.now) in
         let failed = WriteFailed (K.faults sink.old) (K.faults sink.new) (K.full sink.new) in
         (p : PlainProg) → IsReadyFor p machine.old → (file : List ℕ) × MayHave (S.holds shelf.old) journal.now file
@@ -74,6 +75,7 @@ fn carry_out<K: Sink>(
 ) -> Result<(), Failure>
     requires small { length journal.now < 2 ^ 40 }
     requires taken { machine.old.state.core.told ≡ [] }
+    requires moment { machine.old.state.core.moment ≡ 0 }
     ensures ok { OnOk result (LinesDone (setup_of machine.old.object) (lines_in lines journal.now) All machine.old machine.new
         (K.taken sink.old) (K.taken sink.new)) }
     ensures err { let failed = WriteFailed (K.faults sink.old) (K.faults sink.new) (K.full sink.new) in
@@ -104,6 +106,7 @@ fn carry_out_line<K: Sink>(
 ) -> Result<(), Failure>
     requires counted { reading.old.lines + 1 < 2 ^ 64 }
     requires taken { machine.old.state.core.told ≡ [] }
+    requires moment { machine.old.state.core.moment ≡ reading.old.moment }
     ensures read { reading.new ≡ after_line reading.old (meaning (setup_of machine.old.object) reading.old text.now) }
     ensures ok { OnOk result (LineDone (setup_of machine.old.object) reading.old text.now machine.old machine.new
         (K.taken sink.old) (K.taken sink.new)) }
@@ -112,6 +115,7 @@ fn carry_out_line<K: Sink>(
         (K.taken sink.old) (K.taken sink.new) failed) }
     ensures object { machine.new.object ≡ machine.old.object }
     ensures all { OnOk result (machine.new.state.core.told ≡ []) }
+    ensures moment { OnOk result (machine.new.state.core.moment ≡ reading.new.moment) }
     ensures later { K.faults sink.old ≤ K.faults sink.new }
 {
     match reading.read(machine.setup(), text) {

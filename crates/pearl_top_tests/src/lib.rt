@@ -6,6 +6,11 @@ macro_rules! table {
     ($($source:literal => $wanted:literal;)*) => { &[$(($source, $wanted)),*] };
 }
 
+// A table with a case of a run: what stands between the head and MODEND, a journal, and the whole transcript.
+macro_rules! runs {
+    ($($body:literal, $journal:literal => $told:literal;)*) => { &[$(($body, $journal, $told)),*] };
+}
+
 #[cfg(test)]
 mod check;
 #[cfg(test)]
@@ -16,5 +21,7 @@ mod print;
 mod run;
 #[cfg(test)]
 mod tasks;
+#[cfg(test)]
+mod timed;
 #[cfg(test)]
 mod whole;

@@ -7,12 +7,8 @@ use std::alloc::{AllocError, Global};
 use std::process::Abort;
 use std::test::Fail;
 
-// What stands between the head and MODEND, a journal, and the whole transcript.
-type Case = (&'static str, &'static str, &'static str);
-
-macro_rules! runs {
-    ($($body:literal, $journal:literal => $told:literal;)*) => { &[$(($body, $journal, $told)),*] };
-}
+/// What stands between the head and MODEND, a journal, and the whole transcript.
+pub type Case = (&'static str, &'static str, &'static str);
 
 fn plants() -> &'static [Case] {
     runs![
@@ -168,7 +164,13 @@ fn refused() -> &'static [Case] {
     ]
 }
 
-fn all_end_so(rt: &impl Abort, alloc: Global, cases: &[Case], wanted: Status) -> Result<(), Fail> {
+/// Carries out each case between the head and MODEND, which must end with this status.
+pub fn all_end_so(
+    rt: &impl Abort,
+    alloc: Global,
+    cases: &[Case],
+    wanted: Status,
+) -> Result<(), Fail> {
     for &(body, journal, text) in cases {
         let source = format!(in alloc; "{HEAD}{body}\nMODEND;\n")?;
         let (status, written) = carry_out(alloc, RUN, source.as_bytes(), journal.as_bytes(), 4096)?;
@@ -243,8 +245,8 @@ const WATCHED_LINES: [&str; 11] = [
     "0 close\n",
 ];
 
-// The numbers of all calls of the output.
-const CALLS: [u64; 11] = [1, 2, 3, 4, 5, 6, 7, 8, 9, 10, 11];
+/// The numbers of the first calls of the output.
+pub const CALLS: [u64; 15] = [1, 2, 3, 4, 5, 6, 7, 8, 9, 10, 11, 12, 13, 14, 15];
 
 #[test]
 fn a_write_may_fail_at_each_line(rt: HostRuntime) -> Result<(), Fail> {

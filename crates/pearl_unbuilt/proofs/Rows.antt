@@ -3,13 +3,6 @@ use Rattle.std.proofs.Common.{◌≡◌, ℕ, Option, refl, sym, ap, ◌∙◌, 
 use mathlib.Core.Former.{Count}
 use Rattle.std.specs.Option.{option_or}
 use Rattle.pearl_tree.specs.declared.parts.Parts.{Parts}
-use Rattle.pearl_tree.specs.declared.name.Number.{Number}
-use Rattle.pearl_tree.specs.declared.expression.Side.{Side}
-use Rattle.pearl_tree.specs.declared.expression.Primary.{Primary}
-use Rattle.pearl_tree.specs.declared.expression.Primary as primary
-use Rattle.pearl_tree.specs.declared.expression.Expr.{Expr}
-use Rattle.pearl_tree.specs.declared.expression.Selector.{Selector, Subscripts, Subscripts', Row_of-Expr, end_of-Expr, more_of-Expr, items-the_row-Expr, items_hidden-the_row-Expr-1}
-use Rattle.pearl_tree.specs.declared.expression.Ref.{Ref, Row_of-Selector, end_of-Selector, more_of-Selector, items-the_row-Selector, items_hidden-the_row-Selector-0}
 use Rattle.pearl_tree.specs.declared.statement.Stmt.{Stmt, If', Case', Repeat', Begin', Row_of-Stmt, end_of-Stmt, more_of-Stmt, items-the_row-Stmt, items_shown-the_row-Stmt-0, items_hidden-the_row-Stmt-0}
 use Rattle.pearl_tree.specs.declared.statement.Stmt as stmt
 use Rattle.pearl_tree.specs.declared.statement.Repeat.{Repeat}
@@ -18,44 +11,9 @@ use Rattle.pearl_tree.specs.declared.statement.If as if_
 use Rattle.pearl_tree.specs.declared.statement.If.{out-If, outs-If', Held-Case-otherwise, None', Some', view-Case-otherwise}
 use Rattle.pearl_tree.specs.declared.statement.Case as case_
 use Rattle.pearl_tree.specs.declared.statement.Case.{out-Case, outs-Case', Row_of-Branch, end_of-Branch, more_of-Branch, items-the_row-Branch, items_shown-the_row-Branch-1}
-use Rattle.pearl_tree.specs.ShownExpressions.{shown_expr, shown_primary, shown_selectors, shown_selector, shown_exprs, shown_selector_list, shown_ref}
 use Rattle.pearl_tree.specs.ShownStatements.{shown_stmt, shown_stmts, shown_branches, shown_otherwise}
-use Rattle.pearl_unbuilt.specs.Walk.{in_first, in_expr, in_primary, in_selectors, in_selector, in_exprs, in_value, in_ref, in_stmt, in_stmts, in_branches, in_otherwise}
-use Rattle.pearl_unbuilt.specs.Lists.{in_list, in_branch, in_branch_if, in_if, in_case, in_repeat}
-
-exprs_each : (n : _) (row : Row_of-Expr n) → in_exprs (shown_exprs row) ≡ in_first in_expr (map shown_expr (items-the_row-Expr n row))
-exprs_each _ end_of-Expr = refl
-exprs_each _ (more_of-Expr expr rest) = ap (λ t. option_or (in_expr (shown_expr expr)) t) (exprs_each _ rest)
-
-abbrev subscripts_of : Selector → (n : Count) × Row_of-Expr n
-subscripts_of (Subscripts' _ row _) = (_, row)
-subscripts_of _ = (_, end_of-Expr)
-
-pub in_subscripts : (exprs : Parts Expr) (place : ℕ) →
-    in_selector (shown_selector (Subscripts exprs place)) ≡ in_first in_expr (map shown_expr exprs.items.items)
-in_subscripts exprs place =
-    let row = subscripts_of (Subscripts exprs place) in
-    exprs_each row.0 row.1 ∙ ap (λ xs. in_first in_expr (map shown_expr xs)) (items_hidden-the_row-Expr-1 exprs.items)
-
-selectors_each : (n : _) (row : Row_of-Selector n) → in_selectors (shown_selectors row) ≡ in_selectors (shown_selector_list (items-the_row-Selector n row))
-selectors_each _ end_of-Selector = refl
-selectors_each _ (more_of-Selector selector rest) = ap (λ t. option_or (in_selector (shown_selector selector)) t) (selectors_each _ rest)
-
-abbrev selectors_of : Primary → (n : Count) × Row_of-Selector n
-selectors_of (primary.Ref' _ _ row _) = (_, row)
-selectors_of (primary.Limit' _ _ _ _ _ row _ _) = (_, row)
-selectors_of _ = (_, end_of-Selector)
-
-pub in_reference : (reference : Ref) → in_primary (shown_primary (primary.Ref reference)) ≡ in_ref (shown_ref reference)
-in_reference reference =
-    let row = selectors_of (primary.Ref reference) in
-    selectors_each row.0 row.1 ∙ ap (λ xs. in_selectors (shown_selector_list xs)) (items_hidden-the_row-Selector-0 reference.selectors.items)
-
-pub in_limit : (dimension : Option Number) (side : Side) (array : Box Ref Global) (place : ℕ) →
-    in_primary (shown_primary (primary.Limit dimension side array place)) ≡ in_ref (shown_ref array.value)
-in_limit dimension side array place =
-    let row = selectors_of (primary.Limit dimension side array place) in
-    selectors_each row.0 row.1 ∙ ap (λ xs. in_selectors (shown_selector_list xs)) (items_hidden-the_row-Selector-0 array.value.selectors.items)
+use Rattle.pearl_unbuilt.specs.Walk.{in_first, in_stmt, in_stmts, in_branches, in_otherwise}
+use Rattle.pearl_unbuilt.specs.Lists.{in_list, in_branch, in_branch_if, in_if, in_case}
 
 stmts_each : (n : _) (row : Row_of-Stmt n) → in_stmts (shown_stmts row) ≡ in_list (items-the_row-Stmt n row)
 stmts_each _ end_of-Stmt = refl
@@ -79,8 +37,7 @@ branches_each _ (more_of-Branch shape row place rest) =
 if_each : (q : _) (part : if_.If) → in_stmt (shown_stmt (If' q part)) ≡ in_if part
 if_each q (if_.If' condition shape row otherwise place) =
     rw (outs-If' condition shape row otherwise place) (
-    λ i. option_or (in_expr (shown_expr condition))
-    (option_or ((stmts_each _ row ∙ ap in_list (sym (items_shown-the_row-Stmt-0 shape row))) i) (otherwise_each otherwise i)))
+    λ i. option_or ((stmts_each _ row ∙ ap in_list (sym (items_shown-the_row-Stmt-0 shape row))) i) (otherwise_each otherwise i))
 
 pub if_shown : (box : Box if_.If Global) → in_stmt (shown_stmt (stmt.If box)) ≡ in_if box.value
 if_shown box = if_each (record { ptr = box.ptr; alloc = box.alloc; value = tt }) box.value
@@ -88,19 +45,15 @@ if_shown box = if_each (record { ptr = box.ptr; alloc = box.alloc; value = tt })
 case_each : (q : _) (part : case_.Case) → in_stmt (shown_stmt (Case' q part)) ≡ in_case part
 case_each q (case_.Case' selector shape row otherwise place) =
     rw (outs-Case' selector shape row otherwise place) (
-    λ i. option_or (in_expr (shown_expr selector))
-    (option_or ((branches_each _ row ∙ ap (in_first in_branch) (sym (items_shown-the_row-Branch-1 shape row))) i) (otherwise_each otherwise i)))
+    λ i. option_or ((branches_each _ row ∙ ap (in_first in_branch) (sym (items_shown-the_row-Branch-1 shape row))) i) (otherwise_each otherwise i))
 
 pub case_shown : (box : Box case_.Case Global) → in_stmt (shown_stmt (stmt.Case box)) ≡ in_case box.value
 case_shown box = case_each (record { ptr = box.ptr; alloc = box.alloc; value = tt }) box.value
 
-pub repeat_shown : (box : Box Repeat Global) → in_stmt (shown_stmt (stmt.Repeat box)) ≡ in_repeat box.value
+pub repeat_shown : (box : Box Repeat Global) → in_stmt (shown_stmt (stmt.Repeat box)) ≡ in_list box.value.body.statements.items.items
 repeat_shown box =
     let row = statements_of (stmt.Repeat box) in
-    let part = box.value in
-    ap (λ t. option_or (in_value (option_map shown_expr part.begin)) (option_or (in_value (option_map shown_expr part.step))
-    (option_or (in_value (option_map shown_expr part.end)) (option_or (in_value (option_map shown_expr part.condition)) t))))
-    (stmts_each row.0 row.1 ∙ ap in_list (items_hidden-the_row-Stmt-0 part.body.statements.items))
+    stmts_each row.0 row.1 ∙ ap in_list (items_hidden-the_row-Stmt-0 box.value.body.statements.items)
 
 pub begin_shown : (box : Box Begin Global) → in_stmt (shown_stmt (stmt.Begin box)) ≡ in_list box.value.body.statements.items.items
 begin_shown box =

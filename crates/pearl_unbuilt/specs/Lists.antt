@@ -1,14 +1,12 @@
 -- Where the first unbuilt form stands in lists in memory, and in statements that have such lists.
-use Rattle.std.specs.Prelude.{ℕ, List, Option, Some, None, map, option_map}
+use Rattle.std.specs.Prelude.{ℕ, List, Option, Some, None, map}
 use Rattle.std.specs.Option.{option_or}
 use Rattle.pearl_tree.specs.declared.statement.Branch.{Branch}
 use Rattle.pearl_tree.specs.declared.statement.Case.{Case, out-Case}
 use Rattle.pearl_tree.specs.declared.statement.If.{If, out-If}
-use Rattle.pearl_tree.specs.declared.statement.Repeat.{Repeat}
 use Rattle.pearl_tree.specs.declared.statement.Stmt.{Stmt}
-use Rattle.pearl_tree.specs.ShownExpressions.{shown_expr}
 use Rattle.pearl_tree.specs.ShownStatements.{shown_stmt}
-use Rattle.pearl_unbuilt.specs.Walk.{in_first, in_expr, in_value, in_stmt}
+use Rattle.pearl_unbuilt.specs.Walk.{in_first, in_stmt}
 
 abbrev pub in_list : List Stmt → Option ℕ
 in_list statements = in_first in_stmt (map shown_stmt statements)
@@ -21,17 +19,8 @@ in_branch_if None = None
 in_branch_if (Some branch) = in_branch branch
 
 abbrev pub in_if : If → Option ℕ
-in_if part =
-    option_or (in_expr (shown_expr (out-If part).condition))
-    (option_or (in_list (out-If part).statements.items.items) (in_branch_if (out-If part).otherwise))
+in_if part = option_or (in_list (out-If part).statements.items.items) (in_branch_if (out-If part).otherwise)
 
 abbrev pub in_case : Case → Option ℕ
 in_case part =
-    option_or (in_expr (shown_expr (out-Case part).selector))
-    (option_or (in_first in_branch (out-Case part).alternatives.items.items) (in_branch_if (out-Case part).otherwise))
-
-abbrev pub in_repeat : Repeat → Option ℕ
-in_repeat part =
-    option_or (in_value (option_map shown_expr part.begin)) (option_or (in_value (option_map shown_expr part.step))
-    (option_or (in_value (option_map shown_expr part.end)) (option_or (in_value (option_map shown_expr part.condition))
-    (in_list part.body.statements.items.items))))
+    option_or (in_first in_branch (out-Case part).alternatives.items.items) (in_branch_if (out-Case part).otherwise)

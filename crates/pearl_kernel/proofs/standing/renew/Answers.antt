@@ -1,21 +1,8 @@
-use Rattle.std.proofs.Common.{◌<◌, sym, subst, ap, ◌∙◌, length-set, length}
+use Rattle.std.proofs.Common.{◌<◌, sym, subst}
 use Rattle.pearl_kernel.specs.declared.standing.Touched.{Touched}
-use Rattle.pearl_kernel.specs.Eligible.{entry}
 use Rattle.pearl_kernel.specs.Touched.{IsThere, IsRenewed}
-use Rattle.pearl_kernel.proofs.Acting.{renewed-own, renewed-other, renewed-next}
+use Rattle.pearl_kernel.proofs.Acting.{renewed-own, renewed-other, renewed-all}
 use Rattle.pearl_kernel.proofs.standing.renew.Goals as goal
-
-pub loop-task-preserved : goal.loop-task-preserved
-loop-task-preserved c =
-    let k = c.args.state.now in
-    let l = c.loop-task in
-    record {
-      size = ap length c.refresh-in-loop-task.ensures ∙ length-set l.ready l.task (entry k l.task) ∙ l.invariant.size;
-      done = renewed-next k l.ready c.refresh-in-loop-task.new.ready l.task
-          (subst (λ n. l.task < n) c.tasks-count.ensures c.loop-task-test.true)
-          l.invariant.size l.invariant.done c.refresh-in-loop-task.ensures;
-      all = c.tasks-count.ensures;
-    }
 
 pub returns-in-Own : goal.returns-in-Own
 returns-in-Own c =
@@ -32,3 +19,9 @@ returns-in-Other c =
     (renewed-other c.args.state.now c.args.own c.in-Other.task c.args.ready.now c.refresh-in-Other.new.ready
     c.refresh-in-Other-2.new.ready
     c.requires.own there c.requires.size c.refresh-in-Other.ensures c.refresh-in-Other-2.ensures)
+
+pub returns-in-All : goal.returns-in-All
+returns-in-All c =
+    subst (λ (x : Touched). IsRenewed c.args.state.now c.args.own x c.args.ready.now c.renew_all.new.ready)
+    (sym c.in-All.is)
+    (renewed-all c.args.state.now c.args.own c.args.ready.now c.renew_all.new.ready c.requires.size c.renew_all.ensures)

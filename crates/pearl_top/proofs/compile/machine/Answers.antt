@@ -26,6 +26,5 @@ returns c =
     let o = c.in_ok-object.object in
     let sound = subst (λ parts. IsSound (plain_prog parts)) c.parts-sound.ensures.value c.parts-sound.ensures.sound in
     let valid = c.generated_is_valid.ensures p o sound c.in_ok-object.ensures.generated c.in_ok-object.ensures.few_formats in
-    let built = c.built_programs_have_built_code.ensures p o c.in_ok-object.ensures.generated c.requires in
-    ready_of p o c.in_ok-machine.machine (c.faithful_programs.ensures p o sound c.in_ok-object.ensures.generated valid.0 valid.1 built)
+    ready_of p o c.in_ok-machine.machine (c.faithful_programs.ensures p o sound c.in_ok-object.ensures.generated valid.0 valid.1)
     (loaded o c.in_ok-code.code c.in_ok-machine.machine c.in_ok-code.ensures c.in_ok-machine.ensures.object c.in_ok-machine.ensures.start)

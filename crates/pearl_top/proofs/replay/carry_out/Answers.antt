@@ -1,4 +1,4 @@
-use Rattle.std.proofs.Common.{refl, ap, arith, ◌∙◌}
+use Rattle.std.proofs.Common.{refl, ap, sym, arith, ◌∙◌}
 use Rattle.std.proofs.lemmas.Result.{err_from_is_err_and}
 use Rattle.pearl_io.proofs.Counts.{failed_since}
 use Rattle.pearl_engine.specs.Setups.{setup_of}
@@ -15,6 +15,7 @@ lines-init g c = record {
   small = omega (arith, ap (λ (reading : Reading). reading.lines) c.new-reading.ensures);
   taken = c.requires.taken;
   object = refl;
+  moment = c.requires.moment ∙ sym (ap (λ (reading : Reading). reading.moment) c.new-reading.ensures);
   later = omega arith;
 }
 
@@ -36,6 +37,7 @@ lines-preserved g c =
       small = omega (arith, c.in-Some.ensures.2, lines_after c.lines.reading _ means c.carry_out_line.ensures.read);
       taken = c.in_ok-carry_out_line.ensures.all;
       object = c.carry_out_line.ensures.object ∙ c.lines.invariant.object;
+      moment = c.in_ok-carry_out_line.ensures.moment;
       later = omega (arith, c.carry_out_line.ensures.later);
     }
 

@@ -10,6 +10,7 @@ invariant-lines g l = record {
   small : l.reading.lines + length l.left ≤ length l.journal;
   taken : l.machine.state.core.told ≡ [];
   object : l.machine.object ≡ l.fn.machine.object;
+  moment : l.machine.state.core.moment ≡ l.reading.moment;
   later : g.K.Sink.faults l.fn.sink ≤ g.K.Sink.faults l.sink;
 }
 

@@ -1,7 +1,8 @@
-use Rattle.std.proofs.Common.{[], ◌∙◌}
+use Rattle.std.proofs.Common.{[], ap, ◌∙◌}
 use Rattle.std.proofs.lemmas.Result.{err_from_is_err_and}
 use Rattle.pearl_io.specs.Outside.{CountRose, WriteFailed}
 use Rattle.pearl_io.proofs.Counts.{rose_since}
+use Rattle.pearl_machine.specs.Seen.{Seen}
 use Rattle.pearl_top.specs.declared.limits.TheConstants.{SOURCE_LIMIT}
 use Rattle.pearl_top.specs.JournalDue.{JournalDue}
 use Rattle.pearl_top.specs.Outcome.{RunDue, SourceDue}
@@ -49,6 +50,9 @@ returns-in_err-machine-clause-ends g c =
           (λ s bytes. run_refused c.as_slice.result.now read.0 journal source_rose journal_rose s bytes (c.as_slice.ensures.value ∙ read.2.0))
           c.in_err-machine.ensures.err)),
     )
+
+pub replay-requires : goal.replay-requires
+replay-requires g c = ap (λ (seen : Seen). seen.state.core.moment) c.in_ok-machine.ensures.ok.2.starts
 
 pub returns-clause-ends : goal.returns-clause-ends
 returns-clause-ends g c =

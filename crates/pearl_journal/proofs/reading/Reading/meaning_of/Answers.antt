@@ -1,6 +1,6 @@
 use Rattle.std.proofs.Common.{rules, subst, sym}
 use Rattle.pearl_journal.specs.Meaning.{meaning}
-use Rattle.pearl_journal.specs.Readings.{EntryFits}
+use Rattle.pearl_rules.specs.Entries.{EntryFits}
 use Rattle.pearl_journal.specs.Entries.{IfItem}
 use Rattle.pearl_journal.proofs.FitLaws.{meaning-fits}
 use Rattle.pearl_journal.proofs.reading.Reading.meaning_of.Goals as goal

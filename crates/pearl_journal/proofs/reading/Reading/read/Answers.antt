@@ -1,6 +1,6 @@
 use Rattle.std.proofs.Common.{arith, subst, sym, ap, ◌≤◌}
 use Rattle.pearl_journal.specs.declared.limits.TheConstants.{LAST_MOMENT}
-use Rattle.pearl_journal.specs.Readings.{moment_after}
+use Rattle.pearl_rules.specs.Entries.{moment_after}
 use Rattle.pearl_journal.proofs.FitLaws.{moment_after-late}
 use Rattle.pearl_journal.proofs.reading.Reading.read.Goals as goal
 

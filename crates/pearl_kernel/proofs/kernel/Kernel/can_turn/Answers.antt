@@ -2,6 +2,7 @@ use Rattle.std.proofs.Common.{◌≡◌, Some, nat_eq, sym, subst, ◌∙◌}
 use Rattle.std.specs.Option.{option_eq}
 use Rattle.pearl_rules.specs.Pick.{pick, can_turn}
 use Rattle.pearl_kernel.specs.Kept.{Kept, offered}
+use Rattle.pearl_kernel.proofs.Naming.{names-all}
 use Rattle.pearl_kernel.proofs.Picking.{can-turn-is}
 use Rattle.pearl_kernel.proofs.kernel.Kernel.can_turn.Goals as goal
 
@@ -15,3 +16,13 @@ returns-in_default-entry c =
     c.entry-in_default-entry.ensures c.in_default-entry.not-None in
     c.eq.ensures ∙ subst (λ (k : Kept). option_eq nat_eq c.entry.result c.entry-in_default-entry.result ≡
     can_turn k.core (offered k) c.args.task) c.self.view_is is
+
+pub entry-requires : goal.entry-requires
+entry-requires c =
+    let of = c.self.invariant.lawful in
+    names-all of.0 c.self.inside.state of.1 c.args.task
+
+pub entry-requires-in_default-entry : goal.entry-requires-in_default-entry
+entry-requires-in_default-entry c =
+    let of = c.self.invariant.lawful in
+    names-all of.0 c.self.inside.state of.1 c.in-Some.best

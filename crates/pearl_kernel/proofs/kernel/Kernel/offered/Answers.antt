@@ -1,28 +1,28 @@
 use Rattle.std.proofs.Common.{◌≡◌, true, sym, subst, slice_set}
 use Rattle.pearl_kernel.specs.Kept.{Kept, is_unsettled, IsLawful}
-use Rattle.pearl_kernel.specs.Names.{NamesAll}
 use Rattle.pearl_kernel.specs.Whole.{IsWhole}
 use Rattle.pearl_kernel.specs.Eligible.{entry}
-use Rattle.pearl_kernel.proofs.Acting.{fits-names}
-use Rattle.pearl_kernel.proofs.Offering.{unsettled-there, names-offering, lawful-offering, kept-offering}
+use Rattle.pearl_kernel.proofs.Naming.{names-all}
+use Rattle.pearl_kernel.proofs.Offering.{unsettled-there, lawful-offering, kept-offering}
 use Rattle.pearl_kernel.proofs.kernel.Kernel.offered.Goals as goal
 
 pub refresh-requires-clause-names : goal.refresh-requires-clause-names
 refresh-requires-clause-names c =
     let s = c.self.inside.state in
     let f = c.requires.fits in
-    let lawful = subst (λ (k : Kept). IsLawful f.0 k) (sym c.self.view_is) f.1 in
-    subst (λ (k : Kept). NamesAll k) (sym c.set_offer.ensures)
-    (names-offering s c.args.task c.args.action c.self.invariant.names (fits-names f.0 s c.args.action lawful f.2))
+    let unsettled = subst (λ (k : Kept). is_unsettled k c.args.task ≡ true) (sym c.self.view_is) c.requires.unsettled in
+    let before = subst (λ (k : Kept). IsLawful f.0 k) (sym c.self.view_is) f.1 in
+    names-all f.0 c.set_offer.new.self (subst (λ (k : Kept). IsLawful f.0 k) (sym c.set_offer.ensures)
+    (lawful-offering f.0 s c.args.task c.args.action unsettled f.2 f.3 before))
 
 pub invariant_of-self : goal.invariant_of-self
 invariant_of-self c =
     let s = c.self.inside in
     let f = c.requires.fits in
-    let lawful = subst (λ (k : Kept). IsLawful f.0 k) (sym c.self.view_is) f.1 in
     let unsettled = subst (λ (k : Kept). is_unsettled k c.args.task ≡ true) (sym c.self.view_is) c.requires.unsettled in
-    let kept = kept-offering s.state s.ready c.args.task c.args.action (unsettled-there s.state c.args.task unsettled)
-    (fits-names f.0 s.state c.args.action lawful f.2) c.self.invariant in
+    let before = subst (λ (k : Kept). IsLawful f.0 k) (sym c.self.view_is) f.1 in
+    let kept = kept-offering f.0 s.state s.ready c.args.task c.args.action (unsettled-there s.state c.args.task unsettled)
+    (lawful-offering f.0 s.state c.args.task c.args.action unsettled f.2 f.3 before) c.self.invariant in
     subst (λ xs. IsWhole c.set_offer.new.self xs) (sym c.refresh.ensures)
     (subst (λ (k : Kept). IsWhole k (slice_set s.ready c.args.task (entry k c.args.task)))
     (sym c.set_offer.ensures) kept)
@@ -33,4 +33,4 @@ returns-clause-lawful c = λ setup lawful fits.
     let before = subst (λ (k : Kept). IsLawful setup k) (sym c.self.view_is) lawful in
     let unsettled = subst (λ (k : Kept). is_unsettled k c.args.task ≡ true) (sym c.self.view_is) c.requires.unsettled in
     subst (λ (k : Kept). IsLawful setup k) (sym c.set_offer.ensures)
-    (lawful-offering setup s c.args.task c.args.action unsettled fits before)
+    (lawful-offering setup s c.args.task c.args.action unsettled fits c.requires.fits.3 before)

@@ -1,4 +1,4 @@
-use Rattle.pearl_kernel.proofs.Acting.{one-there}
+use Rattle.pearl_kernel.proofs.Naming.{one-there}
 use Rattle.pearl_kernel.proofs.state.State.attempt.Goals as goal
 
 pub is_free-free-requires : goal.is_free-free-requires

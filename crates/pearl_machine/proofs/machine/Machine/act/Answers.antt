@@ -1,4 +1,4 @@
-use Rattle.std.proofs.Common.{refl, sym, subst, slice_get, arith}
+use Rattle.std.proofs.Common.{refl, ap, ◌∙◌, sym, subst, slice_get, arith}
 use Rattle.pearl_rules.specs.declared.action.Answer.{Answer}
 use Rattle.pearl_rules.specs.Effect.{Hears, Ends}
 use Rattle.pearl_engine.specs.Setups.{setup_of}
@@ -8,7 +8,9 @@ use Rattle.pearl_machine.specs.Parts.{HasMemories, stack_in}
 use Rattle.pearl_machine.specs.Ready.{IsReady}
 use Rattle.pearl_machine.proofs.ReadyLaws.{tasks_are}
 use Rattle.pearl_machine.proofs.Acting.{acts_there, acts_own, acts_hears, ready_acts, same_answer, ends_unheard}
-use Rattle.pearl_machine.proofs.Calls.{all_settled, no_event, none_due, idle_call, acts_call}
+use Rattle.pearl_kernel.specs.Kept.{Kept}
+use Rattle.pearl_machine.proofs.Moments.{effect-moment}
+use Rattle.pearl_machine.proofs.Calls.{moment_call, all_settled, no_event, none_due, idle_call, acts_call}
 use Rattle.pearl_machine.proofs.machine.Machine.act.Goals as goal
 
 pub act-requires : goal.act-requires
@@ -80,3 +82,17 @@ returns-in-Ended-clause-acted c =
     let m = c.self.inside in
     acts_call m.code m.setup m.kernel m.parts.items m.due c.self.invariant c.args.self.now c.self.view_is c.act.new.self m.parts.items
     c.in-Ended.field-0 Ends c.requires.settled c.requires.taken c.laws_hold.ensures.laws c.in-Ended.ensures.acted refl
+
+pub returns-in-Went-clause-moment : goal.returns-in-Went-clause-moment
+returns-in-Went-clause-moment c =
+    let m = c.self.inside in
+    let acted = c.in-Went.ensures.acted in
+    ap (λ (x : Kept). x.core.moment) acted.same
+    ∙ (effect-moment m.kernel.core c.in-Went.task acted.action ∙ sym (moment_call m.code m.setup m.kernel m.parts.items m.due c.self.invariant c.args.self.now c.self.view_is))
+
+pub returns-in-Ended-clause-moment : goal.returns-in-Ended-clause-moment
+returns-in-Ended-clause-moment c =
+    let m = c.self.inside in
+    let acted = c.in-Ended.ensures.acted in
+    ap (λ (x : Kept). x.core.moment) acted.same
+    ∙ (effect-moment m.kernel.core c.in-Ended.field-0 acted.action ∙ sym (moment_call m.code m.setup m.kernel m.parts.items m.due c.self.invariant c.args.self.now c.self.view_is))

@@ -1,9 +1,10 @@
-use Rattle.std.proofs.Common.{◌-◌, [], ◌∷◌, ◌++◌, refl, ◌∙◌, subst, arith}
+use Rattle.std.proofs.Common.{◌-◌, [], ◌∷◌, ◌++◌, refl, ap, ◌∙◌, subst, arith}
 use Rattle.std.proofs.lemmas.Result.{err_from_is_err_and}
 use Rattle.pearl_rules.specs.declared.entry.Entry.TheVariants.{Run}
 use Rattle.pearl_engine.specs.Setups.{setup_of}
 use Rattle.pearl_io.specs.Outside.{Takes}
 use Rattle.pearl_script.specs.Lines.{lines_of}
+use Rattle.pearl_machine.specs.Seen.{Seen}
 use Rattle.pearl_machine.specs.Told.{IsCutOff}
 use Rattle.pearl_machine.proofs.Going.{handles_none, handles_on, handles_idle, handles_done}
 use Rattle.pearl_machine.proofs.Taken.{takes_nothing, takes_lines, cut_behind}
@@ -15,6 +16,7 @@ loop-left-init g c = record {
   object = refl;
   settled = c.requires.settled;
   taken = c.requires.taken;
+  moment = refl;
   goes = ([], handles_none c.args.self.now (Run c.args.count ∷ []), takes_nothing (g.K.Sink.taken c.args.sink.now));
   later = omega arith;
 }
@@ -56,6 +58,7 @@ loop-left-preserved g c =
       object = c.settle.ensures.object ∙ object;
       settled = c.settle.ensures.settled;
       taken = c.settle.ensures.told ∙ c.in_ok-tell.ensures.all;
+      moment = c.settle.ensures.moment ∙ (ap (λ (s : Seen). s.state.core.moment) c.in_ok-tell.ensures.same ∙ (c.if-not-act.ensures.moment ∙ i.moment));
       goes = (
         told,
         handles_on c.args.self.now c.tell.new.self c.settle.new.self (Run c.args.count ∷ []) (Run (c.loop-left.left - 1) ∷ []) (Run (c.loop-left.left - 1) ∷ []) told object
@@ -69,3 +72,9 @@ loop-left-preserved g c =
       );
       later = omega (arith, i.later, c.in_ok-tell.ensures.later);
     }
+
+pub returns-then-not-act-clause-moment : goal.returns-then-not-act-clause-moment
+returns-then-not-act-clause-moment g c = c.if-not-act.ensures.moment ∙ c.loop-left.invariant.moment
+
+pub returns-clause-moment : goal.returns-clause-moment
+returns-clause-moment g c = c.loop-left.invariant.moment

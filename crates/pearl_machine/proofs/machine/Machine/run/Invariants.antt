@@ -14,6 +14,7 @@ invariant-loop-left g l = record {
   object : l.self.object ≡ l.fn.self.object;
   settled : unsettled l.self.state ≡ None;
   taken : l.self.state.core.told ≡ [];
+  moment : l.self.state.core.moment ≡ l.fn.self.state.core.moment;
   goes : (told : List (ℕ × Report)) × Handles l.fn.self (Run l.count ∷ []) (Run l.left ∷ []) l.self told
       × Takes (g.K.Sink.taken l.fn.sink) (g.K.Sink.taken l.sink) (lines_of (setup_of l.fn.self.object) told);
   later : g.K.Sink.faults l.fn.sink ≤ g.K.Sink.faults l.sink;

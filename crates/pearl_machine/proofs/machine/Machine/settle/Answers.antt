@@ -1,10 +1,10 @@
 use Rattle.std.proofs.Common.{[], refl, ◌∙◌}
 use Rattle.pearl_machine.proofs.Going.{handles_none, handles_on, handles_settle}
-use Rattle.pearl_machine.proofs.Entering.{owing_less, settled_object, settled_told}
+use Rattle.pearl_machine.proofs.Entering.{owing_less, settled_object, settled_told, settled_moment}
 use Rattle.pearl_machine.proofs.machine.Machine.settle.Goals as goal
 
 pub loop-init : goal.loop-init
-loop-init c = record { object = refl; told = refl; handles = λ from. handles_none c.args.self.now from }
+loop-init c = record { object = refl; told = refl; moment = refl; handles = λ from. handles_none c.args.self.now from }
 
 pub loop-smaller : goal.loop-smaller
 loop-smaller c = owing_less c.loop.self c.settle_first.new.self c.loop-test.ensures
@@ -13,6 +13,7 @@ pub loop-preserved : goal.loop-preserved
 loop-preserved c = record {
   object = settled_object c.loop.self c.settle_first.new.self c.loop-test.ensures ∙ c.loop.invariant.object;
   told = settled_told c.loop.self c.settle_first.new.self c.loop-test.ensures ∙ c.loop.invariant.told;
+  moment = settled_moment c.loop.self c.settle_first.new.self c.loop-test.ensures ∙ c.loop.invariant.moment;
   handles = λ from. handles_on c.args.self.now c.loop.self c.settle_first.new.self from from from [] c.loop.invariant.object
       (c.loop.invariant.handles from) (handles_settle c.loop.self c.settle_first.new.self from c.loop-test.ensures);
 }

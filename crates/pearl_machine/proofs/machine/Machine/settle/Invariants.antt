@@ -9,6 +9,7 @@ abbrev pub invariant-loop : goal.invariant-loop
 invariant-loop l = record {
   object : l.self.object ≡ l.initial.self.object;
   told : l.self.state.core.told ≡ l.initial.self.state.core.told;
+  moment : l.self.state.core.moment ≡ l.initial.self.state.core.moment;
   handles : (from : List Entry) → Handles l.initial.self from from l.self [];
 }
 

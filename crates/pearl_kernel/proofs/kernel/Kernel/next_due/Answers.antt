@@ -1,0 +1,12 @@
+use Rattle.std.proofs.Common.{MatchOption, subst}
+use Rattle.pearl_timer.specs.Series.{IsNext, NoneIsNext}
+use Rattle.pearl_timer.specs.Timetable.{IsDue}
+use Rattle.pearl_kernel.specs.Kept.{Kept}
+use Rattle.pearl_kernel.specs.Timing.{timetable}
+use Rattle.pearl_kernel.proofs.kernel.Kernel.next_due.Goals as goal
+
+pub returns-clause-next : goal.returns-clause-next
+returns-clause-next c =
+    subst (λ (k : Kept). MatchOption c.next_due.result
+    (NoneIsNext (IsDue (timetable k.core.tasks)) k.core.moment) (IsNext (IsDue (timetable k.core.tasks)) k.core.moment))
+    c.self.view_is c.next_due.ensures.next

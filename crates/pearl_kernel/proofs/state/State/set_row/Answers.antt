@@ -1,0 +1,11 @@
+use Rattle.std.proofs.Common.{◌≡◌, ap₂, sym, ◌∙◌}
+use Rattle.std.proofs.lemmas.List.{map-set}
+use Rattle.pearl_timer.specs.Timetable.{Timetable}
+use Rattle.pearl_kernel.specs.Timing.{timetable, series_of_plan, series_of_activation}
+use Rattle.pearl_kernel.proofs.Rows.{timetable-set}
+use Rattle.pearl_kernel.proofs.state.State.set_row.Goals as goal
+
+pub invariant_of-self : goal.invariant_of-self
+invariant_of-self c =
+    let s = c.self.inside in
+    (c.self.invariant.0, timetable-set s.rows.items s.timer c.keep_row.new.timer c.args.task c.args.row c.self.invariant.1 c.keep_row.ensures)

@@ -1,0 +1,372 @@
+// When the tasks' plans serve, and what comes of it.
+
+ghost use Rattle.std.specs.Prelude.{◌≡◌, ◌+◌, ◌^◌, ◌<◌, ◌≤◌, [], Some, length};
+ghost use Rattle.pearl_rules.specs.Plans.{time_at, next_at, milliseconds, first_moment, period_of, last_moment};
+ghost use Rattle.pearl_rules.specs.Plans.{begin_series, planned, first_series, begun, started, with_mark};
+ghost use Rattle.pearl_rules.specs.Plans.{with_continuation, with_activation, continued, serves_if, serve_continuation};
+ghost use Rattle.pearl_rules.specs.Plans.{serve_activation, plan_continuation, plan_activation, served, millisecond};
+ghost use Rattle.pearl_rules.specs.Plans.{waits_for, continuation_began, begin_activation, activation_of, reached, occurred};
+ghost use Rattle.pearl_rules.specs.Devices.{interrupted};
+ghost use Rattle.pearl_kernel.specs.Timing.{IsTimely, IsTimelyStart, IsTimelyRepeat, IsTimelyPlan};
+
+use crate::state::State;
+use pearl_rules::action::{Repeat, Start};
+use pearl_rules::event::Event;
+use pearl_rules::row::{Activation, Mode, Plan};
+use pearl_timer::series::Series;
+
+// The milliseconds of a day.
+const DAY: u64 = 86_400_000;
+
+// STARTS AND SUSPENDED TASKS
+
+impl State {
+    /// A dormant task becomes active with this priority; where the task is active, that is told, and it stays so.
+    pub fn start(&mut self, task: u32, priority: u8)
+        requires there { task < length self.old.core.tasks }
+        requires room { length self.old.core.told < 200 }
+        ensures { self.new ≡ record self.old { core = started self.old.core task priority } }
+    {
+        match self.mode(task) {
+            Mode::Dormant => {
+                let suspended = false;
+                self.set_mode(
+                    task,
+                    Mode::Active {
+                        priority,
+                        suspended,
+                    },
+                );
+                self.note(Event::Start { task, priority });
+            }
+            Mode::Active { .. } => self.note(Event::Overrun(task)),
+        }
+    }
+
+    /// An active task has this mark of suspension from now on.
+    pub fn mark(&mut self, task: u32, suspended: bool)
+        requires { task < length self.old.core.tasks }
+        ensures { self.new ≡ record self.old { core = with_mark self.old.core task suspended } }
+    {
+        let mode = match self.mode(task) {
+            Mode::Dormant => Mode::Dormant,
+            Mode::Active { priority, .. } => Mode::Active {
+                priority,
+                suspended,
+            },
+        };
+        self.set_mode(task, mode);
+    }
+}
+
+// MOMENTS
+
+impl State {
+    /// The time of day at a moment, in milliseconds since midnight.
+    pub fn time_at(&self, moment: u64) -> u32
+        requires clock { self.now.core.clock < 86400000 }
+        requires near { moment < 2 ^ 63 }
+        ensures { result ≡ time_at self.now.core moment }
+    {
+        ((u64::from(self.clock()) + moment) % DAY) as u32
+    }
+
+    // The least moment from this one on at which it is this time of day.
+    fn next_at(&self, time: u32, moment: u64) -> u64
+        requires clock { self.now.core.clock < 86400000 }
+        requires near { moment < 2 ^ 63 }
+        ensures { result ≡ next_at self.now.core time moment }
+    {
+        let wait = u64::from(time) + (DAY - u64::from(self.time_at(moment)));
+        moment + wait % DAY
+    }
+
+    fn first_moment(&self, start: Start) -> u64
+        requires clock { self.now.core.clock < 86400000 }
+        requires near { self.now.core.moment ≤ 2 ^ 40 }
+        requires start { IsTimelyStart start }
+        ensures first { result ≡ first_moment self.now.core start }
+        ensures near { result ≤ 2 ^ 42 }
+    {
+        match start {
+            Start::Free | Start::When(_) => self.now(),
+            Start::At(time) => self.next_at(time, self.now()),
+            Start::After(time) => self.now() + milliseconds(time),
+            Start::WhenAfter(_, time) => self.now() + milliseconds(time),
+        }
+    }
+
+    fn last_moment(&self, first: u64, repeat: Repeat) -> u64
+        requires clock { self.now.core.clock < 86400000 }
+        requires near { first ≤ 2 ^ 42 }
+        requires repeat { IsTimelyRepeat repeat }
+        ensures { result ≡ last_moment self.now.core first repeat }
+    {
+        match repeat {
+            Repeat::Once | Repeat::All(_) => u64::MAX,
+            Repeat::Until(_, time) => self.next_at(time, first),
+            Repeat::During(_, time) => first + milliseconds(time),
+        }
+    }
+
+    // The series that begins now.
+    fn begin_series(&self, start: Start, repeat: Repeat) -> Series
+        requires timely { IsTimely self.now.core }
+        requires plan { IsTimelyStart start × IsTimelyRepeat repeat }
+        ensures { result ≡ begin_series self.now.core start repeat }
+    {
+        let first = self.first_moment(start);
+        Series {
+            first,
+            period: period_of(repeat),
+            last: self.last_moment(first, repeat),
+        }
+    }
+
+    // The series that a plan has at its making: none where it waits for an interrupt.
+    fn first_series(&self, start: Start, repeat: Repeat) -> Option<Series>
+        requires timely { IsTimely self.now.core }
+        requires plan { IsTimelyStart start × IsTimelyRepeat repeat }
+        ensures { result ≡ first_series self.now.core start repeat }
+    {
+        match start {
+            Start::When(_) | Start::WhenAfter(..) => None,
+            Start::Free | Start::At(_) | Start::After(_) => {
+                Some(self.begin_series(start, repeat))
+            }
+        }
+    }
+
+    /// A plan that is made now.
+    pub fn planned(&self, start: Start, repeat: Repeat) -> Plan
+        requires timely { IsTimely self.now.core }
+        requires plan { IsTimelyStart start × IsTimelyRepeat repeat }
+        ensures { result ≡ planned self.now.core start repeat }
+    {
+        let series = self.first_series(start, repeat);
+        Plan {
+            start,
+            repeat,
+            series,
+        }
+    }
+
+    // The same plan with a series that begins now.
+    fn begun(&self, plan: Plan) -> Plan
+        requires timely { IsTimely self.now.core }
+        requires plan { IsTimelyPlan plan }
+        ensures { result ≡ begun self.now.core plan }
+    {
+        let series = Some(self.begin_series(plan.start, plan.repeat));
+        Plan { series, ..plan }
+    }
+}
+
+// A length of time; one below 0 counts as none.
+fn milliseconds(time: i64) -> u64
+    ensures { result ≡ milliseconds time }
+{
+    if time < 0 { 0 } else { time as u64 }
+}
+
+fn period_of(repeat: Repeat) -> u64
+    ensures { result ≡ period_of repeat }
+{
+    match repeat {
+        Repeat::Once => 0,
+        Repeat::All(period) => milliseconds(period),
+        Repeat::Until(period, _) => milliseconds(period),
+        Repeat::During(period, _) => milliseconds(period),
+    }
+}
+
+fn waits_for(interrupt: u32, start: Start) -> bool
+    ensures { result ≡ waits_for interrupt start }
+{
+    match start {
+        Start::When(other) | Start::WhenAfter(other, _) => interrupt == other,
+        Start::Free | Start::At(_) | Start::After(_) => false,
+    }
+}
+
+// PLANS THAT SERVE
+
+impl State {
+    fn set_continuation(&mut self, task: u32, plan: Option<Plan>)
+        requires { task < length self.old.core.tasks }
+        ensures { self.new ≡ record self.old { core = with_continuation self.old.core task plan } }
+    {
+        let mut row = self.row(task);
+        row.continuation = plan;
+        self.set_row(task, row);
+    }
+
+    fn set_activation(&mut self, task: u32, activation: Option<Activation>)
+        requires { task < length self.old.core.tasks }
+        ensures { self.new ≡ record self.old { core = with_activation self.old.core task activation } }
+    {
+        let mut row = self.row(task);
+        row.activation = activation;
+        self.set_row(task, row);
+    }
+
+    fn serves(&self, plan: Option<Plan>) -> bool
+        ensures { result ≡ serves_if self.now.core plan }
+    {
+        let Some(plan) = plan else {
+            return false;
+        };
+        match plan.series {
+            None => false,
+            Some(series) => series.fires(self.now()),
+        }
+    }
+
+    // The task goes on, where the series of its plan fires now; the plan is gone then.
+    fn serve_continuation(&mut self, task: u32)
+        requires { task < length self.old.core.tasks }
+        ensures { self.new ≡ record self.old { core = serve_continuation self.old.core task } }
+    {
+        if self.serves(self.row(task).continuation) {
+            self.go_on(task);
+        }
+    }
+
+    // A task goes on by its plan, which is gone then.
+    fn go_on(&mut self, task: u32)
+        requires { task < length self.old.core.tasks }
+        ensures { self.new ≡ record self.old { core = continued self.old.core task } }
+    {
+        self.mark(task, false);
+        self.set_continuation(task, None);
+    }
+
+    // The task is started, where the series of its plan fires now.
+    fn serve_activation(&mut self, task: u32)
+        requires there { task < length self.old.core.tasks }
+        requires room { length self.old.core.told < 200 }
+        ensures { self.new ≡ record self.old { core = serve_activation self.old.core task } }
+    {
+        let Some(activation) = self.row(task).activation else {
+            return;
+        };
+        if self.serves(Some(activation.plan)) {
+            self.start(task, activation.priority);
+        }
+    }
+
+    /// A new plan by which a task goes on, in place of the one that it has; it serves at once where it fires now.
+    pub fn plan_continuation(&mut self, task: u32, plan: Plan)
+        requires { task < length self.old.core.tasks }
+        ensures { self.new ≡ record self.old { core = plan_continuation self.old.core task plan } }
+    {
+        self.set_continuation(task, Some(plan));
+        self.serve_continuation(task);
+    }
+
+    /// A new plan by which a task is started, in place of the one that it has; it serves at once where it fires now.
+    pub fn plan_activation(&mut self, task: u32, activation: Activation)
+        requires there { task < length self.old.core.tasks }
+        requires room { length self.old.core.told < 200 }
+        ensures { self.new ≡ record self.old { core = plan_activation self.old.core task activation } }
+    {
+        self.set_activation(task, Some(activation));
+        self.serve_activation(task);
+    }
+}
+
+// MILLISECONDS AND INTERRUPTS
+
+impl State {
+    /// A millisecond passes: the plans that fire then serve.
+    pub fn millisecond(&mut self)
+        requires few { length self.old.core.tasks ≤ 200 }
+        requires told { self.old.core.told ≡ [] }
+        requires later { self.old.core.moment + 1 ≤ 2 ^ 40 }
+        ensures { self.new ≡ record self.old { core = millisecond self.old.core } }
+    {
+        self.set_moment(self.now() + 1);
+        let count = self.tasks() as u32;
+        for task in 0..count {
+            self.serve(task);
+        }
+    }
+
+    // The plans of a task that fire now serve.
+    fn serve(&mut self, task: u32)
+        requires there { task < length self.old.core.tasks }
+        requires room { length self.old.core.told < 200 }
+        ensures { self.new ≡ record self.old { core = served self.old.core task } }
+    {
+        self.serve_continuation(task);
+        self.serve_activation(task);
+    }
+
+    /// An interrupt occurs; that a masked one did is told.
+    pub fn interrupted(&mut self, device: u32)
+        requires few { length self.old.core.tasks ≤ 200 }
+        requires told { self.old.core.told ≡ [] }
+        requires timely { IsTimely self.old.core }
+        ensures { self.new ≡ record self.old { core = interrupted self.old.core device } }
+    {
+        if self.is_enabled(device) {
+            self.occur(device);
+        } else {
+            self.note(Event::Masked(device));
+        }
+    }
+
+    // An interrupt reaches the tasks whose plans wait for it.
+    fn occur(&mut self, interrupt: u32)
+        requires few { length self.old.core.tasks ≤ 200 }
+        requires told { self.old.core.told ≡ [] }
+        requires timely { IsTimely self.old.core }
+        ensures { self.new ≡ record self.old { core = occurred self.old.core interrupt } }
+    {
+        let count = self.tasks() as u32;
+        for task in 0..count {
+            self.reach(interrupt, task);
+        }
+    }
+
+    fn reach(&mut self, interrupt: u32, task: u32)
+        requires there { task < length self.old.core.tasks }
+        requires room { length self.old.core.told < 200 }
+        requires timely { IsTimely self.old.core }
+        ensures { self.new ≡ record self.old { core = reached interrupt self.old.core task } }
+    {
+        self.begin_continuation(interrupt, task);
+        self.begin_activation(interrupt, task);
+    }
+
+    // The plan by which a task goes on begins where it waits for this interrupt.
+    fn begin_continuation(&mut self, interrupt: u32, task: u32)
+        requires there { task < length self.old.core.tasks }
+        requires timely { IsTimely self.old.core }
+        ensures { self.new ≡ record self.old { core = continuation_began interrupt self.old.core task } }
+    {
+        let Some(plan) = self.row(task).continuation else {
+            return;
+        };
+        if waits_for(interrupt, plan.start) {
+            self.plan_continuation(task, self.begun(plan));
+        }
+    }
+
+    // The plan by which a task is started begins where it waits for this interrupt.
+    fn begin_activation(&mut self, interrupt: u32, task: u32)
+        requires there { task < length self.old.core.tasks }
+        requires room { length self.old.core.told < 200 }
+        requires timely { IsTimely self.old.core }
+        ensures { let core = self.old.core in
+            self.new ≡ record self.old { core = begin_activation interrupt (activation_of core task) core task } }
+    {
+        let Some(activation) = self.row(task).activation else {
+            return;
+        };
+        if waits_for(interrupt, activation.plan.start) {
+            let plan = self.begun(activation.plan);
+            self.plan_activation(task, Activation { plan, ..activation });
+        }
+    }
+}
