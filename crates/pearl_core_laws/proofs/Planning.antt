@@ -1,5 +1,6 @@
 -- What becomes of a task's plans by actions, and at which moments they serve.
-use Rattle.std.proofs.Common.{◌≡◌, ◌↔◌, List, ℕ, ◌^◌, ◌<◌, pos, Bool, true, false, IsTrue, if◌then◌else◌, ◌∷◌, [], Option, Some, None, refl, sym, ap, ap₂, subst, ◌∙◌, arith}
+use Rattle.std.proofs.Common.{◌≡◌, ◌↔◌, inl, inr, List, ℕ, eq-eqb, eqb-true, ◌^◌, ◌<◌, pos, Bool, true, false, IsTrue, if◌then◌else◌, ◌∷◌, [], Option, Some, None, refl, sym, ap, ap₂, subst, ◌∙◌, arith}
+use Rattle.std.proofs.lemmas.Bool.{true≢false}
 use Rattle.pearl_value.specs.declared.trap.Trap as traps
 use Rattle.pearl_timer.specs.Timetable.{fires_if}
 use Rattle.pearl_timer.proofs.Firings.{fires_as_said}
@@ -15,10 +16,10 @@ use Rattle.pearl_rules.specs.declared.row.Mode.TheVariants.{Dormant, Active}
 use Rattle.pearl_rules.specs.declared.row.Plan.{Plan}
 use Rattle.pearl_rules.specs.declared.row.TaskRow.{TaskRow}
 use Rattle.pearl_rules.specs.Core.{Core, note, row_of, with_row, is_active_row, is_active_mode, mode_of_row}
-use Rattle.pearl_rules.specs.Plans.{time_at, begun, started, marked_mode, with_mark, begin_series, first_moment, period_of, last_moment, planned, serves_if, plan_continuation, plan_activation, occurred}
+use Rattle.pearl_rules.specs.Plans.{time_at, begun, started, marked_mode, with_mark, begin_series, first_moment, period_of, last_moment, planned, waits_for, serves_if, plan_continuation, plan_activation, occurred}
 use Rattle.pearl_rules.specs.Devices.{is_enabled, interrupted}
 use Rattle.pearl_rules.specs.Effect.{answering, effect, finished, stopped_by, is_at_once, priority_or_declared}
-use Rattle.pearl_core_laws.specs.Plans.{IsMoment, Waits, ChangesRow, mode_after, start_events, starts_now, new_activation, with_new_activation, with_new_continuation}
+use Rattle.pearl_core_laws.specs.Plans.{IsMoment, Waits, IsWrittenWith, ChangesRow, mode_after, start_events, starts_now, new_activation, with_new_activation, with_new_continuation}
 use Rattle.pearl_core_laws.proofs.Times.{next_time}
 use Rattle.pearl_core_laws.proofs.Steps.{tells, tells_none, step_changes, row_changed, row_there, row_twice, mark_is, plan_continuation_is, plan_activation_is}
 
@@ -170,3 +171,20 @@ at_this_time core time near small is =
 
 pub masked_tells : (core : Core) (device : ℕ) → is_enabled core device ≡ false → interrupted core device ≡ note core (event.Masked device)
 masked_tells core device off = ap (λ b. if b then occurred core device else note core (event.Masked device)) off
+
+-- INTERRUPTS
+
+-- for which interrupt a plan waits
+pub plan_waits : (interrupt : ℕ) (start : Start) → IsTrue (waits_for interrupt start) ↔ IsWrittenWith interrupt start
+plan_waits interrupt start = (written start, waiting)
+  where
+    written : (s : Start) → IsTrue (waits_for interrupt s) → IsWrittenWith interrupt s
+    written Free is = absurd (true≢false (sym is))
+    written (At time) is = absurd (true≢false (sym is))
+    written (After time) is = absurd (true≢false (sym is))
+    written (When other) is = inl (ap When (sym (eqb-true interrupt other is)))
+    written (WhenAfter other time) is = inr (time, ap (λ i. WhenAfter i time) (sym (eqb-true interrupt other is)))
+
+    waiting : IsWrittenWith interrupt start → IsTrue (waits_for interrupt start)
+    waiting (inl is) = ap (waits_for interrupt) is ∙ eq-eqb interrupt interrupt refl
+    waiting (inr (time, is)) = ap (waits_for interrupt) is ∙ eq-eqb interrupt interrupt refl

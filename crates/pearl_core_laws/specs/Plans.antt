@@ -1,6 +1,9 @@
 -- What plans come to: which moment a time of day is, at which moments a plan serves, and what becomes of a task where
--- plans serve.
-use Rattle.std.specs.Prelude.{◌≡◌, ◌≢◌, ℕ, ◌+◌, ◌*◌, ◌≤◌, List, [], ◌∷◌, ◌++◌, Bool, true, false, ◌&&◌, if◌then◌else◌, Option, Some, None}
+-- plans serve; and how one device changes.
+use Rattle.std.specs.Prelude.{◌≡◌, ◌≢◌, ◌⊎◌, ℕ, ◌+◌, ◌*◌, ◌≤◌, ℤ, List, [], ◌∷◌, ◌++◌, Bool, true, false, ◌&&◌, if◌then◌else◌, Option, Some, None}
+use Rattle.pearl_value.specs.declared.cell.Cell.{Cell}
+use Rattle.pearl_value.specs.declared.kind.Kind.{Kind}
+use Rattle.pearl_value.specs.declared.trap.Trap.{Trap}
 use Rattle.pearl_rules.specs.declared.action.Start.{Start}
 use Rattle.pearl_rules.specs.declared.action.Start.TheVariants.{When, WhenAfter}
 use Rattle.pearl_rules.specs.declared.action.Repeat.{Repeat}
@@ -11,10 +14,10 @@ use Rattle.pearl_rules.specs.declared.row.Mode.TheVariants.{Dormant, Active}
 use Rattle.pearl_rules.specs.declared.row.Plan.{Plan}
 use Rattle.pearl_rules.specs.declared.row.Activation.{Activation}
 use Rattle.pearl_rules.specs.declared.row.TaskRow.{TaskRow}
-use Rattle.pearl_rules.specs.Core.{Core, Channel, row_of}
+use Rattle.pearl_rules.specs.Core.{Core, Channel, Values, row_of}
 use Rattle.pearl_rules.specs.Plans.{time_at, planned, begun, waits_for, serves_if}
 use Rattle.pearl_rules.specs.Devices.{channel_of}
-use Rattle.pearl_rules.specs.Effect.{priority_or_declared}
+use Rattle.pearl_rules.specs.Effect.{Effect, Ends, priority_or_declared}
 use Rattle.pearl_rules.specs.Laws.{happened_at}
 
 -- TIME
@@ -34,6 +37,10 @@ abbrev pub Waits : Start → Type 0
 Waits (When interrupt) = Unit {0}
 Waits (WhenAfter interrupt time) = Unit {0}
 Waits other = ⊥
+
+-- it is written with this interrupt, without or with a time after it
+abbrev pub IsWrittenWith : (interrupt : ℕ) → Start → Type 0
+IsWrittenWith interrupt start = (start ≡ When interrupt) ⊎ ((time : ℤ) × (start ≡ WhenAfter interrupt time))
 
 -- ONE TASK
 
@@ -148,3 +155,18 @@ pub record ChangesChannel (old new : Core) (device : ℕ) (channel : Channel) : 
   pub this : channel_of new device ≡ Some channel
   pub others : (other : ℕ) → other ≢ device → channel_of new other ≡ channel_of old other
   pub rest : new ≡ record old { channels = new.channels }
+
+-- a value waits at an input
+pub record ValueWaits (core : Core) (device : ℕ) : Type 0 where
+  pub kind : Kind
+  pub oldest : Cell
+  pub later : List Cell
+  pub stands : channel_of core device ≡ Some (Values kind (oldest ∷ later))
+
+-- a task acts, a device's channel becomes this, and then the task is broken off and hears nothing more; nothing else changed
+pub record BreaksOff (core : Core) (own device : ℕ) (channel : Channel) (row : TaskRow) (trap : Trap) (done : Effect) : Type 0 where
+  pub between : Core
+  pub channel_changes : ChangesChannel (record core { last = Some own }) between device channel
+  pub row_changes : ChangesRow between done.core own (record row { mode = Dormant; continuation = None }) (event.Trap own trap ∷ [])
+  pub replies : done.reply ≡ Ends
+  pub ends : done.ended ≡ own ∷ []

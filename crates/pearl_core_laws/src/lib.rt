@@ -1,4 +1,6 @@
 // What the rules of tasks come to, in words of their own: what there is of it are laws.
 #![tactic(auto)]
 
+pub mod devices;
 pub mod laws;
+pub mod schedules;

@@ -1,0 +1,8 @@
+use Rattle.std.proofs.Common.{refl}
+use Rattle.pearl_core_laws.proofs.schedules.plans_keep_what_was_written.Goals as goal
+
+pub returns-clause-made : goal.returns-clause-made
+returns-clause-made c = λ core start repeat. (refl, refl)
+
+pub returns-clause-begins : goal.returns-clause-begins
+returns-clause-begins c = λ core plan. (refl, refl)
