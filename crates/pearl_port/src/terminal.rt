@@ -85,7 +85,8 @@ impl Terminal {
         self.waiting()
     }
 
-    fn waiting(&self) -> &[u8]
+    /// All bytes that wait.
+    pub fn waiting(&self) -> &[u8]
         ensures bytes { result.now ≡ self.now }
         ensures within { length result.now ≤ 4096 }
         ensures typed { All IsTyped result.now }
