@@ -7,12 +7,24 @@ use pearl_journal::lines::next_line;
 use pearl_journal::reading::{Line, Reading};
 use pearl_rules::entry::Entry;
 use pearl_rules::setup::{Device, Direction, Setup, TaskEntry};
+use pearl_value::cell::Cell;
 use pearl_value::kind::Kind;
 use pearl_value::listing::Listing;
 use std::alloc::{AllocError, Global};
 use std::test::Fail;
 
-// What a line was read as.
+// A value that came in. Of a text it says how long it is.
+#[derive(Clone, Copy, PartialEq, Eq, Debug)]
+pub enum Given {
+    Fixed(i64),
+    Bits(u8, u64),
+    Text(usize),
+    Clock(u32),
+    Span(i64),
+    Ref,
+}
+
+// What a line was read as. Of a text it says how long it is.
 #[derive(Clone, Copy, PartialEq, Eq, Debug)]
 pub enum Told {
     Blank,
@@ -21,10 +33,24 @@ pub enum Told {
     Tick(u64),
     Pass(u64, u64),
     Irpt(u32),
+    Chars(u32, usize),
+    Line(u32, usize),
+    Value(u32, Given),
     Turn(u32),
     State,
-    Other,
+    Unread,
     Wrong(u8),
+}
+
+fn as_given(value: &Cell) -> Given {
+    match value {
+        Cell::Fixed { value, .. } => Given::Fixed(*value),
+        Cell::Bits { len, value } => Given::Bits(*len, *value),
+        Cell::Chars(text) => Given::Text(text.len()),
+        Cell::Clock(time) => Given::Clock(*time),
+        Cell::Span(time) => Given::Span(*time),
+        Cell::Ref { .. } => Given::Ref,
+    }
 }
 
 fn as_told(line: &Line) -> Told {
@@ -35,9 +61,11 @@ fn as_told(line: &Line) -> Told {
         Line::Item(Entry::Tick(milliseconds)) => Told::Tick(*milliseconds),
         Line::Item(Entry::Pass { times, picks }) => Told::Pass(*times, *picks),
         Line::Item(Entry::Irpt(device)) => Told::Irpt(*device),
+        Line::Item(Entry::Chars { device, text }) => Told::Chars(*device, text.len()),
+        Line::Item(Entry::Line { device, text }) => Told::Line(*device, text.len()),
+        Line::Item(Entry::Value { device, value }) => Told::Value(*device, as_given(value)),
         Line::Item(Entry::Turn(task)) => Told::Turn(*task),
         Line::Item(Entry::State) => Told::State,
-        Line::Item(_) => Told::Other,
         Line::Wrong(code) => Told::Wrong(*code),
     }
 }
@@ -89,7 +117,7 @@ fn twelve_devices(alloc: Global) -> Result<Listing<Device>, AllocError>
 }
 
 // Five tasks. Two have one name, as an object's may, one the longest name, and one that of a word in small letters.
-fn tables(alloc: Global) -> Result<Setup, AllocError>
+pub fn tables(alloc: Global) -> Result<Setup, AllocError>
     ensures tasks { IfOk result (λ setup. length setup.tasks ≡ 5) }
     ensures devices { IfOk result (λ setup. length setup.devices ≡ 12) }
 {
@@ -110,7 +138,7 @@ fn tables(alloc: Global) -> Result<Setup, AllocError>
 }
 
 // What a line means by itself.
-fn alone(setup: &Setup, line: &[u8]) -> Told
+pub fn alone(setup: &Setup, line: &[u8]) -> Told
     requires tasks { length setup.now.tasks < 2 ^ 32 }
     requires devices { length setup.now.devices < 2 ^ 32 }
 {
@@ -272,15 +300,6 @@ fn irpts() -> [(&'static [u8], Told); 12] {
     ]
 }
 
-// Forms that aren't read yet.
-fn later() -> [(&'static [u8], Told); 3] {
-    [
-        (b"chars 1 'x'", Told::Wrong(1)),
-        (b"line 1 ''", Told::Wrong(1)),
-        (b"value 1 2", Told::Wrong(1)),
-    ]
-}
-
 #[test]
 fn one_line_each(rt: HostRuntime) -> Result<(), Fail> {
     let setup = tables(rt.alloc())?;
@@ -317,14 +336,11 @@ fn lines_of_time_and_interrupts(rt: HostRuntime) -> Result<(), Fail> {
     for (line, want) in irpts() {
         assert_eq!(rt; alone(&setup, line), want);
     }
-    for (line, want) in later() {
-        assert_eq!(rt; alone(&setup, line), want);
-    }
     Ok(())
 }
 
 // A line of a front, one byte so many times, and an end.
-fn padded(
+pub fn padded(
     alloc: Global,
     front: &[u8],
     byte: u8,
@@ -377,7 +393,7 @@ fn next_told(reading: &mut Reading, setup: &Setup, line: &[u8]) -> Told
     if reading.lines() < 100 {
         as_told(&reading.read(setup, line))
     } else {
-        Told::Other
+        Told::Unread
     }
 }
 

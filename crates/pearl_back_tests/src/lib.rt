@@ -4,4 +4,6 @@
 #[cfg(test)]
 mod journal;
 #[cfg(test)]
+mod journal_inputs;
+#[cfg(test)]
 mod lines;

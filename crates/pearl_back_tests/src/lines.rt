@@ -112,7 +112,7 @@ fn states(rt: HostRuntime) {
 
 #[test]
 fn refusals(rt: HostRuntime) {
-    let table: [(Refusal, &[u8]); 8] = [
+    let table: [(Refusal, &[u8]); 7] = [
         (Refusal::Usage, b"error usage\n"),
         (Refusal::Syntax(0), b"error syntax 0\n"),
         (
@@ -126,7 +126,6 @@ fn refusals(rt: HostRuntime) {
             Refusal::Journal { line: 4, code: 1 },
             b"error journal 4 1\n",
         ),
-        (Refusal::Unbuilt(51), b"error unbuilt 51\n"),
         (Refusal::Read, b"error read\n"),
         (Refusal::Memory, b"error memory\n"),
         (Refusal::TooLong(1_048_577), b"error too long 1048577\n"),

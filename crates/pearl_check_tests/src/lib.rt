@@ -1,4 +1,4 @@
-// Tests of the rules on statements, and of which form isn't carried out yet.
+// Tests of the rules on statements.
 #![tactic(auto)]
 
 // A table with a case in each line: a module with its marks, and what is expected.
@@ -12,5 +12,3 @@ mod cases;
 mod checks;
 #[cfg(test)]
 mod statement_rules;
-#[cfg(test)]
-mod unbuilt;

@@ -1,6 +1,5 @@
 pub mod Slots
 pub mod Tables
-pub mod Built
 pub mod Offered
 pub mod Stands
 pub mod Soon

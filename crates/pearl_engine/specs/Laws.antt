@@ -11,11 +11,8 @@ use Rattle.pearl_instructions.specs.declared.object.Object.{Object}
 use Rattle.pearl_instructions.specs.Actions.{IsSlotNumber, IsOffered}
 use Rattle.pearl_instructions.specs.Lawful.{IsObject}
 use Rattle.pearl_instructions.specs.Objects.{slot_kind}
-use Rattle.pearl_instructions.specs.Rows.{row}
 use Rattle.pearl_instructions.specs.Stacks.{Answers}
-use Rattle.pearl_instructions.specs.Steps as steps
 use Rattle.pearl_instructions.specs.Valid.{IsValid}
-use Rattle.pearl_engine.specs.Built.{IsBuilt, OnlyBuilt}
 use Rattle.pearl_engine.specs.Setups.{setup_of}
 use Rattle.pearl_engine.specs.Engines.{engine, total_rows}
 use Rattle.pearl_engine.specs.Owners.{StandsIn, rows_left}
@@ -51,11 +48,6 @@ HearsWhatSuits = (o : Object) (t : ℕ) (action : Action) (answer : Answer) → 
 abbrev pub OffersWhatIsThere : Type 0
 OffersWhatIsThere = (o : Object) (t : ℕ) (frames : List Frame) (action : Action) → IsValid o → IsObject o → StandsIn o t frames →
     (engine o).step t frames ≡ Offers action → IsOffered o action
-
--- an object of built instructions alone offers no other action
-abbrev pub OffersBuilt : Type 0
-OffersBuilt = (o : Object) (frames : List Frame) (action : Action) (go : Answer → List Frame) → OnlyBuilt o → row o frames ≡ steps.Offers action go →
-    IsBuilt action
 
 -- an action that is offered fits the tables
 abbrev pub FitsTables : Type 0

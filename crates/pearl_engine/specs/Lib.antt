@@ -4,7 +4,5 @@ pub mod Setups
 pub mod Engines
 -- whose stack a task's code stands with, and how soon it offers an action
 pub mod Owners
--- which actions are carried out, and which objects offer no other
-pub mod Built
 -- what holds of the runs of valid objects
 pub mod Laws

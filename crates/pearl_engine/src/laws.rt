@@ -1,6 +1,6 @@
 // What holds of the runs of valid objects. Each function's contract is one theorem; none does anything.
 
-ghost use Rattle.pearl_engine.specs.Laws.{AreTables, KnowsSlots, Begins, GoesOn, GoesOnAfter, HearsWhatSuits, OffersWhatIsThere, OffersBuilt, FitsTables, OffersSoon};
+ghost use Rattle.pearl_engine.specs.Laws.{AreTables, KnowsSlots, Begins, GoesOn, GoesOnAfter, HearsWhatSuits, OffersWhatIsThere, FitsTables, OffersSoon};
 
 use pearl_instructions::laws;
 
@@ -50,11 +50,6 @@ pub fn offers_name_what_is_there()
 {
     laws::offers_name_what_is_there();
 }
-
-/// An object whose instructions are all built offers no action that isn't.
-pub fn offers_are_built()
-    ensures { OffersBuilt }
-{}
 
 /// An action that is offered fits the tables.
 pub fn offers_fit_the_tables()

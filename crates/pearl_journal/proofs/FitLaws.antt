@@ -3,28 +3,36 @@ use Rattle.std.proofs.Common.{◌≡◌, ◌<◌, ◌≤◌, ◌+◌, ◌^◌, �
 use Rattle.std.proofs.lemmas.Bool.{leb-true, ltb-true}
 use Rattle.std.proofs.lemmas.List.Quantifiers.{position-Some}
 use Rattle.std.proofs.lemmas.Option.{slice_get-get_or}
-use Rattle.std.specs.Prelude.{Option, Some, None, Result, Ok, Err, IfSome, IfOk, codes, bytes_eq, nat_le, slice_get, if◌then◌else◌}
+use Rattle.std.specs.Prelude.{Option, Some, None, Result, Ok, Err, IfSome, IfOk, codes, bytes_eq, nat_le, slice_get, ◌&&◌, ◌==◌, if◌then◌else◌}
 use Rattle.std.specs.List.{position, position_or_len}
 use Rattle.std.specs.Str.{all_ascii_digits}
 use Rattle.std.specs.Str.Parse.{digits_value}
+use Rattle.pearl_value.specs.declared.cell.Cell.{Cell}
 use Rattle.pearl_rules.specs.declared.entry.Entry.{Entry}
 use Rattle.pearl_rules.specs.declared.entry.Entry.TheVariants as entry
 use Rattle.pearl_rules.specs.declared.setup.Device.{Device}
 use Rattle.pearl_rules.specs.declared.setup.Device.TheVariants as device
+use Rattle.pearl_rules.specs.declared.setup.Direction.{Direction}
+use Rattle.pearl_rules.specs.declared.setup.Direction.TheVariants as direction
 use Rattle.pearl_rules.specs.declared.setup.Setup.{Setup}
 use Rattle.pearl_rules.specs.declared.setup.TaskEntry.{TaskEntry}
 use Rattle.pearl_rules.specs.Entries.{AreFitting, EntryFits, moment_after}
 use Rattle.pearl_rules.specs.Literals.{clock_literal}
-use Rattle.pearl_rules.specs.Tables.{IsInterrupt, is_id}
+use Rattle.pearl_rules.specs.Tables.{input_kind, IsInterrupt, IsReadable, Reads, is_id}
 use Rattle.pearl_scan.proofs.Kept.{clock_below}
-use Rattle.pearl_journal.specs.declared.limits.TheConstants.{LAST_MOMENT, LINE_LIMIT, NO_FORM, NOT_DECLARED, TOO_LATE}
+use Rattle.pearl_journal.specs.declared.limits.TheConstants.{LAST_MOMENT, LINE_LIMIT, NO_FIT, NO_FORM, NOT_DECLARED, TOO_LATE}
 use Rattle.pearl_journal.specs.declared.reading.Line.{Line}
 use Rattle.pearl_journal.specs.declared.reading.Line.TheVariants.{Blank, Item, Wrong}
-use Rattle.pearl_journal.specs.Devices.{is_interrupt}
+use Rattle.pearl_journal.specs.Devices.{is_input, is_interrupt, is_readable, reads}
 use Rattle.pearl_journal.specs.Lines.{without_return}
 use Rattle.pearl_journal.specs.Words.{behind_blanks, before_blanks, first_word, behind_word, limited, number, task_named}
-use Rattle.pearl_journal.specs.Readings.{NoInput, Reading}
-use Rattle.pearl_journal.specs.Meaning.{arriving_form, clock_entry, entry_of, form_of, in_time, irpt_entry, is_skipped, line_of, meaning, needing, pass_entry, run_entry, state_entry, task_form, text_meaning, tick_entry, turn_entry}
+use Rattle.pearl_journal.specs.Readings.{Reading}
+use Rattle.pearl_journal.specs.Meaning.{arriving_form, chars_entry, clock_entry, entry_of, form_of, in_time, irpt_entry, is_skipped, line_entry, line_of, meaning, needing, pass_entry, run_entry, state_entry, task_form, terminal_entry, text_meaning, tick_entry, turn_entry, value_entry}
+use Rattle.pearl_journal.specs.Texts.{quoted, text_literal}
+use Rattle.pearl_journal.specs.declared.literals.Literal.{Literal}
+use Rattle.pearl_journal.specs.Values.{coming_in, literal}
+use Rattle.pearl_journal.proofs.ValueFits.{LiteralIs, coming_in-fits, literal-is}
+use Rattle.pearl_journal.proofs.TextFits.{Printed, quoted-printed, text_literal-printed}
 use Rattle.pearl_journal.specs.Entries.{Entries, IfItem, after, entries_from, more_entries}
 
 some_if : (test : Bool) (n : ℕ) (P : ℕ → Type 0) → (test ≡ true → P n) → IfSome (if test then Some n else None) P
@@ -61,6 +69,21 @@ interrupt_is k (device.Terminal number direction) h = cc
 interrupt_is k (device.Input number kind) h = cc
 interrupt_is k (device.Output number kind) h = cc
 
+reads_is : (of : Direction) → reads of ≡ true → Reads of
+reads_is direction.In h = tt
+reads_is direction.Out h = cc
+reads_is direction.InOut h = tt
+
+both_true : (a b : Bool) → a && b ≡ true → b ≡ true
+both_true true b h = h
+both_true false b h = cc
+
+readable_is : (k : ℕ) (device : Device) → is_readable k device ≡ true → IsReadable (Some device)
+readable_is k (device.Interrupt number) h = cc
+readable_is k (device.Terminal number of) h = reads_is of (both_true (number == k) (reads of) h)
+readable_is k (device.Input number kind) h = cc
+readable_is k (device.Output number kind) h = cc
+
 -- FORMS
 
 -- what has to hold of an entry apart from the moment
@@ -70,9 +93,9 @@ FormFits setup (entry.Pass times picks) = picks < 2 ^ 63
 FormFits setup (entry.Clock time) = EntryFits setup 0 (entry.Clock time)
 FormFits setup (entry.Run picks) = EntryFits setup 0 (entry.Run picks)
 FormFits setup (entry.Irpt device) = EntryFits setup 0 (entry.Irpt device)
-FormFits setup (entry.Chars device text) = ⊥
-FormFits setup (entry.Line device text) = ⊥
-FormFits setup (entry.Value device x) = ⊥
+FormFits setup (entry.Chars device text) = EntryFits setup 0 (entry.Chars device text)
+FormFits setup (entry.Line device text) = EntryFits setup 0 (entry.Line device text)
+FormFits setup (entry.Value device x) = EntryFits setup 0 (entry.Value device x)
 FormFits setup (entry.Turn task) = EntryFits setup 0 (entry.Turn task)
 FormFits setup entry.State = Unit {0}
 
@@ -116,6 +139,42 @@ irpt_entry-fits setup rest =
     needing-fits NOT_DECLARED (named k) (λ device. Ok (entry.Irpt device)) (FormFits setup)
     (found_device (is_interrupt k) setup.devices IsInterrupt (interrupt_is k)))
 
+-- a form of a terminal and a text, where it fits with any such text
+terminal_entry-fits : (setup : Setup) (word : List ℕ) (text : Option (List ℕ)) (form : ℕ → List ℕ → Entry) (P : Entry → Type 0) → IfSome text Printed →
+    ((device : ℕ) (letters : List ℕ) → IsReadable (slice_get setup.devices device) → Printed letters → P (form device letters)) →
+    IfOk (terminal_entry setup word text form) P
+terminal_entry-fits setup word text form P printed fits =
+    let named : ℕ → Option ℕ = λ k. position (is_readable k) setup.devices in
+    let with_text : ℕ → List ℕ → Result Entry ℕ = λ k letters. needing NOT_DECLARED (named k) (λ device. Ok (form device letters)) in
+    needing-fits NO_FORM (number word) (λ k. needing NO_FORM text (with_text k)) P (λ k e.
+    needing-fits NO_FORM text (with_text k) P (λ letters is.
+    needing-fits NOT_DECLARED (named k) (λ device. Ok (form device letters)) P (λ device at.
+    fits device letters (found_device (is_readable k) setup.devices IsReadable (readable_is k) device at) (is_some text Printed printed letters is))))
+
+chars_entry-fits : (setup : Setup) (rest : List ℕ) → IfOk (chars_entry setup rest) (FormFits setup)
+chars_entry-fits setup rest =
+    terminal_entry-fits setup (first_word rest) (text_literal (behind_word rest)) (λ device text. entry.Chars device (record { items = text })) (FormFits setup)
+    (text_literal-printed (behind_word rest)) (λ device letters is printed. (is, printed))
+
+line_entry-fits : (setup : Setup) (rest : List ℕ) → IfOk (line_entry setup rest) (FormFits setup)
+line_entry-fits setup rest =
+    terminal_entry-fits setup (first_word rest) (quoted (behind_word rest)) (λ device text. entry.Line device (record { items = text })) (FormFits setup)
+    (quoted-printed (behind_word rest)) (λ device letters is printed. (is, printed))
+
+value_entry-fits : (setup : Setup) (rest : List ℕ) → IfOk (value_entry setup rest) (FormFits setup)
+value_entry-fits setup rest =
+    let P : Entry → Type 0 = FormFits setup in
+    let spelled = literal (behind_word rest) in
+    let named : ℕ → Option ℕ = λ k. position (is_input k) setup.devices in
+    let given : Literal → ℕ → Option Cell = λ l device. coming_in (input_kind (slice_get setup.devices device)) l in
+    let at_device : Literal → ℕ → Result Entry ℕ = λ l device. needing NO_FIT (given l device) (λ x. Ok (entry.Value device x)) in
+    let with_literal : ℕ → Literal → Result Entry ℕ = λ k l. needing NOT_DECLARED (named k) (at_device l) in
+    needing-fits NO_FORM (number (first_word rest)) (λ k. needing NO_FORM spelled (with_literal k)) P (λ k e.
+    needing-fits NO_FORM spelled (with_literal k) P (λ l is.
+    needing-fits NOT_DECLARED (named k) (at_device l) P (λ device at.
+    needing-fits NO_FIT (given l device) (λ x. Ok (entry.Value device x)) P
+    (coming_in-fits (input_kind (slice_get setup.devices device)) l (is_some spelled LiteralIs (literal-is (behind_word rest)) l is)))))
+
 turn_entry-fits : (setup : Setup) (rest : List ℕ) → IfOk (turn_entry setup rest) (FormFits setup)
 turn_entry-fits setup rest =
     let named = task_named setup.tasks rest in
@@ -138,7 +197,14 @@ task_form-fits setup word rest =
 arriving_form-fits : (setup : Setup) (word rest : List ℕ) → IfOk (arriving_form setup word rest) (FormFits setup)
 arriving_form-fits setup word rest =
     let P : Entry → Type 0 = FormFits setup in
-    either_ok (bytes_eq word (codes "irpt")) (irpt_entry setup rest) (task_form setup word rest) P (irpt_entry-fits setup rest) (task_form-fits setup word rest)
+    let tasks = task_form setup word rest in
+    let values = if bytes_eq word (codes "value") then value_entry setup rest else tasks in
+    let lines = if bytes_eq word (codes "line") then line_entry setup rest else values in
+    let chars = if bytes_eq word (codes "chars") then chars_entry setup rest else lines in
+    either_ok (bytes_eq word (codes "irpt")) (irpt_entry setup rest) chars P (irpt_entry-fits setup rest) (
+    either_ok (bytes_eq word (codes "chars")) (chars_entry setup rest) lines P (chars_entry-fits setup rest) (
+    either_ok (bytes_eq word (codes "line")) (line_entry setup rest) values P (line_entry-fits setup rest) (
+    either_ok (bytes_eq word (codes "value")) (value_entry setup rest) tasks P (value_entry-fits setup rest) (task_form-fits setup word rest))))
 
 form_of-fits : (setup : Setup) (is_first : Bool) (word rest : List ℕ) → IfOk (form_of setup is_first word rest) (FormFits setup)
 form_of-fits setup is_first word rest =
@@ -161,43 +227,23 @@ timely setup moment (entry.Run picks) fits early = fits
 timely setup moment (entry.Tick milliseconds) fits early = early
 timely setup moment (entry.Pass times picks) fits early = (early, fits)
 timely setup moment (entry.Irpt device) fits early = fits
-timely setup moment (entry.Chars device text) fits early = absurd fits
-timely setup moment (entry.Line device text) fits early = absurd fits
-timely setup moment (entry.Value device x) fits early = absurd fits
+timely setup moment (entry.Chars device text) fits early = fits
+timely setup moment (entry.Line device text) fits early = fits
+timely setup moment (entry.Value device x) fits early = fits
 timely setup moment (entry.Turn task) fits early = fits
 timely setup moment entry.State fits early = tt
-
-brings_nothing : (setup : Setup) (means : Entry) → FormFits setup means → NoInput means
-brings_nothing setup (entry.Clock time) fits = tt
-brings_nothing setup (entry.Run picks) fits = tt
-brings_nothing setup (entry.Tick milliseconds) fits = tt
-brings_nothing setup (entry.Pass times picks) fits = tt
-brings_nothing setup (entry.Irpt device) fits = tt
-brings_nothing setup (entry.Chars device text) fits = absurd fits
-brings_nothing setup (entry.Line device text) fits = absurd fits
-brings_nothing setup (entry.Value device x) fits = absurd fits
-brings_nothing setup (entry.Turn task) fits = tt
-brings_nothing setup entry.State fits = tt
-
--- what has to hold of an accepted entry
-record Suits (setup : Setup) (moment : ℕ) (means : Entry) : Type 0 where
-  fits : EntryFits setup moment means
-  no_input : NoInput means
 
 ok_if : (test : Bool) (means : Entry) (code : ℕ) (P : Entry → Type 0) → (test ≡ true → P means) → IfOk (if test then Ok means else Err code) P
 ok_if true means code P h = h refl
 ok_if false means code P h = tt
 
-in_time-fits : (setup : Setup) (moment : ℕ) (r : Result Entry ℕ) → IfOk r (FormFits setup) → IfOk (in_time moment r) (Suits setup moment)
+in_time-fits : (setup : Setup) (moment : ℕ) (r : Result Entry ℕ) → IfOk r (FormFits setup) → IfOk (in_time moment r) (EntryFits setup moment)
 in_time-fits setup moment (Err code) fits = tt
 in_time-fits setup moment (Ok means) fits =
-    ok_if (nat_le (moment_after moment means) LAST_MOMENT) means TOO_LATE (Suits setup moment)
-    (λ early. record {
-      fits = timely setup moment means fits (leb-true (moment_after moment means) LAST_MOMENT early);
-      no_input = brings_nothing setup means fits;
-    })
+    ok_if (nat_le (moment_after moment means) LAST_MOMENT) means TOO_LATE (EntryFits setup moment)
+    (λ early. timely setup moment means fits (leb-true (moment_after moment means) LAST_MOMENT early))
 
-entry_of-fits : (setup : Setup) (reading : Reading) (word rest : List ℕ) → IfOk (entry_of setup reading word rest) (Suits setup reading.moment)
+entry_of-fits : (setup : Setup) (reading : Reading) (word rest : List ℕ) → IfOk (entry_of setup reading word rest) (EntryFits setup reading.moment)
 entry_of-fits setup reading word rest =
     in_time-fits setup reading.moment (form_of setup reading.is_first word rest) (form_of-fits setup reading.is_first word rest)
 
@@ -209,31 +255,17 @@ either_item : (test : Bool) (l m : Line) (P : Entry → Type 0) → IfItem l P �
 either_item true l m P h k = h
 either_item false l m P h k = k
 
-meaning-suits : (setup : Setup) (reading : Reading) (line : List ℕ) → IfItem (meaning setup reading line) (Suits setup reading.moment)
+-- an accepted entry can come at the moment that is read
+pub meaning-fits : (setup : Setup) (reading : Reading) (line : List ℕ) → IfItem (meaning setup reading line) (EntryFits setup reading.moment)
 unfolding meaning
-meaning-suits setup reading line =
-    let P : Entry → Type 0 = Suits setup reading.moment in
+meaning-fits setup reading line =
+    let P : Entry → Type 0 = EntryFits setup reading.moment in
     let text = before_blanks (behind_blanks (without_return line)) in
     let spelled = entry_of setup reading (first_word text) (behind_word text) in
     either_item (nat_le (length (without_return line)) LINE_LIMIT) (text_meaning setup reading text) (Wrong NO_FORM) P
     (either_item (is_skipped text) Blank (line_of spelled) P tt
     (line_of-fits spelled P (entry_of-fits setup reading (first_word text) (behind_word text))))
     tt
-
-item_of : (line : Line) (P Q : Entry → Type 0) → ((means : Entry) → P means → Q means) → IfItem line P → IfItem line Q
-item_of Blank P Q more h = tt
-item_of (Item entry) P Q more h = more entry h
-item_of (Wrong code) P Q more h = tt
-
--- an accepted entry fits at the moment at which it is read
-pub meaning-fits : (setup : Setup) (reading : Reading) (line : List ℕ) → IfItem (meaning setup reading line) (EntryFits setup reading.moment)
-meaning-fits setup reading line =
-    item_of (meaning setup reading line) (Suits setup reading.moment) (EntryFits setup reading.moment) (λ means h. h.fits) (meaning-suits setup reading line)
-
--- and brings in neither a text nor a value
-pub meaning-no_input : (setup : Setup) (reading : Reading) (line : List ℕ) → IfItem (meaning setup reading line) NoInput
-meaning-no_input setup reading line =
-    item_of (meaning setup reading line) (Suits setup reading.moment) NoInput (λ means h. h.no_input) (meaning-suits setup reading line)
 
 late_after : (setup : Setup) (moment : ℕ) (means : Entry) → moment ≤ LAST_MOMENT → EntryFits setup moment means → moment_after moment means ≤ LAST_MOMENT
 late_after setup moment (entry.Clock time) late fits = late

@@ -1,5 +1,5 @@
--- What lines say that are written otherwise, and which lines are skipped.
-use Rattle.std.specs.Prelude.{◌≡◌, ◌≢◌, ℕ, List, [], ◌∷◌, ◌++◌, true, false}
+-- What lines say that are written otherwise, which lines are skipped, and how texts are written.
+use Rattle.std.specs.Prelude.{◌≡◌, ◌≢◌, ℕ, List, [], ◌∷◌, ◌++◌, true, false, ◌==◌, if◌then◌else◌}
 use Rattle.std.specs.List.{AllByRecursion}
 use Rattle.pearl_journal.specs.Words.{is_blank}
 
@@ -41,3 +41,12 @@ pub record IsComment (line : List ℕ) : Type 0 where
   pub rest : List ℕ
   pub spelled : line ≡ front ++ 35 ∷ rest
   pub is_gap : IsGap front
+
+-- a text with each apostrophe written twice
+abbrev pub doubled : List ℕ → List ℕ
+doubled [] = []
+doubled (byte ∷ text) = if byte == 39 then 39 ∷ 39 ∷ doubled text else byte ∷ doubled text
+
+-- the text between apostrophes
+abbrev pub in_apostrophes : List ℕ → List ℕ
+in_apostrophes text = 39 ∷ (doubled text ++ 39 ∷ [])

@@ -1,18 +1,20 @@
 -- What one line of a journal means.
-use Rattle.std.specs.Prelude.{ℕ, Bool, true, List, [], ◌∷◌, Option, Some, None, Result, Ok, Err, length, codes, nat_le, ◌==◌, if◌then◌else◌, bytes_eq}
+use Rattle.std.specs.Prelude.{ℕ, Bool, true, List, [], ◌∷◌, Option, Some, None, Result, Ok, Err, length, slice_get, codes, nat_le, ◌==◌, if◌then◌else◌, bytes_eq}
 use Rattle.std.specs.List.{position}
 use Rattle.pearl_rules.specs.declared.entry.Entry.{Entry}
 use Rattle.pearl_rules.specs.declared.entry.Entry.TheVariants as entry
 use Rattle.pearl_rules.specs.declared.setup.Setup.{Setup}
 use Rattle.pearl_rules.specs.Entries.{moment_after}
 use Rattle.pearl_rules.specs.Literals.{clock_literal}
-use Rattle.pearl_rules.specs.Tables.{is_id}
-use Rattle.pearl_journal.specs.declared.limits.TheConstants.{LAST_MOMENT, LINE_LIMIT, NO_FORM, NOT_DECLARED, TOO_LATE}
+use Rattle.pearl_rules.specs.Tables.{input_kind, is_id}
+use Rattle.pearl_journal.specs.declared.limits.TheConstants.{LAST_MOMENT, LINE_LIMIT, NO_FIT, NO_FORM, NOT_DECLARED, TOO_LATE}
 use Rattle.pearl_journal.specs.declared.reading.Line.{Line}
 use Rattle.pearl_journal.specs.declared.reading.Line.TheVariants.{Blank, Item, Wrong}
 use Rattle.pearl_journal.specs.Lines.{without_return}
-use Rattle.pearl_journal.specs.Devices.{is_interrupt}
+use Rattle.pearl_journal.specs.Devices.{is_input, is_interrupt, is_readable}
 use Rattle.pearl_journal.specs.Readings.{Reading}
+use Rattle.pearl_journal.specs.Texts.{quoted, text_literal}
+use Rattle.pearl_journal.specs.Values.{coming_in, literal}
 use Rattle.pearl_journal.specs.Words.{behind_blanks, before_blanks, first_word, behind_word, number, task_named}
 
 -- FORMS
@@ -47,6 +49,31 @@ irpt_entry setup rest =
     needing NO_FORM (number rest) (λ k.
     needing NOT_DECLARED (position (is_interrupt k) setup.devices) (λ device. Ok (entry.Irpt device)))
 
+-- a number and a text, the number that of a terminal at which bytes can come in
+abbrev pub terminal_entry : Setup → List ℕ → Option (List ℕ) → (ℕ → List ℕ → Entry) → Result Entry ℕ
+terminal_entry setup word text form =
+    needing NO_FORM (number word) (λ k.
+    needing NO_FORM text (λ text.
+    needing NOT_DECLARED (position (is_readable k) setup.devices) (λ device. Ok (form device text))))
+
+-- `chars K 'text'`
+abbrev pub chars_entry : Setup → List ℕ → Result Entry ℕ
+chars_entry setup rest =
+    terminal_entry setup (first_word rest) (text_literal (behind_word rest)) (λ device text. entry.Chars device (record { items = text }))
+
+-- `line K 'text'`: the text may be empty
+abbrev pub line_entry : Setup → List ℕ → Result Entry ℕ
+line_entry setup rest =
+    terminal_entry setup (first_word rest) (quoted (behind_word rest)) (λ device text. entry.Line device (record { items = text }))
+
+-- `value K V`: an input has the number, and what the literal says can come in there
+abbrev pub value_entry : Setup → List ℕ → Result Entry ℕ
+value_entry setup rest =
+    needing NO_FORM (number (first_word rest)) (λ k.
+    needing NO_FORM (literal (behind_word rest)) (λ spelled.
+    needing NOT_DECLARED (position (is_input k) setup.devices) (λ device.
+    needing NO_FIT (coming_in (input_kind (slice_get setup.devices device)) spelled) (λ x. Ok (entry.Value device x)))))
+
 -- `turn NAME`: a name has the letters and the length of an id, and is that of a task
 abbrev pub turn_entry : Setup → List ℕ → Result Entry ℕ
 turn_entry setup rest =
@@ -67,7 +94,10 @@ task_form setup word rest =
 -- or one of those before
 abbrev pub arriving_form : Setup → (word rest : List ℕ) → Result Entry ℕ
 arriving_form setup word rest =
-    if bytes_eq word (codes "irpt") then irpt_entry setup rest else task_form setup word rest
+    if bytes_eq word (codes "irpt") then irpt_entry setup rest else (
+    if bytes_eq word (codes "chars") then chars_entry setup rest else (
+    if bytes_eq word (codes "line") then line_entry setup rest else (
+    if bytes_eq word (codes "value") then value_entry setup rest else task_form setup word rest)))
 
 -- or one of those before
 abbrev pub form_of : Setup → (is_first : Bool) → (word rest : List ℕ) → Result Entry ℕ

@@ -5,8 +5,10 @@ ghost use Rattle.pearl_rules.specs.Entries.{moment_after};
 ghost use Rattle.pearl_journal.specs.Meaning as spec;
 ghost use Rattle.pearl_journal.specs.Words.{behind_word, first_word, task_named};
 
-use crate::devices::interrupt_of;
-use crate::limits::{LAST_MOMENT, NO_FORM, NOT_DECLARED, TOO_LATE};
+use crate::devices::{input_of, interrupt_of, kind_at, terminal_of};
+use crate::limits::{LAST_MOMENT, NO_FIT, NO_FORM, NOT_DECLARED, TOO_LATE};
+use crate::literals::{coming_in, spelled_by};
+use crate::texts::{quoted, text_literal, widened};
 use crate::words::{is_name, number_of, split_word};
 use pearl_rules::entry::Entry;
 use pearl_rules::setup::{Setup, TaskEntry};
@@ -67,6 +69,12 @@ fn arriving_form(setup: &Setup, word: &[u8], rest: &[u8]) -> Result<Entry, u8>
 {
     if word == b"irpt".as_slice() {
         irpt_entry(setup, rest)
+    } else if word == b"chars".as_slice() {
+        chars_entry(setup, rest)
+    } else if word == b"line".as_slice() {
+        line_entry(setup, rest)
+    } else if word == b"value".as_slice() {
+        value_entry(setup, rest)
     } else {
         task_form(setup, word, rest)
     }
@@ -131,6 +139,50 @@ fn irpt_entry(setup: &Setup, rest: &[u8]) -> Result<Entry, u8>
     let number = number_of(rest).ok_or(NO_FORM)?;
     let device = interrupt_of(setup.devices.as_slice(), number).ok_or(NOT_DECLARED)?;
     Ok(Entry::Irpt(device))
+}
+
+// `chars K 'text'`
+fn chars_entry(setup: &Setup, rest: &[u8]) -> Result<Entry, u8>
+    requires { length setup.now.devices < 2 ^ 32 }
+    ensures { result ≡ spec.chars_entry setup.now rest.now }
+{
+    let (number, text) = split_word(rest);
+    let number = number_of(number).ok_or(NO_FORM)?;
+    let text = text_literal(text).ok_or(NO_FORM)?;
+    let device = terminal_of(setup.devices.as_slice(), number).ok_or(NOT_DECLARED)?;
+    Ok(Entry::Chars {
+        device,
+        text: widened(&text),
+    })
+}
+
+// `line K 'text'`, the text perhaps empty
+fn line_entry(setup: &Setup, rest: &[u8]) -> Result<Entry, u8>
+    requires { length setup.now.devices < 2 ^ 32 }
+    ensures { result ≡ spec.line_entry setup.now rest.now }
+{
+    let (number, text) = split_word(rest);
+    let number = number_of(number).ok_or(NO_FORM)?;
+    let text = quoted(text).ok_or(NO_FORM)?;
+    let device = terminal_of(setup.devices.as_slice(), number).ok_or(NOT_DECLARED)?;
+    Ok(Entry::Line {
+        device,
+        text: widened(&text),
+    })
+}
+
+// `value K V`
+fn value_entry(setup: &Setup, rest: &[u8]) -> Result<Entry, u8>
+    requires { length setup.now.devices < 2 ^ 32 }
+    ensures { result ≡ spec.value_entry setup.now rest.now }
+{
+    let (number, text) = split_word(rest);
+    let number = number_of(number).ok_or(NO_FORM)?;
+    let spelled = spelled_by(text).ok_or(NO_FORM)?;
+    let device = input_of(setup.devices.as_slice(), number).ok_or(NOT_DECLARED)?;
+    let kind = kind_at(setup.devices.as_slice(), device);
+    let value = coming_in(kind, spelled).ok_or(NO_FIT)?;
+    Ok(Entry::Value { device, value })
 }
 
 // `turn NAME`

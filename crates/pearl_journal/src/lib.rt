@@ -8,5 +8,7 @@ mod forms;
 pub mod laws;
 mod limits;
 pub mod lines;
+mod literals;
 pub mod reading;
+mod texts;
 mod words;

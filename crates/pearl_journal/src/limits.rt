@@ -6,6 +6,9 @@ pub const LINE_LIMIT: usize = 1024;
 /// The most bytes that a name may have.
 pub const NAME_LIMIT: usize = 63;
 
+/// The most characters that a text may have.
+pub const TEXT_LIMIT: usize = 255;
+
 /// The last moment, in milliseconds after the start: 2^40.
 pub const LAST_MOMENT: u64 = 1_099_511_627_776;
 
@@ -17,3 +20,6 @@ pub const NOT_DECLARED: u8 = 2;
 
 /// It would lead past the last moment.
 pub const TOO_LATE: u8 = 3;
+
+/// A value doesn't suit the kind that is wanted, or doesn't fit.
+pub const NO_FIT: u8 = 4;

@@ -13,8 +13,8 @@ use Rattle.pearl_rules.specs.declared.setup.Setup.{Setup}
 use Rattle.pearl_rules.specs.Core.{opening, row_of, first_row, first_events, first_events_if}
 use Rattle.pearl_rules.specs.Pick.{is_ready, is_ready_row, is_possible, priority_of}
 use Rattle.pearl_rules.specs.Runs.{kept_at}
-use Rattle.pearl_rules.specs.Slots.{IsPlannedRow, HasPlans}
-use Rattle.pearl_rules.specs.Tables.{IsTaskEntry, IsSetup}
+use Rattle.pearl_rules.specs.Slots.{IsPlannedRow}
+use Rattle.pearl_rules.specs.Tables.{IsSetup}
 use Rattle.pearl_rules.proofs.EffectLaws.{opening-kinds}
 use Rattle.pearl_rules.proofs.UrgencyLaws.{opening-urgencies}
 use Rattle.pearl_kernel.specs.Kept.{Kept, at_start, IsReportOf, IsLawful}
@@ -75,7 +75,6 @@ lawful-opening setup is = record {
   same = length-replicate (length setup.tasks) None ∙ sym (length-map setup.tasks first_row);
   quiet = λ t e. none-offered (length setup.tasks) t;
   fits = λ t a e. absurd (none-some a (sym (none-offered (length setup.tasks) t) ∙ e));
-  carried = λ t a e. absurd (none-some a (sym (none-offered (length setup.tasks) t) ∙ e));
   told = first-reports setup 0 setup.tasks (omega arith);
 }
 

@@ -1,20 +1,20 @@
 -- What happens leaves a lawful kernel: an action, an interrupt, milliseconds, a clock that is set.
-use Rattle.std.proofs.Common.{◌≡◌, ℕ, ◌+◌, ◌<◌, ◌≤◌, List, Bool, true, false, Option, Some, None, length, slice_get, slice_set}
-use Rattle.std.proofs.Common.{IfSome, MatchOption, zero, suc, [], ◌∷◌, refl, sym, subst, ◌∙◌, length-set}
+use Rattle.std.proofs.Common.{◌≡◌, ℕ, ◌+◌, ◌<◌, ◌≤◌, List, Option, Some, None, length, slice_get, slice_set}
+use Rattle.std.proofs.Common.{IfSome, MatchOption, zero, suc, [], ◌∷◌, sym, subst, ◌∙◌, length-set}
 use Rattle.std.specs.List.{AllByRecursion, AllZip}
 use Rattle.pearl_rules.specs.declared.action.Action.{Action}
 use Rattle.pearl_rules.specs.declared.action.Action.TheVariants as action
+use Rattle.pearl_rules.specs.declared.entry.Entry.{Entry}
 use Rattle.pearl_rules.specs.declared.entry.Entry.TheVariants as entry
 use Rattle.pearl_rules.specs.declared.event.Event.{Event}
 use Rattle.pearl_rules.specs.declared.row.Plan.{Plan}
-use Rattle.pearl_rules.specs.declared.row.TaskRow.{TaskRow}
 use Rattle.pearl_rules.specs.declared.setup.Device.{Device}
 use Rattle.pearl_rules.specs.declared.setup.Device.TheVariants as device
 use Rattle.pearl_rules.specs.declared.setup.Setup.{Setup}
 use Rattle.pearl_rules.specs.Core.{Core, Channel, Switch, Bytes, Values, Outward, Report, Happened}
 use Rattle.pearl_rules.specs.Devices.{interrupted, arrived}
 use Rattle.pearl_rules.specs.Effect.{effect}
-use Rattle.pearl_rules.specs.Entries.{last_moment_of_all}
+use Rattle.pearl_rules.specs.Entries.{EntryFits, last_moment_of_all}
 use Rattle.pearl_rules.specs.Plans.{millisecond}
 use Rattle.pearl_rules.specs.Slots.{Fits, HasCounts, IsChannelOf}
 use Rattle.pearl_rules.specs.Tables.{IsInterrupt}
@@ -22,13 +22,13 @@ use Rattle.pearl_rules.specs.Entries.{IsFitting}
 use Rattle.pearl_rules.proofs.CountLaws.{effect-counts, millisecond-counts, arrived-counts}
 use Rattle.pearl_rules.proofs.EffectLaws.{effect-length, effect-kinds, millisecond-length, millisecond-kinds, arrived-length, arrived-kinds}
 use Rattle.pearl_rules.proofs.UrgencyLaws.{effect-urgencies, millisecond-urgencies, arrived-urgencies, effect-plans, millisecond-plans, arrived-plans}
-use Rattle.pearl_kernel.specs.Kept.{Kept, done, IsCarriedOut, IsReportOf, IsLawful}
+use Rattle.pearl_kernel.specs.Kept.{Kept, done, IsReportOf, IsLawful}
 use Rattle.pearl_kernel.specs.Timing.{passed, IsQuiet}
 use Rattle.pearl_kernel.proofs.Passing.{passed-quiet}
 use Rattle.pearl_kernel.proofs.Places.{some-before, some-dropped, dropped-length}
-use Rattle.pearl_kernel.proofs.Quiet.{quiet-less, quiet-after, quiet-interrupted, quiet-millisecond}
-use Rattle.pearl_rules.proofs.Serving.{Closed, ClosedAtEnds, IsFree, OnlyValues, Brings, Starts, effect-free, interrupted-kept, millisecond-kept}
-use Rattle.pearl_kernel.proofs.Told.{reports-after, reports-interrupted, reports-millisecond}
+use Rattle.pearl_kernel.proofs.Quiet.{quiet-less, quiet-after, quiet-interrupted, quiet-millisecond, quiet-arrived}
+use Rattle.pearl_rules.proofs.Serving.{Closed, ClosedAtEnds, IsFree, Brings, Starts, effect-free, arrived-kept, interrupted-kept, millisecond-kept}
+use Rattle.pearl_kernel.proofs.Told.{reports-after, reports-interrupted, reports-millisecond, reports-arrived}
 
 -- THE MOMENT
 
@@ -74,8 +74,8 @@ has_counts : (setup : Setup) (k : Kept) → IsLawful setup k → HasCounts setup
 has_counts setup k lawful = record { as_many = lawful.counts; small = lawful.counted }
 
 pub lawful-after : (setup : Setup) (k : Kept) (own : ℕ) (a : Action) → own < length k.core.tasks → Fits setup a →
-    IsCarriedOut a → IsLawful setup k → IsLawful setup (done k own a)
-lawful-after setup k own a there fits carried lawful =
+    IsLawful setup k → IsLawful setup (done k own a)
+lawful-after setup k own a there fits lawful =
     let after = effect k.core own a in
     let left = slice_set k.offers own None in
     let size = effect-length k.core own a in
@@ -92,9 +92,7 @@ lawful-after setup k own a there fits carried lawful =
       same = dropped-length after.ended left ∙ length-set k.offers own None ∙ lawful.same ∙ sym size;
       quiet = quiet-after left k.core own a (quiet-less k.core.tasks k.offers own lawful.quiet);
       fits = λ t b e. lawful.fits t b (some-before k.offers own t b (some-dropped after.ended left t b e));
-      carried = λ t b e. lawful.carried t b (some-before k.offers own t b (some-dropped after.ended left t b e));
-      told = reports-after setup k.core own a (subst (λ n. own < n) lawful.tasks there) lawful.tasks fits carried
-          lawful.told;
+      told = reports-after setup k.core own a (subst (λ n. own < n) lawful.tasks there) lawful.tasks fits lawful.told;
     }
 
 pub lawful-interrupt : (setup : Setup) (k : Kept) (device : ℕ) → IsInterrupt (slice_get setup.devices device) →
@@ -115,8 +113,27 @@ lawful-interrupt setup k device is lawful =
       same = lawful.same ∙ sym size;
       quiet = quiet-interrupted k.offers k.core device lawful.quiet;
       fits = lawful.fits;
-      carried = lawful.carried;
       told = reports-interrupted setup k.core device lawful.tasks is lawful.told;
+    }
+
+pub lawful-arrived : (setup : Setup) (k : Kept) (come : Entry) → EntryFits setup k.core.moment come → IsLawful setup k →
+    IsLawful setup (record k { core = arrived k.core come })
+lawful-arrived setup k come comes lawful =
+    let fits : IsFitting setup come = (k.core.moment, comes) in
+    let size = arrived-length k.core come in
+    let counts = arrived-counts setup k.core come (has_counts setup k lawful) in
+    record {
+      tasks = size ∙ lawful.tasks;
+      counts = counts.as_many;
+      counted = counts.small;
+      kinds = arrived-kinds setup k.core come lawful.kinds fits;
+      urgent = arrived-urgencies k.core come lawful.urgent;
+      plans = arrived-plans setup k.core come lawful.plans fits;
+      moment = arrived-kept AnyPriority AnyPlan IsNear near_closed near_free k.core come (λ time e. lawful.moment) lawful.moment;
+      same = lawful.same ∙ sym size;
+      quiet = quiet-arrived k.offers k.core come lawful.quiet;
+      fits = lawful.fits;
+      told = reports-arrived setup k.core come k.core.moment lawful.tasks comes lawful.told;
     }
 
 pub lawful-millisecond : (setup : Setup) (k : Kept) → k.core.moment + 1 ≤ last_moment_of_all → IsLawful setup k →
@@ -135,7 +152,6 @@ lawful-millisecond setup k later lawful =
       same = lawful.same ∙ sym size;
       quiet = quiet-millisecond k.offers k.core lawful.quiet;
       fits = lawful.fits;
-      carried = lawful.carried;
       told = reports-millisecond setup k.core lawful.tasks lawful.told;
     }
 
@@ -153,7 +169,6 @@ lawful-moment setup k moment near lawful = record {
   same = lawful.same;
   quiet = lawful.quiet;
   fits = lawful.fits;
-  carried = lawful.carried;
   told = lawful.told;
 }
 
@@ -176,7 +191,6 @@ lawful-clock setup k time is lawful = record {
   same = lawful.same;
   quiet = lawful.quiet;
   fits = lawful.fits;
-  carried = lawful.carried;
   told = lawful.told;
 }
 
@@ -193,7 +207,6 @@ lawful-last setup k last lawful = record {
   same = lawful.same;
   quiet = lawful.quiet;
   fits = lawful.fits;
-  carried = lawful.carried;
   told = lawful.told;
 }
 
@@ -210,7 +223,6 @@ lawful_told setup k told all lawful = record {
   same = lawful.same;
   quiet = lawful.quiet;
   fits = lawful.fits;
-  carried = lawful.carried;
   told = all;
 }
 

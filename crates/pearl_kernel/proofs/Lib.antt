@@ -5,6 +5,7 @@ pub mod Planned
 pub mod Passing
 pub mod OneTask
 pub mod Naming
+pub mod Waiting
 pub mod Entries
 pub mod Quiet
 pub mod Told

@@ -8,7 +8,7 @@ use Rattle.pearl_rules.specs.declared.row.TaskRow.{TaskRow}
 use Rattle.pearl_rules.specs.declared.setup.Setup.{Setup}
 use Rattle.pearl_rules.specs.Core.{row_of, is_active, is_active_row}
 use Rattle.pearl_rules.specs.Slots.{Fits}
-use Rattle.pearl_kernel.specs.Kept.{Kept, offered, is_silent, is_unsettled, IsCarriedOut, IsLawful}
+use Rattle.pearl_kernel.specs.Kept.{Kept, offered, is_silent, is_unsettled, IsLawful}
 use Rattle.pearl_kernel.specs.Whole.{IsWhole}
 use Rattle.pearl_kernel.specs.Eligible.{entry}
 use Rattle.pearl_kernel.proofs.Places.{by_task, kept-other, kept-set, get-same, get-other}
@@ -42,8 +42,8 @@ unsettled-there k task e = by_row (row_of k.core task) refl (active k task e)
     by_row (Some row) same is = slice_get_within k.core.tasks task row same
 
 pub lawful-offering : (setup : Setup) (k : Kept) (task : ℕ) (a : Action) → is_unsettled k task ≡ true → Fits setup a →
-    IsCarriedOut a → IsLawful setup k → IsLawful setup (offering k task a)
-lawful-offering setup k task a unsettled fits carried lawful = record {
+    IsLawful setup k → IsLawful setup (offering k task a)
+lawful-offering setup k task a unsettled fits lawful = record {
   tasks = lawful.tasks;
   counts = lawful.counts;
   counted = lawful.counted;
@@ -57,7 +57,6 @@ lawful-offering setup k task a unsettled fits carried lawful = record {
       ∙ e)))
       (λ other. kept-other k.offers task t (Some a) other ∙ lawful.quiet t e);
   fits = λ t b e. offer-is k task a (Fits setup) fits lawful.fits t b e;
-  carried = λ t b e. offer-is k task a IsCarriedOut carried lawful.carried t b e;
   told = lawful.told;
 }
 

@@ -1,15 +1,14 @@
 -- Milliseconds in which no plan fires change the moment alone.
-use Rattle.std.proofs.Common.{◌≡◌, ℕ, zero, suc, ◌+◌, ◌<◌, ◌≤◌, List, [], ◌∷◌, Bool, true, false, Option, Some, None, IsTrue}
-use Rattle.std.proofs.Common.{length, map, slice_get, slice_index_or, refl, ap, sym, ◌∙◌, subst, arith, if◌then◌else◌}
-use Rattle.pearl_timer.specs.declared.series.Series.{Series}
+use Rattle.std.proofs.Common.{◌≡◌, ℕ, zero, suc, ◌+◌, ◌≤◌, List, [], ◌∷◌, Bool, true, false, Option, Some, None}
+use Rattle.std.proofs.Common.{length, map, slice_get, slice_index_or, refl, ap, sym, ◌∙◌, arith, if◌then◌else◌}
 use Rattle.pearl_timer.specs.declared.timer.Which.TheVariants as which
 use Rattle.pearl_timer.specs.Timetable.{fires_if, due, IsDue}
 use Rattle.pearl_rules.specs.declared.row.Plan.{Plan}
 use Rattle.pearl_rules.specs.declared.row.Activation.{Activation}
 use Rattle.pearl_rules.specs.declared.row.TaskRow.{TaskRow}
-use Rattle.pearl_rules.specs.Core.{Core, row_of}
+use Rattle.pearl_rules.specs.Core.{Core}
 use Rattle.pearl_rules.specs.Plans.{serves_if, continued, started, continuation_in, continuation_of, activation_in, activation_of}
-use Rattle.pearl_rules.specs.Plans.{serve_continuation, serve_activation_by, serve_activation, each_task, served, millisecond}
+use Rattle.pearl_rules.specs.Plans.{serve_activation_by, serve_activation, each_task, served, millisecond}
 use Rattle.pearl_kernel.specs.Timing.{series_of_plan, series_of_activation, timetable, IsQuiet, passed}
 
 -- THE SERIES OF A TASK'S PLANS

@@ -1,23 +1,23 @@
 -- Tasks that aren't active have offered nothing, also after an action, an interrupt or a millisecond.
 use Rattle.std.proofs.Common.{◌≡◌, ℕ, zero, suc, List, [], ◌∷◌, Bool, true, false, Option, Some, None, IfSome, nat_lt}
-use Rattle.std.proofs.Common.{slice_get, slice_set, refl, sym, ap, ◌∙◌}
-use Rattle.std.proofs.lemmas.Bool.{true≢false}
+use Rattle.std.proofs.Common.{slice_get, slice_set, refl, sym, ap, subst, ◌∙◌}
 use Rattle.pearl_value.specs.declared.cell.Cell.{Cell}
 use Rattle.pearl_rules.specs.declared.action.Action.{Action}
 use Rattle.pearl_rules.specs.declared.action.Action.TheVariants as action
+use Rattle.pearl_rules.specs.declared.entry.Entry.{Entry}
 use Rattle.pearl_rules.specs.declared.row.Mode.{Mode}
 use Rattle.pearl_rules.specs.declared.row.Mode.TheVariants.{Dormant, Active}
 use Rattle.pearl_rules.specs.declared.row.Plan.{Plan}
 use Rattle.pearl_rules.specs.declared.row.TaskRow.{TaskRow}
 use Rattle.pearl_rules.specs.Core.{Core, Channel, Switch, Bytes, Values, Outward, row_of, with_row, is_active_row, is_active_mode, mode_of}
 use Rattle.pearl_rules.specs.Counts.{all_below_most, count_at}
-use Rattle.pearl_rules.specs.Devices.{channel_of, interrupted, without_bytes, bytes_at, values_at, items_of, without_value_by}
+use Rattle.pearl_rules.specs.Devices.{channel_of, interrupted, without_bytes, bytes_at, values_at, items_of, without_value_by, arrived}
 use Rattle.pearl_rules.specs.Effect.{effect, finished, priority_or_declared, prevented, stopped_by, stopped_tasks, releasing, trying}
 use Rattle.pearl_rules.specs.Effect.{getting, taking}
 use Rattle.pearl_rules.specs.Plans.{on_row, millisecond}
 use Rattle.pearl_rules.specs.Runs.{dropped, kept_at}
 use Rattle.pearl_rules.specs.Scan.{Scanned, Short, Bad, Got, scan}
-use Rattle.pearl_rules.proofs.Serving.{Stays, Starts, Closed, mark-kept, activated-kept, continues-kept, resuming-kept, interrupted-kept, millisecond-kept}
+use Rattle.pearl_rules.proofs.Serving.{Stays, Starts, Closed, IsFree, arrived-kept, mark-kept, activated-kept, continues-kept, resuming-kept, interrupted-kept, millisecond-kept}
 use Rattle.pearl_kernel.proofs.Places.{none-less}
 
 abbrev pub Quiet : List TaskRow → List (Option Action) → Type 0
@@ -89,6 +89,12 @@ module _ (offers : List (Option Action)) where
 
   pub quiet-millisecond : (core : Core) → QuietCore core → QuietCore (millisecond core)
   quiet-millisecond core q = millisecond-kept AnyPriority AnyPlan QuietCore closed core q
+
+  free : IsFree QuietCore
+  free core other only q = subst (λ rows. Quiet rows offers) (sym only.tasks) q
+
+  pub quiet-arrived : (core : Core) (entry : Entry) → QuietCore core → QuietCore (arrived core entry)
+  quiet-arrived core entry q = arrived-kept AnyPriority AnyPlan QuietCore closed free core entry (λ time e. q) q
 
   quiet_prevented : (core : Core) (u : ℕ) → QuietCore core → QuietCore (prevented core u)
   quiet_prevented core u q = by_row (row_of core u) refl

@@ -1,7 +1,6 @@
 -- The timetable of rows of which one is changed.
-use Rattle.std.proofs.Common.{◌≡◌, ℕ, List, [], ◌∷◌, Option, None, map, length, replicate, slice_set, refl, sym, ap, ap₂, ◌∙◌}
+use Rattle.std.proofs.Common.{◌≡◌, ℕ, List, [], ◌∷◌, None, map, length, replicate, slice_set, refl, sym, ap, ap₂, ◌∙◌}
 use Rattle.std.proofs.lemmas.List.{map-set}
-use Rattle.pearl_timer.specs.declared.series.Series.{Series}
 use Rattle.pearl_timer.specs.Timetable.{Timetable}
 use Rattle.pearl_rules.specs.declared.row.TaskRow.{TaskRow}
 use Rattle.pearl_rules.specs.declared.setup.TaskEntry.{TaskEntry}

@@ -2,8 +2,8 @@
 use Rattle.std.specs.Prelude.{◌≡◌, ℕ, ◌<◌, ◌≤◌, List, Bool, true, false, ◌&&◌, Option, Some, None, length, slice_set, map}
 use Rattle.std.specs.Prelude.{replicate}
 use Rattle.std.specs.List.{AllByRecursion}
+use Rattle.pearl_value.specs.WellFormed.{IsValue}
 use Rattle.pearl_rules.specs.declared.action.Action.{Action}
-use Rattle.pearl_rules.specs.declared.action.Action.TheVariants as action
 use Rattle.pearl_rules.specs.declared.event.Event.{Event}
 use Rattle.pearl_rules.specs.declared.event.Event.TheVariants as event
 use Rattle.pearl_rules.specs.declared.setup.Setup.{Setup}
@@ -35,14 +35,7 @@ stamped moment events = map {B = ℕ × Report} (λ event. (moment, Happened eve
 
 -- LAWFUL KERNELS
 
--- the actions that a kernel carries out
-abbrev pub IsCarriedOut : Action → Type 0
-IsCarriedOut (action.Get device format kinds) = ⊥
-IsCarriedOut (action.Take device) = ⊥
-IsCarriedOut (action.Send device value) = ⊥
-IsCarriedOut other = Unit {0}
-
--- an event names a task or a device that is there; no task sends yet
+-- an event names a task or a device that is there, and what is sent is a value
 abbrev pub NamesWhatIsThere : Setup → Event → Type 0
 NamesWhatIsThere setup (event.Start task priority) = task < length setup.tasks
 NamesWhatIsThere setup (event.End task) = task < length setup.tasks
@@ -52,7 +45,7 @@ NamesWhatIsThere setup (event.Overrun task) = task < length setup.tasks
 NamesWhatIsThere setup (event.Masked device) = device < length setup.devices
 NamesWhatIsThere setup (event.Lost device) = device < length setup.devices
 NamesWhatIsThere setup (event.Out device text) = device < length setup.devices
-NamesWhatIsThere setup (event.Send device value) = ⊥
+NamesWhatIsThere setup (event.Send device value) = (device < length setup.devices) × IsValue value
 
 abbrev pub IsReportOf : Setup → ℕ × Report → Type 0
 IsReportOf setup (moment, Happened event) = NamesWhatIsThere setup event
@@ -60,8 +53,8 @@ IsReportOf setup (moment, Shows task shown) = ⊥
 
 -- The kernel is one of these tables: it has their tasks, slots, semaphores and devices, and its moment is one that there
 -- is. No count is above the greatest one, each slot and each input holds values of its kind, priorities are from 1 to 255,
--- and plans are lawful. A task that isn't active has offered nothing, and what is offered fits the tables and can be
--- carried out. What is still to be told happened, and names what is there.
+-- and plans are lawful. A task that isn't active has offered nothing, and what is offered fits the tables. What is
+-- still to be told happened, and names what is there.
 pub record IsLawful (setup : Setup) (k : Kept) : Type 0 where
   pub tasks : length k.core.tasks ≡ length setup.tasks
   pub counts : length k.core.counts ≡ length setup.semaphores
@@ -73,7 +66,6 @@ pub record IsLawful (setup : Setup) (k : Kept) : Type 0 where
   pub same : length k.offers ≡ length k.core.tasks
   pub quiet : (t : ℕ) → is_active k.core t ≡ false → offered k t ≡ None
   pub fits : (t : ℕ) (action : Action) → offered k t ≡ Some action → Fits setup action
-  pub carried : (t : ℕ) (action : Action) → offered k t ≡ Some action → IsCarriedOut action
   pub told : AllByRecursion (IsReportOf setup) k.core.told
 
 -- WHAT IS UNSETTLED

@@ -1,10 +1,14 @@
 -- When the numbers in an action name what is there, and its lengths of time are ones.
-use Rattle.std.specs.Prelude.{◌≡◌, ℕ, ◌<◌, Some, length}
+use Rattle.std.specs.Prelude.{◌≡◌, ℕ, ◌<◌, ◌≤◌, Some, length}
+use Rattle.std.specs.List.{AllByRecursion}
+use Rattle.pearl_value.specs.Kinds.{IsKind}
 use Rattle.pearl_rules.specs.declared.action.Action.{Action}
 use Rattle.pearl_rules.specs.declared.action.Action.TheVariants as action
 use Rattle.pearl_rules.specs.Core.{Core}
+use Rattle.pearl_rules.specs.Devices.{channel_of}
 use Rattle.pearl_sema.specs.Waiting.{AreThere}
-use Rattle.pearl_kernel.specs.Kept.{Kept, offered, IsCarriedOut}
+use Rattle.pearl_kernel.specs.Kept.{Kept, offered}
+use Rattle.pearl_kernel.specs.Channels.{HasBytes}
 use Rattle.pearl_kernel.specs.Timing.{IsTimelyStart, IsTimelyRepeat}
 
 abbrev pub Names : Core → Action → Type 0
@@ -22,7 +26,10 @@ Names core (action.Terminate task) = task < length core.tasks
 Names core (action.Prevent task) = task < length core.tasks
 Names core (action.Enable device) = device < length core.channels
 Names core (action.Disable device) = device < length core.channels
-Names core other = IsCarriedOut other
+Names core (action.Get device format kinds) =
+    HasBytes (channel_of core device) × (length kinds.items ≤ 64) × AllByRecursion IsKind kinds.items
+Names core (action.Take device) = device < length core.channels
+Names core other = Unit {0}
 
 -- each offer names what is there
 abbrev pub NamesAll : Kept → Type 0

@@ -8,12 +8,12 @@ ghost use Rattle.pearl_timer.specs.Timetable.{IsDue};
 ghost use Rattle.pearl_rules.specs.declared.entry.Entry.TheVariants.{Clock, Irpt};
 ghost use Rattle.pearl_rules.specs.Core.{Happened};
 ghost use Rattle.pearl_rules.specs.Devices.{arrived};
-ghost use Rattle.pearl_rules.specs.Entries.{last_moment_of_all};
+ghost use Rattle.pearl_rules.specs.Entries.{EntryFits, last_moment_of_all};
 ghost use Rattle.pearl_rules.specs.Plans.{millisecond};
 ghost use Rattle.pearl_rules.specs.Pick.{pick, turned, can_turn as can_turn_in, shown_of};
 ghost use Rattle.pearl_rules.specs.Slots.{Fits};
 ghost use Rattle.pearl_rules.specs.Tables.{IsSetup, IsInterrupt};
-ghost use Rattle.pearl_kernel.specs.Kept.{at_start, offered as offered_of, IsCarriedOut, IsLawful, Marks, NamesWhatIsThere};
+ghost use Rattle.pearl_kernel.specs.Kept.{at_start, offered as offered_of, IsLawful, Marks, NamesWhatIsThere};
 ghost use Rattle.pearl_kernel.specs.Kept.{is_unsettled as is_unsettled_in, IsFirst, AllSettled};
 ghost use Rattle.pearl_kernel.specs.Timing.{timetable, passed, IsQuiet};
 
@@ -21,6 +21,7 @@ use crate::standing::{refresh, renew, renew_all, touched_by};
 use crate::state::State;
 use pearl_ready::ready::Ready;
 use pearl_rules::action::{Action, Answer};
+use pearl_rules::entry::Entry;
 use pearl_rules::event::{Event, Shown};
 use pearl_rules::row::Mode;
 use pearl_rules::setup::Setup;
@@ -85,7 +86,7 @@ impl Kernel {
     /// A task offers its next action.
     pub fn offered(&mut self, task: u32, action: Action)
         requires unsettled { is_unsettled_in self.old task ≡ true }
-        requires fits { (setup : Tables.Setup) × IsLawful setup self.old × Fits setup action × IsCarriedOut action }
+        requires fits { (setup : Tables.Setup) × IsLawful setup self.old × Fits setup action }
         ensures offers { self.new ≡ record self.old { offers = slice_set self.old.offers task (Some action) } }
         ensures lawful { (setup : Tables.Setup) → IsLawful setup self.old → Fits setup action →
             IsLawful setup self.new }
@@ -161,6 +162,19 @@ impl Kernel {
         ensures lawful { (setup : Tables.Setup) → IsLawful setup self.old → IsLawful setup self.new }
     {
         self.state.interrupted(device);
+        renew_all(&self.state, &mut self.ready);
+    }
+
+    /// What an entry of a journal does by itself, whoever could act: the clock is set, an interrupt occurs, or bytes or
+    /// a value come in.
+    pub fn input(&mut self, entry: &Entry)
+        requires told { self.old.core.told ≡ [] }
+        requires fits { (setup : Tables.Setup) × IsLawful setup self.old × EntryFits setup self.old.core.moment entry.now }
+        ensures arrived { self.new ≡ record self.old { core = arrived self.old.core entry.now } }
+        ensures lawful { (setup : Tables.Setup) → IsLawful setup self.old →
+            EntryFits setup self.old.core.moment entry.now → IsLawful setup self.new }
+    {
+        self.state.arrive(entry);
         renew_all(&self.state, &mut self.ready);
     }
 

@@ -4,10 +4,12 @@
 //! [`Kernel::new`] takes all the memory that a run needs. Each task that is active offers its next action
 //! ([`Kernel::unsettled`], [`Kernel::offered`]); then [`Kernel::act`] does the action of the one whose turn it is, and
 //! [`Kernel::next_event`] hands out what it told. Between actions milliseconds pass ([`Kernel::tick`], [`Kernel::skip`])
-//! and interrupts occur ([`Kernel::interrupt`]); the plans that fire then serve.
+//! and interrupts occur ([`Kernel::interrupt`]); the plans that fire then serve. What comes in at terminals and inputs
+//! waits there ([`Kernel::input`]).
 #![tactic(auto)]
 
 mod channel;
+mod inputs;
 mod kernel;
 mod mirror;
 mod opening;

@@ -2,7 +2,6 @@
 
 ghost use Rattle.std.specs.Prelude.{◌≡◌, ◌≤◌, [], None, IfOk, length, map, replicate};
 ghost use Rattle.pearl_rules.specs.Core.{first_row as first_row_of, first_channel as first_channel_of, first_events};
-ghost use Rattle.pearl_kernel.specs.Channels.{standing};
 ghost use Rattle.pearl_kernel.specs.Kept.{stamped};
 
 use crate::channel::Channel;
@@ -68,24 +67,13 @@ pub fn first_values(alloc: Global, first: &[Cell]) -> Result<Vec<Cell>, AllocErr
     Ok(slots)
 }
 
-fn first_channel(device: &Device) -> Channel
-    ensures { standing result ≡ first_channel_of device.now }
-{
-    match device {
-        Device::Interrupt { .. } => Channel::Switch(false),
-        Device::Terminal { .. } => Channel::Terminal,
-        Device::Input { kind, .. } => Channel::Input(*kind),
-        Device::Output { .. } => Channel::Output,
-    }
-}
-
 /// How each device stands at the start.
 pub fn first_channels(alloc: Global, devices: &[Device]) -> Result<Vec<Channel>, AllocError>
-    ensures { IfOk result (λ channels. map standing channels.items ≡ map first_channel_of devices.now) }
+    ensures { IfOk result (λ channels. channels.items ≡ map first_channel_of devices.now) }
 {
     let mut channels = Vec::with_capacity(alloc, devices.len())?;
     for device in devices {
-        channels.push(first_channel(device))?;
+        channels.push(Channel::new(alloc, device)?)?;
     }
     Ok(channels)
 }

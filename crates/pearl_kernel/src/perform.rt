@@ -1,12 +1,17 @@
 // What an action does.
 
-ghost use Rattle.std.specs.Prelude.{◌≡◌, ◌<◌, [], ◌∷◌, IsTrue, true, length, nat_lt};
+ghost use Rattle.std.specs.List.{AllByRecursion};
+ghost use Rattle.std.specs.Prelude.{◌≡◌, ◌<◌, ◌≤◌, [], ◌∷◌, IsTrue, true, length, nat_lt};
 ghost use Rattle.pearl_rules.specs.Counts.{all_below_most, count_at};
 ghost use Rattle.pearl_rules.specs.Effect.{effect, effect_of, ending, activated, priority_or_declared, is_at_once};
-ghost use Rattle.pearl_rules.specs.Effect.{continues, resuming, prevented, stopping, releasing, trying};
-ghost use Rattle.pearl_rules.specs.Pick.{guard};
+ghost use Rattle.pearl_rules.specs.Effect.{continues, resuming, prevented, stopping, releasing, trying, getting, taking};
+ghost use Rattle.pearl_rules.specs.Devices.{channel_of, items_of, bytes_at, values_at};
+ghost use Rattle.pearl_rules.specs.Pick.{guard, is_complete, is_some_value};
+ghost use Rattle.pearl_rules.specs.Scan.{scan};
 ghost use Rattle.pearl_sema.specs.Waiting.{AreThere};
 ghost use Rattle.pearl_kernel.specs.Kept.{after, Replied};
+ghost use Rattle.pearl_value.specs.Kinds.{IsKind};
+ghost use Rattle.pearl_kernel.specs.Channels.{HasBytes};
 ghost use Rattle.pearl_kernel.specs.Names.{Names};
 ghost use Rattle.pearl_kernel.specs.Timing.{IsTimely, IsTimelyStart, IsTimelyRepeat};
 ghost use Rattle.pearl_kernel.specs.Whole.{HasRoom};
@@ -17,7 +22,9 @@ use arrayvec::ArrayVec;
 use pearl_rules::action::{Action, Answer, Repeat, Start};
 use pearl_rules::event::Event;
 use pearl_rules::row::{Activation, Mode};
+use pearl_scan::scan::Scanned;
 use pearl_value::cell::Cell;
+use pearl_value::kind::Kind;
 use pearl_value::trap::Trap;
 
 impl State {
@@ -70,8 +77,13 @@ impl State {
             Action::Put { device, text } => self.note(Event::Out { device, text }),
             Action::End => return self.end(own, Event::End(own)),
             Action::Trap(trap) => return self.end(own, Event::Trap { task: own, trap }),
-            // These aren't built yet: no task offers them.
-            Action::Get { .. } | Action::Take(_) | Action::Send(..) => unreachable!(),
+            Action::Get {
+                device,
+                format,
+                kinds,
+            } => return self.get(own, device, format, kinds.as_slice()),
+            Action::Take(device) => return self.take(own, device),
+            Action::Send(device, value) => self.note(Event::Send { device, value }),
         }
         Acted::Went(own, Answer::Nothing)
     }
@@ -207,6 +219,45 @@ impl State {
         }
         let value = u64::from(free);
         Acted::Went(own, Answer::One(Cell::Bits { len: 1, value }))
+    }
+
+    // The values that a terminal's bytes give, or the task is broken off.
+    fn get(&mut self, own: u32, device: u32, format: u32, kinds: &[Kind]) -> Acted
+        requires room { HasRoom self.old own }
+        requires terminal { HasBytes (channel_of self.old.core device) }
+        requires few { length kinds.now ≤ 64 }
+        requires are { AllByRecursion IsKind kinds.now }
+        requires able { is_complete (scan (items_of self.old.core format) kinds.now (bytes_at self.old.core device)) ≡ true }
+        ensures state { self.new ≡ after self.old (getting self.old.core own device
+            (scan (items_of self.old.core format) kinds.now (bytes_at self.old.core device))) }
+        ensures reply { Replied own (getting self.old.core own device
+            (scan (items_of self.old.core format) kinds.now (bytes_at self.old.core device))).reply result }
+    {
+        match self.scanned(device, format, kinds) {
+            Scanned::Short => unreachable!(),
+            Scanned::Bad(used) => {
+                self.drop_bytes(device, used);
+                let trap = Trap::Format;
+                self.end(own, Event::Trap { task: own, trap })
+            }
+            Scanned::Got(used, values) => {
+                self.drop_bytes(device, used);
+                Acted::Went(own, Answer::Many(values))
+            }
+        }
+    }
+
+    // The oldest value of an input.
+    fn take(&mut self, own: u32, device: u32) -> Acted
+        requires there { device < length self.old.core.channels }
+        requires able { is_some_value (values_at self.old.core device) ≡ true }
+        ensures state { self.new ≡ after self.old (taking self.old.core own device (values_at self.old.core device)) }
+        ensures reply { Replied own (taking self.old.core own device (values_at self.old.core device)).reply result }
+    {
+        match self.next_value(device) {
+            None => unreachable!(),
+            Some(value) => Acted::Went(own, Answer::One(value)),
+        }
     }
 }
 

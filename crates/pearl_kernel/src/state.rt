@@ -1,19 +1,25 @@
 // The core's state with the offered actions, and its small changes.
 
-ghost use Rattle.std.specs.Prelude.{◌≡◌, ◌<◌, ◌≤◌, [], ◌∷◌, Some, None, true, false};
-ghost use Rattle.std.specs.Prelude.{IsTrue, IfOk, MatchOption, length, slice_set};
+ghost use Rattle.std.specs.Prelude.{◌≡◌, ◌<◌, ◌≤◌, [], ◌∷◌, ◌++◌, Some, None, true, false};
+ghost use Rattle.std.specs.Prelude.{All, IsTrue, IfOk, MatchOption, length, nat_le, nat_lt, slice_get, slice_set, if◌then◌else◌};
 ghost use Rattle.std.specs.List.{AllByRecursion};
 ghost use Rattle.pearl_rules.specs.declared.action.Action as Acting;
 ghost use Rattle.pearl_timer.specs.Series.{IsNext, NoneIsNext};
 ghost use Rattle.pearl_timer.specs.Timetable.{IsDue};
 ghost use Rattle.pearl_rules.specs.Core.{Happened, note as noted, is_active as is_active_in, mode_of, row_of, value_at};
-ghost use Rattle.pearl_rules.specs.Core.{Switch, with_row};
+ghost use Rattle.pearl_rules.specs.Core.{Switch, Bytes, with_row};
 ghost use Rattle.pearl_rules.specs.Counts.{all_free, all_below_most, lowered, raised};
-ghost use Rattle.pearl_rules.specs.Devices.{is_enabled as is_enabled_in, with_channel};
+ghost use Rattle.pearl_rules.specs.Devices.{is_enabled as is_enabled_in, channel_of, with_channel, items_of, bytes_at};
+ghost use Rattle.pearl_rules.specs.Devices.{without_bytes, values_at, without_value, terminal_room, input_room};
+ghost use Rattle.pearl_rules.specs.Scan.{scan as scan_spec};
 ghost use Rattle.pearl_rules.specs.Plans.{with_mode};
-ghost use Rattle.pearl_rules.specs.Pick.{is_possible as is_possible_in, guard};
+ghost use Rattle.pearl_rules.specs.Pick.{is_possible as is_possible_in, is_some_value, guard};
 ghost use Rattle.pearl_rules.specs.Tables.{IsPreset};
+ghost use Rattle.pearl_port.specs.Pending.{IsTyped};
 ghost use Rattle.pearl_sema.specs.Waiting.{AreThere};
+ghost use Rattle.pearl_value.specs.Kinds.{IsKind};
+ghost use Rattle.pearl_kernel.specs.Channels.{HasBytes, HasValuesFor, taken_in_of};
+ghost use Rattle.pearl_scan.specs.Answers.{told};
 ghost use Rattle.pearl_kernel.specs.Kept.{at_start, offered as offered_of};
 ghost use Rattle.pearl_kernel.specs.Kept.{is_silent as is_silent_in, is_unsettled as is_unsettled_in};
 ghost use Rattle.pearl_kernel.specs.Names.{Names};
@@ -32,9 +38,11 @@ use pearl_rules::action::Action;
 use pearl_rules::event::Event;
 use pearl_rules::row::{Mode, TaskRow};
 use pearl_rules::setup::Setup;
+use pearl_scan::scan::{Scanned, scan};
 use pearl_sema::semas::Semas;
 use pearl_timer::timer::Timer;
 use pearl_value::cell::{Cell, copy_of};
+use pearl_value::kind::Kind;
 use pearl_value::listing::Listing;
 use std::alloc::{AllocError, Global};
 use std::marker::Model;
@@ -58,8 +66,7 @@ pub struct State {
 }
 
 impl Model for State {
-    ghost use Rattle.std.specs.Prelude.{◌≡◌, map};
-    ghost use Rattle.pearl_kernel.specs.Channels.{standing};
+    ghost use Rattle.std.specs.Prelude.{◌≡◌};
     ghost use Rattle.pearl_kernel.specs.Kept.{Kept, stamped};
     ghost use Rattle.pearl_kernel.specs.Timing.{timetable};
 
@@ -72,7 +79,7 @@ impl Model for State {
         tasks = s.rows.items;
         slots = s.slots.items;
         counts = s.semas.counts;
-        channels = map standing s.channels.items;
+        channels = s.channels.items;
         formats = s.formats.items;
         last = s.last;
         told = stamped s.moment s.events.items;
@@ -286,6 +293,15 @@ impl State {
     {
         match action {
             Action::Request(list) => self.is_free(list),
+            Action::Get {
+                device,
+                format,
+                kinds,
+            } => match self.scanned(*device, *format, kinds.as_slice()) {
+                Scanned::Short => false,
+                _ => true,
+            },
+            Action::Take(device) => self.has_value(*device),
             _ => true,
         }
     }
@@ -347,14 +363,29 @@ impl State {
         self.moment = moment;
     }
 
+    /// The task that acted last.
+    pub fn last(&self) -> Option<usize>
+        ensures { result ≡ self.now.core.last }
+    {
+        self.last
+    }
+
     /// Whether an interrupt is let through.
     pub fn is_enabled(&self, device: u32) -> bool
         ensures { result ≡ is_enabled_in self.now.core device }
     {
         match self.channels.get(device as usize) {
-            Some(Channel::Switch(enabled)) => *enabled,
-            _ => false,
+            None => false,
+            Some(channel) => channel.is_on(),
         }
+    }
+
+    /// How a device stands.
+    pub fn channel(&self, device: u32) -> Option<&Channel>
+        ensures { MatchOption result (channel_of self.now.core device ≡ None)
+            (λ channel. channel_of self.now.core device ≡ Some channel.now) }
+    {
+        self.channels.get(device as usize)
     }
 
     /// An interrupt is let through or masked from now on.
@@ -362,13 +393,80 @@ impl State {
         requires { device < length self.old.core.channels }
         ensures { self.new ≡ record self.old { core = with_channel self.old.core device (Switch enabled) } }
     {
-        self.channels[device as usize] = Channel::Switch(enabled);
+        self.channels[device as usize] = Channel::switch(enabled);
     }
 
-    /// The task that acted last.
-    pub fn last(&self) -> Option<usize>
-        ensures { result ≡ self.now.core.last }
+    /// The oldest bytes of a terminal, so many of them, are gone.
+    pub fn drop_bytes(&mut self, device: u32, used: usize)
+        requires { HasBytes (channel_of self.old.core device) }
+        ensures { self.new ≡ record self.old { core = without_bytes self.old.core device used } }
     {
-        self.last
+        self.channels[device as usize].drop_bytes(used);
+    }
+
+    /// Takes the oldest value of an input; none exactly where nothing waits.
+    pub fn next_value(&mut self, device: u32) -> Option<Cell>
+        requires { device < length self.old.core.channels }
+        ensures oldest { result ≡ slice_get (values_at self.old.core device) 0 }
+        ensures waiting { self.new ≡ record self.old { core = without_value self.old.core device } }
+    {
+        self.channels[device as usize].next()
+    }
+
+    /// Bytes come in at a terminal, where there is room for all of them. The answer tells whether there is.
+    pub fn add_bytes(&mut self, device: u32, text: &[u8]) -> bool
+        requires terminal { HasBytes (channel_of self.old.core device) }
+        requires typed { All IsTyped text.now }
+        ensures room { result ≡ nat_le (length (bytes_at self.old.core device ++ text.now)) terminal_room }
+        ensures waiting { self.new ≡ (if result then record self.old {
+          core = with_channel self.old.core device (Bytes (bytes_at self.old.core device ++ text.now));
+        } else self.old) }
+    {
+        self.channels[device as usize].add(text)
+    }
+
+    /// A value comes in at an input, where there is room. The answer tells whether there is.
+    pub fn take_in(&mut self, device: u32, value: &Cell) -> bool
+        requires { HasValuesFor value.now (channel_of self.old.core device) }
+        ensures room { result ≡ nat_lt (length (values_at self.old.core device)) input_room }
+        ensures waiting { self.new ≡ (if result then record self.old {
+          core = with_channel self.old.core device (taken_in_of (channel_of self.old.core device) value.now);
+        } else self.old) }
+    {
+        self.channels[device as usize].take_in(value)
+    }
+
+    /// What GET reads from the bytes that wait at a terminal.
+    pub fn scanned(&self, device: u32, format: u32, kinds: &[Kind]) -> Scanned
+        requires few { length kinds.now ≤ 64 }
+        requires are { AllByRecursion IsKind kinds.now }
+        ensures { told result ≡ scan_spec (items_of self.now.core format) kinds.now (bytes_at self.now.core device) }
+    {
+        match self.channels.get(device as usize) {
+            None => self.scan_bytes(format, kinds, &[]),
+            Some(channel) => self.scan_bytes(format, kinds, channel.bytes()),
+        }
+    }
+
+    fn scan_bytes(&self, format: u32, kinds: &[Kind], bytes: &[u8]) -> Scanned
+        requires few { length kinds.now ≤ 64 }
+        requires are { AllByRecursion IsKind kinds.now }
+        requires near { length bytes.now ≤ 4096 }
+        ensures { told result ≡ scan_spec (items_of self.now.core format) kinds.now bytes.now }
+    {
+        match self.formats.get(format as usize) {
+            None => scan(&[], kinds, bytes),
+            Some(items) => scan(items.as_slice(), kinds, bytes),
+        }
+    }
+
+    // Whether a value waits at an input.
+    fn has_value(&self, device: u32) -> bool
+        ensures { result ≡ is_some_value (values_at self.now.core device) }
+    {
+        match self.channels.get(device as usize) {
+            None => false,
+            Some(channel) => channel.has_value(),
+        }
     }
 }

@@ -155,7 +155,6 @@ module _ (o : Object) (setup : Setup) (k k2 : Kept) (parts : List Part) (due : �
   ready_acts lawful memory own = record {
     valid = r.valid;
     object = r.object;
-    built = r.built;
     tables = r.tables;
     lawful = lawful;
     each = each_after reply ∙ (r.each ∙ sym size);
@@ -183,7 +182,6 @@ pub ready_due : (o : Object) (setup : Setup) (k : Kept) (parts : List Part) (due
 ready_due o setup k parts due other r owes = record {
   valid = r.valid;
   object = r.object;
-  built = r.built;
   tables = r.tables;
   lawful = r.lawful;
   each = r.each;
@@ -205,7 +203,6 @@ ready_taken o setup k k2 parts due r same lawful =
     subst (λ n. IsReady o setup n parts due) (sym same) (record {
       valid = r.valid;
       object = r.object;
-      built = r.built;
       tables = r.tables;
       lawful = subst (λ n. IsLawful (setup_of o) n) same lawful;
       each = r.each;
@@ -222,7 +219,6 @@ ready_turned o setup k k2 parts due t r same lawful =
     subst (λ n. IsReady o setup n parts due) (sym is) (record {
       valid = r.valid;
       object = r.object;
-      built = r.built;
       tables = r.tables;
       lawful = subst (λ n. IsLawful (setup_of o) n) is lawful;
       each = r.each;

@@ -7,6 +7,7 @@ use Rattle.pearl_rules.specs.declared.setup.Setup.{Setup}
 use Rattle.pearl_rules.specs.declared.entry.Entry.{Entry}
 use Rattle.pearl_rules.specs.Core.{Core, Report, Happened, Shows}
 use Rattle.pearl_rules.specs.Devices.{arrived}
+use Rattle.pearl_rules.specs.Entries.{EntryFits}
 use Rattle.pearl_rules.specs.Plans.{millisecond}
 use Rattle.pearl_rules.specs.Effect.{Reply}
 use Rattle.pearl_rules.specs.Pick.{pick, turned, states, shown_of}
@@ -161,6 +162,12 @@ module _ (o : Object) (setup : Setup) (k : Kept) (parts : List Part) (due : ℕ)
       (subst (λ x. Makes (seen_of o k parts due) (Arrives entry) (seen_of o x parts due)) (sym same)
       (makes_of o k parts r.lawful.quiet (still (all_settled settled)) (λ core. arrived core entry) (Arrives entry) due (no_event taken) (none_due taken)
       (arrived-length k.core entry) (λ before. arrived-told_before before k.core entry) (λ m rest. refl)))
+
+  -- an entry that fits what is seen fits the object's tables
+  pub fits_call : (entry : Entry) → EntryFits (setup_of s.object) s.state.core.moment entry →
+      EntryFits (setup_of o) k.core.moment entry
+  fits_call entry fits =
+      subst (λ m. EntryFits (setup_of o) m entry) moment_call (subst (λ x. EntryFits (setup_of x) s.state.core.moment entry) object_is fits)
 
   -- the machine where the core alone changed
   pub changed_call : (k2 : Kept) (core : Core) → Known → unsettled s.state ≡ None → s.state.core.told ≡ [] → length core.tasks ≡ length k.core.tasks →

@@ -199,6 +199,17 @@ cut_arrival b m w entry old new settled object comes makes finish cut = (
   subst (λ o. IsCutOff (setup_of o) old new m.state.core.told w.state.core.told) object cut,
 )
 
+-- an entry that is none of these comes from outside
+pub comes_alone : (entry : Entry) → ((n : ℕ) → entry ≡ Run n → ⊥) → ((n : ℕ) → entry ≡ Tick n → ⊥) → ((n picks : ℕ) → entry ≡ Pass n picks → ⊥) →
+    ((t : ℕ) → entry ≡ Turn t → ⊥) → (entry ≡ State → ⊥) → (p : Option ℕ) (rest : List Entry) →
+    next_mark p (entry ∷ rest) ≡ Some (record { mark = Arrives entry; rest = rest })
+comes_alone (Run n) run tick pass turn state p rest = absurd (run n refl)
+comes_alone (Tick n) run tick pass turn state p rest = absurd (tick n refl)
+comes_alone (Pass n picks) run tick pass turn state p rest = absurd (pass n picks refl)
+comes_alone (Turn t) run tick pass turn state p rest = absurd (turn t refl)
+comes_alone State run tick pass turn state p rest = absurd (state refl)
+comes_alone entry run tick pass turn state p rest = refl
+
 -- WHILE MILLISECONDS PASS
 
 -- lines that are written change nothing

@@ -10,7 +10,6 @@ use Rattle.pearl_stack.specs.Frames.{Frame}
 use Rattle.pearl_instructions.specs.declared.object.Object.{Object}
 use Rattle.pearl_instructions.specs.Lawful.{IsObject}
 use Rattle.pearl_instructions.specs.Valid.{IsValid}
-use Rattle.pearl_engine.specs.Built.{OnlyBuilt}
 use Rattle.pearl_engine.specs.Engines.{engine}
 use Rattle.pearl_engine.specs.Setups.{setup_of, entry_of}
 use Rattle.pearl_kernel.specs.Kept.{Kept, IsLawful}
@@ -57,13 +56,12 @@ module _ (o : Object) (setup : Setup) (parts : List Part) (due : ℕ) (same : se
       (told_past (first_kept setup) due (omega (arith, past))) (running_is setup)))
 
   -- and is as it is to be
-  pub ready : (k : Kept) → k ≡ first_kept setup → Known → IsValid o → IsObject o → OnlyBuilt o → IsLawful setup k → length parts ≡ length o.tasks →
+  pub ready : (k : Kept) → k ≡ first_kept setup → Known → IsValid o → IsObject o → IsLawful setup k → length parts ≡ length o.tasks →
       HasMemories o parts → IsReady o setup k parts due
-  ready k is known valid object only lawful each memory =
+  ready k is known valid object lawful each memory =
       subst (λ n. IsReady o setup n parts due) (sym is) (record {
         valid = valid;
         object = object;
-        built = only;
         tables = same;
         lawful = subst (λ s. IsLawful s (first_kept setup)) same (subst (λ n. IsLawful setup n) is lawful);
         each = each ∙ sym size;

@@ -8,7 +8,7 @@ use Rattle.pearl_rules.specs.declared.action.Action.{Action}
 use Rattle.pearl_rules.specs.declared.action.Action.TheVariants as action
 use Rattle.pearl_rules.specs.declared.action.Answer.{Answer}
 use Rattle.pearl_rules.specs.Runs.{Offers}
-use Rattle.pearl_rules.specs.Slots.{Suits}
+use Rattle.pearl_rules.specs.Slots.{Fits, Suits}
 use Rattle.pearl_stack.specs.Frames.{Frame}
 use Rattle.pearl_instructions.specs.declared.object.Code.{Code}
 use Rattle.pearl_instructions.specs.declared.object.Procedure.{Procedure}
@@ -20,16 +20,14 @@ use Rattle.pearl_instructions.specs.Rows.{row, lowest}
 use Rattle.pearl_instructions.specs.Stacks.{Below, routines_of, lowest_depth, depth_or_none, room}
 use Rattle.pearl_instructions.specs.Steps as steps
 use Rattle.pearl_instructions.specs.Valid.{keep, judged_at, judged_whole, is_closed, unsound_in, IsValid}
-use Rattle.pearl_engine.specs.Built.{IsBuilt, OnlyBuilt}
 use Rattle.pearl_engine.specs.Engines.{engine}
 use Rattle.pearl_engine.specs.Owners.{IsStackOf, StandsIn}
 use Rattle.pearl_engine.specs.Setups.{setup_of}
 use Rattle.pearl_engine.proofs.Stands.{offers_is}
-use Rattle.pearl_kernel.specs.Kept.{IsCarriedOut}
 use Rattle.pearl_solo.specs.Answered.{CanHear}
 use Rattle.pearl_machine.specs.declared.part.Part.{Part}
 use Rattle.pearl_machine.specs.Known.{Known}
-use Rattle.pearl_machine.specs.Parts.{HasMemory, HasMemories, HasStack, IsShallow, IsTaken, first_part, is_going, stack_in, stack_or_none, start_of}
+use Rattle.pearl_machine.specs.Parts.{HasMemory, HasMemories, HasStack, IsShallow, first_part, is_going, stack_in, stack_or_none, start_of}
 use Rattle.pearl_machine.proofs.Listed.{get_here, get_elsewhere}
 
 -- MEMORY
@@ -144,21 +142,10 @@ pub own_of : (o : Object) (t : ℕ) (frames : List Frame) → t < length o.tasks
 own_of o t frames there (inl own) = own
 own_of o t frames there (inr none) = let past = none.past in let no : ⊥ = omega arith in absurd no
 
--- an action that is offered is built, and fits the tables
-pub fits_here : (o : Object) (t : ℕ) (frames : List Frame) (a : Action) → Known → IsValid o → IsObject o → OnlyBuilt o → IsStackOf o t frames →
-    (engine o).step t frames ≡ Offers a → IsTaken o a
-fits_here o t frames a known valid object only own e =
-    (known.fits o t frames a valid object (inl own) e, carried a (by_row (offers_is (row o frames) a e)))
-  where
-    by_row : ((go : Answer → List Frame) × (row o frames ≡ steps.Offers a go)) ⊎ ((row o frames ≡ steps.Missing) × (a ≡ action.End)) → IsBuilt a
-    by_row (inl offers) = known.built o frames a offers.0 only offers.1
-    by_row (inr missing) = subst (λ b. IsBuilt b) (sym missing.1) tt
-
-    carried : (b : Action) → IsBuilt b → IsCarriedOut b
-    carried (action.Get device format kinds) built = built
-    carried (action.Take device) built = built
-    carried (action.Send device value) built = built
-    carried other built = built
+-- an action that is offered fits the tables
+pub fits_here : (o : Object) (t : ℕ) (frames : List Frame) (a : Action) → Known → IsValid o → IsObject o → IsStackOf o t frames →
+    (engine o).step t frames ≡ Offers a → Fits (setup_of o) a
+fits_here o t frames a known valid object own e = known.fits o t frames a valid object (inl own) e
 
 -- an answer that suits it can be heard
 pub hears_here : (o : Object) (t : ℕ) (frames : List Frame) (a : Action) (answer : Answer) → Known → IsValid o → IsObject o → IsStackOf o t frames →

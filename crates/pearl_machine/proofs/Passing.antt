@@ -103,7 +103,6 @@ ready_changed o setup k k2 parts due core r all known past size same lawful =
     subst (λ n. IsReady o setup n parts due) (sym same) (record {
       valid = r.valid;
       object = r.object;
-      built = r.built;
       tables = r.tables;
       lawful = subst (λ n. IsLawful (setup_of o) n) same lawful;
       each = r.each ∙ sym size;

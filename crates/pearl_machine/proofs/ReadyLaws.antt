@@ -173,7 +173,6 @@ module _ (o : Object) (setup : Setup) (k : Kept) (parts : List Part) (due : ℕ)
         subst (λ n. IsReady o setup n parts2 due) (sym same) (record {
           valid = r.valid;
           object = r.object;
-          built = r.built;
           tables = r.tables;
           lawful = subst (λ n. IsLawful (setup_of o) n) same lawful;
           each = ap length same_parts ∙ (length-set parts t _ ∙ r.each);
@@ -197,7 +196,6 @@ module _ (o : Object) (setup : Setup) (k : Kept) (parts : List Part) (due : ℕ)
     ready_goes parts2 after same_parts own memory = record {
       valid = r.valid;
       object = r.object;
-      built = r.built;
       tables = r.tables;
       lawful = r.lawful;
       each = ap length same_parts ∙ (length-set parts t _ ∙ r.each);

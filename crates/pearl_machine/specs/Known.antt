@@ -1,10 +1,9 @@
 -- What is known of every valid object, and on which laws a task's steps rest.
-use Rattle.pearl_engine.specs.Laws.{AreTables, Begins, HearsWhatSuits, OffersWhatIsThere, OffersBuilt, FitsTables}
+use Rattle.pearl_engine.specs.Laws.{AreTables, Begins, HearsWhatSuits, OffersWhatIsThere, FitsTables}
 
 pub record Known : Type 0 where
   pub begins : Begins
   pub suits : HearsWhatSuits
   pub there : OffersWhatIsThere
-  pub built : OffersBuilt
   pub fits : FitsTables
   pub tables : AreTables

@@ -4,7 +4,6 @@ use Rattle.pearl_rules.specs.declared.action.Action.{Action}
 use Rattle.pearl_rules.specs.declared.action.Answer.{Answer}
 use Rattle.pearl_rules.specs.Core.{Core, is_active}
 use Rattle.pearl_rules.specs.Runs.{Running, Silent, Offers, kept_at}
-use Rattle.pearl_rules.specs.Slots.{Fits}
 use Rattle.pearl_stack.specs.Frames.{Frame, Stack}
 use Rattle.pearl_instructions.specs.declared.object.Object.{Object}
 use Rattle.pearl_instructions.specs.declared.object.Task.{Task}
@@ -12,8 +11,6 @@ use Rattle.pearl_instructions.specs.Rows.{begun}
 use Rattle.pearl_instructions.specs.Stacks.{room}
 use Rattle.pearl_engine.specs.Engines.{engine}
 use Rattle.pearl_engine.specs.Owners.{IsStackOf}
-use Rattle.pearl_engine.specs.Setups.{setup_of}
-use Rattle.pearl_kernel.specs.Kept.{IsCarriedOut}
 use Rattle.pearl_solo.specs.Settling.{Settles}
 use Rattle.pearl_machine.specs.declared.part.Part.{Part}
 
@@ -87,10 +84,6 @@ abbrev pub IsShallow : Task → Type 0
 IsShallow task = task.code.depth ≤ 4096
 
 -- ONE TASK GOES ON
-
--- an action that the kernel takes
-abbrev pub IsTaken : Object → Action → Type 0
-IsTaken o action = Fits (setup_of o) action × IsCarriedOut action
 
 abbrev pub is_none_offered : Option Action → Bool
 is_none_offered None = true

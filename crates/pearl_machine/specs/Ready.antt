@@ -9,7 +9,6 @@ use Rattle.pearl_stack.specs.Frames.{Frame}
 use Rattle.pearl_instructions.specs.declared.object.Object.{Object}
 use Rattle.pearl_instructions.specs.Lawful.{IsObject}
 use Rattle.pearl_instructions.specs.Valid.{IsValid}
-use Rattle.pearl_engine.specs.Built.{OnlyBuilt}
 use Rattle.pearl_engine.specs.Engines.{engine}
 use Rattle.pearl_engine.specs.Owners.{IsStackOf}
 use Rattle.pearl_engine.specs.Setups.{setup_of}
@@ -41,12 +40,11 @@ AllStand o xs = (t : ℕ) (running : Running (List Frame)) → kept_at xs t ≡ 
 abbrev pub IsDue : Kept → (due : ℕ) → Type 0
 IsDue k due = AllSettled k ⊎ (length k.core.tasks ≤ due)
 
--- The object is valid and all its instructions are built, the tables and the kernel are its own, each task has its stack, and one
+-- The object is valid, the tables and the kernel are its own, each task has its stack, and one
 -- that is under way to its action is active and has offered nothing.
 pub record IsReady (o : Object) (setup : Setup) (k : Kept) (parts : List Part) (due : ℕ) : Type 0 where
   pub valid : IsValid o
   pub object : IsObject o
-  pub built : OnlyBuilt o
   pub tables : setup ≡ setup_of o
   pub lawful : IsLawful (setup_of o) k
   pub each : length parts ≡ length k.core.tasks

@@ -2,7 +2,7 @@
 use Rattle.std.specs.Prelude.{◌≡◌, ◌⊎◌, ℕ, suc, ◌+◌, ◌-◌, ◌<◌, ◌≤◌, List, [], ◌∷◌, ◌++◌, Bool, true, false, Option, Some, None, slice_set}
 use Rattle.pearl_rules.specs.declared.action.Action.{Action}
 use Rattle.pearl_rules.specs.declared.entry.Entry.{Entry}
-use Rattle.pearl_rules.specs.declared.entry.Entry.TheVariants.{Run, Tick, Pass, Chars, Line, Value}
+use Rattle.pearl_rules.specs.declared.entry.Entry.TheVariants.{Run, Tick, Pass}
 use Rattle.pearl_rules.specs.Core.{Report}
 use Rattle.pearl_rules.specs.Pick.{pick}
 use Rattle.pearl_rules.specs.Runs.{Running, Machine, Mark, Acts, Passes, kept_at, machine_offers, machine_mark, machine_after, next_mark, unsettled}
@@ -49,13 +49,6 @@ pub record Goes (old : Seen) (before : List (ℕ × Report)) (entries rest : Lis
 abbrev pub Handles : Seen → List Entry → List Entry → Seen → List (ℕ × Report) → Type 0
 Handles old from left new told = (before : List (ℕ × Report)) (entries rest : List Entry) → SameNext old entries (from ++ rest) →
     Goes old before entries (left ++ rest) new told
-
--- the entries that a machine carries out; what comes in at terminals and inputs isn't built yet
-abbrev pub IsCarriedOutEntry : Entry → Type 0
-IsCarriedOutEntry (Chars device text) = ⊥
-IsCarriedOutEntry (Line device text) = ⊥
-IsCarriedOutEntry (Value device x) = ⊥
-IsCarriedOutEntry entry = Unit {0}
 
 -- ONE PART OF AN ENTRY
 

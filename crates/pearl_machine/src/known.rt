@@ -17,7 +17,6 @@ pub fn laws_hold(code: &Valid)
     laws::tasks_begin();
     laws::answers_suit();
     laws::offers_name_what_is_there();
-    laws::offers_are_built();
     laws::offers_fit_the_tables();
     laws::tables_are_lawful();
 }

@@ -1,5 +1,5 @@
 //! Executes objects of any number of tasks over the entries of a journal, and hands what happens to a sink, line by
-//! line. Actions on the clock, plans, interrupts, inputs and outputs are not executed yet, nor GET.
+//! line.
 //!
 //! [`Machine::load`] takes an object and all the memory that its run needs. [`Machine::begin`] comes first,
 //! [`Machine::entry`] once for each entry, and [`Machine::close`] last.

@@ -1,21 +1,19 @@
 //! The machine, from the start of a run to its end.
 
 ghost use Rattle.std.specs.Prelude.{◌≡◌, ◌≢◌, ◌⊎◌, ℕ, ◌+◌, ◌<◌, ◌≤◌, List, [], ◌∷◌, ◌++◌, None};
-ghost use Rattle.std.specs.Prelude.{IfOk, OnOk, OnErr, is_some, length, slice_get};
+ghost use Rattle.std.specs.Prelude.{IfOk, OnOk, OnErr, is_some, length};
 ghost use Rattle.pearl_rules.specs.Core.{Report};
 ghost use Rattle.pearl_rules.specs.Pick.{states};
 ghost use Rattle.pearl_rules.specs.declared.entry.Entry.{Entry};
-ghost use Rattle.pearl_rules.specs.declared.entry.Entry.TheVariants.{Run, Tick, Pass, Clock, Irpt};
+ghost use Rattle.pearl_rules.specs.declared.entry.Entry.TheVariants.{Run, Tick, Pass};
 ghost use Rattle.pearl_rules.specs.Entries.{last_moment_of_all, moment_after, EntryFits};
 ghost use Rattle.pearl_rules.specs.Runs.{machine_start, machine_step, machine_offers, unsettled, Tells, Turns, Passes, Arrives};
-ghost use Rattle.pearl_rules.specs.Tables.{IsInterrupt};
-ghost use Rattle.pearl_engine.specs.Built.{OnlyBuilt};
 ghost use Rattle.pearl_engine.specs.Engines.{engine};
 ghost use Rattle.pearl_engine.specs.Setups.{setup_of};
 ghost use Rattle.pearl_io.specs.Outside.{Takes, TakesFront, WriteFailed};
 ghost use Rattle.pearl_script.specs.Lines.{close_line as line_of_close, lines_of};
 ghost use Rattle.pearl_kernel.specs.Timing.{IsQuiet};
-ghost use Rattle.pearl_machine.specs.Seen.{Seen, Handles, IsCarriedOutEntry, SettledBy, ActedBy, Makes, TakesNext};
+ghost use Rattle.pearl_machine.specs.Seen.{Seen, Handles, SettledBy, ActedBy, Makes, TakesNext};
 ghost use Rattle.pearl_machine.specs.Seen.{NobodyActs, Skips, PassesSome, retold};
 ghost use Rattle.pearl_machine.specs.Told.{IsCutOff};
 
@@ -33,7 +31,7 @@ use pearl_script::transcript::{close_line, event_line};
 use std::alloc::{AllocError, Global};
 use std::marker::Model;
 
-/// Executes a valid object whose instructions are all built. Contracts see the object, and a state of its run that has
+/// Executes a valid object. Contracts see the object, and a state of its run that has
 /// told only what isn't written yet.
 #[derive(Drop)]
 pub struct Machine {
@@ -59,7 +57,6 @@ impl Model for Machine {
 impl Machine {
     /// The machine at the start of a run. It takes all the memory that the run needs.
     pub fn load(alloc: Global, code: Valid) -> Result<Machine, AllocError>
-        requires built { OnlyBuilt code }
         ensures object { IfOk result (λ machine. machine.object ≡ code) }
         ensures start { IfOk result (λ machine. machine.state ≡ machine_start (engine code) (setup_of code) []) }
     {
@@ -131,7 +128,6 @@ impl Machine {
     pub fn entry<K: Sink>(&mut self, entry: &Entry, sink: &mut K) -> Result<(), WriteFault>
         requires taken { self.old.state.core.told ≡ [] }
         requires fits { EntryFits (setup_of self.old.object) self.old.state.core.moment entry.now }
-        requires carried { IsCarriedOutEntry entry.now }
         ensures object { self.new.object ≡ self.old.object }
         ensures ok { OnOk result ((told : List (ℕ × Report)) × Handles self.old (entry.now ∷ []) [] self.new told
             × Takes (K.taken sink.old) (K.taken sink.new) (lines_of (setup_of self.old.object) told)) }
@@ -158,16 +154,11 @@ impl Machine {
                 self.show();
                 self.tell(sink)
             }
-            Entry::Clock(time) => {
-                self.set_clock(*time);
+            // The others come from outside.
+            _ => {
+                self.arrive(entry);
                 self.finish(sink)
             }
-            Entry::Irpt(device) => {
-                self.interrupt(*device);
-                self.finish(sink)
-            }
-            // What comes in at terminals and inputs isn't built yet.
-            Entry::Chars { .. } | Entry::Line { .. } | Entry::Value { .. } => unreachable!(),
         }
     }
 
@@ -388,30 +379,17 @@ impl Machine {
         self.kernel.tick();
     }
 
-    // The time of day at the start is set.
-    fn set_clock(&mut self, time: u32)
+    // What an entry does by itself: the clock is set, or something comes in.
+    fn arrive(&mut self, entry: &Entry)
         requires settled { unsettled self.old.state ≡ None }
         requires taken { self.old.state.core.told ≡ [] }
-        requires time { time < 86400000 }
+        requires fits { EntryFits (setup_of self.old.object) self.old.state.core.moment entry.now }
         ensures object { self.new.object ≡ self.old.object }
         ensures moment { self.new.state.core.moment ≡ self.old.state.core.moment }
-        ensures arrives { Makes self.old (Arrives (Clock time)) self.new }
+        ensures arrives { Makes self.old (Arrives entry.now) self.new }
     {
         laws_hold(&self.code);
-        self.kernel.clock(time);
-    }
-
-    // An interrupt occurs.
-    fn interrupt(&mut self, device: u32)
-        requires settled { unsettled self.old.state ≡ None }
-        requires taken { self.old.state.core.told ≡ [] }
-        requires there { IsInterrupt (slice_get (setup_of self.old.object).devices device) }
-        ensures object { self.new.object ≡ self.old.object }
-        ensures moment { self.new.state.core.moment ≡ self.old.state.core.moment }
-        ensures arrives { Makes self.old (Arrives (Irpt device)) self.new }
-    {
-        laws_hold(&self.code);
-        self.kernel.interrupt(device);
+        self.kernel.input(entry);
     }
 
     // Hands the sink the lines of a mark; then every active task goes on to its next action.

@@ -2,15 +2,16 @@
 
 ghost use Rattle.std.specs.Prelude.{◌≡◌, ℕ, ◌+◌, ◌≤◌, ◌<◌, ◌^◌, Bool, true, false, Some, None, IfSome, IfOk, length, map, slice_get, slice_set};
 ghost use Rattle.std.specs.List.{AllByRecursion};
+ghost use Rattle.pearl_rules.specs.Slots.{Fits};
 ghost use Rattle.pearl_instructions.specs.Rows.{row};
 ghost use Rattle.pearl_instructions.specs.Stacks.{room as room_of};
-ghost use Rattle.pearl_engine.specs.Built.{OnlyBuilt};
 ghost use Rattle.pearl_engine.specs.Engines.{engine};
 ghost use Rattle.pearl_engine.specs.Owners.{IsStackOf};
+ghost use Rattle.pearl_engine.specs.Setups.{setup_of};
 ghost use Rattle.pearl_solo.specs.Answered.{CanHear};
 ghost use Rattle.pearl_solo.specs.Settling.{Settles};
 ghost use Rattle.pearl_machine.specs.declared.part.Part as Parting;
-ghost use Rattle.pearl_machine.specs.Parts.{HasMemories, HasStack, IsShallow, IsTaken, Does, StepsPart, SettlesPart, is_none_offered, is_going, going_frames, stack_in, start_of, first_part as first_part_of, heard_part};
+ghost use Rattle.pearl_machine.specs.Parts.{HasMemories, HasStack, IsShallow, Does, StepsPart, SettlesPart, is_none_offered, is_going, going_frames, stack_in, start_of, first_part as first_part_of, heard_part};
 
 use crate::known::laws_hold;
 use pearl_instructions::object::Task;
@@ -84,13 +85,12 @@ fn is_none(action: &Option<Action>) -> bool
 
 // One instruction on a task's stack.
 fn step_stack(code: &Valid, task: u32, stack: &mut Loaded) -> Option<Action>
-    requires built { OnlyBuilt code.now }
     requires own { IsStackOf code.now task stack.old.frames }
     requires room { room_of code.now (start_of code.now task) ≤ stack.old.room }
     ensures does { Does code.now task stack.old.frames stack.new.frames result }
     ensures own { IsStackOf code.now task stack.new.frames }
     ensures memory { (stack.new.room ≡ stack.old.room) × (stack.new.most ≡ stack.old.most) }
-    ensures fits { IfSome result (IsTaken code.now) }
+    ensures fits { IfSome result (Fits (setup_of code.now)) }
 {
     laws_hold(code);
     match step(code, stack) {
@@ -101,13 +101,12 @@ fn step_stack(code: &Valid, task: u32, stack: &mut Loaded) -> Option<Action>
 
 // All instructions on a task's stack up to its next action.
 fn settle_stack(code: &Valid, task: u32, stack: &mut Loaded) -> Action
-    requires built { OnlyBuilt code.now }
     requires own { IsStackOf code.now task stack.old.frames }
     requires room { room_of code.now (start_of code.now task) ≤ stack.old.room }
     ensures settles { Settles code.now stack.old.frames stack.new.frames result }
     ensures own { IsStackOf code.now task stack.new.frames }
     ensures memory { (stack.new.room ≡ stack.old.room) × (stack.new.most ≡ stack.old.most) }
-    ensures fits { IsTaken code.now result }
+    ensures fits { Fits (setup_of code.now) result }
 {
     laws_hold(code);
     settle(code, stack)
@@ -115,14 +114,13 @@ fn settle_stack(code: &Valid, task: u32, stack: &mut Loaded) -> Action
 
 /// One instruction of a task that has offered nothing.
 pub fn step_part(code: &Valid, parts: &mut Vec<Part>, task: u32) -> Option<Action>
-    requires built { OnlyBuilt code.now }
     requires there { task < length code.now.tasks }
     requires same { length parts.old.items ≡ length code.now.tasks }
     requires memory { HasMemories code.now parts.old.items }
     requires own { IsStackOf code.now task (going_frames (start_of code.now task) (slice_get parts.old.items task)) }
     ensures steps { StepsPart code.now parts.old.items task parts.new.items result }
     ensures memory { HasMemories code.now parts.new.items }
-    ensures fits { IfSome result (IsTaken code.now) }
+    ensures fits { IfSome result (Fits (setup_of code.now)) }
 {
     let mut stack = take_going(code, parts, task);
     let action = step_stack(code, task, &mut stack);
@@ -133,14 +131,13 @@ pub fn step_part(code: &Valid, parts: &mut Vec<Part>, task: u32) -> Option<Actio
 
 /// A task that has offered nothing goes on to its next action.
 pub fn settle_part(code: &Valid, parts: &mut Vec<Part>, task: u32) -> Action
-    requires built { OnlyBuilt code.now }
     requires there { task < length code.now.tasks }
     requires same { length parts.old.items ≡ length code.now.tasks }
     requires memory { HasMemories code.now parts.old.items }
     requires own { IsStackOf code.now task (going_frames (start_of code.now task) (slice_get parts.old.items task)) }
     ensures settles { SettlesPart code.now parts.old.items task parts.new.items result }
     ensures memory { HasMemories code.now parts.new.items }
-    ensures fits { IsTaken code.now result }
+    ensures fits { Fits (setup_of code.now) result }
 {
     let mut stack = take_going(code, parts, task);
     let action = settle_stack(code, task, &mut stack);

@@ -16,8 +16,6 @@ pub enum Refusal {
     Syntax(u32),
     /// At this byte a rule of this number is broken.
     Source { place: u32, rule: u8 },
-    /// At this byte stands a form that isn't carried out yet.
-    Unbuilt(u32),
     /// A journal's line, the first being 1, is refused for the reason with this number.
     Journal { line: u64, code: u8 },
     /// A file could not be read.
@@ -41,7 +39,6 @@ pub fn refusal_line(refusal: &Refusal, into: &mut ArrayVec<u8, 2304>)
             push_number(u64::from(place), into);
             push_told(b" S", u64::from(rule), into);
         }
-        Refusal::Unbuilt(place) => push_told(b"error unbuilt ", u64::from(place), into),
         Refusal::Journal { line, code } => {
             push_bytes(b"error journal ", into);
             push_number(line, into);

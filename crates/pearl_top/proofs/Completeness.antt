@@ -1,6 +1,5 @@
 -- A call whose files are in order ends with status 0, unless memory, reading or writing failed.
-use Rattle.std.proofs.Common.{◌≡◌, ◌≢◌, ℕ, List, Option, None, Some, refl, ap, ap₂, sym, ◌∙◌, inl, inr, arith}
-use Rattle.pearl_unbuilt.specs.Unbuilt.{unbuilt}
+use Rattle.std.proofs.Common.{◌≡◌, ◌≢◌, ℕ, List, Option, refl, ap, ap₂, sym, ◌∙◌, inl, inr, arith}
 use Rattle.pearl_program.specs.PlainPrograms.{PlainProg}
 use Rattle.pearl_top.specs.declared.status.Status.{Status}
 use Rattle.pearl_top.specs.declared.status.Status.TheVariants.{Done, Usage, Refused, BadObject, BadJournal, ReadFault, WriteFault, NoMemory, TooLong}
@@ -9,25 +8,20 @@ use Rattle.pearl_top.specs.Commands.{Command, Run, Check, Print, NoCommand}
 use Rattle.pearl_top.specs.Complete.{AreInOrder, IsInOrder}
 use Rattle.pearl_journal.specs.Entries.{Entries, All, Bad, entries}
 use Rattle.pearl_top.specs.JournalDue.{IsBadJournal}
-use Rattle.pearl_top.specs.Outcome.{Due, IsRefused, IsSource, RunDue}
+use Rattle.pearl_top.specs.Outcome.{Due, IsSource, RunDue}
 use Rattle.pearl_top.specs.PrintDue.{IsPrinted, IsUnspelled}
 use Rattle.pearl_top.specs.Taken.{Ends}
 use Rattle.pearl_meaning.specs.ProgramRuns.{setup_of as tables_of}
-use Rattle.pearl_top.proofs.CheckLaws.{never_unaccepted, shown_once}
+use Rattle.pearl_top.proofs.CheckLaws.{never_unaccepted}
 use Rattle.pearl_top.proofs.OneProgram.{one_meaning}
 use Rattle.pearl_top.proofs.DueLaws.{handled-whole}
 use Rattle.pearl_top.proofs.PrintLaws.{never_unspelled}
 use Rattle.pearl_top.proofs.SourceLaws.{at_source_completes}
 use Rattle.pearl_top.proofs.TakenLaws.{finishes_of}
 
-none_or_place : (place : ℕ) → None ≡ Some place → ⊥
-none_or_place place e = cc
-
 -- an accepted source is not refused
-pub not_refused : (source bytes : List ℕ) (p : PlainProg) → IsSource source p → IsRefused source bytes → ⊥
-not_refused source bytes p is_source (inl unaccepted) = never_unaccepted source bytes is_source.is unaccepted
-not_refused source bytes p is_source (inr not_built) =
-    none_or_place not_built.place (sym is_source.built ∙ ap unbuilt (shown_once source is_source.is.is not_built.is.is) ∙ not_built.stands)
+pub not_refused : (source bytes : List ℕ) (p : PlainProg) → IsSource source p → IsUnaccepted source bytes → ⊥
+not_refused source bytes p is_source unaccepted = never_unaccepted source bytes is_source.is unaccepted
 
 -- all lines of these are accepted, and one is refused
 all_and_bad : (line code : ℕ) → All ≡ Bad line code → ⊥

@@ -8,7 +8,7 @@ use Rattle.pearl_rules.specs.declared.setup.Setup.{Setup}
 use Rattle.pearl_rules.specs.Core.{Report}
 use Rattle.pearl_engine.specs.Setups.{setup_of}
 use Rattle.pearl_script.specs.Lines.{lines_of}
-use Rattle.pearl_machine.specs.Seen.{Seen, Handles, IsCarriedOutEntry}
+use Rattle.pearl_machine.specs.Seen.{Seen, Handles}
 use Rattle.pearl_machine.specs.Told.{IsCutOff}
 use Rattle.pearl_machine.proofs.Taken.{cut_front}
 use Rattle.pearl_journal.specs.declared.reading.Line.{Line}
@@ -17,13 +17,11 @@ use Rattle.pearl_top.specs.declared.failure.Failure.{Failure}
 use Rattle.pearl_top.specs.declared.failure.Failure.TheVariants as failure
 use Rattle.pearl_top.specs.declared.replay.Lines.{Lines}
 use Rattle.pearl_top.specs.declared.replay.Lines.TheVariants as kinds
-use Rattle.pearl_journal.specs.Entries.{All, Bad, IfItem, Entries, after as after_line, entries_from, more_entries}
+use Rattle.pearl_journal.specs.Entries.{All, Bad, Entries, after as after_line, entries_from, more_entries}
 use Rattle.pearl_journal.specs.Lines.{journal_lines, ended_lines}
 use Rattle.pearl_journal.specs.Meaning.{meaning}
 use Rattle.pearl_rules.specs.Entries.{EntryFits}
-use Rattle.pearl_rules.specs.declared.entry.Entry.TheVariants as entries
-use Rattle.pearl_journal.specs.Readings.{Reading, NoInput, start}
-use Rattle.pearl_journal.proofs.FitLaws.{meaning-no_input}
+use Rattle.pearl_journal.specs.Readings.{Reading, start}
 use Rattle.pearl_top.specs.Replay.{lines_in, IsLineFailure, IsLinesFailure, with_front, LineDone, LineBroken, LinesDone, LinesBroken, Progress}
 use Rattle.pearl_top.proofs.ReplayLaws.{advances-none, advances-then, breaks-then, breaks-behind}
 use Rattle.pearl_top.proofs.TakenLaws.{append_nil, takes_none}
@@ -81,23 +79,6 @@ line_broken setup reading text entry left seen after old new told later e handle
 -- what an accepted line is fits there as well
 pub fits_there : (held setup : Setup) (moment now : ℕ) (entry : Entry) → held ≡ setup → now ≡ moment → EntryFits held moment entry → EntryFits setup now entry
 fits_there held setup moment now entry same at fits = rw at (subst (λ tables. EntryFits tables moment entry) same fits)
-
--- and nothing comes in at a terminal or an input
-no_input : (entry : Entry) → NoInput entry → IsCarriedOutEntry entry
-no_input (entries.Clock time) none = tt
-no_input (entries.Run picks) none = tt
-no_input (entries.Tick milliseconds) none = tt
-no_input (entries.Pass times picks) none = tt
-no_input (entries.Irpt device) none = tt
-no_input (entries.Chars device text) none = absurd none
-no_input (entries.Line device text) none = absurd none
-no_input (entries.Value device x) none = absurd none
-no_input (entries.Turn task) none = tt
-no_input entries.State none = tt
-
-pub carried : (held : Setup) (reading : Reading) (text : List ℕ) (entry : Entry) → Item entry ≡ meaning held reading text → IsCarriedOutEntry entry
-carried held reading text entry means =
-    no_input entry (subst (λ line. IfItem line NoInput) (sym means) (meaning-no_input held reading text))
 
 -- ALL LINES
 

@@ -1,23 +1,21 @@
 -- A command and the files held have at most one status and one list of bytes.
-use Rattle.std.proofs.Common.{◌≡◌, ◌≢◌, ◌<◌, ◌≤◌, ◌⊎◌, Some, ◌+◌, ℕ, List, Bool, true, false, nat_le, length, refl, ap, sym, ◌∙◌, subst, inl, inr, arith}
+use Rattle.std.proofs.Common.{◌≡◌, ◌≢◌, ◌<◌, ◌⊎◌, ◌+◌, ℕ, List, Bool, true, false, nat_le, length, refl, ap, sym, ◌∙◌, subst, inl, inr, arith}
 use Rattle.pearl_program.specs.PlainPrograms.{PlainProg}
-use Rattle.pearl_tree.specs.ShownModules.{shown_tree}
-use Rattle.pearl_unbuilt.specs.Unbuilt.{unbuilt}
 use Rattle.pearl_script.specs.declared.refusal.Refusal.TheVariants as refusal
 use Rattle.pearl_script.specs.Refusals.{refusal_line}
 use Rattle.pearl_top.specs.declared.status.Status.{Status}
 use Rattle.pearl_top.specs.declared.status.Status.TheVariants.{Done, Usage, Refused, BadObject, BadJournal, ReadFault, WriteFault, NoMemory, TooLong}
 use Rattle.pearl_top.specs.declared.limits.TheConstants.{SOURCE_LIMIT, JOURNAL_LIMIT}
-use Rattle.pearl_top.specs.CheckDue.{BreaksNone, IsAccepted, IsUnaccepted}
+use Rattle.pearl_top.specs.CheckDue.{IsAccepted, IsUnaccepted}
 use Rattle.pearl_top.specs.Commands.{Run, Check, Print, NoCommand}
 use Rattle.pearl_journal.specs.Entries.{Ending, Entries, All, Bad}
 use Rattle.pearl_top.specs.JournalDue.{IsRun, JournalDue, handled}
 use Rattle.pearl_top.specs.Laws.{HasOneOutcome}
-use Rattle.pearl_top.specs.Outcome.{IsRefused, IsSource, IsUnbuilt, RunDue, SourceDue}
+use Rattle.pearl_top.specs.Outcome.{IsSource, RunDue, SourceDue}
 use Rattle.pearl_top.specs.PrintDue.{IsPrinted, IsUnspelled}
 use Rattle.pearl_top.specs.Transcript.{Close, Closed, Cut, IsTranscript}
 use Rattle.pearl_top.proofs.OneProgram.{one_meaning, transcript_once}
-use Rattle.pearl_top.proofs.CheckLaws.{check_settled, never_unaccepted, shown_once, unaccepted_once, unaccepted_within}
+use Rattle.pearl_top.proofs.CheckLaws.{check_settled, unaccepted_once, unaccepted_within}
 use Rattle.pearl_top.proofs.Completeness.{not_refused}
 use Rattle.pearl_top.proofs.DueLaws.{handled-whole, le_true, le_false}
 use Rattle.pearl_top.proofs.PrintLaws.{print_settled}
@@ -86,27 +84,6 @@ comes_once p journal status other bytes others one two =
 
 -- AT THE SOURCE
 
-unbuilt_twice : (source : List ℕ) (one two : BreaksNone source) → unbuilt (shown_tree one.is.tree) ≡ unbuilt (shown_tree two.is.tree)
-unbuilt_twice source one two = ap unbuilt (shown_once source one.is two.is)
-
-one_place : (place other : ℕ) → Some place ≡ Some other → place ≡ other
-one_place place other e = cc
-
-unbuilt_once : (source bytes others : List ℕ) → IsUnbuilt source bytes → IsUnbuilt source others → bytes ≡ others
-unbuilt_once source bytes others one two =
-    one.text ∙ ap (λ place. refusal_line (refusal.Unbuilt place))
-    (one_place one.place two.place (sym one.stands ∙ unbuilt_twice source one.is two.is ∙ two.stands)) ∙ sym two.text
-
-refused_once : (source bytes others : List ℕ) → IsRefused source bytes → IsRefused source others → bytes ≡ others
-refused_once source bytes others (inl unaccepted) (inl also) = unaccepted_once source bytes others unaccepted also
-refused_once source bytes others (inl unaccepted) (inr not_built) = absurd (never_unaccepted source bytes not_built.is unaccepted)
-refused_once source bytes others (inr not_built) (inl unaccepted) = absurd (never_unaccepted source others not_built.is unaccepted)
-refused_once source bytes others (inr not_built) (inr also) = unbuilt_once source bytes others not_built also
-
-refused_within : (source bytes : List ℕ) → IsRefused source bytes → length source ≤ SOURCE_LIMIT
-refused_within source bytes (inl unaccepted) = unaccepted_within source bytes unaccepted
-refused_within source bytes (inr not_built) = not_built.is.is.within
-
 -- a source that is too long
 abbrev IsLong : List ℕ → List ℕ → Type 0
 IsLong source bytes = (SOURCE_LIMIT < length source) × (bytes ≡ refusal_line (refusal.TooLong (SOURCE_LIMIT + 1)))
@@ -114,7 +91,7 @@ IsLong source bytes = (SOURCE_LIMIT < length source) × (bytes ≡ refusal_line 
 -- the source is refused, or is too long, or is accepted and brings something about over the journal
 abbrev Ended : List ℕ → List ℕ → Status → List ℕ → Type 0
 Ended source journal status bytes =
-    ((status ≡ Refused) × IsRefused source bytes)
+    ((status ≡ Refused) × IsUnaccepted source bytes)
     ⊎ (((status ≡ TooLong) × IsLong source bytes) ⊎ ((p : PlainProg) × IsSource source p × Comes p journal status bytes))
 
 ended_at_source : (source journal : List ℕ) (status : Status) (bytes : List ℕ) → status ≢ NoMemory → SourceDue source ⊥ status bytes →
@@ -134,15 +111,15 @@ ended : (source journal : List ℕ) (status : Status) (bytes : List ℕ) → sta
 ended source journal status bytes known (inl due) = ended_at_source source journal status bytes known due
 ended source journal status bytes known (inr (p, is_source, due)) = inr (inr (p, is_source, comes p journal status bytes known due))
 
-long_or_not : (source bytes others : List ℕ) → IsRefused source bytes → IsLong source others → ⊥
-long_or_not source bytes others one two = let h = refused_within source bytes one in omega (arith, two.0)
+long_or_not : (source bytes others : List ℕ) → IsUnaccepted source bytes → IsLong source others → ⊥
+long_or_not source bytes others one two = let h = unaccepted_within source bytes one in omega (arith, two.0)
 
 long_source : (source bytes : List ℕ) (p : PlainProg) → IsSource source p → IsLong source bytes → ⊥
 long_source source bytes p one two = let h = one.is.is.within in omega (arith, two.0)
 
 ended_once : (source journal : List ℕ) (status other : Status) (bytes others : List ℕ) → Ended source journal status bytes → Ended source journal other others →
     (status ≡ other) × (bytes ≡ others)
-ended_once source journal status other bytes others (inl (e, refused)) (inl (f, also)) = (e ∙ sym f, refused_once source bytes others refused also)
+ended_once source journal status other bytes others (inl (e, refused)) (inl (f, also)) = (e ∙ sym f, unaccepted_once source bytes others refused also)
 ended_once source journal status other bytes others (inl (e, refused)) (inr (inl (f, long))) = absurd (long_or_not source bytes others refused long)
 ended_once source journal status other bytes others (inl (e, refused)) (inr (inr (q, is_source, comes))) = absurd (not_refused source bytes q is_source refused)
 ended_once source journal status other bytes others (inr (inl (e, long))) (inl (f, refused)) = absurd (long_or_not source others bytes refused long)

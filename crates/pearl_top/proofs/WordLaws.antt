@@ -17,7 +17,7 @@ use Rattle.pearl_top.specs.CheckDue.{CheckDue, IsAccepted, IsUnaccepted}
 use Rattle.pearl_top.specs.Commands.{Command, Run, Check, Print, NoCommand, names_of}
 use Rattle.pearl_top.specs.Failures.{IsDue}
 use Rattle.pearl_top.specs.JournalDue.{JournalDue}
-use Rattle.pearl_top.specs.Outcome.{Due, DueFor, IsOutcome, IsRefused, IsSource, RunDue, SourceDue}
+use Rattle.pearl_top.specs.Outcome.{Due, DueFor, IsOutcome, IsSource, RunDue, SourceDue}
 use Rattle.pearl_top.specs.PrintDue.{IsPrinted, IsUnspelled, PrintDue}
 use Rattle.pearl_top.specs.Reading.{MayHave, UnreadDue}
 use Rattle.pearl_top.specs.Ready.{IsReadyFor}
@@ -41,9 +41,8 @@ ready_of p o seen faithful at_start =
 -- what is due at a source that is refused when it is checked, is due when it is run
 pub refused_alike : (source : List ℕ) (why : Failure) → IsDue (CheckDue source ⊥) why → IsDue (SourceDue source ⊥) why
 refused_alike source (failure.Refused refusal.Usage) due = due
-refused_alike source (failure.Refused (refusal.Syntax place)) due = inl due
-refused_alike source (failure.Refused (refusal.Source place rule)) due = inl due
-refused_alike source (failure.Refused (refusal.Unbuilt place)) due = inl due
+refused_alike source (failure.Refused (refusal.Syntax place)) due = due
+refused_alike source (failure.Refused (refusal.Source place rule)) due = due
 refused_alike source (failure.Refused (refusal.Journal line code)) due = due
 refused_alike source (failure.Refused refusal.Read) due = due
 refused_alike source (failure.Refused refusal.Memory) due = due
@@ -66,13 +65,13 @@ journal_rises p journal rose risen TooLong bytes on due = due
 -- what is due where the source is not read whole
 pub run_unread : (source journal : List ℕ) (rose also : Type 0) (status : Status) (bytes : List ℕ) → UnreadDue source SOURCE_LIMIT rose status bytes →
     RunDue source journal rose also status bytes
-run_unread source journal rose also status bytes due = inl (at_source_unread source (λ bytes. ⊥) (IsRefused source) rose status bytes due)
+run_unread source journal rose also status bytes due = inl (at_source_unread source (λ bytes. ⊥) (IsUnaccepted source) rose status bytes due)
 
 -- what is due where it was read
 pub run_refused : (read source journal : List ℕ) (rose also : Type 0) (status : Status) (bytes : List ℕ) → read ≡ source → SourceDue read ⊥ status bytes →
     RunDue source journal rose also status bytes
 run_refused read source journal rose also status bytes same due =
-    inl (subst (λ file. SourceDue file rose status bytes) same (at_source_rises read (λ bytes. ⊥) (IsRefused read) ⊥ rose status bytes absurd due))
+    inl (subst (λ file. SourceDue file rose status bytes) same (at_source_rises read (λ bytes. ⊥) (IsUnaccepted read) ⊥ rose status bytes absurd due))
 
 -- what is due where it is accepted
 pub run_accepted : (read source journal : List ℕ) (rose also later : Type 0) (p : PlainProg) (status : Status) (bytes : List ℕ) → read ≡ source → (also → later) →

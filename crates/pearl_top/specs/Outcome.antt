@@ -1,7 +1,6 @@
 -- Which status and which bytes belong to some words and files.
-use Rattle.std.specs.Prelude.{◌≡◌, ◌≢◌, ℕ, ◌⊎◌, List, [], ◌∷◌, None, Some, map}
+use Rattle.std.specs.Prelude.{◌≢◌, ◌⊎◌, ℕ, List, [], ◌∷◌, map}
 use Rattle.pearl_tree.specs.ShownModules.{shown_tree}
-use Rattle.pearl_unbuilt.specs.Unbuilt.{unbuilt}
 use Rattle.pearl_program.specs.PlainPrograms.{PlainProg}
 use Rattle.pearl_module.specs.Programs.{IsProgramOf}
 use Rattle.pearl_script.specs.declared.refusal.Refusal.TheVariants as refusal
@@ -17,26 +16,14 @@ use Rattle.pearl_top.specs.Taken.{OnlyDue}
 
 -- THE SOURCE
 
--- these bytes, within the limit, are a module that breaks no rule and of which all forms are carried out; it means this program
+-- these bytes, within the limit, are a module that breaks no rule; it means this program
 pub record IsSource (source : List ℕ) (p : PlainProg) : Type 0 where
   pub is : BreaksNone source
-  pub built : unbuilt (shown_tree is.is.tree) ≡ None
   pub program : IsProgramOf (shown_tree is.is.tree) p
 
--- they are one that breaks no rule, and this is the line of the first form that isn't carried out yet
-pub record IsUnbuilt (source bytes : List ℕ) : Type 0 where
-  pub is : BreaksNone source
-  pub place : ℕ
-  pub stands : unbuilt (shown_tree is.is.tree) ≡ Some place
-  pub text : bytes ≡ refusal_line (refusal.Unbuilt place)
-
--- they have no tokens, or no tree, or a rule is broken, or a form isn't carried out yet
-abbrev pub IsRefused : List ℕ → List ℕ → Type 0
-IsRefused source bytes = IsUnaccepted source bytes ⊎ IsUnbuilt source bytes
-
--- what is due at a source that is run, with which no command is done: a refusal
+-- what is due at a source that is run, with which no command is done: the line of what it lacks or breaks
 abbrev pub SourceDue : List ℕ → Type 0 → Status → List ℕ → Type 0
-SourceDue source = DueAtSource source (λ bytes. ⊥) (IsRefused source)
+SourceDue source = DueAtSource source (λ bytes. ⊥) (IsUnaccepted source)
 
 -- THE WHOLE
 

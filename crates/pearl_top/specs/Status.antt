@@ -20,7 +20,6 @@ abbrev pub status_of : Refusal → declared.Status
 status_of refusal.Usage = Usage
 status_of (refusal.Syntax place) = Refused
 status_of (refusal.Source place rule) = Refused
-status_of (refusal.Unbuilt place) = Refused
 status_of (refusal.Journal line code) = BadJournal
 status_of refusal.Read = ReadFault
 status_of refusal.Memory = NoMemory

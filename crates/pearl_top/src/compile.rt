@@ -2,14 +2,12 @@
 
 ghost use Rattle.std.specs.Prelude.{◌≤◌, length, IfOk, IfErr};
 ghost use Rattle.pearl_program.specs.PlainPrograms.{PlainProg, plain_prog};
-ghost use Rattle.pearl_built.specs.Built.{IsBuilt};
 ghost use Rattle.pearl_top.specs.Failures.{IsDue};
 ghost use Rattle.pearl_top.specs.Outcome.{IsSource, SourceDue};
 ghost use Rattle.pearl_top.specs.Ready.{IsReadyFor};
 
 use crate::failure::Failure;
 use crate::limits::SOURCE_LIMIT;
-use pearl_built::laws::{built_modules_have_built_programs, built_programs_have_built_code};
 use pearl_faithful::laws::faithful_programs;
 use pearl_gen_valid::laws::generated_is_valid;
 use pearl_generate::generate;
@@ -19,8 +17,6 @@ use pearl_machine::Machine;
 use pearl_module::program_of;
 use pearl_parse::parse::parse;
 use pearl_program::prog::Prog;
-use pearl_script::refusal::Refusal;
-use pearl_unbuilt::first_unbuilt;
 use std::alloc::{AllocError as NoMemory, Global};
 
 /// Compiles a source, and loads a machine with its code.
@@ -34,32 +30,25 @@ pub fn compile(alloc: Global, source: &[u8]) -> Result<Machine, Failure>
     Ok(machine)
 }
 
-// The program of a source that breaks no rule, and of which all forms are carried out.
+// The program of a source that breaks no rule.
 fn program(alloc: Global, source: &[u8]) -> Result<Prog, Failure>
     requires { length source.now ≤ SOURCE_LIMIT }
     ensures source { IfOk result (λ program. IsSource source.now (plain_prog program)) }
-    ensures built { IfOk result (λ program. IsBuilt (plain_prog program)) }
     ensures err { IfErr result (IsDue (SourceDue source.now ⊥)) }
 {
     let tokens = tokens(alloc, source)?;
     let tree = parse(alloc, tokens.as_slice(), source.len() as u32)?;
     let program = program_of(alloc, &tree)?;
-    built_modules_have_built_programs();
-    match first_unbuilt(&tree) {
-        Some(place) => Err(Failure::Refused(Refusal::Unbuilt(place))),
-        None => Ok(program),
-    }
+    Ok(program)
 }
 
 // A machine with the code of a program.
 fn machine(alloc: Global, program: &Prog) -> Result<Machine, NoMemory>
-    requires { IsBuilt (plain_prog program.now) }
     ensures { IfOk result (IsReadyFor (plain_prog program.now)) }
 {
     let _sound = program.parts();
     let object = generate(alloc, program)?;
     generated_is_valid();
-    built_programs_have_built_code();
     faithful_programs();
     let code = Valid::new(alloc, object)?;
     let machine = Machine::load(alloc, code)?;

@@ -53,7 +53,7 @@ pub fn status_of(refusal: &Refusal) -> Status
 {
     match refusal {
         Refusal::Usage => Status::Usage,
-        Refusal::Syntax(_) | Refusal::Source { .. } | Refusal::Unbuilt(_) => Status::Refused,
+        Refusal::Syntax(_) | Refusal::Source { .. } => Status::Refused,
         Refusal::Journal { .. } => Status::BadJournal,
         Refusal::Read => Status::ReadFault,
         Refusal::Memory => Status::NoMemory,

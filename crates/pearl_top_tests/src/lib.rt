@@ -24,4 +24,6 @@ mod tasks;
 #[cfg(test)]
 mod timed;
 #[cfg(test)]
+mod typed;
+#[cfg(test)]
 mod whole;

@@ -164,15 +164,16 @@ fn refused() -> &'static [Case] {
     ]
 }
 
-/// Carries out each case between the head and MODEND, which must end with this status.
+/// Carries out each case between this head and MODEND, which must end with this status.
 pub fn all_end_so(
     rt: &impl Abort,
     alloc: Global,
+    head: &str,
     cases: &[Case],
     wanted: Status,
 ) -> Result<(), Fail> {
     for &(body, journal, text) in cases {
-        let source = format!(in alloc; "{HEAD}{body}\nMODEND;\n")?;
+        let source = format!(in alloc; "{head}{body}\nMODEND;\n")?;
         let (status, written) = carry_out(alloc, RUN, source.as_bytes(), journal.as_bytes(), 4096)?;
         assert_eq!(rt; written.as_slice(), text.as_bytes(), "of {body}");
         assert_eq!(rt; status, wanted, "of {body}");
@@ -183,13 +184,13 @@ pub fn all_end_so(
 #[test]
 fn tasks_act_by_the_rules(rt: HostRuntime) -> Result<(), Fail> {
     let alloc = rt.alloc();
-    all_end_so(&rt, alloc, plants(), Status::Done)
+    all_end_so(&rt, alloc, HEAD, plants(), Status::Done)
 }
 
 #[test]
 fn only_a_declared_task_has_its_turn(rt: HostRuntime) -> Result<(), Fail> {
     let alloc = rt.alloc();
-    all_end_so(&rt, alloc, refused(), Status::BadJournal)
+    all_end_so(&rt, alloc, HEAD, refused(), Status::BadJournal)
 }
 
 // So many tasks, a later one more urgent, each of which writes its number.

@@ -251,13 +251,13 @@ fn refused() -> &'static [Case] {
 #[test]
 fn time_and_interrupts_go_by_the_rules(rt: HostRuntime) -> Result<(), Fail> {
     let alloc = rt.alloc();
-    all_end_so(&rt, alloc, plants(), Status::Done)
+    all_end_so(&rt, alloc, HEAD, plants(), Status::Done)
 }
 
 #[test]
 fn a_line_of_a_journal_is_refused_by_its_code(rt: HostRuntime) -> Result<(), Fail> {
     let alloc = rt.alloc();
-    all_end_so(&rt, alloc, refused(), Status::BadJournal)
+    all_end_so(&rt, alloc, HEAD, refused(), Status::BadJournal)
 }
 
 const MINUTES: &str =

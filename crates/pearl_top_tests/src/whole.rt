@@ -1,7 +1,5 @@
-// What `run` writes of one task that uses the whole language: its statements, expressions, procedures, arrays and structures;
-// and where a source has a form that isn't carried out yet.
+// What `run` writes of one task with all kinds of statements, expressions, procedures, arrays and structures.
 
-use crate::mark::{told, unmarked};
 use crate::run::{RUN, carry_out};
 use pearl_top::status::Status;
 use std::alloc::{AllocError, Global};
@@ -127,29 +125,6 @@ fn a_task_does_what_it_says(rt: HostRuntime) -> Result<(), Fail> {
         let (status, written) = carry_out(alloc, RUN, source.as_bytes(), journal.as_bytes(), 4096)?;
         assert_eq!(rt; written.as_slice(), text.as_bytes(), "of {body}");
         assert_eq!(rt; status, Status::Done, "of {body}");
-    }
-    Ok(())
-}
-
-// What stands behind the head, with a mark before what isn't carried out yet; all break no rule.
-fn unbuilt() -> &'static [&'static str] {
-    &[
-        "main: TASK MAIN; AFTER 1 SEC ACTIVATE b; ^GET FROM tty BY SKIP; END; b: TASK; END; MODEND;",
-        "DCL x FIXED; main: TASK MAIN; ^GET x FROM tty BY F(3); x := 1; ENABLE irq; END; MODEND;",
-        "DCL x FIXED; b: TASK; IF NOW > 1:00:00 THEN ^GET x FROM tty BY F(3); FIN; END; MODEND;",
-    ]
-}
-
-#[test]
-fn a_form_that_is_not_carried_out_is_told_by_its_place(rt: HostRuntime) -> Result<(), Fail> {
-    let alloc = rt.alloc();
-    for body in unbuilt() {
-        let case = format!(in alloc; "{HEAD}{body}\n")?;
-        let (source, place) = unmarked(alloc, case.as_str())?;
-        let line = told(alloc, "error unbuilt ^\n", place)?;
-        let (status, written) = carry_out(alloc, RUN, source.as_slice(), b"run 10\n", 4096)?;
-        assert_eq!(rt; written.as_slice(), line.as_bytes(), "of {body}");
-        assert_eq!(rt; status, Status::Refused, "of {body}");
     }
     Ok(())
 }

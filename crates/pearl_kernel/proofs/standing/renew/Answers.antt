@@ -1,4 +1,4 @@
-use Rattle.std.proofs.Common.{◌<◌, sym, subst}
+use Rattle.std.proofs.Common.{sym, subst}
 use Rattle.pearl_kernel.specs.declared.standing.Touched.{Touched}
 use Rattle.pearl_kernel.specs.Touched.{IsThere, IsRenewed}
 use Rattle.pearl_kernel.proofs.Acting.{renewed-own, renewed-other, renewed-all}

@@ -1,4 +1,4 @@
-use Rattle.std.proofs.Common.{◌<◌, sym, subst, ap, ◌∙◌, length-set, length}
+use Rattle.std.proofs.Common.{◌<◌, subst, ap, ◌∙◌, length-set, length}
 use Rattle.pearl_kernel.specs.Eligible.{entry}
 use Rattle.pearl_kernel.proofs.Acting.{renewed-next}
 use Rattle.pearl_kernel.proofs.standing.renew_all.Goals as goal

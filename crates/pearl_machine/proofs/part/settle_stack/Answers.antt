@@ -11,5 +11,5 @@ settle-requires-clause-room c =
 pub returns-clause-fits : goal.returns-clause-fits
 returns-clause-fits c =
     fits_here c.args.code.now c.args.task c.settle.new.stack.frames c.settle.result c.laws_hold.ensures.laws c.laws_hold.ensures.valid c.laws_hold.ensures.object
-    c.requires.built (record { stack = c.settle.ensures.stack; task = c.settle.ensures.task ∙ c.requires.own.task })
+    (record { stack = c.settle.ensures.stack; task = c.settle.ensures.task ∙ c.requires.own.task })
     (ap stepped_by c.settle.ensures.settles.offers)

@@ -11,4 +11,4 @@ step-requires-clause-room c =
 pub returns-in-Offers-clause-fits : goal.returns-in-Offers-clause-fits
 returns-in-Offers-clause-fits c =
     fits_here c.args.code.now c.args.task c.args.stack.now.frames c.in-Offers.action c.laws_hold.ensures.laws c.laws_hold.ensures.valid c.laws_hold.ensures.object
-    c.requires.built c.requires.own (ap stepped_by c.in-Offers.ensures.does.1)
+    c.requires.own (ap stepped_by c.in-Offers.ensures.does.1)

@@ -1,7 +1,6 @@
-use Rattle.std.proofs.Common.{sym, subst}
+use Rattle.std.proofs.Common.{subst}
 use Rattle.pearl_program.specs.PlainPrograms.{plain_prog}
 use Rattle.pearl_program.specs.Sound.{IsSound}
-use Rattle.pearl_engine.specs.Built.{OnlyBuilt}
 use Rattle.pearl_top.proofs.WordLaws.{loaded, ready_of}
 use Rattle.pearl_top.proofs.compile.machine.Goals as goal
 
@@ -14,11 +13,6 @@ pub new-requires-clause-valid : goal.new-requires-clause-valid
 new-requires-clause-valid c =
     let sound = subst (λ parts. IsSound (plain_prog parts)) c.parts-sound.ensures.value c.parts-sound.ensures.sound in
     (c.generated_is_valid.ensures (plain_prog c.args.program.now) c.in_ok-object.object sound c.in_ok-object.ensures.generated c.in_ok-object.ensures.few_formats).1
-
-pub load-requires : goal.load-requires
-load-requires c =
-    let built = c.built_programs_have_built_code.ensures (plain_prog c.args.program.now) c.in_ok-object.object c.in_ok-object.ensures.generated c.requires in
-    record { built = subst OnlyBuilt (sym c.in_ok-code.ensures) built }
 
 pub returns : goal.returns
 returns c =

@@ -1,11 +1,8 @@
-use Rattle.std.proofs.Common.{refl, sym, ◌∙◌, subst, inr}
+use Rattle.std.proofs.Common.{refl, sym, subst}
 use Rattle.std.proofs.lemmas.Result.{err_from_is_err_and}
 use Rattle.pearl_lex.specs.Lexes.{Lexes}
 use Rattle.pearl_tree.specs.Modules.{Spells}
 use Rattle.pearl_tree.specs.Tokens.{AreLawful}
-use Rattle.pearl_tree.specs.ShownModules.{shown_tree}
-use Rattle.pearl_names.specs.Tables.{table_of}
-use Rattle.pearl_built.specs.Built.{IsBuilt}
 use Rattle.pearl_top.specs.declared.failure.Failure.TheVariants as failure
 use Rattle.pearl_top.specs.Failures.{check_refusal, parse_refusal}
 use Rattle.pearl_top.proofs.CheckEnds.{check_stopped, check_broken}
@@ -38,23 +35,6 @@ returns-in_err-program-clause-err c =
       spells = subst (Spells c.in_ok-tree.tree) c.as_slice.ensures.value c.in_ok-tree.ensures.spells;
     }) c.in_err-program.ensures.refused))
 
-pub returns-in-Some-clause-err : goal.returns-in-Some-clause-err
-returns-in-Some-clause-err c = inr (record {
-  is = record {
-    is = record {
-      within = c.requires;
-      tokens = c.in_ok-tokens.tokens.items;
-      lexes = c.in_ok-tokens.ensures.tokens;
-      tree = c.in_ok-tree.tree;
-      spells = subst (Spells c.in_ok-tree.tree) c.as_slice.ensures.value c.in_ok-tree.ensures.spells;
-    };
-    none = c.in_ok-program.ensures.accepted;
-  };
-  place = c.in-Some.place;
-  stands = sym c.first_unbuilt.ensures ∙ c.in-Some.is;
-  text = refl;
-})
-
 pub returns-clause-source : goal.returns-clause-source
 returns-clause-source c = record {
   is = record {
@@ -67,12 +47,5 @@ returns-clause-source c = record {
     };
     none = c.in_ok-program.ensures.accepted;
   };
-  built = sym c.first_unbuilt.ensures ∙ c.in-None.is;
   program = c.in_ok-program.ensures.program;
 }
-
-pub returns-clause-built : goal.returns-clause-built
-returns-clause-built c =
-    let program = c.in_ok-program.ensures.program in
-    let tree = shown_tree c.in_ok-tree.tree in
-    subst IsBuilt (sym program.is) (c.built_modules_have_built_programs.ensures tree (sym c.first_unbuilt.ensures ∙ c.in-None.is) (table_of tree) program.devices program.numbers)

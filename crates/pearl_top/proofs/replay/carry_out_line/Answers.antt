@@ -1,13 +1,10 @@
 use Rattle.std.proofs.lemmas.Result.{err_from_is_err_and}
-use Rattle.pearl_top.proofs.LineLaws.{line_blank, line_item, line_broken, meant, fits_there, carried}
+use Rattle.pearl_top.proofs.LineLaws.{line_blank, line_item, line_broken, meant, fits_there}
 use Rattle.pearl_top.proofs.replay.carry_out_line.Goals as goal
 
 pub entry-requires-clause-fits : goal.entry-requires-clause-fits
 entry-requires-clause-fits g c =
     fits_there _ _ c.args.reading.now.moment c.args.machine.now.state.core.moment c.in-Item.entry c.setup.ensures.value c.requires.moment c.in-Item.ensures.fits
-
-pub entry-requires-clause-carried : goal.entry-requires-clause-carried
-entry-requires-clause-carried g c = carried _ c.args.reading.now c.args.text.now c.in-Item.entry c.in-Item.ensures.meaning
 
 pub returns-in-Blank-clause-ok : goal.returns-in-Blank-clause-ok
 returns-in-Blank-clause-ok g c =

@@ -1,4 +1,4 @@
-use Rattle.std.proofs.Common.{◌≡◌, ◌<◌, ◌≤◌, [], Some, true, length, slice_set, sym, subst, ◌∙◌, length-set}
+use Rattle.std.proofs.Common.{◌≡◌, ◌<◌, ◌≤◌, [], Some, true, length, sym, subst, ◌∙◌, length-set}
 use Rattle.pearl_rules.specs.Pick.{pick, guard}
 use Rattle.pearl_kernel.specs.Kept.{Kept, offered, done, IsLawful}
 use Rattle.pearl_kernel.specs.Names.{Names}
@@ -6,7 +6,7 @@ use Rattle.pearl_kernel.specs.Whole.{IsWhole, HasRoom}
 use Rattle.pearl_kernel.specs.Touched.{IsThere, IsRenewed}
 use Rattle.pearl_kernel.proofs.Acting.{picked-offers, picked-able, there-after, kept-after, done-is}
 use Rattle.pearl_kernel.proofs.Lawful.{lawful-after}
-use Rattle.pearl_kernel.proofs.Naming.{fits-names, names-all, lawful-timely}
+use Rattle.pearl_kernel.proofs.Naming.{names-all, lawful-timely}
 use Rattle.pearl_kernel.proofs.kernel.Kernel.act.Goals as goal
 
 pub invariant_of-self : goal.invariant_of-self
@@ -66,8 +66,7 @@ renew-requires-clause-few c =
     c.take_offer.ensures.rest c.act-acted.ensures.state in
     let offer = sym c.in-Some-take_offer.ensures.taken in
     let lawful = lawful-after of.0 s c.in-Some.task c.in-Some-take_offer.action there
-    (of.1.fits c.in-Some.task c.in-Some-take_offer.action offer)
-    (of.1.carried c.in-Some.task c.in-Some-take_offer.action offer) of.1 in
+    (of.1.fits c.in-Some.task c.in-Some-take_offer.action offer) of.1 in
     subst (λ (k : Kept). length k.core.tasks ≤ 200) (sym is)
     (subst (λ n. n ≤ 200) (of.1.tasks ∙ sym lawful.tasks) c.self.invariant.few)
 
@@ -80,8 +79,7 @@ renew-requires-clause-size c =
     c.take_offer.ensures.rest c.act-acted.ensures.state in
     let offer = sym c.in-Some-take_offer.ensures.taken in
     let lawful = lawful-after of.0 s c.in-Some.task c.in-Some-take_offer.action there
-    (of.1.fits c.in-Some.task c.in-Some-take_offer.action offer)
-    (of.1.carried c.in-Some.task c.in-Some-take_offer.action offer) of.1 in
+    (of.1.fits c.in-Some.task c.in-Some-take_offer.action offer) of.1 in
     subst (λ (k : Kept). length c.self.inside.ready ≡ length k.core.tasks) (sym is)
     (c.self.invariant.ready.size ∙ of.1.tasks ∙ sym lawful.tasks)
 
@@ -94,8 +92,7 @@ renew-requires-clause-own c =
     c.take_offer.ensures.rest c.act-acted.ensures.state in
     let offer = sym c.in-Some-take_offer.ensures.taken in
     let lawful = lawful-after of.0 s c.in-Some.task c.in-Some-take_offer.action there
-    (of.1.fits c.in-Some.task c.in-Some-take_offer.action offer)
-    (of.1.carried c.in-Some.task c.in-Some-take_offer.action offer) of.1 in
+    (of.1.fits c.in-Some.task c.in-Some-take_offer.action offer) of.1 in
     subst (λ (k : Kept). c.in-Some.task < length k.core.tasks) (sym is)
     (subst (λ n. c.in-Some.task < n) (of.1.tasks ∙ sym lawful.tasks) there)
 
@@ -108,8 +105,7 @@ renew-requires-clause-there c =
     c.take_offer.ensures.rest c.act-acted.ensures.state in
     let offer = sym c.in-Some-take_offer.ensures.taken in
     let lawful = lawful-after of.0 s c.in-Some.task c.in-Some-take_offer.action there
-    (of.1.fits c.in-Some.task c.in-Some-take_offer.action offer)
-    (of.1.carried c.in-Some.task c.in-Some-take_offer.action offer) of.1 in
+    (of.1.fits c.in-Some.task c.in-Some-take_offer.action offer) of.1 in
     let named = c.touched_by-touched.ensures.there s.core
     (names-all of.0 s of.1 c.in-Some.task c.in-Some-take_offer.action offer) in
     subst (λ (k : Kept). IsThere k.core c.touched_by-touched.result) (sym is)
@@ -124,8 +120,7 @@ renew-requires-clause-names c =
     c.take_offer.ensures.rest c.act-acted.ensures.state in
     let offer = sym c.in-Some-take_offer.ensures.taken in
     let lawful = lawful-after of.0 s c.in-Some.task c.in-Some-take_offer.action there
-    (of.1.fits c.in-Some.task c.in-Some-take_offer.action offer)
-    (of.1.carried c.in-Some.task c.in-Some-take_offer.action offer) of.1 in
+    (of.1.fits c.in-Some.task c.in-Some-take_offer.action offer) of.1 in
     names-all of.0 c.act-acted.new.self (subst (λ (k : Kept). IsLawful of.0 k) (sym is) lawful)
 
 pub invariant_of-self-2 : goal.invariant_of-self-2
@@ -137,8 +132,7 @@ invariant_of-self-2 c =
     c.take_offer.ensures.rest c.act-acted.ensures.state in
     let offer = sym c.in-Some-take_offer.ensures.taken in
     let fits = of.1.fits c.in-Some.task c.in-Some-take_offer.action offer in
-    let lawful = lawful-after of.0 s.state c.in-Some.task c.in-Some-take_offer.action there fits
-    (of.1.carried c.in-Some.task c.in-Some-take_offer.action offer) of.1 in
+    let lawful = lawful-after of.0 s.state c.in-Some.task c.in-Some-take_offer.action there fits of.1 in
     let renewed = subst (λ (k : Kept). IsRenewed k c.in-Some.task c.touched_by-touched.result s.ready c.renew.new.ready)
     is c.renew.ensures in
     subst (λ (k : Kept). IsWhole k c.renew.new.ready) (sym is)
@@ -156,5 +150,4 @@ returns-clause-lawful c = λ setup lawful.
     let offer = sym c.in-Some-take_offer.ensures.taken in
     subst (λ (k : Kept). IsLawful setup k) (sym is)
     (lawful-after setup s c.in-Some.task c.in-Some-take_offer.action there
-    (before.fits c.in-Some.task c.in-Some-take_offer.action offer)
-    (before.carried c.in-Some.task c.in-Some-take_offer.action offer) before)
+    (before.fits c.in-Some.task c.in-Some-take_offer.action offer) before)

@@ -13,7 +13,7 @@ refresh-requires-clause-names c =
     let unsettled = subst (λ (k : Kept). is_unsettled k c.args.task ≡ true) (sym c.self.view_is) c.requires.unsettled in
     let before = subst (λ (k : Kept). IsLawful f.0 k) (sym c.self.view_is) f.1 in
     names-all f.0 c.set_offer.new.self (subst (λ (k : Kept). IsLawful f.0 k) (sym c.set_offer.ensures)
-    (lawful-offering f.0 s c.args.task c.args.action unsettled f.2 f.3 before))
+    (lawful-offering f.0 s c.args.task c.args.action unsettled f.2 before))
 
 pub invariant_of-self : goal.invariant_of-self
 invariant_of-self c =
@@ -22,7 +22,7 @@ invariant_of-self c =
     let unsettled = subst (λ (k : Kept). is_unsettled k c.args.task ≡ true) (sym c.self.view_is) c.requires.unsettled in
     let before = subst (λ (k : Kept). IsLawful f.0 k) (sym c.self.view_is) f.1 in
     let kept = kept-offering f.0 s.state s.ready c.args.task c.args.action (unsettled-there s.state c.args.task unsettled)
-    (lawful-offering f.0 s.state c.args.task c.args.action unsettled f.2 f.3 before) c.self.invariant in
+    (lawful-offering f.0 s.state c.args.task c.args.action unsettled f.2 before) c.self.invariant in
     subst (λ xs. IsWhole c.set_offer.new.self xs) (sym c.refresh.ensures)
     (subst (λ (k : Kept). IsWhole k (slice_set s.ready c.args.task (entry k c.args.task)))
     (sym c.set_offer.ensures) kept)
@@ -33,4 +33,4 @@ returns-clause-lawful c = λ setup lawful fits.
     let before = subst (λ (k : Kept). IsLawful setup k) (sym c.self.view_is) lawful in
     let unsettled = subst (λ (k : Kept). is_unsettled k c.args.task ≡ true) (sym c.self.view_is) c.requires.unsettled in
     subst (λ (k : Kept). IsLawful setup k) (sym c.set_offer.ensures)
-    (lawful-offering setup s c.args.task c.args.action unsettled fits c.requires.fits.3 before)
+    (lawful-offering setup s c.args.task c.args.action unsettled fits before)

@@ -1,4 +1,4 @@
-use Rattle.std.proofs.Common.{◌≡◌, ◌+◌, ◌≤◌, sym, subst, ap, ◌∙◌}
+use Rattle.std.proofs.Common.{◌+◌, ◌≤◌, sym, subst, ap, ◌∙◌}
 use Rattle.pearl_rules.specs.Core.{Core}
 use Rattle.pearl_rules.specs.Entries.{last_moment_of_all}
 use Rattle.pearl_kernel.specs.Kept.{Kept, IsLawful}

@@ -1,7 +1,5 @@
 use Rattle.std.proofs.Common.{◌≡◌, ◌+◌, length}
-use Rattle.pearl_rules.specs.Core.{Core}
 use Rattle.pearl_rules.specs.Plans.{each_task, served}
-use Rattle.pearl_kernel.specs.Kept.{Kept}
 use Rattle.pearl_kernel.proofs.state.State.millisecond.Given as goal
 
 abbrev pub invariant-loop-task : goal.invariant-loop-task

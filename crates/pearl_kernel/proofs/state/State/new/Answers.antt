@@ -1,4 +1,3 @@
-use Rattle.std.proofs.Common.{◌≡◌, refl}
 use Rattle.pearl_kernel.proofs.Rows.{timetable-opening}
 use Rattle.pearl_kernel.proofs.state.State.new.Goals as goal
 

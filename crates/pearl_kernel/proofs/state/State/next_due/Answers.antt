@@ -1,4 +1,4 @@
-use Rattle.std.proofs.Common.{MatchOption, sym, subst}
+use Rattle.std.proofs.Common.{MatchOption, subst}
 use Rattle.pearl_timer.specs.Series.{IsNext, NoneIsNext}
 use Rattle.pearl_timer.specs.Timetable.{Timetable, IsDue}
 use Rattle.pearl_kernel.specs.Kept.{Kept}

@@ -1,7 +1,3 @@
-use Rattle.std.proofs.Common.{◌≡◌, ap₂, sym, ◌∙◌}
-use Rattle.std.proofs.lemmas.List.{map-set}
-use Rattle.pearl_timer.specs.Timetable.{Timetable}
-use Rattle.pearl_kernel.specs.Timing.{timetable, series_of_plan, series_of_activation}
 use Rattle.pearl_kernel.proofs.Rows.{timetable-set}
 use Rattle.pearl_kernel.proofs.state.State.set_row.Goals as goal
 

@@ -1,6 +1,5 @@
 use Rattle.std.proofs.Common.{◌+◌, sym, ap, ◌∙◌}
 use Rattle.pearl_rules.specs.Core.{Core}
-use Rattle.pearl_kernel.specs.Kept.{Kept}
 use Rattle.pearl_kernel.proofs.Passing.{passed-quiet}
 use Rattle.pearl_kernel.proofs.state.State.skip.Goals as goal
 

@@ -1,7 +1,7 @@
 use Rattle.std.proofs.Common.{ap, [], ◌∷◌, refl}
 use Rattle.pearl_machine.specs.Seen.{Seen}
-use Rattle.pearl_machine.proofs.Entering.{on_ok, on_err, entered_from, cut_from, entered_turn, entered_state, cut_state, entered_arrival, cut_arrival}
-use Rattle.pearl_rules.specs.declared.entry.Entry.TheVariants.{Run, Tick, Pass, Turn, State, Clock, Irpt}
+use Rattle.pearl_machine.proofs.Entering.{on_ok, on_err, entered_from, cut_from, entered_turn, entered_state, cut_state, entered_arrival, cut_arrival, comes_alone}
+use Rattle.pearl_rules.specs.declared.entry.Entry.TheVariants.{Run, Tick, Pass, Turn, State}
 use Rattle.pearl_machine.proofs.machine.Machine.entry.Goals as goal
 
 pub returns-in-Run-clause-ok : goal.returns-in-Run-clause-ok
@@ -62,38 +62,24 @@ returns-in-Pass-clause-err g c =
     (cut_from c.args.self.now c.settle.new.self c.pass.new.self c.args.entry.now (Pass c.in-Pass.times c.in-Pass.picks) (g.K.Sink.taken c.args.sink.now) (g.K.Sink.taken c.pass.new.sink)
     c.settle.ensures.object c.settle.ensures.handles c.in-Pass.is) c.pass.ensures.err
 
-pub returns-in-Clock-clause-ok : goal.returns-in-Clock-clause-ok
-returns-in-Clock-clause-ok g c =
+pub returns-in_default-clause-ok : goal.returns-in_default-clause-ok
+returns-in_default-clause-ok g c =
+    let entry = c.args.entry.now in
+    let d = c.in_default in
     on_ok c.finish.result
-    (λ lines. entered_from c.args.self.now c.settle.new.self c.finish.new.self c.args.entry.now (Clock c.in-Clock.time) (g.K.Sink.taken c.args.sink.now) (g.K.Sink.taken c.finish.new.sink)
-    c.settle.ensures.object c.settle.ensures.handles c.in-Clock.is
-    (entered_arrival c.settle.new.self c.set_clock.new.self c.finish.new.self (Clock c.in-Clock.time) (g.K.Sink.taken c.args.sink.now) (g.K.Sink.taken c.finish.new.sink) c.settle.ensures.settled
-    c.set_clock.ensures.object (λ p rest. refl) c.set_clock.ensures.arrives
-    (c.finish.ensures.handles c.settle.new.self (Clock c.in-Clock.time ∷ []) [] c.set_clock.new.self.state.core.told c.set_clock.ensures.object) lines)) c.finish.ensures.ok
+    (λ lines. entered_from c.args.self.now c.settle.new.self c.finish.new.self entry entry (g.K.Sink.taken c.args.sink.now) (g.K.Sink.taken c.finish.new.sink)
+    c.settle.ensures.object c.settle.ensures.handles refl
+    (entered_arrival c.settle.new.self c.arrive.new.self c.finish.new.self entry (g.K.Sink.taken c.args.sink.now) (g.K.Sink.taken c.finish.new.sink) c.settle.ensures.settled
+    c.arrive.ensures.object (comes_alone entry d.not-Run d.not-Tick d.not-Pass d.not-Turn d.not-State) c.arrive.ensures.arrives
+    (c.finish.ensures.handles c.settle.new.self (entry ∷ []) [] c.arrive.new.self.state.core.told c.arrive.ensures.object) lines)) c.finish.ensures.ok
 
-pub returns-in-Clock-clause-err : goal.returns-in-Clock-clause-err
-returns-in-Clock-clause-err g c =
+pub returns-in_default-clause-err : goal.returns-in_default-clause-err
+returns-in_default-clause-err g c =
+    let entry = c.args.entry.now in
+    let d = c.in_default in
     on_err c.finish.result
-    (λ lines. cut_from c.args.self.now c.settle.new.self c.finish.new.self c.args.entry.now (Clock c.in-Clock.time) (g.K.Sink.taken c.args.sink.now) (g.K.Sink.taken c.finish.new.sink)
-    c.settle.ensures.object c.settle.ensures.handles c.in-Clock.is
-    (cut_arrival c.settle.new.self c.set_clock.new.self c.finish.new.self (Clock c.in-Clock.time) (g.K.Sink.taken c.args.sink.now) (g.K.Sink.taken c.finish.new.sink) c.settle.ensures.settled
-    c.set_clock.ensures.object (λ p rest. refl) c.set_clock.ensures.arrives
-    (c.finish.ensures.handles c.settle.new.self (Clock c.in-Clock.time ∷ []) [] c.set_clock.new.self.state.core.told c.set_clock.ensures.object) lines)) c.finish.ensures.err
-
-pub returns-in-Irpt-clause-ok : goal.returns-in-Irpt-clause-ok
-returns-in-Irpt-clause-ok g c =
-    on_ok c.finish-in-Irpt.result
-    (λ lines. entered_from c.args.self.now c.settle.new.self c.finish-in-Irpt.new.self c.args.entry.now (Irpt c.in-Irpt.device) (g.K.Sink.taken c.args.sink.now) (g.K.Sink.taken c.finish-in-Irpt.new.sink)
-    c.settle.ensures.object c.settle.ensures.handles c.in-Irpt.is
-    (entered_arrival c.settle.new.self c.interrupt.new.self c.finish-in-Irpt.new.self (Irpt c.in-Irpt.device) (g.K.Sink.taken c.args.sink.now) (g.K.Sink.taken c.finish-in-Irpt.new.sink) c.settle.ensures.settled
-    c.interrupt.ensures.object (λ p rest. refl) c.interrupt.ensures.arrives
-    (c.finish-in-Irpt.ensures.handles c.settle.new.self (Irpt c.in-Irpt.device ∷ []) [] c.interrupt.new.self.state.core.told c.interrupt.ensures.object) lines)) c.finish-in-Irpt.ensures.ok
-
-pub returns-in-Irpt-clause-err : goal.returns-in-Irpt-clause-err
-returns-in-Irpt-clause-err g c =
-    on_err c.finish-in-Irpt.result
-    (λ lines. cut_from c.args.self.now c.settle.new.self c.finish-in-Irpt.new.self c.args.entry.now (Irpt c.in-Irpt.device) (g.K.Sink.taken c.args.sink.now) (g.K.Sink.taken c.finish-in-Irpt.new.sink)
-    c.settle.ensures.object c.settle.ensures.handles c.in-Irpt.is
-    (cut_arrival c.settle.new.self c.interrupt.new.self c.finish-in-Irpt.new.self (Irpt c.in-Irpt.device) (g.K.Sink.taken c.args.sink.now) (g.K.Sink.taken c.finish-in-Irpt.new.sink) c.settle.ensures.settled
-    c.interrupt.ensures.object (λ p rest. refl) c.interrupt.ensures.arrives
-    (c.finish-in-Irpt.ensures.handles c.settle.new.self (Irpt c.in-Irpt.device ∷ []) [] c.interrupt.new.self.state.core.told c.interrupt.ensures.object) lines)) c.finish-in-Irpt.ensures.err
+    (λ lines. cut_from c.args.self.now c.settle.new.self c.finish.new.self entry entry (g.K.Sink.taken c.args.sink.now) (g.K.Sink.taken c.finish.new.sink)
+    c.settle.ensures.object c.settle.ensures.handles refl
+    (cut_arrival c.settle.new.self c.arrive.new.self c.finish.new.self entry (g.K.Sink.taken c.args.sink.now) (g.K.Sink.taken c.finish.new.sink) c.settle.ensures.settled
+    c.arrive.ensures.object (comes_alone entry d.not-Run d.not-Tick d.not-Pass d.not-Turn d.not-State) c.arrive.ensures.arrives
+    (c.finish.ensures.handles c.settle.new.self (entry ∷ []) [] c.arrive.new.self.state.core.told c.arrive.ensures.object) lines)) c.finish.ensures.err

@@ -21,7 +21,7 @@ invariant_of-self c =
     ready_stepped m.code m.setup m.kernel m.parts.items m.due c.self.invariant c.unwrap-task.result
     (first_of m.kernel c.unsettled.result c.unwrap-task.result c.unsettled.ensures c.unwrap-task.ensures) c.offered.new.self c.step_part.new.parts.items
     c.in-Some.action c.in-Some.ensures.steps c.step_part.ensures.memory c.offered.ensures.offers
-    (c.offered.ensures.lawful (setup_of m.code) c.self.invariant.lawful c.in-Some.ensures.fits.0)
+    (c.offered.ensures.lawful (setup_of m.code) c.self.invariant.lawful c.in-Some.ensures.fits)
 
 pub invariant_of-self-in_default : goal.invariant_of-self-in_default
 invariant_of-self-in_default c =

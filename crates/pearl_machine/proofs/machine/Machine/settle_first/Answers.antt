@@ -21,7 +21,7 @@ invariant_of-self c =
     let s = c.settle_part-action.ensures.settles in
     ready_offers m.code m.setup m.kernel m.parts.items m.due c.self.invariant c.in-Some.task c.in-Some.ensures c.offered.new.self c.settle_part-action.new.parts.items
     c.settle_part-action.result s.after s.same s.own (ap stepped_by s.settles.offers) c.settle_part-action.ensures.memory c.offered.ensures.offers
-    (c.offered.ensures.lawful (setup_of m.code) c.self.invariant.lawful c.settle_part-action.ensures.fits.0)
+    (c.offered.ensures.lawful (setup_of m.code) c.self.invariant.lawful c.settle_part-action.ensures.fits)
 
 pub returns : goal.returns
 returns c =
