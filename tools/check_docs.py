@@ -107,7 +107,7 @@ def known_names():
     for folder, folders, files in os.walk(os.path.join(TOP, "crates")):
         folders[:] = [name for name in folders if name != "out"]
         for name in files:
-            if name.endswith((".rt", ".antt")):
+            if name.endswith((".rt", ".antt", ".pearl")):
                 names.add(name.rsplit(".", 1)[0])
                 with open(os.path.join(folder, name), encoding="utf-8") as file:
                     names.update(re.findall(r"[A-Za-z_][A-Za-z_0-9]*'?", file.read()))
