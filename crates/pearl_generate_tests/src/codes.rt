@@ -22,7 +22,7 @@ fn modules() -> &'static [(&'static str, &'static str)] {
         "SYSTEM;tty:TERMINAL(1);PROBLEM;SPC tty DATION INOUT ALPHIC;DCL n FIXED,a(2,3) CHAR(4);p:PROC(x FIXED IDENT);GET x,a(1,x) FROM tty BY F(3),A(4);END;t:TASK MAIN;p(n);PUT 'x',n TO tty BY A,F(2);END;"
             => "FIXED31:0;store 3;FIXED31:1;load 0;readref;index 1:2 1:3;store 4;fill 1*1 FIXED31;fill 2*1 CHAR4;get 0 0 into 1;load 0;load 1;writeref;load 4;load 2;writeat 1;return;|refslot 0;call 0;'x';read 0;put 0 1;end;|";
         "SYSTEM;irq:INTERRUPT(4);PROBLEM;SPC irq INTERRUPT;DCL d DURATION,c CLOCK;t:TASK MAIN;WHEN irq AFTER 1 SEC ALL d UNTIL 12:0:0 ACTIVATE u PRIO 3;ACTIVATE t;CONTINUE u;AT c RESUME;PREVENT;SUSPEND u;END;u:TASK;TERMINATE;END;"
-            => "D:1000;read 0;T:43200000;FIXED31:3;activate 1 WhenAfter(0) Until prio;activate 0 Free Once;continue 1;read 1;resume At;prevent;suspend 1;end;|terminate;end;|";
+            => "DURATION:1000;read 0;CLOCK:43200000;FIXED31:3;activate 1 WhenAfter(0) Until prio;activate 0 Free Once;continue 1;read 1;resume At;prevent;suspend 1;end;|terminate;end;|";
         "SYSTEM;h:OUTPUT(1);irq:INTERRUPT(4);m:INPUT(7);PROBLEM;SPC h DATION OUT BASIC CHAR(3),m DATION IN BASIC FIXED(9),irq INTERRUPT;DCL r SEMA,s SEMA PRESET(1),b BIT,v(2) FIXED;t:TASK MAIN;REQUEST s,r;RELEASE r;b:=TRY s;SEND 'a' TO h;TAKE v(2) FROM m;ENABLE irq;TRIGGER irq;END;"
             => "request 1 0;release 0;try 1;conv BIT1;write 0;'a';conv CHAR3;send 2;FIXED31:2;index 1:2;take 1;conv FIXED31;writeat 1;enable 0;trigger 0;end;|";
         "PROBLEM;DCL a FIXED;p:PROC(x FIXED(40),y BIT(2) IDENT)RETURNS(FIXED(7));y:='1'B;RETURN(x);END;t:TASK MAIN;DCL e(0:3) BIT(2);p(a,e(a));a:=p(1,e(0));END;"

@@ -34,8 +34,8 @@ fn put_value(into: &mut String, value: &Cell) -> Result<(), AllocError> {
             }
             into.push('\'')
         }
-        Cell::Clock(time) => write!(into, "T:{time}"),
-        Cell::Span(time) => write!(into, "D:{time}"),
+        Cell::Clock(time) => write!(into, "CLOCK:{time}"),
+        Cell::Span(time) => write!(into, "DURATION:{time}"),
         Cell::Ref { .. } => write!(into, "a reference"),
     }
 }
