@@ -1,7 +1,6 @@
 -- The picked task acts.
-use Rattle.std.proofs.Common.{◌≡◌, ◌≢◌, ℕ, ◌<◌, ◌≤◌, ◌⊎◌, inl, inr, ◌+◌, List, Bool, true, false}
-use Rattle.std.proofs.Common.{Option, Some, None, length, slice_get, slice_set, refl, sym, ap, subst, ◌∙◌, length-set}
-use Rattle.std.proofs.Common.{arith}
+use Rattle.std.proofs.Common.{◌≡◌, ◌≢◌, ℕ, ◌<◌, ◌≤◌, ◌⊎◌, inl, inr, List, Bool, true, false}
+use Rattle.std.proofs.Common.{Option, Some, None, length, slice_get, slice_set, refl, sym, ap, subst, ◌∙◌}
 use Rattle.std.proofs.lemmas.Bool.{true≢false}
 use Rattle.std.proofs.lemmas.Option.{none-some, same_Some}
 use Rattle.pearl_rules.specs.declared.action.Action.{Action}
@@ -10,6 +9,7 @@ use Rattle.pearl_rules.specs.declared.row.Mode.TheVariants.{Dormant, Active}
 use Rattle.pearl_rules.specs.declared.row.TaskRow.{TaskRow}
 use Rattle.pearl_rules.specs.declared.setup.Setup.{Setup}
 use Rattle.pearl_rules.specs.Core.{Core, Report, row_of}
+use Rattle.pearl_rules.specs.Devices.{bytes_in, values_in}
 use Rattle.pearl_rules.specs.Effect.{effect}
 use Rattle.pearl_rules.specs.Pick.{guard, is_possible, is_ready, is_ready_row, pick}
 use Rattle.pearl_rules.specs.Runs.{dropped, kept_at}
@@ -17,12 +17,15 @@ use Rattle.pearl_rules.specs.Slots.{Fits}
 use Rattle.pearl_rules.proofs.PickLaws.{picked}
 use Rattle.pearl_kernel.specs.Kept.{Kept, offered, done, IsLawful}
 use Rattle.pearl_kernel.specs.Whole.{IsWhole}
-use Rattle.pearl_kernel.specs.Eligible.{entry, IsSetOf}
+use Rattle.pearl_kernel.specs.Eligible.{possible, entry, entry_if, Stand, is_told, able_at, IsStandOf}
+use Rattle.pearl_kernel.specs.declared.changes.Changed.{Changed}
+use Rattle.pearl_kernel.specs.declared.changes.Changed.TheVariants.{Nothing}
+use Rattle.pearl_kernel.specs.Changes.{ChangesOnly, Stirs, renewed, IsRenewedAt, AreRenewed, AreRenewedIf}
 use Rattle.pearl_kernel.specs.declared.standing.Touched.{Touched}
 use Rattle.pearl_kernel.specs.declared.standing.Touched.TheVariants.{Own, Other, All}
-use Rattle.pearl_kernel.specs.Touched.{IsUntouched, Leaves, IsThere, IsRenewed}
-use Rattle.pearl_kernel.proofs.Places.{by_task, get-same, get-other}
-use Rattle.pearl_kernel.proofs.Entries.{Alike, entry-same}
+use Rattle.pearl_kernel.specs.Touched.{IsUntouched, changed_by, Leaves, IsThere, IsSameAt, IsRenewed}
+use Rattle.pearl_kernel.proofs.Places.{some-before, some-dropped}
+use Rattle.pearl_kernel.proofs.Entries.{possible-same, entry-same, renewed-is}
 
 -- WHAT IS PICKED CAN BE DONE
 
@@ -56,35 +59,85 @@ pub picked-able : (k : Kept) (t : ℕ) (a : Action) → pick k.core (offered k) 
     guard k.core a ≡ true
 picked-able k t a e is = let b = able k t e in ap (guard k.core) (same_Some a b.action (sym is ∙ b.is)) ∙ b.able
 
+-- WHAT IS KEPT OF THE TASKS
+
+-- a task stands as it is kept
+abbrev StandsSo : Kept → Stand → ℕ → Type 0
+StandsSo k s t = (slice_get s.able t ≡ Some (possible k t)) × (slice_get s.set t ≡ Some (entry k t))
+
+stand_of : (k : Kept) (s : Stand) → length s.able ≡ length k.core.tasks → length s.set ≡ length k.core.tasks →
+    ((t : ℕ) → t < length k.core.tasks → StandsSo k s t) → IsStandOf k s
+stand_of k s size set_size each = record {
+  size = size;
+  able = λ t there. (each t there).0;
+  ready = record { size = set_size; each = λ t there. (each t there).1 };
+}
+
+-- neither its row nor its offer changes, nor what the offer waits for
+stays : (k new : Kept) (s after : Stand) (t : ℕ) → row_of new.core t ≡ row_of k.core t → offered new t ≡ offered k t →
+    ChangesOnly Nothing k.core new.core → IsSameAt s after t → StandsSo k s t → StandsSo new after t
+stays k new s after t row offer only same so = (
+  same.able ∙ so.0 ∙ ap (λ b. Some b) (sym (possible-same k new t offer only)),
+  same.set ∙ so.1 ∙ ap (λ e. Some e) (sym (entry-same k new t row offer only)),
+)
+
+-- it is renewed
+renews : (changed : Changed) (k new : Kept) (s after : Stand) (t : ℕ) → ChangesOnly changed k.core new.core →
+    ((a : Action) → offered new t ≡ Some a → offered k t ≡ Some a) → StandsSo k s t →
+    IsRenewedAt new changed s after t → StandsSo new after t
+renews changed k new s after t only offers so is =
+    let e : renewed changed new t (able_at s t) ≡ possible new t =
+    ap (λ o. renewed changed new t (is_told o)) so.0 ∙ renewed-is changed k new t only offers in
+    (is.able ∙ ap (λ b. Some b) e, is.set ∙ ap (λ b. Some (entry_if new t b)) e)
+
+stood : (k : Kept) (s : Stand) (t : ℕ) → IsWhole k s → t < length k.core.tasks → StandsSo k s t
+stood k s t kept there = (kept.stand.able t there, kept.stand.ready.each t there)
+
 -- AFTER AN ACTION
 
 pub there-after : (k new : Kept) (touched : Touched) → length new.core.tasks ≡ length k.core.tasks →
     IsThere k.core touched → IsThere new.core touched
 there-after k new Own same there = tt
 there-after k new (Other u) same there = subst (λ n. u < n) (sym same) there
-there-after k new All same there = tt
+there-after k new (All changed) same there = tt
 
-pub kept-after : (setup : Setup) (k : Kept) (set after : List (Option ℕ)) (own : ℕ) (a : Action) (touched : Touched) →
-    IsLawful setup k → IsLawful setup (done k own a) → Fits setup a → IsWhole k set → Leaves a touched →
-    IsRenewed (done k own a) own touched set after → IsWhole (done k own a) after
-kept-after setup k set after own a touched before lawful fits kept leaving renewed =
+nothing_changed : (touched : Touched) (t : ℕ) (old core : Core) → IsUntouched touched t →
+    ChangesOnly (changed_by touched) old core → ChangesOnly Nothing old core
+nothing_changed Own t old core far only = only
+nothing_changed (Other u) t old core far only = only
+nothing_changed (All changed) t old core far only = absurd far
+
+pub kept-after : (setup : Setup) (k : Kept) (s after : Stand) (own : ℕ) (a : Action) (touched : Touched) →
+    IsLawful setup k → IsLawful setup (done k own a) → Fits setup a → IsWhole k s → Leaves a touched →
+    IsRenewed (done k own a) own touched s after → IsWhole (done k own a) after
+kept-after setup k s after own a touched before lawful fits kept leaving renewed =
     let size : length (done k own a).core.tasks ≡ length k.core.tasks = lawful.tasks ∙ sym before.tasks in
     record {
       few = subst (λ n. n ≤ 200) (sym size) kept.few;
       lawful = (setup, lawful);
-      ready = record {
-        size = renewed.size ∙ kept.ready.size ∙ sym size;
-        each = λ t there. by_each t (subst (λ n. t < n) size there) (renewed.each t there);
-      };
+      stand = stand_of (done k own a) after (renewed.size ∙ kept.stand.size ∙ sym size)
+          (renewed.set_size ∙ kept.stand.ready.size ∙ sym size)
+          (λ t there. by_each t (subst (λ n. t < n) size there) (renewed.each t there));
     }
   where
+    new : Kept
+    new = done k own a
+
+    only : ChangesOnly (changed_by touched) k.core new.core
+    only = leaving.only setup k own before fits
+
     by_each : (t : ℕ) → t < length k.core.tasks →
-        (slice_get after t ≡ Some (entry (done k own a) t)) ⊎
-        ((t ≢ own) × IsUntouched touched t × (slice_get after t ≡ slice_get set t)) →
-        slice_get after t ≡ Some (entry (done k own a) t)
-    by_each t there (inl e) = e
-    by_each t there (inr same) = same.2 ∙ kept.ready.each t there
-        ∙ ap (λ e. Some e) (sym (leaving setup k own t before fits same.0 same.1))
+        IsRenewedAt new (changed_by touched) s after t ⊎ ((t ≢ own) × IsUntouched touched t × IsSameAt s after t) →
+        StandsSo new after t
+    by_each t there (inl is) =
+        renews (changed_by touched) k new s after t only
+        (λ b e. some-before k.offers own t b
+        (some-dropped (effect k.core own a).ended (slice_set k.offers own None) t b e))
+        (stood k s t kept there) is
+    by_each t there (inr same) =
+        let left = leaving.others k own t same.0 same.1 in
+        stays k new s after t left.0 left.1 (nothing_changed touched t k.core new.core same.1 only) same.2
+        (stood k s t kept there)
 
 -- what became of the offers and then of the core
 pub done-is : (k mid new : Kept) (own : ℕ) (a : Action) →
@@ -96,109 +149,78 @@ done-is k mid new own a m n = n ∙ ap then m
     then : Kept → Kept
     then x = record { core = (effect x.core own a).core; offers = dropped (effect x.core own a).ended x.offers }
 
--- WHAT CHANGES NO TASK
+-- WHAT CHANGES NO OFFER
 
--- the same rows and offers, and guards look at the same
-pub kept-same : (setup : Setup) (k new : Kept) (set : List (Option ℕ)) → IsLawful setup new →
-    new.core.tasks ≡ k.core.tasks → new.offers ≡ k.offers → Alike k.core new.core → IsWhole k set → IsWhole new set
-kept-same setup k new set lawful tasks offers same kept =
+-- nor a row, nor what offers wait for
+pub kept-same : (setup : Setup) (k new : Kept) (s : Stand) → IsLawful setup new → new.core.tasks ≡ k.core.tasks →
+    new.offers ≡ k.offers → ChangesOnly Nothing k.core new.core → IsWhole k s → IsWhole new s
+kept-same setup k new s lawful tasks offers only kept =
     let size : length new.core.tasks ≡ length k.core.tasks = ap (λ rows. length rows) tasks in
     record {
       few = subst (λ n. n ≤ 200) (sym size) kept.few;
       lawful = (setup, lawful);
-      ready = record {
-        size = kept.ready.size ∙ sym size;
-        each = λ t there. kept.ready.each t (subst (λ n. t < n) size there)
-            ∙ ap (λ e. Some e) (sym (entry-same k new t (ap (λ rows. slice_get rows t) tasks)
-            (ap (λ xs. kept_at xs t) offers) same));
-      };
+      stand = stand_of new s (kept.stand.size ∙ sym size) (kept.stand.ready.size ∙ sym size)
+          (λ t there. stays k new s s t (ap (λ rows. slice_get rows t) tasks) (ap (λ xs. kept_at xs t) offers) only
+          (record { able = refl; set = refl }) (stood k s t kept (subst (λ n. t < n) size there)));
     }
 
-pub kept-last : (setup : Setup) (k : Kept) (set : List (Option ℕ)) (last : Option ℕ) →
-    IsLawful setup (record k { core = record k.core { last = last } }) → IsWhole k set →
-    IsWhole (record k { core = record k.core { last = last } }) set
-kept-last setup k set last lawful kept =
-    kept-same setup k (record k { core = record k.core { last = last } }) set lawful refl refl
-    (record { counts = refl; bytes = λ d. refl; values = λ d. refl; formats = refl }) kept
+-- rows may change, and at most this of what offers wait for
+pub kept-changed : (setup : Setup) (k new : Kept) (s after : Stand) (changed : Changed) → IsLawful setup k →
+    IsLawful setup new → new.offers ≡ k.offers → ChangesOnly changed k.core new.core → IsWhole k s →
+    AreRenewed new changed s after → IsWhole new after
+kept-changed setup k new s after changed before lawful offers only kept renewed =
+    let size : length new.core.tasks ≡ length k.core.tasks = lawful.tasks ∙ sym before.tasks in
+    record {
+      few = subst (λ n. n ≤ 200) (sym size) kept.few;
+      lawful = (setup, lawful);
+      stand = stand_of new after (renewed.size ∙ kept.stand.size ∙ sym size)
+          (renewed.set_size ∙ kept.stand.ready.size ∙ sym size)
+          (λ t there. renews changed k new s after t only (λ a e. ap (λ xs. kept_at xs t) (sym offers) ∙ e)
+          (stood k s t kept (subst (λ n. t < n) size there)) (renewed.each t there));
+    }
 
-pub kept-told : (setup : Setup) (k : Kept) (set : List (Option ℕ)) (told : List (ℕ × Report)) →
-    IsLawful setup (record k { core = record k.core { told = told } }) → IsWhole k set →
-    IsWhole (record k { core = record k.core { told = told } }) set
-kept-told setup k set told lawful kept =
-    kept-same setup k (record k { core = record k.core { told = told } }) set lawful refl refl
-    (record { counts = refl; bytes = λ d. refl; values = λ d. refl; formats = refl }) kept
+pub kept-stirred : (setup : Setup) (k new : Kept) (s after : Stand) (changed : Option Changed) → IsLawful setup k →
+    IsLawful setup new → new.offers ≡ k.offers → Stirs k.core new.core changed → IsWhole k s →
+    AreRenewedIf new changed s after → IsWhole new after
+kept-stirred setup k new s after None before lawful offers stirs kept same =
+    subst (λ (x : Stand). IsWhole new x) (sym same) (kept-same setup k new s lawful stirs.0 offers stirs.1 kept)
+kept-stirred setup k new s after (Some changed) before lawful offers stirs kept renewed =
+    kept-changed setup k new s after changed before lawful offers stirs kept renewed
 
-pub kept-moment : (setup : Setup) (k : Kept) (set : List (Option ℕ)) (moment : ℕ) →
-    IsLawful setup (record k { core = record k.core { moment = moment } }) → IsWhole k set →
-    IsWhole (record k { core = record k.core { moment = moment } }) set
-kept-moment setup k set moment lawful kept =
-    kept-same setup k (record k { core = record k.core { moment = moment } }) set lawful refl refl
-    (record { counts = refl; bytes = λ d. refl; values = λ d. refl; formats = refl }) kept
-
-pub kept-clock : (setup : Setup) (k : Kept) (set : List (Option ℕ)) (time : ℕ) →
-    IsLawful setup (record k { core = record k.core { clock = time } }) → IsWhole k set →
-    IsWhole (record k { core = record k.core { clock = time } }) set
-kept-clock setup k set time lawful kept =
-    kept-same setup k (record k { core = record k.core { clock = time } }) set lawful refl refl
-    (record { counts = refl; bytes = λ d. refl; values = λ d. refl; formats = refl }) kept
-
--- WHAT MAY CHANGE ALL TASKS
-
-pub kept-all : (setup : Setup) (k new : Kept) (set after : List (Option ℕ)) → IsLawful setup k → IsLawful setup new →
-    IsWhole k set → IsSetOf new after → IsWhole new after
-kept-all setup k new set after before lawful kept ready = record {
-  few = subst (λ n. n ≤ 200) (before.tasks ∙ sym lawful.tasks) kept.few;
-  lawful = (setup, lawful);
-  ready = ready;
+-- the same counts, channels and formats
+alike : (core new : Core) → new.counts ≡ core.counts → new.channels ≡ core.channels → new.formats ≡ core.formats →
+    ChangesOnly Nothing core new
+alike core new counts channels formats = record {
+  counts = λ e. counts;
+  bytes = λ d e. ap (λ xs. bytes_in (slice_get xs d)) channels;
+  values = λ d e. ap (λ xs. values_in (slice_get xs d)) channels;
+  formats = formats;
 }
 
--- THE SET AFTER AN ACTION
+pub kept-last : (setup : Setup) (k : Kept) (s : Stand) (last : Option ℕ) →
+    IsLawful setup (record k { core = record k.core { last = last } }) → IsWhole k s →
+    IsWhole (record k { core = record k.core { last = last } }) s
+kept-last setup k s last lawful kept =
+    let new : Core = record k.core { last = last } in
+    kept-same setup k (record k { core = new }) s lawful refl refl (alike k.core new refl refl refl) kept
 
-refreshed-at : (k : Kept) (set : List (Option ℕ)) (own t : ℕ) → t ≡ own → own < length set →
-    slice_get (slice_set set own (entry k own)) t ≡ Some (entry k t)
-refreshed-at k set own t e there =
-    subst (λ u. slice_get (slice_set set own (entry k own)) u ≡ Some (entry k u)) (sym e)
-    (get-same set own (entry k own) there)
+pub kept-told : (setup : Setup) (k : Kept) (s : Stand) (told : List (ℕ × Report)) →
+    IsLawful setup (record k { core = record k.core { told = told } }) → IsWhole k s →
+    IsWhole (record k { core = record k.core { told = told } }) s
+kept-told setup k s told lawful kept =
+    let new : Core = record k.core { told = told } in
+    kept-same setup k (record k { core = new }) s lawful refl refl (alike k.core new refl refl refl) kept
 
-pub renewed-own : (k : Kept) (own : ℕ) (set new : List (Option ℕ)) → own < length k.core.tasks →
-    length set ≡ length k.core.tasks →
-    new ≡ slice_set set own (entry k own) → IsRenewed k own Own set new
-renewed-own k own set new there size e = subst (λ n. IsRenewed k own Own set n) (sym e) (record {
-  size = length-set set own (entry k own);
-  each = λ t within. by_task t own _
-      (λ same. inl (refreshed-at k set own t same (subst (λ n. own < n) (sym size) there)))
-      (λ other. inr (other, tt, get-other set own t (entry k own) other));
-})
+pub kept-moment : (setup : Setup) (k : Kept) (s : Stand) (moment : ℕ) →
+    IsLawful setup (record k { core = record k.core { moment = moment } }) → IsWhole k s →
+    IsWhole (record k { core = record k.core { moment = moment } }) s
+kept-moment setup k s moment lawful kept =
+    let new : Core = record k.core { moment = moment } in
+    kept-same setup k (record k { core = new }) s lawful refl refl (alike k.core new refl refl refl) kept
 
-pub renewed-other : (k : Kept) (own u : ℕ) (set mid new : List (Option ℕ)) → own < length k.core.tasks →
-    u < length k.core.tasks → length set ≡ length k.core.tasks →
-    mid ≡ slice_set set u (entry k u) → new ≡ slice_set mid own (entry k own) → IsRenewed k own (Other u) set new
-renewed-other k own u set mid new there named size m e =
-    subst (λ n. IsRenewed k own (Other u) set n) (sym (e ∙ ap (λ xs. slice_set xs own (entry k own)) m)) (record {
-      size = length-set first own (entry k own) ∙ length-set set u (entry k u);
-      each = λ t within. by_task t own _
-          (λ same. inl (refreshed-at k first own t same
-          (subst (λ n. own < n) (sym (length-set set u (entry k u) ∙ size)) there)))
-          (λ other. by_task t u _
-          (λ same. inl (get-other first own t (entry k own) other
-          ∙ refreshed-at k set u t same (subst (λ n. u < n) (sym size) named)))
-          (λ far. inr (other, far, get-other first own t (entry k own) other ∙ get-other set u t (entry k u) far)));
-    })
-  where
-    first : List (Option ℕ)
-    first = slice_set set u (entry k u)
-
--- task by task
-pub renewed-next : (k : Kept) (set new : List (Option ℕ)) (u : ℕ) → u < length k.core.tasks →
-    length set ≡ length k.core.tasks →
-    ((t : ℕ) → t < u → slice_get set t ≡ Some (entry k t)) → new ≡ slice_set set u (entry k u) →
-    (t : ℕ) → t < u + 1 → slice_get new t ≡ Some (entry k t)
-renewed-next k set new u there size before e t within =
-    subst (λ n. slice_get n t ≡ Some (entry k t)) (sym e)
-    (by_task t u _ (λ same. refreshed-at k set u t same (subst (λ n. u < n) (sym size) there))
-    (λ other. get-other set u t (entry k u) other ∙ before t (omega (arith, other))))
-
--- where all are touched, the set of all tasks that can act is renewed
-pub renewed-all : (k : Kept) (own : ℕ) (set new : List (Option ℕ)) → length set ≡ length k.core.tasks → IsSetOf k new →
-    IsRenewed k own All set new
-renewed-all k own set new size is = record { size = is.size ∙ sym size; each = λ t within. inl (is.each t within) }
+pub kept-clock : (setup : Setup) (k : Kept) (s : Stand) (time : ℕ) →
+    IsLawful setup (record k { core = record k.core { clock = time } }) → IsWhole k s →
+    IsWhole (record k { core = record k.core { clock = time } }) s
+kept-clock setup k s time lawful kept =
+    let new : Core = record k.core { clock = time } in
+    kept-same setup k (record k { core = new }) s lawful refl refl (alike k.core new refl refl refl) kept

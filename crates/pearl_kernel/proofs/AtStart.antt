@@ -19,7 +19,7 @@ use Rattle.pearl_rules.proofs.EffectLaws.{opening-kinds}
 use Rattle.pearl_rules.proofs.UrgencyLaws.{opening-urgencies}
 use Rattle.pearl_kernel.specs.Kept.{Kept, at_start, IsReportOf, IsLawful}
 use Rattle.pearl_kernel.specs.Whole.{IsWhole}
-use Rattle.pearl_kernel.specs.Eligible.{entry, number_if}
+use Rattle.pearl_kernel.specs.Eligible.{entry, number_if, Stand}
 
 -- nothing was offered
 none-offered : (n t : ℕ) → kept_at (replicate {A = Option Action} n None) t ≡ None
@@ -27,10 +27,10 @@ none-offered zero t = refl
 none-offered (suc n) zero = refl
 none-offered (suc n) (suc t) = none-offered n t
 
-get-none : (n t : ℕ) → t < n → slice_get (replicate {A = Option ℕ} n None) t ≡ Some None
-get-none zero t within = let no : ⊥ = omega arith in absurd no
-get-none (suc n) zero within = refl
-get-none (suc n) (suc t) within = get-none n t (omega arith)
+get-each : {X : Type 0} (x : X) (n t : ℕ) → t < n → slice_get (replicate n x) t ≡ Some x
+get-each x zero t within = let no : ⊥ = omega arith in absurd no
+get-each x (suc n) zero within = refl
+get-each x (suc n) (suc t) within = get-each x n t (omega arith)
 
 -- so nobody can act
 cannot-act : (row : Option TaskRow) → is_ready_row row false ≡ false
@@ -78,24 +78,32 @@ lawful-opening setup is = record {
   told = first-reports setup 0 setup.tasks (omega arith);
 }
 
-kept-opening : (setup : Setup) → IsSetup setup → IsWhole (at_start setup) (replicate (length setup.tasks) None)
+-- of no task an offer can be done, and no task can act
+abbrev no_stand : ℕ → Stand
+no_stand n = record { able = replicate n false; set = replicate n None }
+
+kept-opening : (setup : Setup) → IsSetup setup → IsWhole (at_start setup) (no_stand (length setup.tasks))
 kept-opening setup is =
     let size = length-map setup.tasks first_row in
     record {
       few = subst (λ n. n ≤ 200) (sym size) is.few_tasks;
       lawful = (setup, lawful-opening setup is);
-      ready = record {
-        size = length-replicate (length setup.tasks) None ∙ sym size;
-        each = λ t within. get-none (length setup.tasks) t (subst (λ n. t < n) size within)
-            ∙ ap (λ e. Some e) (sym (no-entry setup t));
+      stand = record {
+        size = length-replicate (length setup.tasks) false ∙ sym size;
+        able = λ t within. get-each false (length setup.tasks) t (subst (λ n. t < n) size within)
+            ∙ ap (λ o. Some (is_possible (opening setup) o)) (sym (none-offered (length setup.tasks) t));
+        ready = record {
+          size = length-replicate (length setup.tasks) None ∙ sym size;
+          each = λ t within. get-each None (length setup.tasks) t (subst (λ n. t < n) size within)
+              ∙ ap (λ e. Some e) (sym (no-entry setup t));
+        };
       };
     }
 
-pub ready-opening : (setup : Setup) (k : Kept) (ready : List (Option ℕ)) (count : ℕ) → IsSetup setup →
-    k ≡ at_start setup → count ≡ length k.core.tasks →
-    ready ≡ replicate count None → IsWhole k ready
-ready-opening setup k ready count is e same empty =
+pub stand-opening : (setup : Setup) (k : Kept) (s : Stand) (count : ℕ) → IsSetup setup → k ≡ at_start setup →
+    count ≡ length k.core.tasks → s ≡ no_stand count → IsWhole k s
+stand-opening setup k s count is e same empty =
     let size : count ≡ length setup.tasks = same ∙ ap (λ (x : Kept). length x.core.tasks) e
     ∙ length-map setup.tasks first_row in
-    subst (λ (x : Kept). IsWhole x ready) (sym e)
-    (subst (λ xs. IsWhole (at_start setup) xs) (sym (empty ∙ ap (λ n. replicate n None) size)) (kept-opening setup is))
+    subst (λ (x : Kept). IsWhole x s) (sym e)
+    (subst (λ (x : Stand). IsWhole (at_start setup) x) (sym (empty ∙ ap no_stand size)) (kept-opening setup is))

@@ -1,136 +1,132 @@
--- Whether a task can act doesn't change by what touches neither its row, its offer nor what the guards look at.
-use Rattle.std.proofs.Common.{◌≡◌, ◌≢◌, ◌⊎◌, inl, inr, ℕ, zero, suc, List, [], ◌∷◌, Bool, true, false, Option, Some, None}
-use Rattle.std.proofs.Common.{slice_get, slice_set, refl, sym, ap, subst, ◌∙◌}
-use Rattle.std.specs.List.{AllZip}
-use Rattle.arrayvec.specs.declared.array_vec.ArrayVec.{ArrayVec}
-use Rattle.pearl_value.specs.declared.kind.Kind.{Kind}
+-- Whether an offer can be done, and who can act, doesn't change by what touches neither a task's row, its offer nor what the
+-- guards look at.
+use Rattle.std.proofs.Common.{◌≡◌, ◌≢◌, ◌⊎◌, inl, inr, ℕ, ◌<◌, ◌≤◌, List, [], ◌∷◌, Bool, true, false, Option, Some, None, if◌then◌else◌}
+use Rattle.std.proofs.Common.{length, slice_get, slice_set, refl, sym, ap, ◌∙◌, arith}
+use Rattle.std.proofs.lemmas.Bool.{cases_lt}
+use Rattle.std.proofs.lemmas.Option.{slice_get_past}
 use Rattle.pearl_rules.specs.declared.action.Action.{Action}
 use Rattle.pearl_rules.specs.declared.action.Action.TheVariants as action
-use Rattle.pearl_rules.specs.declared.action.Start.{Start}
-use Rattle.pearl_rules.specs.declared.action.Repeat.{Repeat}
 use Rattle.pearl_rules.specs.declared.event.Event.{Event}
 use Rattle.pearl_rules.specs.declared.event.Event.TheVariants as event
 use Rattle.pearl_rules.specs.declared.row.Mode.{Mode}
 use Rattle.pearl_rules.specs.declared.row.Mode.TheVariants.{Dormant, Active}
 use Rattle.pearl_rules.specs.declared.row.TaskRow.{TaskRow}
-use Rattle.pearl_rules.specs.declared.setup.Device.{Device}
-use Rattle.pearl_rules.specs.declared.setup.Device.TheVariants as device
 use Rattle.pearl_rules.specs.declared.setup.Setup.{Setup}
-use Rattle.pearl_rules.specs.Core.{Core, Channel, Switch, Bytes, Values, Outward, note, row_of, with_row, mode_of}
+use Rattle.pearl_rules.specs.Core.{Core, row_of, with_row, mode_of}
 use Rattle.pearl_rules.specs.Counts.{all_free}
-use Rattle.pearl_rules.specs.Devices.{bytes_in, bytes_at, values_in, values_at, items_of, with_channel}
-use Rattle.pearl_rules.specs.Effect.{effect, ending, priority_or_declared, activated, continues, resuming, prevented}
-use Rattle.pearl_rules.specs.Effect.{stopped_by, stopped_tasks}
+use Rattle.pearl_rules.specs.Devices.{bytes_at, items_of}
+use Rattle.pearl_rules.specs.Effect.{effect, ending, priority_or_declared, stopped_tasks}
+use Rattle.pearl_rules.specs.Plans.{on_row}
 use Rattle.pearl_rules.specs.Pick.{guard, is_complete, is_some_value, is_ready_row, is_possible, priority_of_row}
-use Rattle.pearl_rules.specs.Plans.{on_row, changed_row, with_mark}
-use Rattle.pearl_rules.specs.Runs.{dropped, kept_at}
+use Rattle.pearl_rules.specs.Runs.{dropped, flattened, kept_at}
 use Rattle.pearl_rules.specs.Scan.{scan}
-use Rattle.pearl_rules.specs.Slots.{Fits, IsChannelOf}
-use Rattle.pearl_rules.specs.Tables.{IsInterrupt, items_or_none}
-use Rattle.pearl_kernel.specs.Kept.{Kept, IsLawful, offered, done}
-use Rattle.pearl_kernel.specs.Eligible.{entry, number_if}
-use Rattle.pearl_kernel.specs.declared.standing.Touched.{Touched}
-use Rattle.pearl_kernel.specs.Touched.{IsUntouched, Leaves}
+use Rattle.pearl_rules.specs.Tables.{items_or_none}
+use Rattle.pearl_kernel.specs.declared.changes.Changed.{Changed}
+use Rattle.pearl_kernel.specs.declared.changes.Changed.TheVariants.{Nothing}
+use Rattle.pearl_kernel.specs.Kept.{Kept, offered, done, IsLawful}
+use Rattle.pearl_kernel.specs.Eligible.{possible, number_if, entry, Stand, is_told, able_at, IsStandOf}
+use Rattle.pearl_kernel.specs.Changes.{ChangesOnly, looks_at, renewed_offer, renewed}
+use Rattle.pearl_kernel.specs.Touched.{IsUntouched}
 use Rattle.pearl_kernel.proofs.Places.{kept-other, get-other}
 use Rattle.pearl_kernel.proofs.OneTask as one
+use Rattle.pearl_kernel.proofs.Touching.{touched_of}
 
--- what guards look at is the same
-pub record Alike (old core : Core) : Type 0 where
-  pub counts : core.counts ≡ old.counts
-  pub bytes : (d : ℕ) → bytes_at core d ≡ bytes_at old d
-  pub values : (d : ℕ) → values_at core d ≡ values_at old d
-  pub formats : core.formats ≡ old.formats
+-- WHAT OFFERS WAIT FOR
 
-pub alike : (core : Core) → Alike core core
-alike core = record { counts = refl; bytes = λ d. refl; values = λ d. refl; formats = refl }
+pub unchanged : (core : Core) → ChangesOnly Nothing core core
+unchanged core = record { counts = λ e. refl; bytes = λ d e. refl; values = λ d e. refl; formats = refl }
 
-guard_same : (old core : Core) (a : Action) → Alike old core → guard core a ≡ guard old a
-guard_same old core (action.Request list) same = ap (λ cs. all_free cs list.items) same.counts
-guard_same old core (action.Get d format kinds) same =
-    ap (λ fs. is_complete (scan (items_or_none (slice_get fs format)) kinds.items (bytes_at core d))) same.formats
-    ∙ ap (λ bs. is_complete (scan (items_of old format) kinds.items bs)) (same.bytes d)
-guard_same old core (action.Take d) same = ap is_some_value (same.values d)
-guard_same old core other same = refl
+-- an action that doesn't wait for what changed
+guard_same : (changed : Changed) (old core : Core) (a : Action) → ChangesOnly changed old core →
+    looks_at changed a ≡ false → guard core a ≡ guard old a
+guard_same changed old core (action.Request list) only e = ap (λ cs. all_free cs list.items) (only.counts e)
+guard_same changed old core (action.Get d format kinds) only e =
+    ap (λ fs. is_complete (scan (items_or_none (slice_get fs format)) kinds.items (bytes_at core d))) only.formats
+    ∙ ap (λ bs. is_complete (scan (items_of old format) kinds.items bs)) (only.bytes d e)
+guard_same changed old core (action.Take d) only e = ap is_some_value (only.values d e)
+guard_same changed old core other only e = refl
 
-possible_same : (old core : Core) (offer : Option Action) → Alike old core → is_possible core offer ≡ is_possible old offer
-possible_same old core None same = refl
-possible_same old core (Some a) same = guard_same old core a same
+nothing_looked : (a : Action) → looks_at Nothing a ≡ false
+nothing_looked (action.Request list) = refl
+nothing_looked (action.Get d format kinds) = refl
+nothing_looked (action.Take d) = refl
+nothing_looked other = refl
+
+offer_same : (old core : Core) (offer : Option Action) → ChangesOnly Nothing old core →
+    is_possible core offer ≡ is_possible old offer
+offer_same old core None only = refl
+offer_same old core (Some a) only = guard_same Nothing old core a only (nothing_looked a)
+
+pub possible-same : (k new : Kept) (t : ℕ) → offered new t ≡ offered k t → ChangesOnly Nothing k.core new.core →
+    possible new t ≡ possible k t
+possible-same k new t offer only = offer_same k.core new.core (offered new t) only ∙ ap (λ o. is_possible k.core o) offer
 
 -- the same row, the same offer, and what guards look at is the same
 pub entry-same : (k new : Kept) (t : ℕ) → row_of new.core t ≡ row_of k.core t → offered new t ≡ offered k t →
-    Alike k.core new.core → entry new t ≡ entry k t
-entry-same k new t row offer same =
-    let possible = possible_same k.core new.core (offered new t) same ∙ ap (λ o. is_possible k.core o) offer in
-    ap (λ r. number_if (is_ready_row r (is_possible new.core (offered new t))) (priority_of_row r)) row
-    ∙ ap (λ b. number_if (is_ready_row (row_of k.core t) b) (priority_of_row (row_of k.core t))) possible
+    ChangesOnly Nothing k.core new.core → entry new t ≡ entry k t
+entry-same k new t row offer only =
+    ap (λ r. number_if (is_ready_row r (possible new t)) (priority_of_row r)) row
+    ∙ ap (λ b. number_if (is_ready_row (row_of k.core t) b) (priority_of_row (row_of k.core t)))
+    (possible-same k new t offer only)
 
--- one task's row is the same, and what guards look at
-record Unmoved (old : Core) (t : ℕ) (core : Core) : Type 0 where
-  row : row_of core t ≡ row_of old t
-  same : Alike old core
+-- WHAT IS RENEWED
 
-unmoved : (core : Core) (t : ℕ) → Unmoved core t core
-unmoved core t = record { row = refl; same = alike core }
+renewed_action : (changed : Changed) (old core : Core) (a : Action) (looks : Bool) → looks_at changed a ≡ looks →
+    ChangesOnly changed old core → (if looks then guard core a else guard old a) ≡ guard core a
+renewed_action changed old core a true e only = refl
+renewed_action changed old core a false e only = sym (guard_same changed old core a only e)
 
--- the row of another task changes
-unmoved_row : (old : Core) (u t : ℕ) → t ≢ u → (core : Core) (change : TaskRow → TaskRow) → Unmoved old t core →
-    Unmoved old t (changed_row core u change)
-unmoved_row old u t other core change is = by_row (row_of core u)
+-- where no offer is new, what is renewed is so
+pub renewed-is : (changed : Changed) (k new : Kept) (t : ℕ) → ChangesOnly changed k.core new.core →
+    ((a : Action) → offered new t ≡ Some a → offered k t ≡ Some a) →
+    renewed changed new t (possible k t) ≡ possible new t
+renewed-is changed k new t only offers = by_offer (offered new t) offers
   where
-    by_row : (row : Option TaskRow) → Unmoved old t (on_row row core (λ r. with_row core u (change r)))
-    by_row None = is
-    by_row (Some row) = record {
-      row = get-other core.tasks u t (change row) other ∙ is.row;
-      same = record { counts = is.same.counts; bytes = is.same.bytes; values = is.same.values; formats = is.same.formats };
-    }
+    by_offer : (offer : Option Action) → ((a : Action) → offer ≡ Some a → offered k t ≡ Some a) →
+        renewed_offer changed new.core offer (possible k t) ≡ is_possible new.core offer
+    by_offer None offers = refl
+    by_offer (Some a) offers =
+        ap (λ b. if looks_at changed a then guard new.core a else b) (ap (λ o. is_possible k.core o) (offers a refl))
+        ∙ renewed_action changed k.core new.core a (looks_at changed a) refl only
 
-unmoved_note : (old : Core) (t : ℕ) (core : Core) (e : Event) → Unmoved old t core → Unmoved old t (note core e)
-unmoved_note old t core e is = record {
-  row = is.row;
-  same = record { counts = is.same.counts; bytes = is.same.bytes; values = is.same.values; formats = is.same.formats };
+offer_twice : (core : Core) (offer : Option Action) (before : Bool) →
+    renewed_offer Nothing core offer (renewed_offer Nothing core offer before) ≡ renewed_offer Nothing core offer before
+offer_twice core None before = refl
+offer_twice core (Some a) before =
+    ap (λ (b : Bool). if b then guard core a else renewed_offer Nothing core (Some a) before) (nothing_looked a)
+
+pub renewed-twice : (k : Kept) (t : ℕ) (before : Bool) → renewed Nothing k t (renewed Nothing k t before) ≡ renewed Nothing k t before
+renewed-twice k t before = offer_twice k.core (offered k t) before
+
+-- WHAT IS KEPT
+
+none_past : {X : Type 0} (xs : List (Option X)) (t : ℕ) → length xs ≤ t → kept_at xs t ≡ None
+none_past xs t past = ap flattened (slice_get_past xs t past)
+
+-- it tells of each number whether what this task has offered can be done
+pub able-is : (setup : Setup) (k : Kept) (s : Stand) (t : ℕ) → IsLawful setup k → IsStandOf k s → able_at s t ≡ possible k t
+able-is setup k s t lawful is = by_place (cases_lt t (length k.core.tasks))
+  where
+    by_place : (t < length k.core.tasks) ⊎ (length k.core.tasks ≤ t) → able_at s t ≡ possible k t
+    by_place (inl within) = ap is_told (is.able t within)
+    by_place (inr past) = ap is_told (slice_get_past s.able t (omega (arith, past, is.size)))
+        ∙ sym (ap (is_possible k.core) (none_past k.offers t (omega (arith, past, lawful.same, is.size))))
+
+-- ANOTHER TASK'S ROW CHANGES
+
+abbrev IsRowOf : Core → ℕ → Core → Type 0
+IsRowOf old t core = row_of core t ≡ row_of old t
+
+row_closed : (old : Core) (u t : ℕ) → t ≢ u → one.Closed (IsRowOf old t) u
+row_closed old u t other = record {
+  row = λ core change is. by_row core change is (row_of core u);
+  tell = λ core e of is. is;
 }
-
-closed : (old : Core) (u t : ℕ) → t ≢ u → one.Closed (Unmoved old t) u
-closed old u t other = record {
-  row = unmoved_row old u t other;
-  tell = λ core e is. unmoved_note old t core e;
-}
-
--- an interrupt is let through or masked
-module _ {X : Type 0} (look : Option Channel → X) (no_switch : (a b : Bool) → look (Some (Switch a)) ≡ look (Some (Switch b))) where
-  channel_same : (x : Device) (channel : Channel) (enabled : Bool) → IsChannelOf x channel → IsInterrupt (Some x) →
-      look (Some (Switch enabled)) ≡ look (Some channel)
-  channel_same (device.Interrupt number) (Switch before) enabled of is = no_switch enabled before
-  channel_same (device.Interrupt number) (Bytes pending) enabled of is = absurd of
-  channel_same (device.Interrupt number) (Values kind pending) enabled of is = absurd of
-  channel_same (device.Interrupt number) Outward enabled of is = absurd of
-  channel_same (device.Terminal number direction) channel enabled of is = absurd is
-  channel_same (device.Input number kind) channel enabled of is = absurd is
-  channel_same (device.Output number kind) channel enabled of is = absurd is
-
-  switch_same : (devices : List Device) (channels : List Channel) (u d : ℕ) (enabled : Bool) →
-      AllZip IsChannelOf devices channels → IsInterrupt (slice_get devices u) →
-      look (slice_get (slice_set channels u (Switch enabled)) d) ≡ look (slice_get channels d)
-  switch_same [] [] u d enabled all is = absurd is
-  switch_same [] (channel ∷ channels) u d enabled all is = absurd all
-  switch_same (x ∷ devices) [] u d enabled all is = absurd all
-  switch_same (x ∷ devices) (channel ∷ channels) zero zero enabled all is = channel_same x channel enabled all.0 is
-  switch_same (x ∷ devices) (channel ∷ channels) zero (suc d) enabled all is = refl
-  switch_same (x ∷ devices) (channel ∷ channels) (suc u) zero enabled all is = refl
-  switch_same (x ∷ devices) (channel ∷ channels) (suc u) (suc d) enabled all is =
-      switch_same devices channels u d enabled all.1 is
-
-unmoved_switch : (setup : Setup) (core : Core) (t u : ℕ) (enabled : Bool) → AllZip IsChannelOf setup.devices core.channels →
-    IsInterrupt (slice_get setup.devices u) → Unmoved core t (with_channel core u (Switch enabled))
-unmoved_switch setup core t u enabled all is = record {
-  row = refl;
-  same = record {
-    counts = refl;
-    bytes = λ d. switch_same bytes_in (λ a b. refl) setup.devices core.channels u d enabled all is;
-    values = λ d. switch_same values_in (λ a b. refl) setup.devices core.channels u d enabled all is;
-    formats = refl;
-  };
-}
+  where
+    by_row : (core : Core) (change : TaskRow → TaskRow) → IsRowOf old t core → (row : Option TaskRow) →
+        IsRowOf old t (on_row row core (λ r. with_row core u (change r)))
+    by_row core change is None = is
+    by_row core change is (Some row) = get-other core.tasks u t (change row) other ∙ is
 
 -- the offers of other tasks
 other_one : (offers : List (Option Action)) (u t : ℕ) → t ≢ u → kept_at (dropped (u ∷ []) offers) t ≡ kept_at offers t
@@ -141,136 +137,61 @@ other_stopped : (mode : Mode) (offers : List (Option Action)) (u t : ℕ) → t 
 other_stopped Dormant offers u t other = refl
 other_stopped (Active priority suspended) offers u t other = other_one offers u t other
 
--- an action neither names this task nor changes what guards look at
-abbrev pub IsFar : Action → ℕ → Type 0
-IsFar (action.Request list) t = ⊥
-IsFar (action.Release list) t = ⊥
-IsFar (action.Try semaphore) t = ⊥
-IsFar (action.Trigger device) t = ⊥
-IsFar (action.Get device format kinds) t = ⊥
-IsFar (action.Take device) t = ⊥
-IsFar (action.Activate u start repeat priority) t = t ≢ u
-IsFar (action.Continue u start) t = t ≢ u
-IsFar (action.Suspend u) t = t ≢ u
-IsFar (action.Terminate u) t = t ≢ u
-IsFar (action.Prevent u) t = t ≢ u
-IsFar action t = Unit {0}
-
--- another task that an action is far from can act where it could before
-module _ (setup : Setup) (k : Kept) (own t : ℕ) (lawful : IsLawful setup k) (other : t ≢ own) where
+-- another task that an action doesn't touch stands as before
+module _ (k : Kept) (own t : ℕ) (other : t ≢ own) where
   abbrev acted : Core
   acted = record k.core { last = Some own }
 
   abbrev left : List (Option Action)
   left = slice_set k.offers own None
 
-  same_acted : Unmoved acted t acted
-  same_acted = unmoved acted t
+  mine : kept_at left t ≡ offered k t
+  mine = kept-other k.offers own t None other
 
-  by_ended : (after : Core) (ended : List ℕ) → Unmoved acted t after → kept_at (dropped ended left) t ≡ kept_at left t →
-      entry (record { core = after; offers = dropped ended left }) t ≡ entry k t
-  by_ended after ended u offers =
-      entry-same k (record { core = after; offers = dropped ended left }) t u.row
-      (offers ∙ kept-other k.offers own t None other)
-      (record { counts = u.same.counts; bytes = u.same.bytes; values = u.same.values; formats = u.same.formats })
+  abbrev SameRow : Core → Type 0
+  SameRow core = IsRowOf k.core t core
 
-  -- no task ended
-  by_none : (after : Core) → Unmoved acted t after → entry (record { core = after; offers = left }) t ≡ entry k t
-  by_none after u = by_ended after [] u refl
+  abbrev Stays : Kept → Type 0
+  Stays new = (row_of new.core t ≡ row_of k.core t) × (offered new t ≡ offered k t)
 
-  -- the own one did
+  -- the own task ends
   by_own : (e : Event) → one.IsOf own e →
-      entry (record { core = (ending acted own e).core; offers = dropped (own ∷ []) left }) t ≡ entry k t
-  by_own e is = by_ended (ending acted own e).core (own ∷ [])
-      (one.ending-kept (Unmoved acted t) own (closed acted own t other) acted e is same_acted) (other_one left own t other)
+      Stays (record { core = (ending acted own e).core; offers = dropped (own ∷ []) left })
+  by_own e is = (
+    one.ending-kept SameRow own (row_closed k.core own t other) acted e is refl,
+    other_one left own t other ∙ mine,
+  )
 
-  pub far-same : (a : Action) → Fits setup a → IsFar a t → entry (done k own a) t ≡ entry k t
+  pub others-stay : (a : Action) → IsUntouched (touched_of a) t → Stays (done k own a)
   unfolding effect
-  far-same (action.Read slot) fits far = by_none acted same_acted
-  far-same (action.Write slot value) fits far = by_none (record acted { slots = slice_set k.core.slots slot value })
-      (record { row = refl; same = record { counts = refl; bytes = λ d. refl; values = λ d. refl; formats = refl } })
-  far-same action.Turn fits far = by_none acted same_acted
-  far-same action.Enter fits far = by_none acted same_acted
-  far-same action.Now fits far = by_none acted same_acted
-  far-same (action.Request list) fits far = absurd far
-  far-same (action.Release list) fits far = absurd far
-  far-same (action.Try semaphore) fits far = absurd far
-  far-same (action.Activate u start repeat priority) fits far =
-      by_none (activated acted u start repeat (priority_or_declared acted u priority))
-      (one.activated-kept (Unmoved acted t) u (closed acted u t far) acted start repeat
-      (priority_or_declared acted u priority) same_acted)
-  far-same (action.Continue u start) fits far = by_none (continues acted u start)
-      (one.continues-kept (Unmoved acted t) u (closed acted u t far) acted start same_acted)
-  far-same (action.Resume start) fits far = by_none (resuming acted own start)
-      (one.resuming-kept (Unmoved acted t) own (closed acted own t other) acted start same_acted)
-  far-same (action.Suspend u) fits far = by_none (with_mark acted u true)
-      (one.mark-kept (Unmoved acted t) u (closed acted u t far) acted true same_acted)
-  far-same (action.Terminate u) fits far =
-      by_ended (stopped_by (mode_of acted u) acted u) (stopped_tasks (mode_of acted u) u)
-      (one.stopped-kept (Unmoved acted t) u (closed acted u t far) acted same_acted)
-      (other_stopped (mode_of acted u) left u t far)
-  far-same (action.Prevent u) fits far = by_none (prevented acted u)
-      (one.prevented-kept (Unmoved acted t) u (closed acted u t far) acted same_acted)
-  far-same (action.Enable d) fits far = by_none (with_channel acted d (Switch true))
-      (unmoved_switch setup acted t d true lawful.kinds.channels fits)
-  far-same (action.Disable d) fits far = by_none (with_channel acted d (Switch false))
-      (unmoved_switch setup acted t d false lawful.kinds.channels fits)
-  far-same (action.Trigger d) fits far = absurd far
-  far-same (action.Put d text) fits far = by_none (note acted (event.Out d text))
-      (unmoved_note acted t acted (event.Out d text) same_acted)
-  far-same (action.Get d format kinds) fits far = absurd far
-  far-same (action.Take d) fits far = absurd far
-  far-same (action.Send d value) fits far = by_none (note acted (event.Send d value))
-      (unmoved_note acted t acted (event.Send d value) same_acted)
-  far-same action.End fits far = by_own (event.End own) refl
-  far-same (action.Trap trap) fits far = by_own (event.Trap own trap) refl
-
--- WHICH TASKS AN ACTION TOUCHES
-
-pub leaves-far : (a : Action) (touched : Touched) → ((t : ℕ) → IsUntouched touched t → IsFar a t) → Leaves a touched
-leaves-far a touched far setup k own t lawful fits other untouched =
-    far-same setup k own t lawful other a fits (far t untouched)
-
--- an action that starts a task, or lets it go on
-abbrev Begins : Action → ℕ → Type 0
-Begins a u = ((start : Start) × (repeat : Repeat) × (priority : Option ℕ) × (a ≡ action.Activate u start repeat priority))
-    ⊎ ((start : Start) × (a ≡ action.Continue u start))
-
-pub begins-far : (a : Action) (u t : ℕ) → Begins a u → t ≢ u → IsFar a t
-begins-far a u t (inl e) other = subst (λ x. IsFar x t) (sym e.3) other
-begins-far a u t (inr e) other = subst (λ x. IsFar x t) (sym e.1) other
-
-pub stops-far : (a : Action) (u t : ℕ) → (a ≡ action.Suspend u) ⊎ (a ≡ action.Terminate u) ⊎ (a ≡ action.Prevent u) → t ≢ u →
-    IsFar a t
-stops-far a u t (inl e) other = subst (λ x. IsFar x t) (sym e) other
-stops-far a u t (inr (inl e)) other = subst (λ x. IsFar x t) (sym e) other
-stops-far a u t (inr (inr e)) other = subst (λ x. IsFar x t) (sym e) other
-
--- an action of no other sort names no other task, and changes nothing that guards look at
-pub record IsRest (a : Action) : Type 0 where
-  pub not_request : (list : ArrayVec ℕ 16 (Unit {0})) → a ≡ action.Request list → ⊥
-  pub not_release : (list : ArrayVec ℕ 16 (Unit {0})) → a ≡ action.Release list → ⊥
-  pub not_try : (semaphore : ℕ) → a ≡ action.Try semaphore → ⊥
-  pub not_trigger : (d : ℕ) → a ≡ action.Trigger d → ⊥
-  pub not_get : (d format : ℕ) (kinds : ArrayVec Kind 64 (Unit {0})) → a ≡ action.Get d format kinds → ⊥
-  pub not_take : (d : ℕ) → a ≡ action.Take d → ⊥
-  pub not_activate : (task : ℕ) (start : Start) (repeat : Repeat) (priority : Option ℕ) →
-      a ≡ action.Activate task start repeat priority → ⊥
-  pub not_continue : (task : ℕ) (start : Start) → a ≡ action.Continue task start → ⊥
-  pub not_suspend : (task : ℕ) → a ≡ action.Suspend task → ⊥
-  pub not_terminate : (task : ℕ) → a ≡ action.Terminate task → ⊥
-  pub not_prevent : (task : ℕ) → a ≡ action.Prevent task → ⊥
-
-pub rest-far : (a : Action) (t : ℕ) → IsRest a → IsFar a t
-rest-far (action.Request list) t rest = rest.not_request list refl
-rest-far (action.Release list) t rest = rest.not_release list refl
-rest-far (action.Try semaphore) t rest = rest.not_try semaphore refl
-rest-far (action.Trigger d) t rest = rest.not_trigger d refl
-rest-far (action.Get d format kinds) t rest = rest.not_get d format kinds refl
-rest-far (action.Take d) t rest = rest.not_take d refl
-rest-far (action.Activate u start repeat priority) t rest = absurd (rest.not_activate u start repeat priority refl)
-rest-far (action.Continue u start) t rest = absurd (rest.not_continue u start refl)
-rest-far (action.Suspend u) t rest = absurd (rest.not_suspend u refl)
-rest-far (action.Terminate u) t rest = absurd (rest.not_terminate u refl)
-rest-far (action.Prevent u) t rest = absurd (rest.not_prevent u refl)
-rest-far a t rest = tt
+  others-stay (action.Read slot) far = (refl, mine)
+  others-stay (action.Write slot value) far = (refl, mine)
+  others-stay action.Turn far = (refl, mine)
+  others-stay action.Enter far = (refl, mine)
+  others-stay action.Now far = (refl, mine)
+  others-stay (action.Request list) far = absurd far
+  others-stay (action.Release list) far = absurd far
+  others-stay (action.Try semaphore) far = absurd far
+  others-stay (action.Activate u start repeat priority) far = (
+    one.activated-kept SameRow u (row_closed k.core u t far) acted start repeat (priority_or_declared acted u priority) refl,
+    mine,
+  )
+  others-stay (action.Continue u start) far =
+      (one.continues-kept SameRow u (row_closed k.core u t far) acted start refl, mine)
+  others-stay (action.Resume start) far =
+      (one.resuming-kept SameRow own (row_closed k.core own t other) acted start refl, mine)
+  others-stay (action.Suspend u) far = (one.mark-kept SameRow u (row_closed k.core u t far) acted true refl, mine)
+  others-stay (action.Terminate u) far = (
+    one.stopped-kept SameRow u (row_closed k.core u t far) acted refl,
+    other_stopped (mode_of acted u) left u t far ∙ mine,
+  )
+  others-stay (action.Prevent u) far = (one.prevented-kept SameRow u (row_closed k.core u t far) acted refl, mine)
+  others-stay (action.Enable d) far = (refl, mine)
+  others-stay (action.Disable d) far = (refl, mine)
+  others-stay (action.Trigger d) far = absurd far
+  others-stay (action.Put d text) far = (refl, mine)
+  others-stay (action.Get d format kinds) far = absurd far
+  others-stay (action.Take d) far = absurd far
+  others-stay (action.Send d value) far = (refl, mine)
+  others-stay action.End far = by_own (event.End own) refl
+  others-stay (action.Trap trap) far = by_own (event.Trap own trap) refl

@@ -155,22 +155,30 @@ lawful-millisecond setup k later lawful =
       told = reports-millisecond setup k.core lawful.tasks lawful.told;
     }
 
--- another moment
-pub lawful-moment : (setup : Setup) (k : Kept) (moment : ℕ) → moment ≤ last_moment_of_all → IsLawful setup k →
-    IsLawful setup (record k { core = record k.core { moment = moment } })
-lawful-moment setup k moment near lawful = record {
+-- another moment, another clock, another task that acted last, or what is told
+lawful_with : (setup : Setup) (k : Kept) (moment clock : ℕ) (last : Option ℕ) (told : List (ℕ × Report)) →
+    moment ≤ last_moment_of_all → clock < 86400000 → AllByRecursion (IsReportOf setup) told → IsLawful setup k →
+    IsLawful setup (record k {
+      core = record k.core { moment = moment; clock = clock; last = last; told = told };
+    })
+lawful_with setup k moment clock last told near is all lawful = record {
   tasks = lawful.tasks;
   counts = lawful.counts;
   counted = lawful.counted;
   kinds = record { slots = lawful.kinds.slots; channels = lawful.kinds.channels; formats = lawful.kinds.formats };
   urgent = lawful.urgent;
-  plans = record { plans = lawful.plans.plans; clock = lawful.plans.clock };
+  plans = record { plans = lawful.plans.plans; clock = is };
   moment = near;
   same = lawful.same;
   quiet = lawful.quiet;
   fits = lawful.fits;
-  told = lawful.told;
+  told = all;
 }
+
+pub lawful-moment : (setup : Setup) (k : Kept) (moment : ℕ) → moment ≤ last_moment_of_all → IsLawful setup k →
+    IsLawful setup (record k { core = record k.core { moment = moment } })
+lawful-moment setup k moment near lawful =
+    lawful_with setup k moment k.core.clock k.core.last k.core.told near lawful.plans.clock lawful.told lawful
 
 pub lawful-passed : (setup : Setup) (k : Kept) (n : ℕ) → k.core.moment + n ≤ last_moment_of_all → IsQuiet k.core n →
     IsLawful setup k → IsLawful setup (record k { core = passed n k.core })
@@ -180,51 +188,18 @@ lawful-passed setup k n later quiet lawful =
 
 pub lawful-clock : (setup : Setup) (k : Kept) (time : ℕ) → time < 86400000 → IsLawful setup k →
     IsLawful setup (record k { core = record k.core { clock = time } })
-lawful-clock setup k time is lawful = record {
-  tasks = lawful.tasks;
-  counts = lawful.counts;
-  counted = lawful.counted;
-  kinds = record { slots = lawful.kinds.slots; channels = lawful.kinds.channels; formats = lawful.kinds.formats };
-  urgent = lawful.urgent;
-  plans = record { plans = lawful.plans.plans; clock = is };
-  moment = lawful.moment;
-  same = lawful.same;
-  quiet = lawful.quiet;
-  fits = lawful.fits;
-  told = lawful.told;
-}
+lawful-clock setup k time is lawful =
+    lawful_with setup k k.core.moment time k.core.last k.core.told lawful.moment is lawful.told lawful
 
 pub lawful-last : (setup : Setup) (k : Kept) (last : Option ℕ) → IsLawful setup k →
     IsLawful setup (record k { core = record k.core { last = last } })
-lawful-last setup k last lawful = record {
-  tasks = lawful.tasks;
-  counts = lawful.counts;
-  counted = lawful.counted;
-  kinds = record { slots = lawful.kinds.slots; channels = lawful.kinds.channels; formats = lawful.kinds.formats };
-  urgent = lawful.urgent;
-  plans = record { plans = lawful.plans.plans; clock = lawful.plans.clock };
-  moment = lawful.moment;
-  same = lawful.same;
-  quiet = lawful.quiet;
-  fits = lawful.fits;
-  told = lawful.told;
-}
+lawful-last setup k last lawful =
+    lawful_with setup k k.core.moment k.core.clock last k.core.told lawful.moment lawful.plans.clock lawful.told lawful
 
 lawful_told : (setup : Setup) (k : Kept) (told : List (ℕ × Report)) → AllByRecursion (IsReportOf setup) told →
     IsLawful setup k → IsLawful setup (record k { core = record k.core { told = told } })
-lawful_told setup k told all lawful = record {
-  tasks = lawful.tasks;
-  counts = lawful.counts;
-  counted = lawful.counted;
-  kinds = record { slots = lawful.kinds.slots; channels = lawful.kinds.channels; formats = lawful.kinds.formats };
-  urgent = lawful.urgent;
-  plans = record { plans = lawful.plans.plans; clock = lawful.plans.clock };
-  moment = lawful.moment;
-  same = lawful.same;
-  quiet = lawful.quiet;
-  fits = lawful.fits;
-  told = all;
-}
+lawful_told setup k told all lawful =
+    lawful_with setup k k.core.moment k.core.clock k.core.last told lawful.moment lawful.plans.clock all lawful
 
 -- the oldest event is taken
 pub lawful-taken : (setup : Setup) (k new : Kept) (taken : Option Event) →

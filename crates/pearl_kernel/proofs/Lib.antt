@@ -6,7 +6,10 @@ pub mod Passing
 pub mod OneTask
 pub mod Naming
 pub mod Waiting
+pub mod Touching
 pub mod Entries
+pub mod Changing
+pub mod Renewing
 pub mod Quiet
 pub mod Told
 pub mod Lawful

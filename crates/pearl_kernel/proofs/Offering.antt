@@ -1,5 +1,5 @@
 -- A task offers its next action.
-use Rattle.std.proofs.Common.{◌≡◌, ℕ, ◌<◌, List, Bool, true, false, ◌&&◌, Option, Some, None, length, slice_get}
+use Rattle.std.proofs.Common.{◌≡◌, ◌≢◌, ℕ, ◌<◌, Bool, true, false, ◌&&◌, Option, Some, None, length, slice_get}
 use Rattle.std.proofs.Common.{slice_set, refl, sym, ap, subst, ◌∙◌, length-set}
 use Rattle.std.proofs.lemmas.Bool.{true≢false}
 use Rattle.std.proofs.lemmas.Option.{slice_get_within}
@@ -10,9 +10,10 @@ use Rattle.pearl_rules.specs.Core.{row_of, is_active, is_active_row}
 use Rattle.pearl_rules.specs.Slots.{Fits}
 use Rattle.pearl_kernel.specs.Kept.{Kept, offered, is_silent, is_unsettled, IsLawful}
 use Rattle.pearl_kernel.specs.Whole.{IsWhole}
-use Rattle.pearl_kernel.specs.Eligible.{entry}
+use Rattle.pearl_kernel.specs.Eligible.{possible, entry, Stand, noted}
 use Rattle.pearl_kernel.proofs.Places.{by_task, kept-other, kept-set, get-same, get-other}
-use Rattle.pearl_kernel.proofs.Entries.{alike, entry-same}
+use Rattle.pearl_kernel.proofs.Entries.{unchanged, possible-same, entry-same}
+use Rattle.pearl_kernel.proofs.Renewing.{noted-size, noted-set-size}
 
 abbrev offering : Kept → ℕ → Action → Kept
 offering k task a = record k { offers = slice_set k.offers task (Some a) }
@@ -60,20 +61,35 @@ lawful-offering setup k task a unsettled fits lawful = record {
   told = lawful.told;
 }
 
-pub kept-offering : (setup : Setup) (k : Kept) (set : List (Option ℕ)) (task : ℕ) (a : Action) → task < length k.core.tasks →
-    IsLawful setup (offering k task a) → IsWhole k set →
-    IsWhole (offering k task a) (slice_set set task (entry (offering k task a) task))
-kept-offering setup k set task a there lawful kept =
-    let new : Kept = offering k task a in
-    record {
-      few = kept.few;
-      lawful = (setup, lawful);
-      ready = record {
-        size = length-set set task (entry new task) ∙ kept.ready.size;
-        each = λ t within. by_task t task (slice_get (slice_set set task (entry new task)) t ≡ Some (entry new t))
-            (λ same. subst (λ u. slice_get (slice_set set task (entry new task)) u ≡ Some (entry new u)) (sym same)
-            (get-same set task (entry new task) (subst (λ n. task < n) (sym kept.ready.size) there)))
-            (λ other. get-other set task t (entry new task) other ∙ kept.ready.each t within
-            ∙ ap (λ e. Some e) (sym (entry-same k new t refl (kept-other k.offers task t (Some a) other) (alike k.core))));
-      };
-    }
+pub kept-offering : (setup : Setup) (k : Kept) (s : Stand) (task : ℕ) (a : Action) → task < length k.core.tasks →
+    IsLawful setup (offering k task a) → IsWhole k s →
+    IsWhole (offering k task a) (noted (offering k task a) task (possible (offering k task a) task) s)
+kept-offering setup k s task a there lawful kept = record {
+  few = kept.few;
+  lawful = (setup, lawful);
+  stand = record {
+    size = noted-size new s task able ∙ kept.stand.size;
+    able = λ t within. by_task t task (slice_get (noted new task able s).able t ≡ Some (possible new t))
+        (λ same. subst (λ u. slice_get (noted new task able s).able u ≡ Some (possible new u)) (sym same)
+        (get-same s.able task able (subst (λ n. task < n) (sym kept.stand.size) there)))
+        (λ other. get-other s.able task t able other ∙ kept.stand.able t within
+        ∙ ap (λ b. Some b) (sym (possible-same k new t (stays t other) (unchanged k.core))));
+    ready = record {
+      size = noted-set-size new s task able ∙ kept.stand.ready.size;
+      each = λ t within. by_task t task (slice_get (noted new task able s).set t ≡ Some (entry new t))
+          (λ same. subst (λ u. slice_get (noted new task able s).set u ≡ Some (entry new u)) (sym same)
+          (get-same s.set task (entry new task) (subst (λ n. task < n) (sym kept.stand.ready.size) there)))
+          (λ other. get-other s.set task t (entry new task) other ∙ kept.stand.ready.each t within
+          ∙ ap (λ e. Some e) (sym (entry-same k new t refl (stays t other) (unchanged k.core))));
+    };
+  };
+}
+  where
+    new : Kept
+    new = offering k task a
+
+    able : Bool
+    able = possible new task
+
+    stays : (t : ℕ) → t ≢ task → offered new t ≡ offered k t
+    stays t other = kept-other k.offers task t (Some a) other

@@ -10,5 +10,7 @@ pub mod Names
 pub mod Eligible
 -- what a kernel keeps true of its fields, and what one step of a task asks of them
 pub mod Whole
+-- what may have changed of all that offers wait for
+pub mod Changes
 -- which tasks besides its own an action touches
 pub mod Touched

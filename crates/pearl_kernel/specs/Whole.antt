@@ -1,15 +1,15 @@
 -- What a kernel keeps true of its fields, and what one step of a task asks of them.
-use Rattle.std.specs.Prelude.{◌≡◌, ℕ, ◌<◌, ◌≤◌, List, [], Option, length}
+use Rattle.std.specs.Prelude.{◌≡◌, ℕ, ◌<◌, ◌≤◌, [], length}
 use Rattle.pearl_rules.specs.declared.setup.Setup.{Setup}
 use Rattle.pearl_kernel.specs.Kept.{Kept, IsLawful}
-use Rattle.pearl_kernel.specs.Eligible.{IsSetOf}
+use Rattle.pearl_kernel.specs.Eligible.{Stand, IsStandOf}
 use Rattle.pearl_kernel.specs.Timing.{IsTimely}
 
--- It is the kernel of some tables and has at most 200 tasks, and the set has the tasks that can act.
-pub record IsWhole (k : Kept) (set : List (Option ℕ)) : Type 0 where
+-- It is the kernel of some tables and has at most 200 tasks, and what is kept of the tasks is so.
+pub record IsWhole (k : Kept) (s : Stand) : Type 0 where
   pub few : length k.core.tasks ≤ 200
   pub lawful : (setup : Setup) × IsLawful setup k
-  pub ready : IsSetOf k set
+  pub stand : IsStandOf k s
 
 -- the task is there, each task has its place for an offer, no moment is too far, and there is room for the events of all tasks
 pub record HasRoom (k : Kept) (t : ℕ) : Type 0 where

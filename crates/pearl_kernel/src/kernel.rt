@@ -15,11 +15,12 @@ ghost use Rattle.pearl_rules.specs.Slots.{Fits};
 ghost use Rattle.pearl_rules.specs.Tables.{IsSetup, IsInterrupt};
 ghost use Rattle.pearl_kernel.specs.Kept.{at_start, offered as offered_of, IsLawful, Marks, NamesWhatIsThere};
 ghost use Rattle.pearl_kernel.specs.Kept.{is_unsettled as is_unsettled_in, IsFirst, AllSettled};
+ghost use Rattle.pearl_kernel.specs.Eligible.{possible, entry};
 ghost use Rattle.pearl_kernel.specs.Timing.{timetable, passed, IsQuiet};
 
-use crate::standing::{refresh, renew, renew_all, touched_by};
+use crate::changes::Changed;
+use crate::standing::{Standing, touched_by};
 use crate::state::State;
-use pearl_ready::ready::Ready;
 use pearl_rules::action::{Action, Answer};
 use pearl_rules::entry::Entry;
 use pearl_rules::event::{Event, Shown};
@@ -43,8 +44,7 @@ pub enum Acted {
 #[derive(Drop)]
 pub struct Kernel {
     state: State,
-    // The tasks that can act.
-    ready: Ready,
+    standing: Standing,
 }
 
 impl Model for Kernel {
@@ -55,7 +55,7 @@ impl Model for Kernel {
 
     ghost view = { λ k. k.state };
 
-    ghost invariant = { λ k. IsWhole k.state k.ready };
+    ghost invariant = { λ k. IsWhole k.state k.standing };
 }
 
 impl Kernel {
@@ -66,8 +66,8 @@ impl Kernel {
         ensures lawful { IfOk result (IsLawful setup.now) }
     {
         let state = State::new(alloc, setup)?;
-        let ready = Ready::new(alloc, state.tasks())?;
-        Ok(Kernel { state, ready })
+        let standing = Standing::new(alloc, state.tasks())?;
+        Ok(Kernel { state, standing })
     }
 
     /// The first active task that has offered nothing.
@@ -92,7 +92,7 @@ impl Kernel {
             IsLawful setup self.new }
     {
         self.state.set_offer(task, Some(action));
-        refresh(&self.state, &mut self.ready, task);
+        self.standing.offered(&self.state, task);
     }
 
     /// The task that acts next does its action. It is called once every active task has offered one; it doesn't ask for
@@ -110,7 +110,7 @@ impl Kernel {
         };
         let touched = touched_by(&action);
         let acted = self.state.act(task, action);
-        renew(&self.state, &mut self.ready, task, touched);
+        self.standing.renew(&self.state, task, touched);
         acted
     }
 
@@ -119,7 +119,7 @@ impl Kernel {
         ensures picked { result ≡ pick self.now.core (offered_of self.now) }
         ensures there { IfSome result (λ t. t < length self.now.core.tasks) }
     {
-        let task = self.ready.best(self.state.last())?;
+        let task = self.standing.best(self.state.last())?;
         Some(task as u32)
     }
 
@@ -139,10 +139,24 @@ impl Kernel {
         let Some(best) = self.picked() else {
             return false;
         };
-        match self.state.entry(task) {
+        match self.entry(task) {
             None => false,
-            entry => entry == self.state.entry(best),
+            entry => entry == self.entry(best),
         }
+    }
+
+    // Whether what a task has offered can be done.
+    fn is_possible(&self, task: u32) -> bool
+        ensures { result ≡ possible self.now task }
+    {
+        self.standing.is_able(task)
+    }
+
+    // The priority number of a task that can act.
+    fn entry(&self, task: u32) -> Option<u8>
+        ensures { result ≡ entry self.now task }
+    {
+        self.state.entry_if(task, self.is_possible(task))
     }
 
     /// The time of day at the start is this one, in milliseconds since midnight.
@@ -161,8 +175,8 @@ impl Kernel {
         ensures arrived { self.new ≡ record self.old { core = arrived self.old.core (Irpt device) } }
         ensures lawful { (setup : Tables.Setup) → IsLawful setup self.old → IsLawful setup self.new }
     {
-        self.state.interrupted(device);
-        renew_all(&self.state, &mut self.ready);
+        let changed = self.state.interrupted(device);
+        self.standing.renew_if(&self.state, changed);
     }
 
     /// What an entry of a journal does by itself, whoever could act: the clock is set, an interrupt occurs, or bytes or
@@ -174,8 +188,8 @@ impl Kernel {
         ensures lawful { (setup : Tables.Setup) → IsLawful setup self.old →
             EntryFits setup self.old.core.moment entry.now → IsLawful setup self.new }
     {
-        self.state.arrive(entry);
-        renew_all(&self.state, &mut self.ready);
+        let changed = self.state.arrive(entry);
+        self.standing.renew_if(&self.state, changed);
     }
 
     /// A millisecond passes.
@@ -186,7 +200,7 @@ impl Kernel {
         ensures lawful { (setup : Tables.Setup) → IsLawful setup self.old → IsLawful setup self.new }
     {
         self.state.millisecond();
-        renew_all(&self.state, &mut self.ready);
+        self.standing.renew_all(&self.state, Changed::Nothing);
     }
 
     /// So many milliseconds pass, in which no plan fires.
@@ -221,7 +235,7 @@ impl Kernel {
                 suspended: true,
             } => Shown::Suspended(priority),
             Mode::Active { priority, .. } => {
-                if !self.state.is_possible(task) {
+                if !self.is_possible(task) {
                     Shown::Blocked(priority)
                 } else if self.picked() == Some(task) {
                     Shown::Running(priority)

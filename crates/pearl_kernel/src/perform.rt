@@ -73,7 +73,9 @@ impl State {
             Action::Prevent(task) => self.prevent(task),
             Action::Enable(device) => self.set_switch(device, true),
             Action::Disable(device) => self.set_switch(device, false),
-            Action::Trigger(device) => self.interrupted(device),
+            Action::Trigger(device) => {
+                self.interrupted(device);
+            }
             Action::Put { device, text } => self.note(Event::Out { device, text }),
             Action::End => return self.end(own, Event::End(own)),
             Action::Trap(trap) => return self.end(own, Event::Trap { task: own, trap }),

@@ -7,8 +7,10 @@ ghost use Rattle.pearl_rules.specs.Plans.{with_continuation, with_activation, co
 ghost use Rattle.pearl_rules.specs.Plans.{serve_activation, plan_continuation, plan_activation, served, millisecond};
 ghost use Rattle.pearl_rules.specs.Plans.{waits_for, continuation_began, begin_activation, activation_of, reached, occurred};
 ghost use Rattle.pearl_rules.specs.Devices.{interrupted};
+ghost use Rattle.pearl_kernel.specs.Changes.{Stirs};
 ghost use Rattle.pearl_kernel.specs.Timing.{IsTimely, IsTimelyStart, IsTimelyRepeat, IsTimelyPlan};
 
+use crate::changes::Changed;
 use crate::state::State;
 use pearl_rules::action::{Repeat, Start};
 use pearl_rules::event::Event;
@@ -302,18 +304,21 @@ impl State {
         self.serve_activation(task);
     }
 
-    /// An interrupt occurs; that a masked one did is told.
-    pub fn interrupted(&mut self, device: u32)
+    /// An interrupt occurs; that a masked one did is told. The answer tells what may have changed of all that offers wait
+    /// for: none where no task is touched.
+    pub fn interrupted(&mut self, device: u32) -> Option<Changed>
         requires few { length self.old.core.tasks ≤ 200 }
         requires told { self.old.core.told ≡ [] }
         requires timely { IsTimely self.old.core }
-        ensures { self.new ≡ record self.old { core = interrupted self.old.core device } }
+        ensures occurs { self.new ≡ record self.old { core = interrupted self.old.core device } }
+        ensures stirs { Stirs self.old.core self.new.core result }
     {
         if self.is_enabled(device) {
             self.occur(device);
-        } else {
-            self.note(Event::Masked(device));
+            return Some(Changed::Nothing);
         }
+        self.note(Event::Masked(device));
+        None
     }
 
     // An interrupt reaches the tasks whose plans wait for it.

@@ -24,8 +24,10 @@ ghost use Rattle.pearl_kernel.specs.Kept.{at_start, offered as offered_of};
 ghost use Rattle.pearl_kernel.specs.Kept.{is_silent as is_silent_in, is_unsettled as is_unsettled_in};
 ghost use Rattle.pearl_kernel.specs.Names.{Names};
 ghost use Rattle.pearl_kernel.specs.Timing.{timetable};
-ghost use Rattle.pearl_kernel.specs.Eligible.{entry};
+ghost use Rattle.pearl_kernel.specs.Eligible.{entry_if};
+ghost use Rattle.pearl_kernel.specs.Changes.{renewed, renewed_offer};
 
+use crate::changes::{Changed, looks_at};
 use crate::channel::Channel;
 use crate::mirror::keep_row;
 use crate::opening::{
@@ -306,22 +308,38 @@ impl State {
         }
     }
 
-    /// The priority number of a task that can act.
-    pub fn entry(&self, task: u32) -> Option<u8>
+    /// Whether what a task has offered can be done, where this was so before and at most this changed since of what offers
+    /// wait for. A task whose offer is gone has none that can be done.
+    pub fn renewed(&self, task: u32, changed: Changed, before: bool) -> bool
         requires { (a : Acting.Action) → offered_of self.now task ≡ Some a → Names self.now.core a }
-        ensures { result ≡ entry self.now task }
+        ensures { result ≡ renewed changed self.now task before }
+    {
+        match self.offers.get(task as usize) {
+            Some(Some(action)) => self.renewed_action(action, changed, before),
+            _ => false,
+        }
+    }
+
+    fn renewed_action(&self, action: &Action, changed: Changed, before: bool) -> bool
+        requires { Names self.now.core action.now }
+        ensures { result ≡ renewed_offer changed self.now.core (Some action.now) before }
+    {
+        if looks_at(changed, action) {
+            self.can_do(action)
+        } else {
+            before
+        }
+    }
+
+    /// The priority number of a task that can act, where `able` is whether what it has offered can be done.
+    pub fn entry_if(&self, task: u32, able: bool) -> Option<u8>
+        ensures { result ≡ entry_if self.now task able }
     {
         match self.mode(task) {
             Mode::Active {
                 priority,
                 suspended: false,
-            } => {
-                if self.is_possible(task) {
-                    Some(priority)
-                } else {
-                    None
-                }
-            }
+            } => { if able { Some(priority) } else { None } }
             _ => None,
         }
     }

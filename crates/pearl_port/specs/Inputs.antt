@@ -1,5 +1,5 @@
 -- What waits at an input of any kind, as cells.
-use Rattle.std.specs.Prelude.{ℕ, List, map}
+use Rattle.std.specs.Prelude.{ℕ, map}
 use Rattle.pearl_value.specs.declared.kind.Kind.{Kind}
 use Rattle.pearl_value.specs.declared.kind.Kind.TheVariants as kinds
 use Rattle.pearl_value.specs.declared.cell.Cell.{Cell}

@@ -1,6 +1,6 @@
 // The bytes that came in at a terminal and wait there.
 
-ghost use Rattle.std.specs.Prelude.{◌≡◌, ◌↔◌, ◌<◌, ◌≤◌, [], ◌++◌, Some, IsFalse, IfOk, if◌then◌else◌, All};
+ghost use Rattle.std.specs.Prelude.{◌≡◌, ◌↔◌, ◌+◌, ◌-◌, ◌<◌, ◌≤◌, [], ◌++◌, Some, IsFalse, IfOk, if◌then◌else◌, All};
 ghost use Rattle.std.specs.Prelude.{length, drop, slice_get, vec_len, vec_capacity};
 ghost use Rattle.std.specs.Borrow.{sem};
 ghost use Rattle.std.specs.Io.BufRead.{Rests};
@@ -69,8 +69,7 @@ impl Terminal {
         if ROOM - (self.bytes.len() - self.taken) < bytes.len() {
             return false;
         }
-        drop_first(&mut self.bytes, self.taken);
-        self.taken = 0;
+        self.taken = make_room(&mut self.bytes, self.taken, bytes.len());
         self.bytes.extend_from_slice(bytes).unwrap();
         true
     }
@@ -101,6 +100,26 @@ impl Terminal {
     {
         self.taken += n;
     }
+}
+
+// Where there is no room for so many more bytes behind the others, those that don't wait are taken away, and the others
+// move to the front. The answer tells how many that don't wait are left.
+fn make_room(bytes: &mut Vec<u8>, taken: usize, more: usize) -> usize
+    requires taken { taken ≤ length bytes.old.items }
+    requires within { length bytes.old.items ≤ 4096 }
+    requires free { length bytes.old.items - taken + more ≤ 4096 }
+    requires typed { All IsTyped bytes.old.items }
+    ensures waiting { drop result bytes.new.items ≡ drop taken bytes.old.items }
+    ensures taken { result ≤ length bytes.new.items }
+    ensures room { length bytes.new.items + more ≤ 4096 }
+    ensures typed { All IsTyped bytes.new.items }
+    ensures capacity { vec_capacity bytes.new ≡ vec_capacity bytes.old }
+{
+    if more <= ROOM - bytes.len() {
+        return taken;
+    }
+    drop_first(bytes, taken);
+    0
 }
 
 // Takes the first bytes away, so many of them, and moves the others to the front.

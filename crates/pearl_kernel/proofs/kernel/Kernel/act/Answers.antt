@@ -80,8 +80,21 @@ renew-requires-clause-size c =
     let offer = sym c.in-Some-take_offer.ensures.taken in
     let lawful = lawful-after of.0 s c.in-Some.task c.in-Some-take_offer.action there
     (of.1.fits c.in-Some.task c.in-Some-take_offer.action offer) of.1 in
-    subst (λ (k : Kept). length c.self.inside.ready ≡ length k.core.tasks) (sym is)
-    (c.self.invariant.ready.size ∙ of.1.tasks ∙ sym lawful.tasks)
+    subst (λ (k : Kept). length c.self.inside.standing.able ≡ length k.core.tasks) (sym is)
+    (c.self.invariant.stand.size ∙ of.1.tasks ∙ sym lawful.tasks)
+
+pub renew-requires-clause-set_size : goal.renew-requires-clause-set_size
+renew-requires-clause-set_size c =
+    let s = c.self.inside.state in
+    let of = c.self.invariant.lawful in
+    let there = subst (λ (k : Kept). c.in-Some.task < length k.core.tasks) (sym c.self.view_is) c.in-Some.ensures.there in
+    let is = done-is s c.take_offer.new.self c.act-acted.new.self c.in-Some.task c.in-Some-take_offer.action
+    c.take_offer.ensures.rest c.act-acted.ensures.state in
+    let offer = sym c.in-Some-take_offer.ensures.taken in
+    let lawful = lawful-after of.0 s c.in-Some.task c.in-Some-take_offer.action there
+    (of.1.fits c.in-Some.task c.in-Some-take_offer.action offer) of.1 in
+    subst (λ (k : Kept). length c.self.inside.standing.set ≡ length k.core.tasks) (sym is)
+    (c.self.invariant.stand.ready.size ∙ of.1.tasks ∙ sym lawful.tasks)
 
 pub renew-requires-clause-own : goal.renew-requires-clause-own
 renew-requires-clause-own c =
@@ -133,10 +146,10 @@ invariant_of-self-2 c =
     let offer = sym c.in-Some-take_offer.ensures.taken in
     let fits = of.1.fits c.in-Some.task c.in-Some-take_offer.action offer in
     let lawful = lawful-after of.0 s.state c.in-Some.task c.in-Some-take_offer.action there fits of.1 in
-    let renewed = subst (λ (k : Kept). IsRenewed k c.in-Some.task c.touched_by-touched.result s.ready c.renew.new.ready)
+    let renewed = subst (λ (k : Kept). IsRenewed k c.in-Some.task c.touched_by-touched.result s.standing c.renew.new.self)
     is c.renew.ensures in
-    subst (λ (k : Kept). IsWhole k c.renew.new.ready) (sym is)
-    (kept-after of.0 s.state s.ready c.renew.new.ready c.in-Some.task c.in-Some-take_offer.action c.touched_by-touched.result
+    subst (λ (k : Kept). IsWhole k c.renew.new.self) (sym is)
+    (kept-after of.0 s.state s.standing c.renew.new.self c.in-Some.task c.in-Some-take_offer.action c.touched_by-touched.result
     of.1 lawful fits c.self.invariant c.touched_by-touched.ensures.leaves renewed)
 
 pub returns-clause-lawful : goal.returns-clause-lawful

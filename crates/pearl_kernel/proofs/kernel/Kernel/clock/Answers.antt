@@ -9,8 +9,8 @@ pub invariant_of-self : goal.invariant_of-self
 invariant_of-self c =
     let s = c.self.inside in
     let of = c.self.invariant.lawful in
-    subst (λ (k : Kept). IsWhole k s.ready) (sym c.set_clock.ensures)
-    (kept-clock of.0 s.state s.ready c.args.time (lawful-clock of.0 s.state c.args.time c.requires of.1) c.self.invariant)
+    subst (λ (k : Kept). IsWhole k s.standing) (sym c.set_clock.ensures)
+    (kept-clock of.0 s.state s.standing c.args.time (lawful-clock of.0 s.state c.args.time c.requires of.1) c.self.invariant)
 
 pub returns-clause-lawful : goal.returns-clause-lawful
 returns-clause-lawful c = λ setup lawful.

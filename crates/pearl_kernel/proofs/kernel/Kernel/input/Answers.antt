@@ -1,45 +1,55 @@
-use Rattle.std.proofs.Common.{◌≤◌, sym, subst, ◌∙◌}
+use Rattle.std.proofs.Common.{◌≤◌, sym, ap, subst, ◌∙◌}
 use Rattle.pearl_rules.specs.Entries.{EntryFits}
 use Rattle.pearl_kernel.specs.Kept.{Kept, IsLawful}
-use Rattle.pearl_kernel.proofs.Acting.{kept-all}
+use Rattle.pearl_kernel.proofs.Acting.{kept-stirred}
 use Rattle.pearl_kernel.proofs.Lawful.{lawful-arrived}
 use Rattle.pearl_kernel.proofs.Naming.{names-all, lawful-timely, comes-in}
 use Rattle.pearl_kernel.proofs.kernel.Kernel.input.Goals as goal
 
-pub arrive-requires-clause-timely : goal.arrive-requires-clause-timely
-arrive-requires-clause-timely c =
+pub arrive-changed-requires-clause-timely : goal.arrive-changed-requires-clause-timely
+arrive-changed-requires-clause-timely c =
     let of = c.self.invariant.lawful in
     lawful-timely of.0 c.self.inside.state of.1
 
-pub renew_all-requires-clause-few : goal.renew_all-requires-clause-few
-renew_all-requires-clause-few c =
+pub renew_if-requires-clause-few : goal.renew_if-requires-clause-few
+renew_if-requires-clause-few c =
     let s = c.self.inside.state in
     let f = c.requires.fits in
     let before = subst (λ (k : Kept). IsLawful f.0 k) (sym c.self.view_is) f.1 in
     let fits = subst (λ (k : Kept). EntryFits f.0 k.core.moment c.args.entry.now) (sym c.self.view_is) f.2 in
-    let lawful = subst (λ (k : Kept). IsLawful f.0 k) (sym c.arrive.ensures)
+    let lawful = subst (λ (k : Kept). IsLawful f.0 k) (sym c.arrive-changed.ensures.arrived)
     (lawful-arrived f.0 s c.args.entry.now fits before) in
     subst (λ n. n ≤ 200) (before.tasks ∙ sym lawful.tasks) c.self.invariant.few
 
-pub renew_all-requires-clause-size : goal.renew_all-requires-clause-size
-renew_all-requires-clause-size c =
+pub renew_if-requires-clause-size : goal.renew_if-requires-clause-size
+renew_if-requires-clause-size c =
     let s = c.self.inside.state in
     let f = c.requires.fits in
     let before = subst (λ (k : Kept). IsLawful f.0 k) (sym c.self.view_is) f.1 in
     let fits = subst (λ (k : Kept). EntryFits f.0 k.core.moment c.args.entry.now) (sym c.self.view_is) f.2 in
-    let lawful = subst (λ (k : Kept). IsLawful f.0 k) (sym c.arrive.ensures)
+    let lawful = subst (λ (k : Kept). IsLawful f.0 k) (sym c.arrive-changed.ensures.arrived)
     (lawful-arrived f.0 s c.args.entry.now fits before) in
-    c.self.invariant.ready.size ∙ before.tasks ∙ sym lawful.tasks
+    c.self.invariant.stand.size ∙ before.tasks ∙ sym lawful.tasks
 
-pub renew_all-requires-clause-names : goal.renew_all-requires-clause-names
-renew_all-requires-clause-names c =
+pub renew_if-requires-clause-set_size : goal.renew_if-requires-clause-set_size
+renew_if-requires-clause-set_size c =
     let s = c.self.inside.state in
     let f = c.requires.fits in
     let before = subst (λ (k : Kept). IsLawful f.0 k) (sym c.self.view_is) f.1 in
     let fits = subst (λ (k : Kept). EntryFits f.0 k.core.moment c.args.entry.now) (sym c.self.view_is) f.2 in
-    let lawful = subst (λ (k : Kept). IsLawful f.0 k) (sym c.arrive.ensures)
+    let lawful = subst (λ (k : Kept). IsLawful f.0 k) (sym c.arrive-changed.ensures.arrived)
     (lawful-arrived f.0 s c.args.entry.now fits before) in
-    names-all f.0 c.arrive.new.self lawful
+    c.self.invariant.stand.ready.size ∙ before.tasks ∙ sym lawful.tasks
+
+pub renew_if-requires-clause-names : goal.renew_if-requires-clause-names
+renew_if-requires-clause-names c =
+    let s = c.self.inside.state in
+    let f = c.requires.fits in
+    let before = subst (λ (k : Kept). IsLawful f.0 k) (sym c.self.view_is) f.1 in
+    let fits = subst (λ (k : Kept). EntryFits f.0 k.core.moment c.args.entry.now) (sym c.self.view_is) f.2 in
+    let lawful = subst (λ (k : Kept). IsLawful f.0 k) (sym c.arrive-changed.ensures.arrived)
+    (lawful-arrived f.0 s c.args.entry.now fits before) in
+    names-all f.0 c.arrive-changed.new.self lawful
 
 pub invariant_of-self : goal.invariant_of-self
 invariant_of-self c =
@@ -47,13 +57,13 @@ invariant_of-self c =
     let f = c.requires.fits in
     let before = subst (λ (k : Kept). IsLawful f.0 k) (sym c.self.view_is) f.1 in
     let fits = subst (λ (k : Kept). EntryFits f.0 k.core.moment c.args.entry.now) (sym c.self.view_is) f.2 in
-    let lawful = subst (λ (k : Kept). IsLawful f.0 k) (sym c.arrive.ensures)
+    let lawful = subst (λ (k : Kept). IsLawful f.0 k) (sym c.arrive-changed.ensures.arrived)
     (lawful-arrived f.0 s.state c.args.entry.now fits before) in
-    kept-all f.0 s.state c.arrive.new.self s.ready c.renew_all.new.ready before lawful c.self.invariant
-    c.renew_all.ensures
+    kept-stirred f.0 s.state c.arrive-changed.new.self s.standing c.renew_if.new.self c.arrive-changed.result before lawful
+    (ap (λ (k : Kept). k.offers) c.arrive-changed.ensures.arrived) c.arrive-changed.ensures.stirs c.self.invariant c.renew_if.ensures
 
-pub arrive-requires-clause-comes : goal.arrive-requires-clause-comes
-arrive-requires-clause-comes c =
+pub arrive-changed-requires-clause-comes : goal.arrive-changed-requires-clause-comes
+arrive-changed-requires-clause-comes c =
     let s = c.self.inside.state in
     let f = c.requires.fits in
     let before = subst (λ (k : Kept). IsLawful f.0 k) (sym c.self.view_is) f.1 in
@@ -65,4 +75,4 @@ returns-clause-lawful c = λ setup lawful comes.
     let s = c.self.inside.state in
     let before = subst (λ (k : Kept). IsLawful setup k) (sym c.self.view_is) lawful in
     let fits = subst (λ (k : Kept). EntryFits setup k.core.moment c.args.entry.now) (sym c.self.view_is) comes in
-    subst (λ (k : Kept). IsLawful setup k) (sym c.arrive.ensures) (lawful-arrived setup s c.args.entry.now fits before)
+    subst (λ (k : Kept). IsLawful setup k) (sym c.arrive-changed.ensures.arrived) (lawful-arrived setup s c.args.entry.now fits before)

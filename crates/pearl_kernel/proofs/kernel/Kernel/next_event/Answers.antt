@@ -11,6 +11,6 @@ invariant_of-self c =
     let of = c.self.invariant.lawful in
     let lawful = lawful-taken of.0 s.state c.next_event.new.self c.next_event.result c.next_event.ensures.rest
     c.next_event.ensures.same of.1 in
-    subst (λ (k : Kept). IsWhole k s.ready) (sym c.next_event.ensures.same)
-    (kept-told of.0 s.state s.ready c.next_event.new.self.core.told
+    subst (λ (k : Kept). IsWhole k s.standing) (sym c.next_event.ensures.same)
+    (kept-told of.0 s.state s.standing c.next_event.new.self.core.told
     (subst (λ (k : Kept). IsLawful of.0 k) c.next_event.ensures.same lawful) c.self.invariant)

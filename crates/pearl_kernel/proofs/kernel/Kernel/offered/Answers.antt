@@ -1,13 +1,13 @@
-use Rattle.std.proofs.Common.{◌≡◌, true, sym, subst, slice_set}
+use Rattle.std.proofs.Common.{◌≡◌, true, sym, subst}
 use Rattle.pearl_kernel.specs.Kept.{Kept, is_unsettled, IsLawful}
 use Rattle.pearl_kernel.specs.Whole.{IsWhole}
-use Rattle.pearl_kernel.specs.Eligible.{entry}
+use Rattle.pearl_kernel.specs.Eligible.{Stand, possible, noted}
 use Rattle.pearl_kernel.proofs.Naming.{names-all}
 use Rattle.pearl_kernel.proofs.Offering.{unsettled-there, lawful-offering, kept-offering}
 use Rattle.pearl_kernel.proofs.kernel.Kernel.offered.Goals as goal
 
-pub refresh-requires-clause-names : goal.refresh-requires-clause-names
-refresh-requires-clause-names c =
+pub offered-requires-clause-names : goal.offered-requires-clause-names
+offered-requires-clause-names c =
     let s = c.self.inside.state in
     let f = c.requires.fits in
     let unsettled = subst (λ (k : Kept). is_unsettled k c.args.task ≡ true) (sym c.self.view_is) c.requires.unsettled in
@@ -21,10 +21,10 @@ invariant_of-self c =
     let f = c.requires.fits in
     let unsettled = subst (λ (k : Kept). is_unsettled k c.args.task ≡ true) (sym c.self.view_is) c.requires.unsettled in
     let before = subst (λ (k : Kept). IsLawful f.0 k) (sym c.self.view_is) f.1 in
-    let kept = kept-offering f.0 s.state s.ready c.args.task c.args.action (unsettled-there s.state c.args.task unsettled)
+    let kept = kept-offering f.0 s.state s.standing c.args.task c.args.action (unsettled-there s.state c.args.task unsettled)
     (lawful-offering f.0 s.state c.args.task c.args.action unsettled f.2 before) c.self.invariant in
-    subst (λ xs. IsWhole c.set_offer.new.self xs) (sym c.refresh.ensures)
-    (subst (λ (k : Kept). IsWhole k (slice_set s.ready c.args.task (entry k c.args.task)))
+    subst (λ (x : Stand). IsWhole c.set_offer.new.self x) (sym c.offered.ensures)
+    (subst (λ (k : Kept). IsWhole k (noted k c.args.task (possible k c.args.task) s.standing))
     (sym c.set_offer.ensures) kept)
 
 pub returns-clause-lawful : goal.returns-clause-lawful

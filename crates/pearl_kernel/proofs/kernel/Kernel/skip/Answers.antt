@@ -20,8 +20,8 @@ invariant_of-self c =
     let quiet = subst (λ (k : Kept). IsQuiet k.core c.args.n) (sym c.self.view_is) c.requires.quiet in
     let moment = s.state.core.moment + c.args.n in
     let is = c.skip.ensures ∙ ap (λ (core : Core). record s.state { core = core }) (passed-quiet c.args.n s.state.core quiet) in
-    subst (λ (k : Kept). IsWhole k s.ready) (sym is)
-    (kept-moment of.0 s.state s.ready moment (lawful-moment of.0 s.state moment later of.1) c.self.invariant)
+    subst (λ (k : Kept). IsWhole k s.standing) (sym is)
+    (kept-moment of.0 s.state s.standing moment (lawful-moment of.0 s.state moment later of.1) c.self.invariant)
 
 pub returns-clause-lawful : goal.returns-clause-lawful
 returns-clause-lawful c = λ setup lawful.

@@ -1,7 +1,10 @@
-use Rattle.std.proofs.Common.{◌+◌, ◌≤◌, sym, subst, ◌∙◌}
+use Rattle.std.proofs.Common.{◌+◌, ◌≤◌, sym, ap, subst, ◌∙◌}
 use Rattle.pearl_rules.specs.Entries.{last_moment_of_all}
 use Rattle.pearl_kernel.specs.Kept.{Kept, IsLawful}
-use Rattle.pearl_kernel.proofs.Acting.{kept-all}
+use Rattle.pearl_kernel.specs.declared.changes.Changed.TheVariants.{Nothing}
+use Rattle.pearl_kernel.specs.Changes.{ChangesOnly}
+use Rattle.pearl_kernel.proofs.Acting.{kept-changed}
+use Rattle.pearl_kernel.proofs.Changing.{millisecond-changes}
 use Rattle.pearl_kernel.proofs.Lawful.{lawful-millisecond}
 use Rattle.pearl_kernel.proofs.Naming.{names-all}
 use Rattle.pearl_kernel.proofs.kernel.Kernel.tick.Goals as goal
@@ -20,7 +23,15 @@ renew_all-requires-clause-size c =
     let of = c.self.invariant.lawful in
     let later = subst (λ (k : Kept). k.core.moment + 1 ≤ last_moment_of_all) (sym c.self.view_is) c.requires.later in
     let lawful = subst (λ (k : Kept). IsLawful of.0 k) (sym c.millisecond.ensures) (lawful-millisecond of.0 s later of.1) in
-    c.self.invariant.ready.size ∙ of.1.tasks ∙ sym lawful.tasks
+    c.self.invariant.stand.size ∙ of.1.tasks ∙ sym lawful.tasks
+
+pub renew_all-requires-clause-set_size : goal.renew_all-requires-clause-set_size
+renew_all-requires-clause-set_size c =
+    let s = c.self.inside.state in
+    let of = c.self.invariant.lawful in
+    let later = subst (λ (k : Kept). k.core.moment + 1 ≤ last_moment_of_all) (sym c.self.view_is) c.requires.later in
+    let lawful = subst (λ (k : Kept). IsLawful of.0 k) (sym c.millisecond.ensures) (lawful-millisecond of.0 s later of.1) in
+    c.self.invariant.stand.ready.size ∙ of.1.tasks ∙ sym lawful.tasks
 
 pub renew_all-requires-clause-names : goal.renew_all-requires-clause-names
 renew_all-requires-clause-names c =
@@ -37,8 +48,10 @@ invariant_of-self c =
     let later = subst (λ (k : Kept). k.core.moment + 1 ≤ last_moment_of_all) (sym c.self.view_is) c.requires.later in
     let lawful = subst (λ (k : Kept). IsLawful of.0 k) (sym c.millisecond.ensures)
     (lawful-millisecond of.0 s.state later of.1) in
-    kept-all of.0 s.state c.millisecond.new.self s.ready c.renew_all.new.ready of.1 lawful c.self.invariant
-    c.renew_all.ensures
+    let only = subst (λ (k : Kept). ChangesOnly Nothing s.state.core k.core) (sym c.millisecond.ensures)
+    (millisecond-changes s.state.core) in
+    kept-changed of.0 s.state c.millisecond.new.self s.standing c.renew_all.new.self Nothing of.1 lawful
+    (ap (λ (k : Kept). k.offers) c.millisecond.ensures) only c.self.invariant c.renew_all.ensures
 
 pub returns-clause-lawful : goal.returns-clause-lawful
 returns-clause-lawful c = λ setup lawful.

@@ -9,5 +9,5 @@ pub invariant_of-self : goal.invariant_of-self
 invariant_of-self c =
     let s = c.self.inside in
     let of = c.self.invariant.lawful in
-    subst (λ (k : Kept). IsWhole k s.ready) (sym c.set_last.ensures)
-    (kept-last of.0 s.state s.ready (Some c.args.task) (lawful-last of.0 s.state (Some c.args.task) of.1) c.self.invariant)
+    subst (λ (k : Kept). IsWhole k s.standing) (sym c.set_last.ensures)
+    (kept-last of.0 s.state s.standing (Some c.args.task) (lawful-last of.0 s.state (Some c.args.task) of.1) c.self.invariant)
