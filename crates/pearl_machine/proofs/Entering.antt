@@ -10,13 +10,14 @@ use Rattle.pearl_rules.specs.Core.{Report}
 use Rattle.pearl_rules.specs.Pick.{states}
 use Rattle.pearl_rules.proofs.PickLaws.{states-offers}
 use Rattle.pearl_rules.specs.Runs.{Turns, Tells, Arrives, next_mark, machine_offers, Running, kept_at, stepped, unsettled, machine_step}
-use Rattle.pearl_io.specs.Outside.{Takes}
+use Rattle.pearl_io.specs.Outside.{Takes, TakesFront}
+use Rattle.pearl_io.proofs.Pieces.{takes_more, takes_front_more}
 use Rattle.pearl_stack.specs.Frames.{Frame}
 use Rattle.pearl_instructions.specs.declared.object.Object.{Object}
 use Rattle.pearl_instructions.specs.Rows.{row}
 use Rattle.pearl_engine.specs.Engines.{engine, stepped_by}
 use Rattle.pearl_engine.specs.Setups.{setup_of}
-use Rattle.pearl_script.specs.Lines.{lines_of}
+use Rattle.pearl_script.specs.Lines.{lines_of, close_line}
 use Rattle.pearl_kernel.specs.Kept.{Kept, IsLawful, IsFirst}
 use Rattle.pearl_machine.specs.Parts.{start_of, going_frames, running_of, StepsPart, HasMemories}
 use Rattle.pearl_machine.specs.Ready.{IsReady, untold, seen_of}
@@ -27,7 +28,7 @@ use Rattle.pearl_machine.proofs.Going.{handles_then, handles_retold, handles_pic
 use Rattle.pearl_machine.proofs.Places.{offered_by, offers_here, goes_here}
 use Rattle.pearl_machine.proofs.ReadyLaws.{first_seen, first_active, first_silent, none_due, told_past, with_offer, ready_offers, ready_goes}
 use Rattle.pearl_machine.proofs.Steps.{first_step}
-use Rattle.pearl_machine.proofs.Taken.{takes_nothing}
+use Rattle.pearl_machine.proofs.Taken.{takes_nothing, cut_front}
 
 -- ONE INSTRUCTION
 
@@ -238,16 +239,42 @@ at_once_free l picks n most some few (inr idle) = inr idle
 
 -- WHAT CLOSES A RUN
 
--- the states that were shown are those of the machine
-pub shown_states : (b s w : Seen) → s ≡ retold b (states b.state.core (machine_offers b.state)) → w ≡ retold s w.state.core.told →
-    s.state.core.told ≡ states w.state.core (machine_offers w.state)
-shown_states b s w shown written =
-    ap (λ (x : Seen). x.state.core.told) shown
-    ∙ sym (ap (λ (x : Seen). states x.state.core (machine_offers x.state)) (written ∙ ap (λ (x : Seen). retold x w.state.core.told) shown)
-    ∙ states-offers (retold b w.state.core.told).state.core b.state.core (machine_offers b.state) (machine_offers b.state) refl refl refl refl refl refl (λ t. refl))
-
 pub closes_from : (a b s w : Seen) → b.object ≡ a.object → ((from : List Entry) → Handles a from from b []) →
     s ≡ retold b (states b.state.core (machine_offers b.state)) → w ≡ retold s w.state.core.told → (from : List Entry) → Handles a from from w []
 closes_from a b s w object settles shown written from =
     subst (λ n. Handles a from from n []) (sym (written ∙ ap (λ (x : Seen). retold x w.state.core.told) shown))
     (handles_retold a b from from [] w.state.core.told (settles from))
+
+module _ (a b s w : Seen) (object : b.object ≡ a.object) (shown : s ≡ retold b (states b.state.core (machine_offers b.state)))
+    (written : w ≡ retold s w.state.core.told) where
+  -- the last lines
+  abbrev pub closing : List ℕ
+  closing = lines_of (setup_of a.object) (states w.state.core (machine_offers w.state)) ++ close_line w.state.core.moment
+
+  -- the states that were shown are those of the machine
+  shown_states : s.state.core.told ≡ states w.state.core (machine_offers w.state)
+  shown_states =
+      ap (λ (x : Seen). x.state.core.told) shown
+      ∙ sym (ap (λ (x : Seen). states x.state.core (machine_offers x.state)) (written ∙ ap (λ (x : Seen). retold x w.state.core.told) shown)
+      ∙ states-offers (retold b w.state.core.told).state.core b.state.core (machine_offers b.state) (machine_offers b.state) refl refl refl refl refl refl (λ t. refl))
+
+  lines_are : lines_of (setup_of s.object) s.state.core.told ++ close_line w.state.core.moment ≡ closing
+  lines_are =
+      ap₂ (λ o told. lines_of (setup_of o) told ++ close_line w.state.core.moment) (ap (λ (x : Seen). x.object) shown ∙ object) shown_states
+
+  -- the states' lines were taken, and then this last one
+  pub closed : (old mid new : Option (List ℕ)) (line : List ℕ) → Takes old mid (lines_of (setup_of s.object) s.state.core.told) →
+      line ≡ close_line w.state.core.moment → Takes mid new line → Takes old new closing
+  closed old mid new line lines is last =
+      subst (λ bytes. Takes old new bytes) lines_are (takes_more old mid new _ _ lines (subst (λ bytes. Takes mid new bytes) is last))
+
+  pub closed_front : (old mid new : Option (List ℕ)) (line : List ℕ) → Takes old mid (lines_of (setup_of s.object) s.state.core.told) →
+      line ≡ close_line w.state.core.moment → TakesFront mid new line → TakesFront old new closing
+  closed_front old mid new line lines is last =
+      subst (λ bytes. TakesFront old new bytes) lines_are (takes_front_more old mid new _ _ lines (subst (λ bytes. TakesFront mid new bytes) is last))
+
+  -- the states' lines were cut off
+  pub closed_cut : (old new : Option (List ℕ)) → IsCutOff (setup_of s.object) old new s.state.core.told w.state.core.told → TakesFront old new closing
+  closed_cut old new cut =
+      subst (λ bytes. TakesFront old new bytes) lines_are
+      (cut_front (setup_of s.object) old new s.state.core.told w.state.core.told (close_line w.state.core.moment) cut)

@@ -1,5 +1,5 @@
 -- A machine after a mark that no task makes: milliseconds that pass, and what comes from outside.
-use Rattle.std.proofs.Common.{◌≡◌, ℕ, suc, ◌+◌, ◌<◌, ◌≤◌, inr, List, [], ◌∷◌, ◌++◌, Bool, true, false, Option, Some, None, length, slice_get, refl, sym, ap, ap₂, subst, ◌∙◌, arith, append-nil, zero-add}
+use Rattle.std.proofs.Common.{◌≡◌, ℕ, suc, ◌+◌, ◌≤◌, inr, List, [], ◌++◌, true, false, Option, None, length, slice_get, refl, sym, ap, ap₂, subst, ◌∙◌, arith, append-nil, zero-add}
 use Rattle.std.proofs.lemmas.Bool.{true≢false}
 use Rattle.pearl_rules.specs.declared.entry.Entry.{Entry}
 use Rattle.pearl_rules.specs.declared.setup.Setup.{Setup}
@@ -16,7 +16,7 @@ use Rattle.pearl_kernel.specs.Timing.{IsQuiet}
 use Rattle.pearl_kernel.proofs.Passing.{millisecond-silent}
 use Rattle.pearl_machine.specs.Known.{Known}
 use Rattle.pearl_machine.specs.Parts.{start_of, is_going, running_of}
-use Rattle.pearl_machine.specs.Ready.{IsReady, AllStand, untold, seen_of}
+use Rattle.pearl_machine.specs.Ready.{IsReady, AllStand, seen_of}
 use Rattle.pearl_machine.specs.Seen.{Seen, at, later, Makes, Skips}
 use Rattle.pearl_machine.specs.declared.part.Part.{Part}
 use Rattle.pearl_machine.proofs.Rows.{table_alike, table_refreshed}

@@ -108,7 +108,10 @@ impl Machine {
         }
     }
 
-    /// Hands the sink the lines that open a run: for each task that is active at the start, that it started.
+    /// Hands the sink the lines of what is told and not written: behind [`Machine::load`] those that open a run. Tests
+    /// hold that each line is one piece.
+    ///
+    /// After [`WriteFault`] some lines were taken whole, of the next one less than all, and the later ones are left.
     pub fn begin<K: Sink>(&mut self, sink: &mut K) -> Result<(), WriteFault>
         ensures same { self.new ≡ retold self.old self.new.state.core.told }
         ensures ok { OnOk result (Takes (K.taken sink.old) (K.taken sink.new)
@@ -122,9 +125,12 @@ impl Machine {
         self.tell(sink)
     }
 
-    /// Makes all marks of one entry, and hands the sink the line of all that they tell, each line as one piece.
+    /// Makes all marks of one entry, and hands the sink the lines of what they tell. Tests hold that each line is one
+    /// piece.
     ///
-    /// After [`WriteFault`] the machine stands after the mark whose lines were not taken whole.
+    /// After [`WriteFault`] the machine stands somewhere in the entry: of what was told up to there some lines were
+    /// taken whole, of the next one less than all, and the later ones are left. Tasks may have gone on to their next
+    /// actions.
     pub fn entry<K: Sink>(&mut self, entry: &Entry, sink: &mut K) -> Result<(), WriteFault>
         requires taken { self.old.state.core.told ≡ [] }
         requires fits { EntryFits (setup_of self.old.object) self.old.state.core.moment entry.now }
@@ -162,9 +168,11 @@ impl Machine {
         }
     }
 
-    /// Hands the sink the last lines: how each task stands, and that the run is closed, each as one piece.
+    /// Hands the sink the last lines: how each task stands, and that the run is closed. Tests hold that each line is
+    /// one piece.
     ///
-    /// After [`WriteFault`] a front of these bytes was taken, and not all.
+    /// After [`WriteFault`] a front of these bytes was taken, and not all. Every active task has gone on to its next
+    /// action all the same.
     pub fn close<K: Sink>(&mut self, sink: &mut K) -> Result<(), WriteFault>
         requires taken { self.old.state.core.told ≡ [] }
         ensures object { self.new.object ≡ self.old.object }
@@ -173,6 +181,7 @@ impl Machine {
         ensures ok { OnOk result (Takes (K.taken sink.old) (K.taken sink.new)
             (lines_of (setup_of self.old.object) (states self.new.state.core (machine_offers self.new.state))
             ++ line_of_close self.new.state.core.moment)) }
+        ensures all { OnOk result (self.new.state.core.told ≡ []) }
         ensures err { OnErr result (TakesFront (K.taken sink.old) (K.taken sink.new)
             (lines_of (setup_of self.old.object) (states self.new.state.core (machine_offers self.new.state))
             ++ line_of_close self.new.state.core.moment)) }

@@ -6,69 +6,53 @@ use Rattle.pearl_machine.proofs.machine.Machine.entry.Goals as goal
 
 pub returns-in-Run-clause-ok : goal.returns-in-Run-clause-ok
 returns-in-Run-clause-ok g c =
-    on_ok c.run.result
-    (entered_from c.args.self.now c.settle.new.self c.run.new.self c.args.entry.now (Run c.in-Run.count) (g.K.Sink.taken c.args.sink.now) (g.K.Sink.taken c.run.new.sink)
-    c.settle.ensures.object c.settle.ensures.handles c.in-Run.is) c.run.ensures.ok
+    on_ok c.run.result (entered_from _ _ _ _ (Run c.in-Run.count) _ _ c.settle.ensures.object c.settle.ensures.handles c.in-Run.is) c.run.ensures.ok
 
 pub returns-in-Run-clause-err : goal.returns-in-Run-clause-err
 returns-in-Run-clause-err g c =
-    on_err c.run.result
-    (cut_from c.args.self.now c.settle.new.self c.run.new.self c.args.entry.now (Run c.in-Run.count) (g.K.Sink.taken c.args.sink.now) (g.K.Sink.taken c.run.new.sink)
-    c.settle.ensures.object c.settle.ensures.handles c.in-Run.is) c.run.ensures.err
+    on_err c.run.result (cut_from _ _ _ _ (Run c.in-Run.count) _ _ c.settle.ensures.object c.settle.ensures.handles c.in-Run.is) c.run.ensures.err
+
+pub returns-in-Tick-clause-ok : goal.returns-in-Tick-clause-ok
+returns-in-Tick-clause-ok g c =
+    on_ok c.tick.result (entered_from _ _ _ _ (Tick c.in-Tick.count) _ _ c.settle.ensures.object c.settle.ensures.handles c.in-Tick.is) c.tick.ensures.ok
+
+pub returns-in-Tick-clause-err : goal.returns-in-Tick-clause-err
+returns-in-Tick-clause-err g c =
+    on_err c.tick.result (cut_from _ _ _ _ (Tick c.in-Tick.count) _ _ c.settle.ensures.object c.settle.ensures.handles c.in-Tick.is) c.tick.ensures.err
+
+pub returns-in-Pass-clause-ok : goal.returns-in-Pass-clause-ok
+returns-in-Pass-clause-ok g c =
+    on_ok c.pass.result (entered_from _ _ _ _ (Pass c.in-Pass.times c.in-Pass.picks) _ _ c.settle.ensures.object c.settle.ensures.handles c.in-Pass.is) c.pass.ensures.ok
+
+pub returns-in-Pass-clause-err : goal.returns-in-Pass-clause-err
+returns-in-Pass-clause-err g c =
+    on_err c.pass.result (cut_from _ _ _ _ (Pass c.in-Pass.times c.in-Pass.picks) _ _ c.settle.ensures.object c.settle.ensures.handles c.in-Pass.is) c.pass.ensures.err
 
 pub returns-in-Turn-clause-ok : goal.returns-in-Turn-clause-ok
 returns-in-Turn-clause-ok g c =
-    entered_from c.args.self.now c.settle.new.self c.turn.new.self c.args.entry.now (Turn c.in-Turn.task) (g.K.Sink.taken c.args.sink.now) (g.K.Sink.taken c.args.sink.now)
-    c.settle.ensures.object c.settle.ensures.handles c.in-Turn.is
+    entered_from _ _ _ _ (Turn c.in-Turn.task) _ _ c.settle.ensures.object c.settle.ensures.handles c.in-Turn.is
     (entered_turn c.settle.new.self c.turn.new.self c.in-Turn.task (g.K.Sink.taken c.args.sink.now) c.settle.ensures.settled c.turn.ensures.turns c.turn.ensures.taken)
 
 pub returns-in-State-clause-ok : goal.returns-in-State-clause-ok
 returns-in-State-clause-ok g c =
     on_ok c.tell.result
-    (λ takes. entered_from c.args.self.now c.settle.new.self c.tell.new.self c.args.entry.now State (g.K.Sink.taken c.args.sink.now) (g.K.Sink.taken c.tell.new.sink)
-    c.settle.ensures.object c.settle.ensures.handles c.in-State.is
+    (λ takes. entered_from _ _ _ _ State _ _ c.settle.ensures.object c.settle.ensures.handles c.in-State.is
     (entered_state c.settle.new.self c.show.new.self c.tell.new.self (g.K.Sink.taken c.args.sink.now) (g.K.Sink.taken c.tell.new.sink) c.settle.ensures.settled
     (ap (λ (s : Seen). s.object) c.show.ensures.same) c.show.ensures.tells c.tell.ensures.same takes)) c.tell.ensures.ok
 
 pub returns-in-State-clause-err : goal.returns-in-State-clause-err
 returns-in-State-clause-err g c =
     on_err c.tell.result
-    (λ cut. cut_from c.args.self.now c.settle.new.self c.tell.new.self c.args.entry.now State (g.K.Sink.taken c.args.sink.now) (g.K.Sink.taken c.tell.new.sink)
-    c.settle.ensures.object c.settle.ensures.handles c.in-State.is
+    (λ cut. cut_from _ _ _ _ State _ _ c.settle.ensures.object c.settle.ensures.handles c.in-State.is
     (cut_state c.settle.new.self c.show.new.self c.tell.new.self (g.K.Sink.taken c.args.sink.now) (g.K.Sink.taken c.tell.new.sink) c.settle.ensures.settled
     (ap (λ (s : Seen). s.object) c.show.ensures.same) c.show.ensures.tells c.tell.ensures.same cut)) c.tell.ensures.err
-
-pub returns-in-Tick-clause-ok : goal.returns-in-Tick-clause-ok
-returns-in-Tick-clause-ok g c =
-    on_ok c.tick.result
-    (entered_from c.args.self.now c.settle.new.self c.tick.new.self c.args.entry.now (Tick c.in-Tick.count) (g.K.Sink.taken c.args.sink.now) (g.K.Sink.taken c.tick.new.sink)
-    c.settle.ensures.object c.settle.ensures.handles c.in-Tick.is) c.tick.ensures.ok
-
-pub returns-in-Tick-clause-err : goal.returns-in-Tick-clause-err
-returns-in-Tick-clause-err g c =
-    on_err c.tick.result
-    (cut_from c.args.self.now c.settle.new.self c.tick.new.self c.args.entry.now (Tick c.in-Tick.count) (g.K.Sink.taken c.args.sink.now) (g.K.Sink.taken c.tick.new.sink)
-    c.settle.ensures.object c.settle.ensures.handles c.in-Tick.is) c.tick.ensures.err
-
-pub returns-in-Pass-clause-ok : goal.returns-in-Pass-clause-ok
-returns-in-Pass-clause-ok g c =
-    on_ok c.pass.result
-    (entered_from c.args.self.now c.settle.new.self c.pass.new.self c.args.entry.now (Pass c.in-Pass.times c.in-Pass.picks) (g.K.Sink.taken c.args.sink.now) (g.K.Sink.taken c.pass.new.sink)
-    c.settle.ensures.object c.settle.ensures.handles c.in-Pass.is) c.pass.ensures.ok
-
-pub returns-in-Pass-clause-err : goal.returns-in-Pass-clause-err
-returns-in-Pass-clause-err g c =
-    on_err c.pass.result
-    (cut_from c.args.self.now c.settle.new.self c.pass.new.self c.args.entry.now (Pass c.in-Pass.times c.in-Pass.picks) (g.K.Sink.taken c.args.sink.now) (g.K.Sink.taken c.pass.new.sink)
-    c.settle.ensures.object c.settle.ensures.handles c.in-Pass.is) c.pass.ensures.err
 
 pub returns-in_default-clause-ok : goal.returns-in_default-clause-ok
 returns-in_default-clause-ok g c =
     let entry = c.args.entry.now in
     let d = c.in_default in
     on_ok c.finish.result
-    (λ lines. entered_from c.args.self.now c.settle.new.self c.finish.new.self entry entry (g.K.Sink.taken c.args.sink.now) (g.K.Sink.taken c.finish.new.sink)
-    c.settle.ensures.object c.settle.ensures.handles refl
+    (λ lines. entered_from _ _ _ _ entry _ _ c.settle.ensures.object c.settle.ensures.handles refl
     (entered_arrival c.settle.new.self c.arrive.new.self c.finish.new.self entry (g.K.Sink.taken c.args.sink.now) (g.K.Sink.taken c.finish.new.sink) c.settle.ensures.settled
     c.arrive.ensures.object (comes_alone entry d.not-Run d.not-Tick d.not-Pass d.not-Turn d.not-State) c.arrive.ensures.arrives
     (c.finish.ensures.handles c.settle.new.self (entry ∷ []) [] c.arrive.new.self.state.core.told c.arrive.ensures.object) lines)) c.finish.ensures.ok
@@ -78,8 +62,7 @@ returns-in_default-clause-err g c =
     let entry = c.args.entry.now in
     let d = c.in_default in
     on_err c.finish.result
-    (λ lines. cut_from c.args.self.now c.settle.new.self c.finish.new.self entry entry (g.K.Sink.taken c.args.sink.now) (g.K.Sink.taken c.finish.new.sink)
-    c.settle.ensures.object c.settle.ensures.handles refl
+    (λ lines. cut_from _ _ _ _ entry _ _ c.settle.ensures.object c.settle.ensures.handles refl
     (cut_arrival c.settle.new.self c.arrive.new.self c.finish.new.self entry (g.K.Sink.taken c.args.sink.now) (g.K.Sink.taken c.finish.new.sink) c.settle.ensures.settled
     c.arrive.ensures.object (comes_alone entry d.not-Run d.not-Tick d.not-Pass d.not-Turn d.not-State) c.arrive.ensures.arrives
     (c.finish.ensures.handles c.settle.new.self (entry ∷ []) [] c.arrive.new.self.state.core.told c.arrive.ensures.object) lines)) c.finish.ensures.err

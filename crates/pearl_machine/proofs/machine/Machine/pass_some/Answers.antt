@@ -1,7 +1,7 @@
-use Rattle.std.proofs.Common.{None, [], sym, ap, ◌∙◌, subst}
+use Rattle.std.proofs.Common.{sym, ap, ◌∙◌, subst}
 use Rattle.pearl_rules.specs.Runs.{unsettled}
 use Rattle.pearl_kernel.specs.Timing.{IsQuiet}
-use Rattle.pearl_machine.specs.Seen.{Seen, Skips, Makes, PassesSome}
+use Rattle.pearl_machine.specs.Seen.{Seen, Skips, PassesSome}
 use Rattle.pearl_machine.proofs.Going.{some_skipped, one_millisecond}
 use Rattle.pearl_machine.proofs.machine.Machine.pass_some.Goals as goal
 
