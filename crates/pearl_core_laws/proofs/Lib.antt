@@ -6,3 +6,7 @@ pub mod Steps
 pub mod Planning
 pub mod Rows
 pub mod Incoming
+pub mod Modes
+pub mod Reaching
+pub mod Alike
+pub mod Picking

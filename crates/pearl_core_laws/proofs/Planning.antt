@@ -24,17 +24,17 @@ use Rattle.pearl_core_laws.proofs.Times.{next_time}
 use Rattle.pearl_core_laws.proofs.Steps.{tells, tells_none, step_changes, row_changed, row_there, row_twice, mark_is, plan_continuation_is, plan_activation_is}
 
 -- the core in which this task acted last
-abbrev acted : Core → ℕ → Core
+abbrev pub acted : Core → ℕ → Core
 acted core own = record core { last = Some own }
 
 -- a row that is written, and events
-changes_by : (old new : Core) (t : ℕ) (row changed : TaskRow) (events : List Event) → row_of old t ≡ Some row →
+pub changes_by : (old new : Core) (t : ℕ) (row changed : TaskRow) (events : List Event) → row_of old t ≡ Some row →
     new ≡ tells (with_row old t changed) events → ChangesRow old new t changed events
 changes_by old new t row changed events at is =
     subst (λ c. ChangesRow old c t changed events) (sym is) (step_changes old t row changed events at)
 
 -- without events
-changes_silently : (old new : Core) (t : ℕ) (row changed : TaskRow) → row_of old t ≡ Some row → new ≡ with_row old t changed →
+pub changes_silently : (old new : Core) (t : ℕ) (row changed : TaskRow) → row_of old t ≡ Some row → new ≡ with_row old t changed →
     ChangesRow old new t changed []
 changes_silently old new t row changed at is = changes_by old new t row changed [] at (is ∙ tells_none (with_row old t changed))
 

@@ -105,7 +105,7 @@ module _ (core : Core) (t : ℕ) (row : TaskRow) (at : row_of core t ≡ Some ro
       by_test false =
           sym (same_row core t row at) ∙ ap (λ mode. with_row core t (record row { mode = mode })) (sym (mode_stays row.mode))
 
-  started_is : (priority : ℕ) → started core t priority ≡ tells (with_row core t (began (Some priority) row)) (start_events t (Some priority) row.mode)
+  pub started_is : (priority : ℕ) → started core t priority ≡ tells (with_row core t (began (Some priority) row)) (start_events t (Some priority) row.mode)
   started_is priority = ap (λ mode. started_by mode core t priority) (ap mode_of_row at) ∙ by_mode row.mode refl
     where
       by_mode : (mode : Mode) → row.mode ≡ mode → started_by mode core t priority

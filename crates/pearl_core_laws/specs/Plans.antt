@@ -42,6 +42,11 @@ Waits other = ⊥
 abbrev pub IsWrittenWith : (interrupt : ℕ) → Start → Type 0
 IsWrittenWith interrupt start = (start ≡ When interrupt) ⊎ ((time : ℤ) × (start ≡ WhenAfter interrupt time))
 
+-- neither of the task's plans is written with this interrupt
+pub record IsUntouchedBy (interrupt : ℕ) (row : TaskRow) : Type 0 where
+  pub goes_on : (plan : Plan) → row.continuation ≡ Some plan → IsWrittenWith interrupt plan.start → ⊥
+  pub starts : (activation : Activation) → row.activation ≡ Some activation → IsWrittenWith interrupt activation.plan.start → ⊥
+
 -- ONE TASK
 
 -- one task's row is this now, these events were told, and nothing else changed

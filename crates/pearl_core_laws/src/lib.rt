@@ -1,6 +1,9 @@
 // What the rules of tasks come to, in words of their own: what there is of it are laws.
 #![tactic(auto)]
 
+pub mod arrivals;
 pub mod devices;
 pub mod laws;
+pub mod runs;
 pub mod schedules;
+pub mod tasks;

@@ -6,3 +6,4 @@ pub mod FitLaws
 pub mod NumberLaws
 pub mod BlankLaws
 pub mod MeaningLaws
+pub mod CodeLaws

@@ -1,16 +1,22 @@
 -- What lines mean that are written otherwise, and which lines are skipped.
-use Rattle.std.proofs.Common.{◌≡◌, ◌≢◌, ◌≤◌, ◌<◌, ℕ, List, [], ◌∷◌, ◌++◌, false, length, drop, refl, ap, sym, ◌∙◌, subst, arith, inl, inr}
+use Rattle.std.proofs.Common.{◌≡◌, ◌≢◌, ◌≤◌, ◌<◌, ℕ, List, [], ◌∷◌, ◌++◌, Bool, false, length, drop, codes, slice_get, Ok, refl, ap, ap₂, sym, ◌∙◌, subst, arith, inl, inr}
 use Rattle.std.proofs.lemmas.Bool.{ne_eqb, le-leb}
 use Rattle.std.proofs.lemmas.Bool.Decides.{leb_tells}
 use Rattle.std.proofs.lemmas.List.{append_assoc, append-nil}
 use Rattle.pearl_rules.specs.declared.setup.Setup.{Setup}
-use Rattle.pearl_journal.specs.declared.limits.TheConstants.{LINE_LIMIT, NO_FORM}
+use Rattle.pearl_rules.specs.declared.entry.Entry.TheVariants as entry
+use Rattle.pearl_rules.specs.Tables.{input_kind}
+use Rattle.std.specs.List.{position}
+use Rattle.pearl_journal.specs.declared.limits.TheConstants.{LINE_LIMIT, NO_FIT, NO_FORM, NOT_DECLARED}
+use Rattle.pearl_journal.specs.Devices.{is_input}
+use Rattle.pearl_journal.specs.Texts.{quoted, text_literal}
+use Rattle.pearl_journal.specs.Values.{coming_in, literal}
 use Rattle.pearl_journal.specs.declared.reading.Line.TheVariants.{Blank, Wrong}
 use Rattle.pearl_journal.specs.Lines.{without_return}
-use Rattle.pearl_journal.specs.Words.{behind_blanks, before_blanks, behind_word, first_word}
+use Rattle.pearl_journal.specs.Words.{behind_blanks, before_blanks, behind_word, first_word, number}
 use Rattle.pearl_journal.specs.Readings.{Reading}
-use Rattle.pearl_journal.specs.Meaning.{entry_of, is_skipped, line_of, meaning, meaning_within, text_meaning}
-use Rattle.pearl_journal.specs.Laws.{EndsInNoReturn, IsBare, IsComment, IsGap, IsWord, SaysWordAndText}
+use Rattle.pearl_journal.specs.Meaning.{entry_of, form_of, in_time, is_skipped, line_of, meaning, meaning_within, needing, terminal_entry, text_meaning}
+use Rattle.pearl_journal.specs.Laws.{EndsInNoReturn, IsBare, IsComment, IsGap, IsWord, SaysThreeParts, SaysWordAndText, TakesTwoParts}
 use Rattle.pearl_journal.proofs.JournalLaws.{without_return-drops}
 use Rattle.pearl_journal.proofs.BlankLaws.{IsSolid, StopsWord, after_first-word, before_blanks-behind, before_blanks-first, before_blanks-gap, before_first-word, behind_blanks-bare, behind_blanks-gap, solid_begins, solid_last}
 
@@ -136,3 +142,63 @@ blanks_free setup reading line word text says h short =
     let front : behind_blanks line ≡ inner = ap behind_blanks says.spelled ∙ behind_blanks-gap says.front inner says.front_is_gap ∙ begins in
     meaning-within setup reading line h short ∙ ap (λ bytes. text_meaning setup reading (before_blanks bytes)) front
     ∙ with_back setup reading word says.gap text says.back says.is_word says.gap_is_gap says.back_is_gap says.is_bare says.parted
+
+-- LATER WORDS
+
+-- a second word, and what stands behind it and the blanks after it
+second_word : (second gap text : List ℕ) → IsSolid second → IsGap gap → gap ≢ [] →
+    first_word (second ++ (gap ++ text)) ≡ second
+second_word second gap text solid is_gap some =
+    before_first-word second (gap ++ text) solid (stops_at_gap gap text is_gap some)
+
+behind_second : (second gap text : List ℕ) → IsSolid second → IsGap gap → gap ≢ [] →
+    behind_word (second ++ (gap ++ text)) ≡ behind_blanks text
+behind_second second [] text solid is_gap some = absurd (some refl)
+behind_second second (byte ∷ gap) text solid is_gap some =
+    ap behind_blanks (after_first-word second (byte ∷ gap ++ text) solid (stops_at_gap (byte ∷ gap) text is_gap some))
+    ∙ behind_blanks-gap gap text is_gap.1
+
+-- what a line means that has two parts behind its first word: these two settle it
+parts_settle : (setup : Setup) (is_first : Bool) (word rest other : List ℕ) → TakesTwoParts word →
+    first_word rest ≡ first_word other →
+    behind_word rest ≡ behind_word other → form_of setup is_first word rest ≡ form_of setup is_first word other
+parts_settle setup is_first word rest other takes front behind = by_word takes
+  where
+    alike : (w : List ℕ) → form_of setup is_first w rest ≡ form_of setup is_first w other → word ≡ w →
+        form_of setup is_first word rest ≡ form_of setup is_first word other
+    alike w same is = subst (λ v. form_of setup is_first v rest ≡ form_of setup is_first v other) (sym is) same
+
+    by_word : TakesTwoParts word → form_of setup is_first word rest ≡ form_of setup is_first word other
+    by_word (inl is) = alike (codes "pass")
+        (ap₂
+        (λ a b. needing NO_FORM (number a)
+        (λ times. needing NO_FORM (number b) (λ picks. Ok (entry.Pass times picks)))) front behind) is
+    by_word (inr (inl is)) = alike (codes "chars")
+        (ap₂
+        (λ a b. terminal_entry setup a (text_literal b)
+        (λ device text. entry.Chars device (record { items = text }))) front behind) is
+    by_word (inr (inr (inl is))) = alike (codes "line")
+        (ap₂
+        (λ a b. terminal_entry setup a (quoted b)
+        (λ device text. entry.Line device (record { items = text }))) front behind) is
+    by_word (inr (inr (inr is))) = alike (codes "value")
+        (ap₂ (λ a b. needing NO_FORM (number a) (λ k.
+        needing NO_FORM (literal b) (λ spelled.
+        needing NOT_DECLARED (position (is_input k) setup.devices) (λ device.
+        needing NO_FIT (coming_in (input_kind (slice_get setup.devices device)) spelled)
+        (λ x. Ok (entry.Value device x)))))) front behind) is
+
+pub later_blanks_free : (setup : Setup) (reading : Reading) (line other word second text : List ℕ) →
+    TakesTwoParts word →
+    SaysThreeParts line word second text → SaysThreeParts other word second text →
+    EndsInNoReturn line → EndsInNoReturn other → length line ≤ 1024 → length other ≤ 1024 →
+    meaning setup reading line ≡ meaning setup reading other
+later_blanks_free setup reading line other word second text takes first says line_ends other_ends line_short other_short =
+    blanks_free setup reading line word (second ++ (first.gap ++ text)) first.says line_ends line_short
+    ∙ ap (λ x. line_of (in_time reading.moment x))
+    (parts_settle setup reading.is_first word (second ++ (first.gap ++ text)) (second ++ (says.gap ++ text)) takes
+    (second_word second first.gap text first.solid first.is_gap first.parted
+    ∙ sym (second_word second says.gap text says.solid says.is_gap says.parted))
+    (behind_second second first.gap text first.solid first.is_gap first.parted
+    ∙ sym (behind_second second says.gap text says.solid says.is_gap says.parted)))
+    ∙ sym (blanks_free setup reading other word (second ++ (says.gap ++ text)) says.says other_ends other_short)

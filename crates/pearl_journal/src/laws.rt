@@ -1,22 +1,32 @@
 // Laws of what a line means. Each function's contract is one theorem; none does anything.
 
-ghost use Rattle.std.specs.Prelude.{◌≡◌, ◌<◌, ◌≤◌, ℕ, List, [], ◌∷◌, ◌++◌, Some, length};
+ghost use Rattle.std.specs.Prelude.{◌≡◌, ◌≢◌, ◌+◌, ◌^◌, ◌<◌, ◌≤◌, ℕ, List, [], ◌∷◌, ◌++◌, Some, length, codes};
 ghost use Rattle.std.specs.List.{AllByRecursion};
+ghost use Rattle.pearl_rules.specs.declared.entry.Entry.TheVariants.{Tick};
 ghost use Rattle.pearl_rules.specs.declared.setup.Setup.{Setup};
 ghost use Rattle.pearl_rules.specs.Entries.{IsPrinted};
-ghost use Rattle.pearl_journal.specs.declared.limits.TheConstants.{LINE_LIMIT, NO_FORM, TEXT_LIMIT};
-ghost use Rattle.pearl_journal.specs.declared.reading.Line.TheVariants.{Blank, Wrong};
-ghost use Rattle.pearl_journal.specs.Laws.{EndsInNoReturn, IsComment, IsGap, SaysWordAndText, in_apostrophes};
+ghost use Rattle.pearl_journal.specs.declared.reading.Line.TheVariants.{Blank, Item, Wrong};
+ghost use Rattle.pearl_journal.specs.Laws.{EndsInNoReturn, IsComment, IsGap, NamesAlike, SaysThreeParts, SaysWordAndText, TakesTwoParts, in_apostrophes};
 ghost use Rattle.pearl_journal.specs.Meaning.{entry_of, line_of, meaning};
 ghost use Rattle.pearl_journal.specs.Readings.{Reading};
 ghost use Rattle.pearl_journal.specs.Texts.{quoted};
+ghost use Rattle.pearl_journal.specs.Words.{number};
 
 /// Blanks and tabs at both ends of a line and between its first word and the text behind it change nothing, however
 /// many stand there: the word and the text say what the line means.
 pub fn blanks_are_free()
     ensures { (setup : Setup) (reading : Reading) (line word text : List ℕ) → SaysWordAndText line word text →
-        EndsInNoReturn line → length line ≤ LINE_LIMIT →
+        EndsInNoReturn line → length line ≤ 1024 →
         meaning setup reading line ≡ line_of (entry_of setup reading word text) }
+{}
+
+/// Blanks and tabs between all words of `pass`, `chars`, `line` and `value` are free as well: lines that say the same
+/// three parts mean the same, however many stand between them.
+pub fn later_blanks_are_free()
+    ensures { (setup : Setup) (reading : Reading) (line other word second text : List ℕ) → TakesTwoParts word →
+        SaysThreeParts line word second text → SaysThreeParts other word second text →
+        EndsInNoReturn line → EndsInNoReturn other → length line ≤ 1024 → length other ≤ 1024 →
+        meaning setup reading line ≡ meaning setup reading other }
 {}
 
 /// A byte 13 behind a line changes nothing.
@@ -27,18 +37,43 @@ pub fn returns_are_dropped()
 
 /// Lines without words and comments are skipped, and of all lines those are refused that are too long.
 pub fn lines_are_skipped()
-    ensures empty { (setup : Setup) (reading : Reading) (line : List ℕ) → IsGap line → length line ≤ LINE_LIMIT →
+    ensures empty { (setup : Setup) (reading : Reading) (line : List ℕ) → IsGap line → length line ≤ 1024 →
         meaning setup reading line ≡ Blank }
     ensures comment { (setup : Setup) (reading : Reading) (line : List ℕ) → IsComment line → EndsInNoReturn line →
-        length line ≤ LINE_LIMIT → meaning setup reading line ≡ Blank }
+        length line ≤ 1024 → meaning setup reading line ≡ Blank }
     ensures long { (setup : Setup) (reading : Reading) (line : List ℕ) → EndsInNoReturn line →
-        LINE_LIMIT < length line → meaning setup reading line ≡ Wrong NO_FORM }
+        1024 < length line → meaning setup reading line ≡ Wrong 1 }
 {}
 
 /// A text of bytes from 32 to 126, at most 255 of them, stands between two apostrophes, each apostrophe in it written
 /// twice; and whatever is read as a text is written so.
 pub fn texts_stand_between_apostrophes()
-    ensures read { (text : List ℕ) → AllByRecursion IsPrinted text → length text ≤ TEXT_LIMIT →
+    ensures read { (text : List ℕ) → AllByRecursion IsPrinted text → length text ≤ 255 →
         quoted (in_apostrophes text) ≡ Some text }
     ensures only { (bytes text : List ℕ) → quoted bytes ≡ Some text → bytes ≡ in_apostrophes text }
+{}
+
+/// The codes of refusals are 1 to 4, and they are tried in the order 1, 2, 4, 3. Where a line isn't in the grammar, it
+/// is refused with 1 whatever is declared and however late it is. Where it names what isn't declared, it is refused
+/// with 2 whatever the kinds of inputs are, and however late it is. And all codes but 3 stay, however late it is.
+pub fn codes_are_tried_in_order()
+    ensures four { (setup : Setup) (reading : Reading) (line : List ℕ) (code : ℕ) → meaning setup reading line ≡ Wrong code →
+        (1 ≤ code) × (code ≤ 4) }
+    ensures form { (setup other : Setup) (reading later : Reading) (line : List ℕ) → reading.is_first ≡ later.is_first →
+        meaning setup reading line ≡ Wrong 1 → meaning other later line ≡ Wrong 1 }
+    ensures names { (setup other : Setup) (reading later : Reading) (line : List ℕ) → NamesAlike setup other →
+        reading.is_first ≡ later.is_first → meaning setup reading line ≡ Wrong 2 → meaning other later line ≡ Wrong 2 }
+    ensures late { (setup : Setup) (reading later : Reading) (line : List ℕ) (code : ℕ) → code ≢ 3 →
+        reading.is_first ≡ later.is_first → meaning setup reading line ≡ Wrong code → meaning setup later line ≡ Wrong code }
+{}
+
+/// The last moment is 2^40 milliseconds after the start: `tick` may lead up to it, and is refused with 3 where it would
+/// lead past it.
+pub fn moments_have_an_end()
+    ensures up_to_it { (setup : Setup) (reading : Reading) (line digits : List ℕ) (n : ℕ) →
+        SaysWordAndText line (codes "tick") digits → EndsInNoReturn line → length line ≤ 1024 → number digits ≡ Some n →
+        reading.moment + n ≤ 2 ^ 40 → meaning setup reading line ≡ Item (Tick n) }
+    ensures past_it { (setup : Setup) (reading : Reading) (line digits : List ℕ) (n : ℕ) →
+        SaysWordAndText line (codes "tick") digits → EndsInNoReturn line → length line ≤ 1024 → number digits ≡ Some n →
+        2 ^ 40 < reading.moment + n → meaning setup reading line ≡ Wrong 3 }
 {}

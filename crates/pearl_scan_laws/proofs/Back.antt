@@ -1,38 +1,31 @@
 -- Why a format reads what it wrote.
-use Rattle.std.proofs.Common.{◌≡◌, ◌<◌, ◌≤◌, ℕ, zero, suc, ◌+◌, ◌-◌, ◌*◌, ◌^◌, ℤ, pos, negsuc, ◌≤ℤ◌, List, [], ◌∷◌, ◌++◌, Bool, true, false, cond, ◌==◌, length, drop, take, map, replicate, refl, arith, nat_le, nat_lt, sym, ◌∙◌, ap, subst, append_assoc, length-append}
-use Rattle.std.proofs.lemmas.Bool.{leb-true, le-leb, lt-ltb}
+use Rattle.std.proofs.Common.{◌≡◌, ◌<◌, ◌≤◌, ℕ, zero, suc, ◌+◌, ◌-◌, ◌*◌, ◌^◌, ℤ, pos, negsuc, ◌≤ℤ◌, List, [], ◌∷◌, ◌++◌, Bool, true, false, cond, length, drop, take, map, replicate, refl, arith, nat_le, nat_lt, sym, ◌∙◌, ap, subst, append_assoc, length-append}
+use Rattle.std.proofs.lemmas.Bool.{leb-true, lt-ltb}
 use Rattle.std.proofs.lemmas.Bool.Decides.{nat_tests}
 use Rattle.std.proofs.lemmas.Int.{ints}
-use Rattle.std.proofs.lemmas.List.{length-replicate, append-nil, take-append-drop, drop-map, drop_at}
+use Rattle.std.proofs.lemmas.Option.{none-some, same_Some}
+use Rattle.std.proofs.lemmas.List.{length-replicate, take-append-drop, drop-map, drop_at}
 use Rattle.std.proofs.Math.Pow.{pow_mono}
-use Rattle.std.specs.Prelude.{Option, Some, None, if◌then◌else◌, option_map, position, unsigned_abs}
+use Rattle.std.specs.Prelude.{Option, Some, None, if◌then◌else◌, option_map, unsigned_abs}
 use Rattle.std.specs.Fmt.{signed_decimal}
-use Rattle.std.specs.List.{AllByRecursion, position_or_len}
+use Rattle.std.specs.List.{AllByRecursion}
 use Rattle.pearl_value.specs.declared.kind.Kind.{Kind}
-use Rattle.pearl_value.specs.declared.kind.Kind.TheVariants as kind
 use Rattle.pearl_value.specs.declared.cell.Cell.{Cell}
-use Rattle.pearl_value.specs.declared.cell.Cell.TheVariants.{Fixed, Bits, Chars, Clock, Span, Ref}
-use Rattle.pearl_value.specs.Kinds.{IsKind}
+use Rattle.pearl_value.specs.declared.cell.Cell.TheVariants.{Fixed, Bits, Clock, Span}
 use Rattle.pearl_value.specs.Cells.{kind_of, FitsFixed}
 use Rattle.pearl_value.specs.Conversions.{fits_fixed}
 use Rattle.pearl_value.specs.WellFormed.{IsValue, FitsSpan}
 use Rattle.pearl_format.specs.declared.item.ItemCode.{ItemCode}
 use Rattle.pearl_format.specs.declared.item.ItemCode.TheVariants.{A, B1, B2, B3, B4, F, T, D, X, Skip}
-use Rattle.pearl_format.specs.declared.item.Item.{Item}
 use Rattle.pearl_format.specs.Fields.{width_or, right_field, left_field, bits_text, clock_text, span_text, digit_count}
 use Rattle.pearl_format.specs.Items.{data_here, skip_count, SuitsItem, Suits}
 use Rattle.pearl_format.specs.Parts.{own_text, bits_item}
 use Rattle.pearl_format.specs.Texts.{joined_text, text_of}
+use Rattle.pearl_format.proofs.Digits.{counted, length-last_digits}
 use Rattle.pearl_rules.specs.Literals.{bare, signed_number, bits_literal, clock_literal, span_literal}
-use Rattle.pearl_rules.specs.Scan.{Scanned, Got, is_line_end, is_blank, field, lines_length, behind_line, if_fits, fits_span, field_value, field_values, good_or_bad, if_complete, if_skipped, scan_item, behind, followed_by, scan}
-use Rattle.pearl_scan_laws.specs.Laws.{WritesAll, IsWhole, ReadsWhatIsWritten}
-use Rattle.pearl_scan_laws.proofs.Written.{IsSolid, bare-right, bare-left, solid_bytes, bits_solid, number_solid, clock_solid, span_solid, FitsInSize, reads_number, reads_clock, reads_span, reads_bits, field_of, Unbroken, unbroken-append, unbroken-blanks, unbroken-number, unbroken-clock, unbroken-span, unbroken-bits, length-digits, counted, some_digits}
-
-some_same : {X : Type 0} {x y : X} → Some x ≡ Some y → x ≡ y
-some_same e = cc
-
-none_some : {X : Type 0} (x : X) → None ≡ Some x → ⊥
-none_some x e = cc
+use Rattle.pearl_rules.specs.Scan.{Got, is_blank, field, lines_length, behind_line, if_fits, fits_span, good_or_bad, if_complete, if_skipped, scan_item, behind, followed_by, scan}
+use Rattle.pearl_scan_laws.specs.Laws.{WritesAll, ReadsWhatIsWritten}
+use Rattle.pearl_scan_laws.proofs.Written.{IsSolid, bare-right, bare-left, solid_bytes, bits_solid, number_solid, clock_solid, span_solid, FitsInSize, reads_number, reads_clock, reads_span, reads_bits, field_of, Unbroken, unbroken-append, unbroken-blanks, unbroken-number, unbroken-clock, unbroken-span, unbroken-bits, some_digits}
 
 -- what stands in a field of its width, on the right or on the left
 record Stands (width : ℕ) (own text : List ℕ) : Type 0 where
@@ -45,26 +38,26 @@ right_stands width own text solid whole e = by (nat_le (length own) width) refl 
   where
     by : (fits : Bool) → nat_le (length own) width ≡ fits → cond fits (Some (replicate (width - length own) 32 ++ own)) None ≡ Some text → Stands width own text
     by true fits e =
-        let is : replicate (width - length own) 32 ++ own ≡ text = some_same e in
+        let is : replicate (width - length own) 32 ++ own ≡ text = same_Some _ _ e in
         subst (Stands width own) is (record {
           long = omega (arith, length-append (replicate (width - length own) 32) own, length-replicate {A = ℕ} (width - length own) 32, leb-true (length own) width fits);
           unbroken = unbroken-append (replicate (width - length own) 32) own (unbroken-blanks (width - length own)) whole;
           bare_is = bare-right (width - length own) own solid;
         })
-    by false fits e = absurd (none_some text e)
+    by false fits e = absurd (none-some text e)
 
 left_stands : (width : ℕ) (own text : List ℕ) → IsSolid own → Unbroken own → left_field width own ≡ Some text → Stands width own text
 left_stands width own text solid whole e = by (nat_le (length own) width) refl e
   where
     by : (fits : Bool) → nat_le (length own) width ≡ fits → cond fits (Some (own ++ replicate (width - length own) 32)) None ≡ Some text → Stands width own text
     by true fits e =
-        let is : own ++ replicate (width - length own) 32 ≡ text = some_same e in
+        let is : own ++ replicate (width - length own) 32 ≡ text = same_Some _ _ e in
         subst (Stands width own) is (record {
           long = omega (arith, length-append own (replicate (width - length own) 32), length-replicate {A = ℕ} (width - length own) 32, leb-true (length own) width fits);
           unbroken = unbroken-append own (replicate (width - length own) 32) whole (unbroken-blanks (width - length own));
           bare_is = bare-left (width - length own) own solid;
         })
-    by false fits e = absurd (none_some text e)
+    by false fits e = absurd (none-some text e)
 
 -- such a text is found, and read as is said
 found_in : (width : ℕ) (own text rest : List ℕ) (read : List ℕ → Option (List Cell)) (value : Cell) → Stands width own text → read text ≡ Some (value ∷ []) →
@@ -81,7 +74,7 @@ bits_back : (code : ItemCode) (group len value width : ℕ) (vs : List Cell) (te
 bits_back code group len value width vs text rest some few is e =
     let own = bits_text group len value in
     let count = digit_count group len in
-    let long : length own ≡ count = length-digits group count (value * 2 ^ (group * count - len)) in
+    let long : length own ≡ count = length-last_digits group count (value * 2 ^ (group * count - len)) in
     let there : 0 < count = some_digits group count len is.0.0 (counted group len some few).enough in
     let solid = solid_bytes own (omega (arith, long, there)) (bits_solid group count (value * 2 ^ (group * count - len)) few) in
     let stands = left_stands (width_or width (length own)) own text solid (unbroken-bits group count (value * 2 ^ (group * count - len))) e in
@@ -156,13 +149,13 @@ lines_back (suc count) rest =
 
 blanks_back : (count : ℕ) (text rest : List ℕ) → Some (replicate count 32) ≡ Some text → if_complete (field count (text ++ rest)) (λ t. Some []) ≡ Got (length text) []
 blanks_back count text rest e =
-    let is : replicate count 32 ≡ text = some_same e in
+    let is : replicate count 32 ≡ text = same_Some _ _ e in
     subst (λ t. if_complete (field count (t ++ rest)) (λ t. Some []) ≡ Got (length t) []) is
     (ap (λ o. if_complete o (λ t. Some [])) (field_of count (replicate count 32) rest (length-replicate {A = ℕ} count 32) (unbroken-blanks count)))
 
 skip_back : (count : ℕ) (text rest : List ℕ) → Some (replicate count 10) ≡ Some text → if_skipped (lines_length count (text ++ rest)) ≡ Got (length text) []
 skip_back count text rest e =
-    let is : replicate count 10 ≡ text = some_same e in
+    let is : replicate count 10 ≡ text = same_Some _ _ e in
     subst (λ t. if_skipped (lines_length count (t ++ rest)) ≡ Got (length t) []) is
     (ap if_skipped (lines_back count rest) ∙ ap (λ n. Got n []) (sym (length-replicate {A = ℕ} count 10)))
 
@@ -178,7 +171,7 @@ item_back B4 width (Bits len value ∷ vs) text rest whole are e = bits_back B4 
 item_back F width (Fixed len value ∷ vs) text rest whole are e = number_back len width value text rest are.0 e
 item_back T width (Clock time ∷ vs) text rest whole are e = clock_back width time text rest whole are.0 e
 item_back D width (Span value ∷ vs) text rest whole are e = span_back width value text rest are.0 e
-item_back code width values text rest whole are e = absurd (none_some text e)
+item_back code width values text rest whole are e = absurd (none-some text e)
 
 -- ITEMS
 
@@ -190,9 +183,9 @@ record Cut (a b : Option (List ℕ)) (text : List ℕ) : Type 0 where
   whole : text ≡ first ++ later
 
 cut_text : (a b : Option (List ℕ)) (text : List ℕ) → joined_text a b ≡ Some text → Cut a b text
-cut_text None b text e = absurd (none_some text e)
-cut_text (Some x) None text e = absurd (none_some text e)
-cut_text (Some x) (Some y) text e = record { first = x; later = y; first_is = refl; later_is = refl; whole = sym (some_same e) }
+cut_text None b text e = absurd (none-some text e)
+cut_text (Some x) None text e = absurd (none-some text e)
+cut_text (Some x) (Some y) text e = record { first = x; later = y; first_is = refl; later_is = refl; whole = sym (same_Some _ _ e) }
 
 drop-values : (n : ℕ) (values : List Cell) → AllByRecursion IsValue values → AllByRecursion IsValue (drop n values)
 drop-values zero values are = are
@@ -227,7 +220,7 @@ nothing_left (value ∷ values) suits = absurd suits
 pub reads_what_is_written : ReadsWhatIsWritten
 unfolding scan
 reads_what_is_written [] values text rest suits whole are e =
-    let none : [] ≡ text = some_same e in
+    let none : [] ≡ text = same_Some _ _ e in
     let left : values ≡ [] = nothing_left values suits in
     ap (λ t. Got (length t) []) none ∙ ap (Got (length text)) (sym left)
 reads_what_is_written (item ∷ items) values text rest suits whole are e =

@@ -1,14 +1,13 @@
 -- Why a scan uses no more bytes than there are.
-use Rattle.std.proofs.Common.{◌≡◌, ◌<◌, ◌≤◌, ℕ, zero, suc, ◌+◌, ◌-◌, List, [], ◌∷◌, ◌++◌, Bool, true, false, cond, ◌||◌, ◌==◌, length, drop, take, arith, nat_lt, refl}
+use Rattle.std.proofs.Common.{◌≡◌, ◌<◌, ◌≤◌, ℕ, zero, suc, ◌+◌, ◌-◌, List, [], ◌∷◌, Bool, true, false, cond, ◌||◌, ◌==◌, length, drop, take, arith, nat_lt, refl}
 use Rattle.std.proofs.lemmas.Bool.{ltb-true}
 use Rattle.std.proofs.lemmas.List.{length-take, length-drop}
-use Rattle.std.specs.Prelude.{Option, Some, None, IfSome, option_map, position}
+use Rattle.std.specs.Prelude.{Option, Some, None, IfSome, option_map}
 use Rattle.std.specs.List.{before_first, position_or_len}
 use Rattle.pearl_value.specs.declared.kind.Kind.{Kind}
 use Rattle.pearl_value.specs.declared.cell.Cell.{Cell}
 use Rattle.pearl_format.specs.declared.item.ItemCode.{ItemCode}
-use Rattle.pearl_format.specs.declared.item.ItemCode.TheVariants.{A, B1, B2, B3, B4, F, T, D, X, Skip}
-use Rattle.pearl_format.specs.declared.item.Item.{Item}
+use Rattle.pearl_format.specs.declared.item.ItemCode.TheVariants.{Skip}
 use Rattle.pearl_format.specs.Items.{data_here, width_over, skip_count}
 use Rattle.pearl_rules.specs.Scan.{Scanned, Short, Bad, Got, is_line_end, field, lines_length, behind_line, field_values, good_or_bad, if_complete, if_skipped, scan_item, behind, followed_by, scan}
 use Rattle.pearl_scan_laws.specs.Laws.{IsWithin, UsesNoMore}

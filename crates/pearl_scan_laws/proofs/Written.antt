@@ -1,24 +1,24 @@
 -- Why what PUT writes is read as the same value.
-use Rattle.std.proofs.Common.{◌≡◌, ◌<◌, ◌≤◌, ℕ, zero, suc, ◌+◌, ◌-◌, ◌*◌, ◌/◌, ◌%◌, ◌^◌, ℤ, pos, negsuc, neg_ℤ, List, [], ◌∷◌, ◌++◌, Bool, true, false, not, cond, ◌&&◌, ◌||◌, ◌==◌, length, drop, take, replicate, reverse, refl, arith, nat_le, nat_lt, sym, ◌∙◌, ap, subst, add-one, append_assoc, ◌⊎◌, inl, inr, length-append, codes, decimal}
-use Rattle.std.proofs.lemmas.Bool.{false≢true, leb-true, leb-false, le-leb, lt-leb, lt-ltb, le-ltb, ne_eqb, eqb-true, eq-eqb, and_parts}
+use Rattle.std.proofs.Common.{◌≡◌, ◌<◌, ◌≤◌, ℕ, zero, suc, ◌+◌, ◌-◌, ◌*◌, ◌/◌, ◌%◌, ◌^◌, ℤ, pos, negsuc, List, [], ◌∷◌, ◌++◌, Bool, true, false, not, cond, ◌&&◌, ◌||◌, ◌==◌, length, drop, take, replicate, reverse, refl, arith, nat_le, nat_lt, sym, ◌∙◌, ap, subst, add-one, append_assoc, ◌⊎◌, inl, inr, codes, decimal}
+use Rattle.std.proofs.lemmas.Bool.{leb-true, le-leb, le-ltb, ne_eqb, eq-eqb, and_parts}
 use Rattle.std.proofs.lemmas.Bool.Decides.{nat_tests}
 use Rattle.std.proofs.lemmas.Fmt.{decimal_is_IsNumeral}
-use Rattle.std.proofs.lemmas.Int.{ints}
-use Rattle.std.proofs.lemmas.List.{append-nil, reverse-append, length-reverse, take_all, take-append-le, take_at, drop_at, length-replicate}
+use Rattle.std.proofs.lemmas.List.{append-nil, reverse-append, take_all, take-append-le, take_at}
 use Rattle.std.proofs.lemmas.List.Elements.{All-from_recursion}
 use Rattle.std.proofs.lemmas.List.Splits.{slice_split_at, slice_split_none}
 use Rattle.std.proofs.lemmas.Nat.{pow_pos, pow-add, mod_below, mod-pow-add, mod_low, shl-shr, shl_below}
 use Rattle.std.proofs.Math.Nat.{mul-zero, zero-mul, mul-suc, add-mul, mul_assoc, add_assoc, mod-eq_of_lt}
 use Rattle.std.proofs.Math.Pow.{pow_mono}
 use Rattle.std.proofs.lemmas.Str.Parse.{tells_all_ascii_digits, numerals_by_value, digit_from_value}
-use Rattle.std.specs.Prelude.{Option, Some, None, IfSome, if◌then◌else◌, option_map, bytes_eq, unsigned_abs, slice_index}
+use Rattle.std.specs.Prelude.{Option, Some, None, if◌then◌else◌, option_map, unsigned_abs, slice_index}
 use Rattle.std.specs.Char.{digit_value, is_ascii_digit, is_ascii_lowercase}
 use Rattle.std.specs.Fmt.{digit_glyph, signed_decimal}
 use Rattle.std.specs.List.{AllByRecursion, slice_split, prefix_len, suffix_len, position_or_len, before_first, list_all}
 use Rattle.std.specs.Str.{all_ascii_digits}
 use Rattle.std.specs.Str.Parse.{digits_value, digits_value_after, AllDigits, IsNumeral}
-use Rattle.pearl_format.specs.Fields.{width_or, right_field, left_field, two_digits, three_digits, seconds_text, clock_text, hours_text, span_text, last_digits, bits_text, digit_count}
-use Rattle.pearl_rules.specs.Literals.{behind_blanks, before_blanks, bare, decimal_number, at_most, number_up_to, number_literal, signed_number, minus, thousandths, clock_value, clock_of, with_point, with_colons, clock_literal, Amount, worded, whole_amount, decimal_value, decimal_amount, seconds_amount, behind_amount, from_amount, from_seconds, from_minutes, from_hours, perhaps_negative, span_literal, front_digits, behind_digits, bits_number, bits_within, bits_literal, is_bit_digit}
+use Rattle.pearl_format.specs.Fields.{two_digits, three_digits, seconds_text, clock_text, hours_text, span_text, last_digits, bits_text, digit_count}
+use Rattle.pearl_format.proofs.Digits.{counted, length-last_digits}
+use Rattle.pearl_rules.specs.Literals.{behind_blanks, before_blanks, bare, decimal_number, at_most, number_up_to, number_literal, signed_number, minus, thousandths, clock_value, with_point, with_colons, clock_literal, worded, whole_amount, decimal_value, decimal_amount, seconds_amount, from_amount, from_seconds, from_minutes, from_hours, span_literal, front_digits, behind_digits, bits_number, bits_within, bits_literal, is_bit_digit}
 use Rattle.pearl_rules.specs.Scan.{is_blank, is_line_end, field}
 
 -- BLANKS
@@ -385,18 +385,6 @@ reads_span (negsuc n) fits =
 
 -- BITS
 
--- so many digits are enough
-pub record IsCount (group len count : ℕ) : Type 0 where
-  pub enough : len ≤ group * count
-
-pub counted : (group len : ℕ) → 0 < group → group ≤ 4 → IsCount group len (digit_count group len)
-counted zero len some few = absurd (omega (arith, some))
-counted (suc zero) len some few = record { enough = omega arith }
-counted (suc (suc zero)) len some few = record { enough = omega arith }
-counted (suc (suc (suc zero))) len some few = record { enough = omega arith }
-counted (suc (suc (suc (suc zero)))) len some few = record { enough = omega arith }
-counted (suc (suc (suc (suc (suc group))))) len some few = absurd (omega (arith, few))
-
 bit_glyph : (group d : ℕ) → group ≤ 4 → d < 2 ^ group → is_bit_digit group (digit_glyph true d) ≡ true
 bit_glyph group d few small =
     let most : 2 ^ group ≤ 16 = pow_mono few in
@@ -446,10 +434,6 @@ bits_value group (suc count) before value few =
     ∙ ap (λ n. n + value % p) (add-mul (before * q) d p ∙ ap (λ n. n + d * p) (mul_assoc before q p))
     ∙ add_assoc (before * (q * p)) (d * p) (value % p) ∙ ap (λ n. before * (q * p) + n) (sym high) ∙ ap (λ n. before * n + value % 2 ^ (group * suc count)) (sym wide)
 
-pub length-digits : (group count value : ℕ) → length (last_digits group count value) ≡ count
-length-digits group zero value = refl
-length-digits group (suc count) value = ap suc (length-digits group count value)
-
 bits_read : (group count value : ℕ) → group ≤ 4 → 0 < count → value < 2 ^ (group * count) → bits_number group (last_digits group count value) ≡ Some value
 bits_read group zero value few some small = absurd (omega (arith, some))
 bits_read group (suc count) value few some small =
@@ -488,7 +472,7 @@ reads_bits group len value some few long small =
     let room : len + (group * count - len) ≡ group * count = (let e = is.enough in omega (arith, e)) in
     let below : wide < 2 ^ (group * count) = subst (λ n. wide < 2 ^ n) room (shl_below value len (group * count - len) small) in
     let more : 0 < count = some_digits group count len long is.enough in
-    ap (λ n. bits_within len (group * n) (bits_number group (last_digits group count wide))) (length-digits group count wide)
+    ap (λ n. bits_within len (group * n) (bits_number group (last_digits group count wide))) (length-last_digits group count wide)
     ∙ ap (bits_within len (group * count)) (bits_read group count wide few more below) ∙ within_back len (group * count) value is.enough
 
 -- FIELDS

@@ -1,0 +1,62 @@
+// Laws of what comes in: what `clock`, `irpt`, `chars` and `line` do by themselves, whoever could act.
+
+ghost use Rattle.std.specs.Prelude.{◌≡◌, ℕ, ◌^◌, ◌<◌, pos, [], ◌∷◌, ◌++◌, Bool, true, false, Some, None};
+ghost use Rattle.arrayvec.specs.ArrayVec.{ArrayVec};
+ghost use Rattle.pearl_rules.specs.declared.action.Action.TheVariants as action;
+ghost use Rattle.pearl_rules.specs.declared.action.Answer.TheVariants.{Nothing};
+ghost use Rattle.pearl_rules.specs.declared.action.Start.TheVariants.{When, WhenAfter};
+ghost use Rattle.pearl_rules.specs.declared.entry.Entry.TheVariants.{Clock, Irpt, Chars, Line};
+ghost use Rattle.pearl_rules.specs.declared.row.Mode.TheVariants.{Dormant, Active};
+ghost use Rattle.pearl_rules.specs.declared.row.Activation.{Activation};
+ghost use Rattle.pearl_rules.specs.declared.row.Plan.{Plan};
+ghost use Rattle.pearl_rules.specs.declared.row.TaskRow.{TaskRow};
+ghost use Rattle.pearl_rules.specs.Core.{Core, row_of, mode_of};
+ghost use Rattle.pearl_rules.specs.Devices.{is_enabled, with_bytes, arrived};
+ghost use Rattle.pearl_rules.specs.Effect.{answering, effect};
+ghost use Rattle.pearl_rules.specs.Plans.{time_at, begun, continuation_of, activation_of};
+ghost use Rattle.pearl_core_laws.specs.Plans.{IsWrittenWith, IsUntouchedBy};
+
+/// `clock` says the time of day at moment 0, and changes nothing else.
+pub fn clocks_say_the_time_of_day()
+    ensures says { (core : Core) (time : ℕ) → time < 86400000 → time_at (arrived core (Clock time)) 0 ≡ time }
+    ensures rest { (core : Core) (time : ℕ) →
+        arrived core (Clock time) ≡ record core { clock = (arrived core (Clock time)).clock } }
+{}
+
+/// An interrupt that is let through lets the suspended tasks go on that wait for it, which then have no plan to go on,
+/// and starts the dormant ones that are to be started at it, with the priority of their plan. One that is to be started
+/// some time after it stays dormant. A plan of starts that waits for it begins anew; and a task none of whose plans
+/// waits for it stays as it is.
+pub fn interrupts_serve_those_that_wait()
+    ensures goes_on { (core : Core) (device t : ℕ) (row : TaskRow) → is_enabled core device ≡ true → row_of core t ≡ Some row →
+        core.moment < 2 ^ 64 → (plan : Plan) (priority : ℕ) (suspended : Bool) → row.mode ≡ Active priority suspended →
+        row.continuation ≡ Some plan → plan.start ≡ When device →
+        (mode_of (arrived core (Irpt device)) t ≡ Active priority false) × (continuation_of (arrived core (Irpt device)) t ≡ None) }
+    ensures starts { (core : Core) (device t : ℕ) (row : TaskRow) → is_enabled core device ≡ true → row_of core t ≡ Some row →
+        core.moment < 2 ^ 64 → (activation : Activation) → row.mode ≡ Dormant → row.activation ≡ Some activation →
+        activation.plan.start ≡ When device →
+        mode_of (arrived core (Irpt device)) t ≡ Active activation.priority false }
+    ensures later { (core : Core) (device t : ℕ) (row : TaskRow) → is_enabled core device ≡ true → row_of core t ≡ Some row →
+        (activation : Activation) (n : ℕ) → row.mode ≡ Dormant → row.activation ≡ Some activation →
+        activation.plan.start ≡ WhenAfter device (pos n) → 0 < n →
+        mode_of (arrived core (Irpt device)) t ≡ Dormant }
+    ensures anew { (core : Core) (device t : ℕ) (row : TaskRow) → is_enabled core device ≡ true → row_of core t ≡ Some row →
+        (activation : Activation) → row.activation ≡ Some activation → IsWrittenWith device activation.plan.start →
+        activation_of (arrived core (Irpt device)) t ≡ Some (record activation { plan = begun core activation.plan }) }
+    ensures others { (core : Core) (device t : ℕ) (row : TaskRow) → is_enabled core device ≡ true → row_of core t ≡ Some row →
+        IsUntouchedBy device row → row_of (arrived core (Irpt device)) t ≡ Some row }
+{}
+
+/// A TRIGGER does what `irpt` does.
+pub fn triggers_are_interrupts()
+    ensures { (core : Core) (own device : ℕ) → effect core own (action.Trigger device)
+        ≡ answering (arrived (record core { last = Some own }) (Irpt device)) Nothing }
+{}
+
+/// `chars` brings exactly its bytes, and `line` what `chars` brings of the same bytes with byte 10 behind them.
+pub fn lines_are_bytes_and_an_end()
+    ensures chars { (core : Core) (device : ℕ) (text : ArrayVec ℕ) →
+        arrived core (Chars device text) ≡ with_bytes core device text.items }
+    ensures line { (core : Core) (device : ℕ) (text longer : ArrayVec ℕ) → longer.items ≡ text.items ++ 10 ∷ [] →
+        arrived core (Line device text) ≡ arrived core (Chars device longer) }
+{}
