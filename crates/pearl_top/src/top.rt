@@ -27,7 +27,7 @@ use pearl_script::refusal::Refusal;
 use std::alloc::Global;
 
 /// Carries out the command of the words after the program's name: reads the files that it names from the shelf, and
-/// writes what is due to the sink, each line as one piece.
+/// writes what is due to the sink. Tests hold that each line is one piece.
 ///
 /// Memory may run out before a text is printed, while a source is checked, and before the first line of a journal is
 /// carried out, and then the line `error memory` is due. What is due otherwise, and with which status, is `Due`.
