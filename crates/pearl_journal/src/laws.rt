@@ -53,9 +53,9 @@ pub fn texts_stand_between_apostrophes()
     ensures only { (bytes text : List ℕ) → quoted bytes ≡ Some text → bytes ≡ in_apostrophes text }
 {}
 
-/// The codes of refusals are 1 to 4, and they are tried in the order 1, 2, 4, 3. Where a line isn't in the grammar, it
-/// is refused with 1 whatever is declared and however late it is. Where it names what isn't declared, it is refused
-/// with 2 whatever the kinds of inputs are, and however late it is. And all codes but 3 stay, however late it is.
+/// The codes of refusals are 1 to 4. A line that is refused with 1 is so whatever is declared and however late it is;
+/// one that is refused with 2 is so whatever the kinds of inputs are, and however late it is; and with all codes but 3 a
+/// line is refused however late it is.
 pub fn codes_are_tried_in_order()
     ensures four { (setup : Setup) (reading : Reading) (line : List ℕ) (code : ℕ) → meaning setup reading line ≡ Wrong code →
         (1 ≤ code) × (code ≤ 4) }
